@@ -1,0 +1,3 @@
+pub mod BusLemmas
+pub mod SettingLemmas
+pub mod AskingLemmas

@@ -1,0 +1,96 @@
+//! Questions for values.
+ghost use Rattle.std.specs.Prelude.{◌≡◌, ◌+◌, ◌*◌, ◌^◌, ◌<◌, length, map, None, IfOk};
+ghost use Rattle.sn_osc.specs.Shape.{argument_of, message_of};
+ghost use Rattle.sn_reply.specs.Sending.{IsSendable};
+ghost use Rattle.sn_world.specs.World.{world_of, turn_of, WritesControlBuses};
+ghost use Rattle.sn_world.specs.Rows.{first_refusal};
+ghost use Rattle.sn_world.specs.Buses.{bus_refusal, value_of, buses_and_values, answer_get, get_row};
+ghost use Rattle.sn_world.specs.Answers.{Follows, UnlessFollowed};
+ghost use Rattle.sn_buscmd.specs.Setting.{number_refusal};
+
+use crate::judging::first_refusal;
+use sn_mem::{Port, sample_of};
+use sn_osc::{Arg, Args, Body, Message};
+use sn_ports::{NoMemory, Text};
+use sn_reply::{Reason, Replies, To};
+use sn_world::{BusNumber, singles, some_of};
+use std::alloc::Global;
+
+/// The value of a control bus.
+fn value_of<P: Port>(port: &mut P, number: &BusNumber) -> i32
+    requires bus { bus_refusal number.now.bus ≡ None }
+    requires foot { WritesControlBuses (P.foot port.old) }
+    ensures value { result ≡ value_of (world_of (P.words port.old)) number.now.bus }
+    ensures words { P.words port.new ≡ P.words port.old }
+    ensures foot { P.foot port.new ≡ P.foot port.old }
+    ensures rest { P.rest port.new ≡ P.rest port.old }
+{
+    let at = 8321 + 2 * number.bus as u32;
+    sample_of(port.load(at))
+}
+
+/// Control buses, each with its value.
+fn buses_and_values<P: Port>(
+    alloc: Global,
+    port: &mut P,
+    numbers: &[BusNumber],
+) -> Result<Args, NoMemory>
+    requires all { first_refusal number_refusal numbers.now ≡ None }
+    requires foot { WritesControlBuses (P.foot port.old) }
+    ensures values { IfOk result (λ found. map argument_of found ≡ buses_and_values (world_of (P.words port.old)) numbers.now) }
+    ensures words { P.words port.new ≡ P.words port.old }
+    ensures foot { P.foot port.new ≡ P.foot port.old }
+    ensures rest { P.rest port.new ≡ P.rest port.old }
+{
+    let mut found = Vec::new(alloc);
+    for number in numbers {
+        found.push(Arg::Int(number.bus))?;
+        found.push(Arg::Int(value_of(port, number)))?;
+    }
+    Ok(Args::from_vec(found))
+}
+
+/// The message `/c_set` with buses and their values.
+fn answer<P: Port>(alloc: Global, port: &mut P, numbers: &[BusNumber]) -> Result<Message, NoMemory>
+    requires all { first_refusal number_refusal numbers.now ≡ None }
+    requires few { 16 * length numbers.now + 2 ^ 20 < 2 ^ 31 }
+    requires foot { WritesControlBuses (P.foot port.old) }
+    ensures message { IfOk result (λ m. message_of m ≡ answer_get (world_of (P.words port.old)) numbers.now) }
+    ensures sendable { IfOk result (λ m. IsSendable (message_of m)) }
+    ensures words { P.words port.new ≡ P.words port.old }
+    ensures foot { P.foot port.new ≡ P.foot port.old }
+    ensures rest { P.rest port.new ≡ P.rest port.old }
+{
+    let arguments = buses_and_values(alloc, port, numbers)?;
+    Ok(Message {
+        address: Text::from_slice(alloc, b"/c_set")?,
+        body: Body::Args(arguments),
+    })
+}
+
+/// `/c_get` bus..
+pub fn run_get<P: Port>(
+    alloc: Global,
+    port: &mut P,
+    arguments: &[Arg],
+    from: u32,
+    replies: &mut Replies,
+) -> Result<Option<Reason>, NoMemory>
+    requires few { 16 * length arguments.now + 2 ^ 20 < 2 ^ 31 }
+    requires foot { WritesControlBuses (P.foot port.old) }
+    ensures row { Follows result (get_row from (map argument_of arguments.now) (turn_of (P.words port.old) replies.old)) (turn_of (P.words port.old) replies.new) }
+    ensures unchanged { UnlessFollowed result (replies.new ≡ replies.old) }
+    ensures words { P.words port.new ≡ P.words port.old }
+    ensures foot { P.foot port.new ≡ P.foot port.old }
+    ensures rest { P.rest port.new ≡ P.rest port.old }
+{
+    let Some(all) = some_of(singles::<BusNumber>(alloc, arguments)?) else {
+        return Ok(Some(Reason::Arguments));
+    };
+    if let Some(reason) = first_refusal(&all) {
+        return Ok(Some(reason));
+    }
+    let message = answer(alloc, port, &all)?;
+    replies.push(To::Client(from), message)?;
+    Ok(None)
+}

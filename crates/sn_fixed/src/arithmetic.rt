@@ -1,0 +1,107 @@
+//! Arithmetic on samples, one exact step for each function.
+ghost use Rattle.std.specs.Prelude.{◌≡◌, ◌≤◌, ◌^◌, ◌+ℤ◌, ◌-ℤ◌, ◌*ℤ◌, unsigned_abs};
+ghost use Rattle.sn_fixed.specs.Fixed.{floor, sat, mul};
+
+/// 1.0 as a sample.
+pub const ONE: i32 = 16_777_216;
+
+/// The sample nearest to `x`.
+#[tactic(auto, unfolding(crate::specs::Fixed::sat))]
+pub fn sat(x: i64) -> i32
+    ensures { result ≡ sat x }
+{
+    x.clamp(i64::from(i32::MIN), i64::from(i32::MAX)) as i32
+}
+
+/// The sample nearest to `x`.
+#[tactic(auto, unfolding(crate::specs::Fixed::sat))]
+pub fn sat_wide(x: i128) -> i32
+    ensures { result ≡ sat x }
+{
+    x.clamp(i128::from(i32::MIN), i128::from(i32::MAX)) as i32
+}
+
+/// The exact product.
+pub fn times(a: i32, b: i32) -> i64
+    ensures value { result ≡ a *ℤ b }
+    ensures bound { unsigned_abs result ≤ 2 ^ 62 }
+{
+    i64::from(a) * i64::from(b)
+}
+
+/// The exact sum.
+pub fn added(a: i64, b: i64) -> i128
+    ensures value { result ≡ a +ℤ b }
+    ensures bound { unsigned_abs result ≤ 2 ^ 64 }
+{
+    i128::from(a) + i128::from(b)
+}
+
+/// The exact sum of three sums of products.
+pub fn total(a: i128, b: i128, c: i64) -> i128
+    requires a { unsigned_abs a ≤ 2 ^ 64 }
+    requires b { unsigned_abs b ≤ 2 ^ 64 }
+    ensures { result ≡ a +ℤ b +ℤ c }
+{
+    a + b + i128::from(c)
+}
+
+/// The exact sum of two products.
+pub fn products(a: i32, x: i32, b: i32, y: i32) -> i128
+    ensures value { result ≡ a *ℤ x +ℤ b *ℤ y }
+    ensures bound { unsigned_abs result ≤ 2 ^ 64 }
+{
+    added(times(a, x), times(b, y))
+}
+
+/// A product in the scale of samples, rounded down.
+pub fn scaled(product: i64) -> i64
+    ensures { result ≡ floor product 16777216 }
+{
+    product.div_euclid(i64::from(ONE))
+}
+
+/// The sample nearest to a sum of products in the scale of samples, rounded down.
+pub fn scaled_sample(products: i128) -> i32
+    ensures { result ≡ sat (floor products 16777216) }
+{
+    sat_wide(products.div_euclid(i128::from(ONE)))
+}
+
+/// The sum of two samples.
+#[tactic(auto, unfolding(crate::specs::Fixed::sat))]
+pub fn add(a: i32, b: i32) -> i32
+    ensures { result ≡ sat (a +ℤ b) }
+{
+    a.saturating_add(b)
+}
+
+/// The difference of two samples.
+#[tactic(auto, unfolding(crate::specs::Fixed::sat))]
+pub fn sub(a: i32, b: i32) -> i32
+    ensures { result ≡ sat (a -ℤ b) }
+{
+    a.saturating_sub(b)
+}
+
+/// The product of two samples.
+#[tactic(auto, unfolding(crate::specs::Fixed::mul))]
+pub fn mul(a: i32, b: i32) -> i32
+    ensures { result ≡ mul a b }
+{
+    sat(scaled(times(a, b)))
+}
+
+/// The sum of a product and a sample.
+pub fn mul_add(a: i32, b: i32, x: i32) -> i32
+    ensures { result ≡ sat (floor (a *ℤ b) 16777216 +ℤ x) }
+{
+    sat_wide(added(scaled(times(a, b)), i64::from(x)))
+}
+
+/// The sum of two products.
+pub fn weighted(a: i32, x: i32, b: i32, y: i32) -> i32
+    ensures { result ≡ sat (floor (a *ℤ x +ℤ b *ℤ y) 16777216) }
+{
+    scaled_sample(products(a, x, b, y))
+}

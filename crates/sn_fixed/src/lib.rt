@@ -1,0 +1,19 @@
+//! Samples in Q8.24: arithmetic, phases, times and literals.
+#![tactic(auto)]
+
+mod arithmetic;
+mod laws;
+mod lines;
+mod literals;
+mod phases;
+#[cfg(test)]
+mod tests;
+
+pub use arithmetic::{
+    ONE, add, added, mul, mul_add, products, sat, sat_wide, scaled, scaled_sample, sub, times,
+    total, weighted,
+};
+pub use laws::{digits_read_back, literal_bytes};
+pub use lines::{line_at, portion};
+pub use literals::literal;
+pub use phases::{frames_of, sine, step_of};

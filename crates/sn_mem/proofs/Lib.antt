@@ -1,0 +1,6 @@
+pub mod Steps
+pub mod Feet
+pub mod Meetings
+pub mod Tables
+pub mod Masks
+pub mod Puts

@@ -1,0 +1,49 @@
+-- Blocks of 64 samples, and runs of words.
+use Rattle.std.specs.Prelude.{ℕ, zero, suc, ◌+◌, ◌%◌, List, [], ◌∷◌, ◌++◌, ℤ, pos, slice_index, slice_index_or, slice_set}
+use Rattle.std.specs.Int.{w32, cast_signed, cast_unsigned}
+
+-- a block by its number, and one of its samples
+abbrev pub block : List (List ℤ) → ℕ → List ℤ
+block bs i = slice_index_or bs i []
+
+abbrev pub sample : List (List ℤ) → ℕ → ℕ → ℤ
+sample bs i k = slice_index_or (block bs i) k (pos 0)
+
+-- a sample lies in the low 32 bits of its word
+abbrev pub word_for : ℤ → ℕ
+word_for x = cast_unsigned w32 x
+
+abbrev pub sample_in : ℕ → ℤ
+sample_in w = cast_signed w32 (w % 4294967296)
+
+-- the n words from a place on
+unfoldable pub window : List ℕ → ℕ → ℕ → List ℕ
+window ws at zero = []
+window ws at (suc n) = window ws at n ++ slice_index ws (at + n) ∷ []
+
+-- the words with a run of them replaced
+unfoldable pub put : List ℕ → ℕ → List ℕ → List ℕ
+put ws at [] = ws
+put ws at (x ∷ xs) = put (slice_set ws at x) (at + 1) xs
+
+-- the values of f at the numbers below n
+unfoldable pub table : {A : Type 0} → (ℕ → A) → ℕ → List A
+table f zero = []
+table f (suc k) = table f k ++ f k ∷ []
+
+-- a recurrence over the first n frames: the state after them, and the samples
+unfoldable pub scan : {S : Type 0} → (S → List (List ℤ) → ℕ → S × ℤ) → S → List (List ℤ) → ℕ → S × List ℤ
+scan step s inputs zero = (s, [])
+scan step s inputs (suc k) = let r = scan step s inputs k in let t = step r.0 inputs k in (t.0, r.1 ++ t.1 ∷ [])
+
+-- a recurrence over a block, with its state in `size` words from a place on: the words after it, and the samples
+abbrev pub recurred : {S : Type 0} → ℕ → (List ℕ → S) → (S → List ℕ) → (S → List (List ℤ) → ℕ → S × ℤ) → List ℕ → ℕ → List (List ℤ) → List ℕ × List ℤ
+recurred size loaded stored step ws at inputs = let r = scan step (loaded (window ws at size)) inputs 64 in (put ws at (stored r.0), r.1)
+
+-- 64 samples in words
+abbrev pub samples_at : List ℕ → ℕ → List ℤ
+samples_at ws at = table (λ k. sample_in (slice_index ws (at + k))) 64
+
+-- the words of a block after each was changed by its frame's sample
+abbrev pub changed : (ℕ → ℤ → ℕ) → List ℕ → ℕ → List ℤ → List ℕ
+changed f ws at xs = put ws at (table (λ k. f (slice_index ws (at + k)) (slice_index_or xs k (pos 0))) 64)

@@ -1,0 +1,6 @@
+pub mod Words
+pub mod Meetings
+pub mod Layout
+pub mod Blocks
+pub mod Frames
+pub mod Seen

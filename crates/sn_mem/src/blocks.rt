@@ -1,0 +1,104 @@
+//! Blocks of 64 samples.
+ghost use Rattle.std.specs.Prelude.{◌≡◌, ◌<◌, ◌≤◌, ◌+◌, ◌++◌, ◌∷◌, [], IfOk, length, replicate};
+ghost use Rattle.sn_mem.specs.Blocks.{sample, block};
+
+use sn_ports::NoMemory;
+use std::alloc::Global;
+use std::marker::Model;
+
+/// 64 samples in Q8.24, one a frame.
+pub type Block = [i32; 64];
+
+/// The most blocks of a list.
+pub const MOST_BLOCKS: usize = 512;
+
+/// A list of at most 512 blocks.
+#[derive(Drop)]
+pub struct Blocks {
+    items: Vec<Block>,
+    used: usize,
+}
+
+impl Model for Blocks {
+    ghost use Rattle.std.specs.Prelude.{List, ℤ, take, ◌≡◌, ◌≤◌, vec_len};
+
+    ghost Value = { List (List ℤ) };
+
+    ghost view = { λ b. take b.used b.items.items };
+
+    ghost invariant = { λ b. (vec_len b.items ≡ 512) × (b.used ≤ 512) };
+}
+
+impl Blocks {
+    /// No blocks, with room for 512.
+    pub fn new(alloc: Global) -> Result<Blocks, NoMemory>
+        ensures { IfOk result (λ b. b ≡ []) }
+    {
+        let items = vec![in alloc; [0i32; 64]; MOST_BLOCKS]?;
+        Ok(Blocks { items, used: 0 })
+    }
+
+    pub fn len(&self) -> usize
+        ensures value { result ≡ length self.now }
+        ensures bound { result ≤ 512 }
+    {
+        self.used
+    }
+
+    pub fn clear(&mut self)
+        ensures { self.new ≡ [] }
+    {
+        self.used = 0;
+    }
+
+    /// Puts a block at the end.
+    pub fn push(&mut self, samples: &Block)
+        requires { length self.old < 512 }
+        ensures { self.new ≡ self.old ++ samples.now ∷ [] }
+    {
+        self.items[self.used] = *samples;
+        self.used += 1;
+    }
+
+    /// Puts a block of 64 equal samples at the end.
+    pub fn push_equal(&mut self, value: i32)
+        requires { length self.old < 512 }
+        ensures { self.new ≡ self.old ++ replicate 64 value ∷ [] }
+    {
+        self.push(&[value; 64]);
+    }
+
+    /// Puts the blocks of another list at the end.
+    pub fn append(&mut self, other: &Blocks)
+        requires { length self.old + length other.now ≤ 512 }
+        ensures { self.new ≡ self.old ++ other.now }
+    {
+        for number in 0..other.len() {
+            self.push(other.block(number));
+        }
+    }
+
+    /// Makes it a list of so many blocks, whatever is in them.
+    pub fn resize(&mut self, count: usize)
+        requires { count ≤ 512 }
+        ensures { length self.new ≡ count }
+    {
+        self.used = count;
+    }
+
+    pub fn block(&self, number: usize) -> &Block
+        requires { number < length self.now }
+        ensures { result.now ≡ block self.now number }
+    {
+        &self.items[number]
+    }
+
+    /// The sample of a block at a frame.
+    pub fn at(&self, number: usize, frame: usize) -> i32
+        requires number { number < length self.now }
+        requires frame { frame < 64 }
+        ensures { result ≡ sample self.now number frame }
+    {
+        self.items[number][frame]
+    }
+}

@@ -1,0 +1,63 @@
+//! Runs of words, and the words that a job may read and write.
+ghost use Rattle.std.specs.Prelude.{◌≡◌, ◌++◌, ◌∷◌, [], OnOk, OnErr};
+
+use sn_ports::NoMemory;
+use std::alloc::Global;
+use std::marker::Model;
+
+/// The `len` words from word `at` on.
+#[derive(Clone, Copy)]
+pub struct Extent {
+    pub at: u32,
+    pub len: u32,
+}
+
+/// A list of extents.
+#[derive(Drop)]
+pub struct Extents {
+    items: Vec<Extent>,
+}
+
+impl Model for Extents {
+    ghost use Rattle.std.specs.Prelude.{List};
+    ghost use Rattle.sn_mem.specs.declared.extents.Extent.{Extent};
+
+    ghost Value = { List Extent };
+
+    ghost view = { λ s. s.items.items };
+}
+
+impl Extents {
+    /// No extents.
+    pub fn new(alloc: Global) -> Extents
+        ensures { result ≡ [] }
+    {
+        Extents {
+            items: Vec::new(alloc),
+        }
+    }
+
+    /// Puts an extent at the end. An `Err` changes nothing.
+    pub fn push(&mut self, extent: Extent) -> Result<(), NoMemory>
+        ensures ok { OnOk result (self.new ≡ self.old ++ extent ∷ []) }
+        ensures err { OnErr result (self.new ≡ self.old) }
+    {
+        self.items.push(extent)?;
+        Ok(())
+    }
+
+    pub fn as_slice(&self) -> &[Extent]
+        ensures { result.now ≡ self.now }
+    {
+        &self.items
+    }
+}
+
+/// The words that a job may read, and those that it may write.
+///
+/// A word that may be written may be read too.
+#[derive(Drop)]
+pub struct Foot {
+    pub reads: Extents,
+    pub writes: Extents,
+}

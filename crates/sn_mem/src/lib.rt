@@ -1,0 +1,33 @@
+//! Memory words: extents, feet, ports, and blocks of samples in them.
+#![tactic(auto)]
+
+mod blocks;
+mod bus_words;
+mod clashes;
+mod extents;
+mod framed;
+mod places;
+mod plain;
+mod port;
+mod recurrence;
+mod runs;
+mod samples;
+mod scratch;
+mod stored;
+
+pub use blocks::{Block, Blocks, MOST_BLOCKS};
+pub use bus_words::{Change, change_block};
+pub use clashes::clash;
+pub use extents::{Extent, Extents, Foot};
+pub use framed::{Framed, FramedRest};
+pub use places::Places;
+pub use plain::PlainPort;
+pub use port::Port;
+pub use recurrence::{Recurrence, run_recurrence};
+pub use runs::{load_words, store_words};
+pub use samples::{sample_of, word_of};
+pub use scratch::{Scratch, Values};
+pub use stored::Stored;
+
+#[cfg(test)]
+mod tests;

@@ -1,0 +1,57 @@
+//! Units that go from frame to frame with a small state.
+ghost use Rattle.std.specs.Prelude.{◌≡◌, ◌<◌, ◌≤◌, ◌∷◌, [], ℕ, ℤ, List, length};
+ghost use Rattle.sn_mem.specs.Words.{MayWrite};
+ghost use Rattle.sn_mem.specs.Blocks.{recurred};
+
+use crate::blocks::Blocks;
+use crate::port::Port;
+use crate::runs::{load_words, store_words};
+use crate::stored::Stored;
+
+/// A unit with one output, by its recurrence.
+pub trait Recurrence {
+    type State: Stored;
+
+    /// The number of its inputs.
+    ghost arity: { Self → ℕ };
+
+    /// From the state before a frame: the state after it, and the frame's sample.
+    ghost step: { Self → Self.State → List (List ℤ) → ℕ → Self.State × ℤ };
+
+    /// One frame.
+    fn next(&self, state: Self::State, inputs: &Blocks, frame: usize) -> (Self::State, i32)
+        requires inputs { arity self.now ≤ length inputs.now }
+        requires frame { frame < 64 }
+        ensures { result ≡ step self.now state inputs.now frame };
+}
+
+/// Runs a unit for a block, with its state in the words from `at` on.
+pub fn run_recurrence<U: Recurrence, P: Port>(
+    unit: &U,
+    port: &mut P,
+    at: u32,
+    inputs: &Blocks,
+    outputs: &mut Blocks,
+)
+    requires inputs { U.arity unit.now ≤ length inputs.now }
+    requires state { MayWrite (P.foot port.old) at U.State.size }
+    ensures words { P.words port.new ≡ (recurred U.State.size U.State.loaded U.State.stored (U.step unit.now) (P.words port.old) at inputs.now).0 }
+    ensures outputs { outputs.new ≡ (recurred U.State.size U.State.loaded U.State.stored (U.step unit.now) (P.words port.old) at inputs.now).1 ∷ [] }
+    ensures foot { P.foot port.new ≡ P.foot port.old }
+    ensures rest { P.rest port.new ≡ P.rest port.old }
+{
+    let mut words = [0u64; 8];
+    let words = &mut words[..U::State::size()];
+    load_words(port, at, words);
+    let mut state = U::State::load(words);
+    let mut samples = [0i32; 64];
+    for frame in 0..64 {
+        let (after, sample) = unit.next(state, inputs, frame);
+        state = after;
+        samples[frame] = sample;
+    }
+    outputs.clear();
+    outputs.push(&samples);
+    state.store(words);
+    store_words(port, at, words);
+}

@@ -1,0 +1,82 @@
+//! What a synth needs besides its port while it runs.
+ghost use Rattle.std.specs.Prelude.{◌≡◌, ◌<◌, ◌≤◌, ◌++◌, ◌∷◌, [], IfOk, length, pos, slice_index_or};
+
+use crate::blocks::Blocks;
+use sn_ports::NoMemory;
+use std::alloc::Global;
+use std::marker::Model;
+
+const MOST_VALUES: usize = 512;
+
+/// A list of at most 512 values in Q8.24.
+#[derive(Drop)]
+pub struct Values {
+    items: Vec<i32>,
+    used: usize,
+}
+
+impl Model for Values {
+    ghost use Rattle.std.specs.Prelude.{List, ℤ, take, ◌≡◌, ◌≤◌, vec_len};
+
+    ghost Value = { List ℤ };
+
+    ghost view = { λ v. take v.used v.items.items };
+
+    ghost invariant = { λ v. (vec_len v.items ≡ 512) × (v.used ≤ 512) };
+}
+
+impl Values {
+    /// No values, with room for 512.
+    pub fn new(alloc: Global) -> Result<Values, NoMemory>
+        ensures { IfOk result (λ v. v ≡ []) }
+    {
+        let items = vec![in alloc; 0i32; MOST_VALUES]?;
+        Ok(Values { items, used: 0 })
+    }
+
+    pub fn clear(&mut self)
+        ensures { self.new ≡ [] }
+    {
+        self.used = 0;
+    }
+
+    /// Puts a value at the end.
+    pub fn push(&mut self, value: i32)
+        requires { length self.old < 512 }
+        ensures { self.new ≡ self.old ++ value ∷ [] }
+    {
+        self.items[self.used] = value;
+        self.used += 1;
+    }
+
+    pub fn at(&self, number: usize) -> i32
+        requires { number < length self.now }
+        ensures { result ≡ slice_index_or self.now number (pos 0) }
+    {
+        self.items[number]
+    }
+}
+
+/// What a synth needs besides its port while it runs. What it holds between two runs means nothing.
+#[derive(Drop)]
+pub struct Scratch {
+    /// The outputs of the units so far.
+    pub wires: Blocks,
+    /// One unit's inputs.
+    pub inputs: Blocks,
+    /// One unit's outputs.
+    pub outputs: Blocks,
+    /// The values of the controls.
+    pub values: Values,
+}
+
+impl Scratch {
+    pub fn new(alloc: Global) -> Result<Scratch, NoMemory> {
+        Ok(Scratch {
+            wires: Blocks::new(alloc)?,
+            inputs: Blocks::new(alloc)?,
+            outputs: Blocks::new(alloc)?,
+            values: Values::new(alloc)?,
+        })
+    }
+}

@@ -1,0 +1,11 @@
+pub mod FirstPlace
+pub mod ArgumentLoop
+pub mod ShapeLemmas
+pub mod ElementLoop
+pub mod PacketStart
+pub mod Fields
+pub mod Messages
+pub mod PacketLaws
+pub mod Encoded
+pub mod Decoded
+pub mod Frames

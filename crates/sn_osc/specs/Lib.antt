@@ -1,0 +1,6 @@
+pub mod Shape
+pub mod Grammar
+pub mod Bytes
+pub mod Reading
+pub mod Framing
+pub mod Frames

@@ -1,0 +1,48 @@
+//! Laws of packets and frames, each a fact about all of them.
+ghost use Rattle.std.specs.Prelude.{◌≡◌, ◌≤◌, ◌<◌, ◌^◌, ◌*◌, ◌++◌, IsTrue, slice_index, List, [], ℕ, Ok, length};
+ghost use Rattle.sn_osc.specs.Shape.{Argument, MessageShape, Shape, arguments};
+ghost use Rattle.sn_osc.specs.Bytes.{message_bytes, packet_bytes, frame_bytes};
+ghost use Rattle.sn_osc.specs.Frames.{frame, is_frame_size, first_frame};
+ghost use Rattle.sn_osc.specs.Grammar.{Spells, IsSpellable};
+ghost use Rattle.sn_osc.specs.Reading.{FirstFault, read};
+ghost use Rattle.sn_osc.specs.declared.fault.PacketFault.{PacketFault};
+
+/// Each packet has one spelling.
+pub fn one_spelling()
+    ensures { (x : Shape) (bytes : List ℕ) → Spells x bytes → bytes ≡ packet_bytes x }
+{}
+
+/// Each spelling spells one packet.
+pub fn one_packet()
+    ensures { (x y : Shape) (bytes : List ℕ) → Spells x bytes → Spells y bytes → x ≡ y }
+{}
+
+/// What is encoded is decoded to the same shape, where it is no longer than a packet may be.
+pub fn decoded_again()
+    ensures { (x : Shape) → IsSpellable x → length (packet_bytes x) ≤ 65536 → read (packet_bytes x) ≡ Ok x }
+{}
+
+/// Bytes that spell a packet have no fault.
+pub fn no_fault()
+    ensures { (x : Shape) (bytes : List ℕ) (f : PacketFault) → length bytes ≤ 65536 → Spells x bytes → FirstFault bytes f.kind f.place → ⊥ }
+{}
+
+/// No frame begins another.
+pub fn no_prefix()
+    ensures { (a b rest : List ℕ) → length a < 2 ^ 32 → length b < 2 ^ 32 → frame_bytes a ++ rest ≡ frame_bytes b → rest ≡ [] }
+{}
+
+/// A frame at the front of a stream is found, whatever follows it: what is fed later changes no frame that is whole.
+pub fn frame_found()
+    ensures { (packet rest : List ℕ) → IsTrue (is_frame_size (length packet)) → first_frame (frame_bytes packet ++ rest) ≡ frame packet rest }
+{}
+
+/// A frame that is found stands at the front of the stream.
+pub fn frame_stands()
+    ensures { (bytes packet rest : List ℕ) → ((i : ℕ) → slice_index bytes i < 256) → first_frame bytes ≡ frame packet rest → bytes ≡ frame_bytes packet ++ rest }
+{}
+
+/// Each argument has 4 bytes or more.
+pub fn four_bytes_each()
+    ensures { (x : MessageShape) (xs : List Argument) → x.body ≡ arguments xs → 4 * length xs ≤ length (message_bytes x) }
+{}

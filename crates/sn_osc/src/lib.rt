@@ -1,0 +1,25 @@
+//! Packets of Open Sound Control 1.0.
+#![tactic(auto)]
+
+mod decoding;
+mod encoding;
+mod fault;
+mod frame;
+mod laws;
+mod lengths;
+mod packet;
+mod reading;
+mod spelling;
+#[cfg(test)]
+mod tests;
+
+pub use decoding::decode;
+pub use encoding::encode;
+pub use fault::{PacketFault, PacketKind, StreamFault, Undecoded};
+pub use frame::{Frame, Unframed};
+pub use laws::{
+    decoded_again, four_bytes_each, frame_found, frame_stands, no_fault, no_prefix, one_packet,
+    one_spelling,
+};
+pub use packet::{Arg, Args, Body, Bundle, Elements, Message, Packet};
+pub use spelling::spellable;

@@ -1,0 +1,4 @@
+pub mod Allowed
+pub mod Opening
+pub mod Pcm
+pub mod Sound

@@ -1,0 +1,12 @@
+//! Sound as bytes: the settings of a run, the header of a WAV file and its PCM samples.
+#![tactic(auto)]
+
+mod pcm;
+mod settings;
+#[cfg(test)]
+mod tests;
+mod wav;
+
+pub use pcm::{frames, pcm_length};
+pub use settings::Settings;
+pub use wav::{header, silent, too_long};

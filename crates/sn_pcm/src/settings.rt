@@ -1,0 +1,40 @@
+ghost use Rattle.std.specs.Prelude.{◌≡◌, IsTrue};
+ghost use Rattle.sn_pcm.specs.Allowed.{is_rate, is_width, is_within};
+
+/// How to render. Each field always holds a value that a run allows.
+#[derive(Debug, Drop)]
+pub struct Settings {
+    /// Frames a second: 44,100, 48,000 or 96,000.
+    pub rate: u32,
+    /// Channels of the sound: 1 to 8.
+    pub channels: u32,
+    /// Bits of a sample in the sound: 16 or 24.
+    pub bits: u32,
+    /// Workers that share a block: 1 to 16.
+    pub workers: u32,
+    /// Words of 8 bytes in the pool of buffers and unit states: 65,536 to 16,777,216.
+    pub memory: u32,
+    pub ghost rate_is: { IsTrue (is_rate rate) },
+    pub ghost channels_are: { IsTrue (is_within 1 8 channels) },
+    pub ghost bits_are: { IsTrue (is_width bits) },
+    pub ghost workers_are: { IsTrue (is_within 1 16 workers) },
+    pub ghost memory_is: { IsTrue (is_within 65536 16777216 memory) },
+}
+
+impl Settings {
+    ghost use Rattle.sn_pcm.specs.Opening.{opening};
+
+    /// The settings where nothing is chosen: 48,000 frames a second, 2 channels, 16 bits, 4 workers
+    /// and 1,048,576 words.
+    pub fn new() -> Self
+        ensures { result ≡ opening }
+    {
+        Settings {
+            rate: 48000,
+            channels: 2,
+            bits: 16,
+            workers: 4,
+            memory: 1048576,
+        }
+    }
+}

@@ -1,0 +1,9 @@
+pub mod LaidOut
+pub mod GapSteps
+pub mod FreeRuns
+pub mod FreeWords
+pub mod Trials
+pub mod Scanned
+pub mod BusesApart
+pub mod Counts
+pub mod SameExtents

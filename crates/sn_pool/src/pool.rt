@@ -1,0 +1,219 @@
+//! The pool.
+ghost use Rattle.std.specs.Prelude.{◌≡◌, ◌≢◌, ◌<◌, ◌≤◌, ◌+◌, ◌^◌, ◌↔◌, if◌then◌else◌, [], IfOk, IfErr, IsErrOf, AllPairs, Some, None, true, ℕ, List, length, remove};
+ghost use Rattle.sn_mem.specs.declared.extents.Extent.{Extent};
+ghost use Rattle.sn_pool.specs.Pools.{AreLaidOut, with_extent, without_extent, times, same_extent, mark_of, saved_of, room_of, one_given as one_given_of, LiesIn, AreDisjoint, GivesPlace};
+ghost use Rattle.sn_pool.specs.Represents.{journal_of};
+ghost use Rattle.sn_pool.specs.declared.pool.Untaken.TheVariants.{NoMemory};
+ghost use Rattle.sn_pool.specs.Regions.{LeastPlace, IsLongestRun, count_free, least_place};
+
+use crate::gaps::{first_gap, free_words, longest_gap};
+use sn_mem::Extent;
+use sn_ports::NoMemory;
+use std::alloc::{AllocFailed, Global};
+use std::marker::Model;
+use std::mem;
+
+/// Stands for an open journal. Only `begin` makes one, and `undo` or `commit` takes it.
+#[derive(Debug, Drop)]
+pub struct Mark {
+    number: u64,
+}
+
+/// Why the pool gave no words.
+#[derive(Clone, Copy, Debug, PartialEq, Eq)]
+pub enum Untaken {
+    /// No run of free words is long enough.
+    Full,
+    /// Memory ran out.
+    NoMemory,
+}
+
+impl<T: Drop> From<AllocFailed<T>> for Untaken {
+    ghost from_gives = { λ _ e. e ≡ NoMemory };
+
+    fn from(_: AllocFailed<T>) -> Self {
+        Untaken::NoMemory
+    }
+}
+
+/// The number of the open journal, and for how many more calls of `give_back` it has room.
+#[derive(Clone, Copy)]
+struct OpenJournal {
+    number: u64,
+    room: u32,
+}
+
+/// Where a live extent stands.
+fn index_of(live: &[Extent], extent: Extent) -> usize
+    requires laid_out { (from : ℕ) × (to : ℕ) × AreLaidOut from to live.now }
+    requires live { 0 < times extent live.now }
+    ensures within { result < length live.now }
+    ensures here { remove live.now result ≡ without_extent extent live.now }
+{
+    match live.binary_search_by_key(&extent.at, |other| other.at) {
+        Ok(index) => index,
+        Err(_) => unreachable!(),
+    }
+}
+
+/// The journal with room for one call fewer.
+fn one_given(journal: Option<OpenJournal>) -> Option<OpenJournal>
+    ensures { (saved : List Extent) → journal_of result saved ≡ one_given_of (journal_of journal saved) }
+{
+    match journal {
+        Some(open) => Some(OpenJournal {
+            number: open.number,
+            room: open.room.saturating_sub(1),
+        }),
+        None => None,
+    }
+}
+
+/// The allocator of a region of words: it always gives the least place that is free.
+///
+/// Contracts see its region, the live extents in the order of their places, and the open journal. The live extents lie in
+/// the region, have at least one word each, and no word is in two of them.
+#[derive(Drop)]
+pub struct Pool {
+    region: Extent,
+    // In the order of their places.
+    live: Vec<Extent>,
+    // Those that were live when the open journal began.
+    saved: Vec<Extent>,
+    journal: Option<OpenJournal>,
+    // The number of the last journal.
+    begun: u64,
+}
+
+impl Model for Pool {
+    ghost use Rattle.sn_pool.specs.Pools.{PoolState};
+
+    ghost Value = { PoolState };
+
+    ghost use Rattle.sn_pool.specs.Represents.{state_of, IsSound};
+
+    ghost view = { state_of };
+
+    ghost invariant = { IsSound };
+}
+
+impl Pool {
+    /// The pool of the `len` words from `base` on, all of them free.
+    pub fn new(alloc: Global, base: u32, len: u32) -> Result<Pool, NoMemory>
+        requires { base + len < 2 ^ 32 }
+        ensures { IfOk result (λ pool. pool ≡ record { region = record { at = base; len = len }; live = []; journal = None }) }
+    {
+        Ok(Pool {
+            region: Extent { at: base, len },
+            live: Vec::new(alloc),
+            saved: Vec::new(alloc),
+            journal: None,
+            begun: 0,
+        })
+    }
+
+    /// Begins a journal with room for `gives` calls of `give_back`, where none is open. After want of memory the pool is as
+    /// it was.
+    pub fn begin(&mut self, gives: u32) -> Result<Mark, NoMemory>
+        requires { self.old.journal ≡ None }
+        ensures begun { IfOk result (λ mark. self.new ≡ record self.old { journal = Some (record { mark = mark; saved = self.old.live; room = gives }) }) }
+        ensures refused { IfErr result (λ _. self.new ≡ self.old) }
+    {
+        self.saved.clear();
+        self.saved.extend_from_slice(&self.live)?;
+        self.begun = self.begun.wrapping_add(1);
+        let number = self.begun;
+        self.journal = Some(OpenJournal {
+            number,
+            room: gives,
+        });
+        Ok(Mark { number })
+    }
+
+    /// Takes `n` words, of which there is at least one, at the least place where they are free. `Full` comes exactly where
+    /// there is no such place. After a refusal the pool is as it was.
+    pub fn take(&mut self, n: u32) -> Result<Extent, Untaken>
+        requires { 1 ≤ n }
+        ensures least { IfOk result (λ extent. (extent.len ≡ n) × LeastPlace self.old.region self.old.live n (Some extent.at)) }
+        ensures taken { IfOk result (λ extent. self.new ≡ record self.old { live = with_extent extent self.old.live }) }
+        ensures counted { IfOk result (λ extent. (e : Extent) → times e self.new.live ≡ (if same_extent e extent then 1 else 0) + times e self.old.live) }
+        ensures full { IsErrOf result Untaken.Full ↔ LeastPlace self.old.region self.old.live n None }
+        ensures refused { IfErr result (λ _. self.new ≡ self.old) }
+        ensures by_trial { GivesPlace result (least_place self.old.region self.old.live n) }
+    {
+        let Some(gap) = first_gap(self.region, &self.live, n) else {
+            return Err(Untaken::Full);
+        };
+        let extent = Extent { at: gap.at, len: n };
+        self.live.insert(gap.index, extent)?;
+        Ok(extent)
+    }
+
+    /// Gives back a live extent, for which the open journal has room. It takes no memory.
+    #[tactic(auto, using(crate::proofs::Counts::times_without))]
+    pub fn give_back(&mut self, extent: Extent)
+        requires live { 0 < times extent self.old.live }
+        requires room { 0 < room_of self.old.journal }
+        ensures counted { (e : Extent) → times e self.old.live ≡ (if same_extent e extent then 1 else 0) + times e self.new.live }
+        ensures given { self.new ≡ record self.old { live = without_extent extent self.old.live; journal = one_given_of self.old.journal } }
+    {
+        let index = index_of(&self.live, extent);
+        self.live.remove(index);
+        self.journal = one_given(self.journal);
+    }
+
+    /// Ends the journal. The live extents are again those of `begin`. It takes no memory.
+    pub fn undo(&mut self, mark: Mark)
+        requires { mark_of self.old.journal ≡ Some mark }
+        ensures { self.new ≡ record self.old { live = saved_of self.old.journal; journal = None } }
+    {
+        mem::swap(&mut self.live, &mut self.saved);
+        self.journal = None;
+    }
+
+    /// Ends the journal. The live extents stay. It takes no memory.
+    pub fn commit(&mut self, mark: Mark)
+        requires { mark_of self.old.journal ≡ Some mark }
+        ensures { self.new ≡ record self.old { journal = None } }
+    {
+        self.journal = None;
+    }
+
+    /// The number of words of the longest run of free words.
+    pub fn largest(&self) -> u32
+        ensures { IsLongestRun self.now.region self.now.live result }
+    {
+        longest_gap(self.region, &self.live)
+    }
+
+    /// The number of free words.
+    pub fn free(&self) -> u32
+        ensures { result ≡ count_free self.now.live self.now.region.at self.now.region.len }
+    {
+        free_words(self.region, &self.live)
+    }
+
+    /// Tells what holds of the live extents of every pool, and does nothing.
+    pub fn layout(&self)
+        ensures inside { (e : Extent) → 0 < times e self.now.live → LiesIn self.now.region e × (1 ≤ e.len) }
+        ensures once { (e : Extent) → times e self.now.live ≤ 1 }
+        ensures disjoint { (a b : Extent) → 0 < times a self.now.live → 0 < times b self.now.live → a ≢ b → AreDisjoint a b }
+        ensures in_order { AllPairs (λ a b. a.at < b.at) self.now.live }
+    {
+        let _ = &self.live;
+    }
+
+    /// Whether the extent is live, for tests that have lost sight of it.
+    #[cfg(test)]
+    #[tactic(auto, using(crate::proofs::Counts::times_at))]
+    pub fn is_live(&self, extent: Extent) -> bool
+        ensures { result ≡ true → 0 < times extent self.now.live }
+    {
+        for other in &self.live {
+            if extent.at == other.at && extent.len == other.len {
+                return true;
+            }
+        }
+        false
+    }
+}

@@ -1,0 +1,82 @@
+ghost use Rattle.std.specs.Prelude.{◌≡◌};
+
+use crate::failed::Failed;
+use crate::traits::{Sink, Source};
+use std::io::{Read, Write};
+
+/// A source over any reader, as a file. It tells what the reader tells, and counts the reader's errors.
+#[derive(Debug, Drop)]
+pub struct FileSource<R: Read> {
+    inner: R,
+    faults: u64,
+}
+
+impl<R: Read> FileSource<R> {
+    /// A source that has not failed.
+    pub fn new(inner: R) -> Self
+        ensures { result ≡ record { inner = inner; faults = 0 } }
+    {
+        FileSource { inner, faults: 0 }
+    }
+}
+
+impl<R: Read> Source for FileSource<R> {
+    ghost left = { λ s. R.remaining s.inner };
+
+    ghost faults = { λ s. s.faults };
+
+    fn read(&mut self, into: &mut [u8]) -> Result<usize, Failed> {
+        match self.inner.read(into) {
+            Ok(count) => Ok(count),
+            Err(_) => {
+                self.faults = self.faults.saturating_add(1);
+                Err(Failed)
+            }
+        }
+    }
+}
+
+/// A sink over any writer, as a file. It tells what the writer tells, and counts the writer's errors.
+///
+/// A writer that takes nothing of a piece that isn't empty counts as failed.
+#[derive(Debug, Drop)]
+pub struct FileSink<W: Write> {
+    inner: W,
+    faults: u64,
+}
+
+impl<W: Write> FileSink<W> {
+    /// A sink that has not failed.
+    pub fn new(inner: W) -> Self
+        ensures { result ≡ record { inner = inner; faults = 0 } }
+    {
+        FileSink { inner, faults: 0 }
+    }
+
+    /// The writer.
+    pub fn into_inner(self) -> W
+        ensures { result ≡ self.inner }
+    {
+        self.inner
+    }
+}
+
+impl<W: Write> Sink for FileSink<W> {
+    ghost taken = { λ s. W.contents s.inner };
+
+    ghost faults = { λ s. s.faults };
+
+    fn write(&mut self, piece: &[u8]) -> Result<usize, Failed> {
+        match self.inner.write(piece) {
+            Ok(0) if !piece.is_empty() => {
+                self.faults = self.faults.saturating_add(1);
+                Err(Failed)
+            }
+            Ok(count) => Ok(count),
+            Err(_) => {
+                self.faults = self.faults.saturating_add(1);
+                Err(Failed)
+            }
+        }
+    }
+}

@@ -1,0 +1,4 @@
+pub mod Time
+pub mod Waiting
+pub mod Steps
+pub mod Meaning

@@ -1,0 +1,61 @@
+ghost use Rattle.std.specs.Prelude.{◌≡◌};
+ghost use Rattle.sn_queue.specs.declared.entry.Unput.TheVariants as unput;
+ghost use Rattle.sn_queue.specs.Meaning.{waiting_of, waiting_at};
+
+use crate::messages::Messages;
+use std::alloc::AllocFailed;
+
+/// Messages that act together, one after another.
+#[derive(Debug, Drop)]
+pub struct Entry {
+    /// When they act, as a time tag.
+    pub key: u128,
+    /// How many entries were put before.
+    pub number: u64,
+    /// The client that sent them.
+    pub from: u32,
+    pub messages: Messages,
+}
+
+/// Why an entry was not put.
+#[derive(Clone, Copy, Debug, PartialEq, Eq)]
+pub enum Unput {
+    /// As many entries wait as may.
+    QueueFull,
+    NoMemory,
+}
+
+impl<T: Drop> From<AllocFailed<T>> for Unput {
+    ghost from_gives = { λ _ e. e ≡ unput.NoMemory };
+
+    fn from(_: AllocFailed<T>) -> Self {
+        Unput::NoMemory
+    }
+}
+
+/// Where an entry stands in the order: by time, and at one time by arrival.
+#[derive(Clone, Copy, Debug, PartialEq, Eq, PartialOrd, Ord)]
+pub(crate) struct Place {
+    pub(crate) key: u128,
+    pub(crate) number: u64,
+}
+
+/// What waits at a place.
+#[derive(Debug, Drop)]
+pub(crate) struct Held {
+    pub(crate) from: u32,
+    pub(crate) messages: Messages,
+}
+
+impl Entry {
+    pub(crate) fn of(place: Place, held: Held) -> Self
+        ensures { waiting_of result ≡ waiting_at (place, held) }
+    {
+        Entry {
+            key: place.key,
+            number: place.number,
+            from: held.from,
+            messages: held.messages,
+        }
+    }
+}

@@ -1,0 +1,15 @@
+//! Entries that wait for their time. A queue means the plain list of its entries, in the order in which they act;
+//! it keeps an ordered map, so that putting and taking an entry costs the logarithm of the entries that wait.
+#![tactic(auto)]
+
+mod entry;
+mod messages;
+mod queue;
+#[cfg(test)]
+mod tests;
+mod time;
+
+pub use entry::{Entry, Unput};
+pub use messages::Messages;
+pub use queue::Queue;
+pub use time::{at, due};

@@ -1,0 +1,4 @@
+pub mod Replies
+pub mod Failing
+pub mod Sending
+pub mod Frames

@@ -1,0 +1,180 @@
+-- A run goes on from block to block, and ends.
+use Rattle.std.proofs.Common.{◌≡◌, ℕ, zero, suc, ◌+◌, ◌*◌, ◌/◌, Result, Ok, Err, OnOk, ℤ, pos, List, [], ◌∷◌, ◌++◌, length, replicate, Option, Some, None, refl, sym, ap, subst, ◌∙◌, append_assoc, append-nil, arith, Bool, true, false, eqb, ◌⊎◌, inl, inr, IsTrue}
+use Rattle.std.specs.List.{flat_map}
+use Rattle.std.proofs.lemmas.Bool.{eqb-true}
+use Rattle.std.specs.Io.KnownBytes.{Appends}
+use Rattle.std.proofs.KnownBytes.{Appends-trans}
+use Rattle.std.proofs.lemmas.List.{length-append, length-replicate}
+use Rattle.sn_pcm.specs.declared.settings.Settings.{Settings}
+use Rattle.sn_pcm.specs.Allowed.{is_width}
+use Rattle.sn_pcm.specs.Pcm.{pcm, sample_bytes, wav}
+use Rattle.sn_pcm.specs.Sound.{data_len, header_bytes}
+use Rattle.sn_pcm.proofs.PcmLemmas.{pcm_length_is}
+use Rattle.sn_queue.specs.Waiting.{WaitingList}
+use Rattle.sn_reply.specs.Frames.{frames_to}
+use Rattle.sn_world.specs.World.{World}
+use Rattle.sn_osc.specs.Shape.{Shape}
+use Rattle.sn_server.specs.Play.{Session, boundary, walk, blocks, outputs, turn_at, opening, arrived, begun, last_of, played, sound_of, replies_of}
+use Rattle.sn_server.specs.Running.{Running, at_boundary, with_block, turn_due}
+use Rattle.sn_server.specs.Going.{session_of, IsGoing, IsWritten, IsBlock, IsEnd, IsEnded}
+
+pub pcm-append : (s : Settings) (a b : List ℤ) → pcm s (a ++ b) ≡ pcm s a ++ pcm s b
+unfolding pcm
+pcm-append s [] b = refl
+pcm-append s (x ∷ a) b = ap (λ (t : List ℕ). sample_bytes s x ++ t) (pcm-append s a b) ∙ sym (append_assoc (sample_bytes s x) (pcm s a) (pcm s b))
+
+-- ---- an engine that holds what a session does
+
+same_turn : (p : Session) (r : Running) → r.world ≡ p.world → r.waiting ≡ p.waiting → turn_due r ≡ turn_at r.block p
+same_turn p r world waiting = ap (λ (w : World). turn_due (record r { world = w })) world ∙ ap (λ (q : WaitingList). turn_due (record r { world = p.world; waiting = q })) waiting
+
+boundary_waiting : (p : Session) (r : Running) → r.waiting ≡ p.waiting → (at_boundary r).waiting ≡ (boundary r.block p).waiting
+boundary_waiting p r waiting = ap (λ (q : WaitingList). (at_boundary (record r { waiting = q })).waiting) waiting
+
+boundary_replies : (p : Session) (r : Running) (out : List ℕ) → r.world ≡ p.world → r.waiting ≡ p.waiting → out ++ r.replies ≡ p.replies → out ++ (at_boundary r).replies ≡ (boundary r.block p).replies
+boundary_replies p r out world waiting so_far =
+    ap (λ t. out ++ (r.replies ++ frames_to 0 t.replies)) (same_turn p r world waiting)
+    ∙ sym (append_assoc out r.replies (frames_to 0 (turn_at r.block p).replies))
+    ∙ ap (λ (t : List ℕ). t ++ frames_to 0 (turn_at r.block p).replies) so_far
+
+-- ---- what was written
+
+nothing_more : (old : Option (List ℕ)) → Appends old old []
+nothing_more None = tt
+nothing_more (Some xs) = sym (append-nil xs)
+
+pub none_written : (bytes : List ℕ) (old : Option (List ℕ)) → IsWritten bytes bytes old old
+none_written bytes old = record { piece = []; parts = refl; taken = nothing_more old }
+
+pub all_written : (bytes : List ℕ) (old new : Option (List ℕ)) → Appends old new bytes → IsWritten bytes [] old new
+all_written bytes old new taken = record { piece = bytes; parts = sym (append-nil bytes); taken = taken }
+
+written_more : (out before after : List ℕ) (old mid new : Option (List ℕ)) → Appends old mid out → (w : IsWritten before after mid new) → Appends old new (out ++ w.piece)
+written_more out before after old mid new taken w = Appends-trans _ _ _ _ _ taken w.taken
+
+-- ---- from block to block
+
+pub begins : (s : Settings) (total : ℕ) (so ro : Option (List ℕ)) (r : Running) → IsGoing s r total total so so ro ro r
+unfolding pcm
+begins s total so ro r = record {
+  session = session_of r;
+  sound_out = [];
+  replies_out = [];
+  plays = refl;
+  count = refl;
+  world = refl;
+  waiting = refl;
+  sound = sym (append-nil r.sound);
+  replies = refl;
+  sound_taken = nothing_more so;
+  replies_taken = nothing_more ro;
+}
+
+pub goes_on : (s : Settings) (begun : Running) (total left : ℕ) (samples : List ℤ) (so sm sn ro rm rn : Option (List ℕ)) (old new : Running)
+    → samples ≡ outputs s old.world → IsGoing s begun total (suc left) so sm ro rm old → IsBlock s samples sm sn rm rn old new → IsGoing s begun total left so sn ro rn new
+goes_on s begun total left samples so sm sn ro rm rn old new are g b =
+    let p = g.session in
+    let next = walk s (boundary old.block p) in
+    let turn = same_turn p old g.world g.waiting in
+    let world : new.world ≡ next.world = b.world ∙ ap (λ t. t.world) turn in
+    record {
+      session = next;
+      sound_out = g.sound_out ++ b.sound.piece;
+      replies_out = g.replies_out ++ b.replies.piece;
+      plays = ap (λ (n : ℕ). blocks s left n next) b.block ∙ g.plays;
+      count = omega (arith, g.count, b.block);
+      world = world;
+      waiting = b.waiting ∙ boundary_waiting p old g.waiting;
+      sound =
+          append_assoc g.sound_out b.sound.piece new.sound
+          ∙ ap (λ (t : List ℕ). g.sound_out ++ t) (sym b.sound.parts)
+          ∙ sym (append_assoc g.sound_out old.sound (pcm s samples))
+          ∙ ap (λ (t : List ℕ). t ++ pcm s samples) g.sound
+          ∙ append_assoc begun.sound (pcm s p.samples) (pcm s samples)
+          ∙ ap (λ (t : List ℕ). begun.sound ++ t) (sym (pcm-append s p.samples samples))
+          ∙ ap (λ (t : List ℤ). begun.sound ++ pcm s (p.samples ++ t)) are;
+      replies =
+          append_assoc g.replies_out b.replies.piece new.replies
+          ∙ ap (λ (t : List ℕ). g.replies_out ++ t) (sym b.replies.parts)
+          ∙ boundary_replies p old g.replies_out g.world g.waiting g.replies;
+      sound_taken = written_more _ _ _ _ _ _ g.sound_taken b.sound;
+      replies_taken = written_more _ _ _ _ _ _ g.replies_taken b.replies;
+    }
+
+-- ---- the end
+
+-- so many samples are made
+samples_made : (s : Settings) (n b : ℕ) (p : Session) → length (blocks s n b p).samples ≡ length p.samples + n * (64 * s.channels)
+samples_made s zero b p = omega arith
+samples_made s (suc n) b p =
+    let more : length (p.samples ++ outputs s (boundary b p).world) ≡ length p.samples + 64 * s.channels = omega (arith, length-append p.samples (outputs s (boundary b p).world), length-replicate (64 * s.channels) (pos 0)) in
+    let rest : length (blocks s (suc n) b p).samples ≡ length (p.samples ++ outputs s (boundary b p).world) + n * (64 * s.channels) = samples_made s n (b + 1) (walk s (boundary b p)) in
+    omega (arith, more, rest)
+
+width_cases : (b : ℕ) → IsTrue (is_width b) → (b ≡ 16) ⊎ (b ≡ 24)
+width_cases b h = at (eqb b 16) refl (eqb b 24) refl h
+  where
+    at : (x : Bool) → eqb b 16 ≡ x → (y : Bool) → eqb b 24 ≡ y → IsTrue (is_width b) → (b ≡ 16) ⊎ (b ≡ 24)
+    at true p y q h = inl (eqb-true b 16 p)
+    at false p true q h = inr (eqb-true b 24 q)
+    at false p false q h = absurd cc
+
+-- a sample has whole bytes
+whole_bytes : (n c b k : ℕ) → (b ≡ 16) ⊎ (b ≡ 24) → k ≡ n * (64 * c) → k * (b / 8) ≡ n * 64 * c * b / 8
+whole_bytes n c b k width is = elim width [
+  | inl e ↦ rw e (omega (arith, is))
+  | inr e ↦ rw e (omega (arith, is))
+]
+
+data_made : (s : Settings) (n b : ℕ) (p : Session) → p.samples ≡ [] → length (pcm s (blocks s n b p).samples) ≡ data_len s n
+data_made s n b p none =
+    let samples = (blocks s n b p).samples in
+    let made : length samples ≡ n * (64 * s.channels) = omega (arith, samples_made s n b p, ap length none) in
+    pcm_length_is s samples ∙ whole_bytes n s.channels s.bits (length samples) (width_cases s.bits s.bits_are) made
+
+pub ended : (s : Settings) (begun : Running) (total : ℕ) (so sm sn ro rm rn : Option (List ℕ)) (r : Running) → IsGoing s begun total 0 so sm ro rm r → IsEnd sm sn rm rn r → IsEnded s begun total so sn ro rn
+ended s begun total so sm sn ro rm rn r g e =
+    let final = blocks s total begun.block (session_of begun) in
+    let at : r.block ≡ begun.block + total = omega (arith, g.count) in
+    record {
+      sound = subst (Appends so sn) (g.sound ∙ ap (λ (p : Session). begun.sound ++ pcm s p.samples) g.plays) (Appends-trans _ _ _ _ _ g.sound_taken e.sound);
+      replies = subst (Appends ro rn) (boundary_replies g.session r g.replies_out g.world g.waiting g.replies ∙ ap (λ (p : Session). (boundary r.block p).replies) g.plays ∙ ap (λ (n : ℕ). (boundary n final).replies) at) (Appends-trans _ _ _ _ _ g.replies_taken e.replies);
+    }
+
+abbrev make : World → WaitingList → List ℤ → List ℕ → Session
+make world waiting samples replies = record { world = world; waiting = waiting; samples = samples; replies = replies }
+
+-- an engine that opened and was offered all packets
+pub record IsOpened (s : Settings) (packets : List Shape) (r : Running) : Type 0 where
+  pub world : r.world ≡ opening
+  pub waiting : r.waiting ≡ arrived s packets
+  pub block : r.block ≡ 0
+  pub sound : r.sound ≡ header_bytes s (data_len s (last_of s packets))
+  pub replies : r.replies ≡ []
+
+-- has played them
+pub all_played : (s : Settings) (packets : List Shape) (r : Running) (so sn ro rn : Option (List ℕ)) → IsOpened s packets r → IsEnded s r (last_of s packets) so sn ro rn
+    → Appends so sn (sound_of s packets) × Appends ro rn (replies_of s packets)
+all_played s packets r so sn ro rn o e =
+    let last = last_of s packets in
+    let p : session_of r ≡ begun s packets = session_is (session_of r) (begun s packets) o.world o.waiting refl o.replies in
+    let final : blocks s last r.block (session_of r) ≡ blocks s last 0 (begun s packets) = ap (λ (n : ℕ). blocks s last n (session_of r)) o.block ∙ ap (blocks s last 0) p in
+    let size : data_len s last ≡ length (pcm s (blocks s last 0 (begun s packets)).samples) = sym (data_made s last 0 (begun s packets) refl) in
+    let head : r.sound ≡ header_bytes s (length (pcm s (blocks s last 0 (begun s packets)).samples)) = o.sound ∙ ap (header_bytes s) size in
+    let at : r.block + last ≡ last = omega (arith, o.block) in (
+      subst (Appends so sn) (ap (λ (q : Session). r.sound ++ pcm s q.samples) final ∙ ap (λ (t : List ℕ). t ++ pcm s (blocks s last 0 (begun s packets)).samples) head) e.sound,
+      subst (Appends ro rn) (ap (λ (q : Session). (boundary (r.block + last) q).replies) final ∙ ap (λ (n : ℕ). (boundary n (blocks s last 0 (begun s packets))).replies) at) e.replies,
+    )
+  where
+    session_is : (p q : Session) → p.world ≡ q.world → p.waiting ≡ q.waiting → p.samples ≡ q.samples → p.replies ≡ q.replies → p ≡ q
+    session_is p q a b c d =
+        ap (λ (w : World). make w p.waiting p.samples p.replies) a ∙ ap (λ (l : WaitingList). make q.world l p.samples p.replies) b
+        ∙ ap (λ (xs : List ℤ). make q.world q.waiting xs p.replies) c ∙ ap (λ (bs : List ℕ). make q.world q.waiting q.samples bs) d
+
+pub on_ok : {T E A B : Type 0} (r : Result T E) → (A → B) → OnOk r A → OnOk r B
+on_ok (Ok x) f h = f h
+on_ok (Err e) f h = tt
+
+-- the head of the sound was put where none was
+pub with_sound : (old new : Running) (head put : List ℕ) → old.sound ≡ [] → put ≡ head → new ≡ record old { sound = old.sound ++ put } → new ≡ record old { sound = head }
+with_sound old new head put none is becomes = becomes ∙ ap (λ (t : List ℕ). record old { sound = t ++ put }) none ∙ ap (λ (t : List ℕ). record old { sound = t }) is

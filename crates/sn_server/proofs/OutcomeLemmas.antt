@@ -1,0 +1,101 @@
+-- A stream has one answer, and what was played is what it gives.
+use Rattle.std.proofs.Common.{◌≡◌, ℕ, ◌+◌, ◌<◌, ◌≤◌, ◌⊎◌, List, [], ◌∷◌, ◌++◌, length, Option, Some, None, refl, sym, ap, subst, ◌∙◌, arith, inl, inr}
+use Rattle.std.specs.Prelude.{IfSome}
+use Rattle.std.specs.Io.KnownBytes.{Appends}
+use Rattle.sn_osc.specs.Shape.{Shape}
+use Rattle.sn_pcm.specs.declared.settings.Settings.{Settings}
+use Rattle.sn_pcm.specs.Sound.{data_len, header_bytes}
+use Rattle.sn_server.specs.declared.outcome.Outcome.{Outcome}
+use Rattle.sn_server.specs.declared.outcome.Outcome.TheVariants.{Done, NoMemory, BadWords, BadStream, LongStream, LongSound, ReadFault, SoundFault, ReplyFault}
+use Rattle.sn_server.specs.declared.stream.StreamFault.{StreamFault}
+use Rattle.sn_server.specs.Going.{IsEnded}
+use Rattle.sn_server.specs.Outcomes.{IsTooLong, HasAnswer, IsAnswer, Played}
+use Rattle.sn_server.specs.Play.{last_of, sound_of, replies_of, opening, arrived}
+use Rattle.sn_server.specs.Running.{Running}
+use Rattle.sn_server.specs.Stream.{Frames, StreamFaultAt}
+use Rattle.sn_server.proofs.StreamLemmas.{one_list, excluded, one_stream_fault}
+use Rattle.sn_server.proofs.GoingLemmas.{all_played}
+
+bad_alone : (bytes : List ℕ) (packets : List Shape) (number place : ℕ) (fault : StreamFault) → StreamFaultAt bytes number place fault → Frames packets bytes → ⊥
+bad_alone bytes packets number place fault s h = excluded packets s.before 0 bytes s.front s.rest place fault h s.frames s.parts s.why
+
+same_last : (s : Settings) (bytes : List ℕ) (xs ys : List Shape) (n m : ℕ) → Frames xs bytes → Frames ys bytes → n ≡ last_of s xs → m ≡ last_of s ys → n ≡ m
+same_last s bytes xs ys n m h h' a b = a ∙ ap (last_of s) (one_list xs ys bytes h h') ∙ sym b
+
+same_bad : (k k' p p' : ℕ) (f f' : StreamFault) → k ≡ k' → p ≡ p' → f ≡ f' → BadStream k p f ≡ BadStream k' p' f'
+same_bad k k' p p' f f' a b c = cc
+
+one_answer : (s : Settings) (bytes : List ℕ) (a b : Outcome) → HasAnswer s bytes a → HasAnswer s bytes b → a ≡ b
+one_answer s bytes NoMemory b h h' = absurd h
+one_answer s bytes (BadWords i) b h h' = absurd h
+one_answer s bytes ReadFault b h h' = absurd h
+one_answer s bytes SoundFault b h h' = absurd h
+one_answer s bytes ReplyFault b h h' = absurd h
+one_answer s bytes (LongStream n) (LongStream m) h h' = ap (λ k. LongStream k) (h.0 ∙ sym h'.0)
+one_answer s bytes (LongStream n) (BadStream packet place fault) h h' = absurd (omega (arith, h.1, h'.0))
+one_answer s bytes (LongStream n) (LongSound m) h h' = absurd (omega (arith, h.1, h'.0))
+one_answer s bytes (LongStream n) (Done m) h h' = absurd (omega (arith, h.1, h'.0))
+one_answer s bytes (LongStream n) b h h' = absurd h'
+one_answer s bytes (BadStream packet place fault) (LongStream m) h h' = absurd (omega (arith, h.0, h'.1))
+one_answer s bytes (BadStream packet place fault) (BadStream packet' place' fault') h h' =
+    let a = h.1 in
+    let b = h'.1 in
+    let same = one_stream_fault a.before b.before 0 a.front a.rest b.front b.rest place place' fault fault' a.frames b.frames (sym a.parts ∙ b.parts) a.why b.why in
+    same_bad packet packet' place place' fault fault' (sym a.count ∙ same.0 ∙ b.count) same.1 same.2
+one_answer s bytes (BadStream packet place fault) (LongSound m) h h' = let (xs, frames, last, long) = h'.1 in absurd (bad_alone bytes xs packet place fault h.1 frames)
+one_answer s bytes (BadStream packet place fault) (Done m) h h' = let (xs, frames, last, short) = h'.1 in absurd (bad_alone bytes xs packet place fault h.1 frames)
+one_answer s bytes (BadStream packet place fault) b h h' = absurd h'
+one_answer s bytes (LongSound n) (LongStream m) h h' = absurd (omega (arith, h.0, h'.1))
+one_answer s bytes (LongSound n) (BadStream packet place fault) h h' = let (xs, frames, last, long) = h.1 in absurd (bad_alone bytes xs packet place fault h'.1 frames)
+one_answer s bytes (LongSound n) (LongSound m) h h' =
+    let (xs, frames, last, long) = h.1 in
+    let (ys, frames', last', long') = h'.1 in
+    ap (λ k. LongSound k) (same_last s bytes xs ys n m frames frames' last last')
+one_answer s bytes (LongSound n) (Done m) h h' =
+    let (xs, frames, last, long) = h.1 in
+    let (ys, frames', last', short) = h'.1 in
+    absurd (short (subst (IsTooLong s) (same_last s bytes xs ys n m frames frames' last last') long))
+one_answer s bytes (LongSound n) b h h' = absurd h'
+one_answer s bytes (Done n) (LongStream m) h h' = absurd (omega (arith, h.0, h'.1))
+one_answer s bytes (Done n) (BadStream packet place fault) h h' = let (xs, frames, last, short) = h.1 in absurd (bad_alone bytes xs packet place fault h'.1 frames)
+one_answer s bytes (Done n) (LongSound m) h h' =
+    let (xs, frames, last, short) = h.1 in
+    let (ys, frames', last', long) = h'.1 in
+    absurd (short (subst (IsTooLong s) (same_last s bytes ys xs m n frames' frames last' last) long))
+one_answer s bytes (Done n) (Done m) h h' =
+    let (xs, frames, last, short) = h.1 in
+    let (ys, frames', last', short') = h'.1 in
+    ap (λ k. Done k) (same_last s bytes xs ys n m frames frames' last last')
+one_answer s bytes (Done n) b h h' = absurd h'
+
+told : (P : List ℕ → Type 0) (stream : Option (List ℕ)) (bytes : List ℕ) → stream ≡ Some bytes → IfSome stream P → P bytes
+told P stream bytes is h = subst (λ t. IfSome t P) is h
+
+pub complete : (s : Settings) (stream : Option (List ℕ)) (result answer : Outcome) (bytes : List ℕ) → IsAnswer s stream result → stream ≡ Some bytes → HasAnswer s bytes answer
+    → (result ≡ ReadFault → ⊥) → (result ≡ SoundFault → ⊥) → (result ≡ ReplyFault → ⊥) → (result ≡ answer) ⊎ (result ≡ NoMemory)
+complete s stream (Done n) answer bytes is some has read sound reply = inl (one_answer s bytes (Done n) answer (told (λ b. HasAnswer s b (Done n)) stream bytes some is) has)
+complete s stream (LongStream n) answer bytes is some has read sound reply = inl (one_answer s bytes (LongStream n) answer (told (λ b. HasAnswer s b (LongStream n)) stream bytes some is) has)
+complete s stream (LongSound n) answer bytes is some has read sound reply = inl (one_answer s bytes (LongSound n) answer (told (λ b. HasAnswer s b (LongSound n)) stream bytes some is) has)
+complete s stream (BadStream packet place fault) answer bytes is some has read sound reply = inl (one_answer s bytes (BadStream packet place fault) answer (told (λ b. HasAnswer s b (BadStream packet place fault)) stream bytes some is) has)
+complete s stream NoMemory answer bytes is some has read sound reply = inr refl
+complete s stream (BadWords i) answer bytes is some has read sound reply = absurd is
+complete s stream ReadFault answer bytes is some has read sound reply = absurd (read refl)
+complete s stream SoundFault answer bytes is some has read sound reply = absurd (sound refl)
+complete s stream ReplyFault answer bytes is some has read sound reply = absurd (reply refl)
+
+-- an engine at which all packets arrived
+abbrev pub arrived_engine : Settings → List Shape → Running
+arrived_engine s packets = record { world = opening; waiting = arrived s packets; block = 0; sound = []; replies = [] }
+
+done_is : (m n : ℕ) → Done m ≡ Done n → m ≡ n
+done_is m n e = cc
+
+pub done_played : (s : Settings) (stream so sn ro rn : Option (List ℕ)) (bytes : List ℕ) (packets : List Shape) (blocks n : ℕ) (e : Running)
+    → IfSome stream (λ xs. bytes ≡ xs) → Frames packets bytes → blocks ≡ last_of s packets → e ≡ arrived_engine s packets
+    → IsEnded s (record e { sound = header_bytes s (data_len s blocks) }) blocks so sn ro rn → Done blocks ≡ Done n → Played s stream n so sn ro rn
+done_played s None so sn ro rn bytes packets blocks n e are frames last is ended same = tt
+done_played s (Some stream) so sn ro rn bytes packets blocks n e are frames last is ended same =
+    let ended_last = subst (λ (k : ℕ). IsEnded s (record e { sound = header_bytes s (data_len s k) }) k so sn ro rn) last ended in
+    let begun = subst (λ (r : Running). IsEnded s (record r { sound = header_bytes s (data_len s (last_of s packets)) }) (last_of s packets) so sn ro rn) is ended_last in
+    let bytes_out = all_played s packets (record (arrived_engine s packets) { sound = header_bytes s (data_len s (last_of s packets)) }) so sn ro rn (record { world = refl; waiting = refl; block = refl; sound = refl; replies = refl }) begun in
+    (packets, subst (Frames packets) are frames, sym (done_is blocks n same) ∙ last, bytes_out.0, bytes_out.1)

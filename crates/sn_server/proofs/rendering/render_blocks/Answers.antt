@@ -1,0 +1,36 @@
+use Rattle.std.proofs.Common.{◌≡◌, ◌≤◌, ◌-◌, ◌+◌, ℕ, suc, subst, sym, ◌∙◌, arith, le_refl}
+use Rattle.sn_server.specs.Going.{IsGoing}
+use Rattle.sn_server.proofs.GoingLemmas.{begins, goes_on, ended, on_ok}
+use Rattle.sn_server.proofs.rendering.render_blocks.Goals as goal
+
+pub loop-number-init : goal.loop-number-init
+loop-number-init g c =
+    let s = c.args.settings.now in
+    let same : c.args.blocks ≡ c.args.blocks - 0 = omega arith in
+    record {
+      going = subst (λ n. IsGoing s c.args.engine c.args.blocks n (g.O.Sink.taken c.args.sound.now) (g.O.Sink.taken c.args.sound.now) (g.R.Sink.taken c.args.replies.now) (g.R.Sink.taken c.args.replies.now) c.args.engine) same
+          (begins s c.args.blocks (g.O.Sink.taken c.args.sound.now) (g.R.Sink.taken c.args.replies.now) c.args.engine);
+      sound_later = le_refl _;
+      reply_later = le_refl _;
+    }
+
+pub loop-number-preserved : goal.loop-number-preserved
+loop-number-preserved g c =
+    let s = c.args.settings.now in
+    let i = c.loop-number.invariant in
+    let left = c.args.blocks - (c.loop-number.number + 1) in
+    let more : c.args.blocks - c.loop-number.number ≡ suc left = omega (arith, c.loop-number-test.true) in
+    record {
+      going = goes_on s c.args.engine c.args.blocks left c.deref.result.now _ _ _ _ _ _ c.loop-number.engine c.render_block.new.engine (c.deref.ensures.value ∙ c.in_ok-samples.ensures)
+          (subst (λ n. IsGoing s c.args.engine c.args.blocks n (g.O.Sink.taken c.args.sound.now) (g.O.Sink.taken c.loop-number.sound) (g.R.Sink.taken c.args.replies.now) (g.R.Sink.taken c.loop-number.replies) c.loop-number.engine) more i.going)
+          c.in_ok-render_block.ensures.block;
+      sound_later = omega (arith, i.sound_later, c.render_block.ensures.sound_later);
+      reply_later = omega (arith, i.reply_later, c.render_block.ensures.reply_later);
+    }
+
+pub returns-clause-ended : goal.returns-clause-ended
+returns-clause-ended g c =
+    let s = c.args.settings.now in
+    let none : c.args.blocks - c.loop-number.number ≡ 0 = omega (arith, c.loop-number-test.false) in
+    let going = subst (λ n. IsGoing s c.args.engine c.args.blocks n (g.O.Sink.taken c.args.sound.now) (g.O.Sink.taken c.loop-number.sound) (g.R.Sink.taken c.args.replies.now) (g.R.Sink.taken c.loop-number.replies) c.loop-number.engine) none c.loop-number.invariant.going in
+    on_ok c.render_end.result (ended s c.args.engine c.args.blocks _ _ _ _ _ _ c.loop-number.engine going) c.render_end.ensures.end

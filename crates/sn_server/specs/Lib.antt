@@ -1,0 +1,9 @@
+pub mod Entries
+pub mod Stacks
+pub mod Stream
+pub mod Answerable
+pub mod Arriving
+pub mod Play
+pub mod Running
+pub mod Going
+pub mod Outcomes

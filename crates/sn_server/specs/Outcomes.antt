@@ -1,0 +1,55 @@
+-- What each outcome of a run says.
+use Rattle.std.specs.Prelude.{◌≡◌, ◌⊎◌, ◌<◌, ◌≤◌, ◌+◌, ℕ, List, length, Option, IfSome}
+use Rattle.std.specs.Io.KnownBytes.{Appends, Keeps}
+use Rattle.sn_osc.specs.Shape.{Shape}
+use Rattle.sn_pcm.specs.declared.settings.Settings.{Settings}
+use Rattle.sn_pcm.specs.Sound.{data_len}
+use Rattle.sn_server.specs.declared.outcome.Outcome.{Outcome}
+use Rattle.sn_server.specs.declared.outcome.Outcome.TheVariants.{Done, NoMemory, BadWords, BadStream, LongStream, LongSound, ReadFault, SoundFault, ReplyFault}
+use Rattle.sn_server.specs.Stream.{Frames, StreamFaultAt}
+use Rattle.sn_server.specs.Play.{last_of, sound_of, replies_of}
+
+-- the sound of so many blocks can't stand in a WAV header
+abbrev pub IsTooLong : Settings → ℕ → Type 0
+IsTooLong s blocks = 4294967295 < 36 + data_len s blocks
+
+-- The answer that the bytes of a stream have: it is too long, or has a first fault, or its sound is too long, or it is played.
+abbrev pub HasAnswer : Settings → List ℕ → Outcome → Type 0
+HasAnswer s bytes (LongStream n) = (n ≡ 16777217) × (16777216 < length bytes)
+HasAnswer s bytes (BadStream packet place fault) = (length bytes ≤ 16777216) × StreamFaultAt bytes packet place fault
+HasAnswer s bytes (LongSound n) = (length bytes ≤ 16777216) × ((packets : List Shape) × Frames packets bytes × (n ≡ last_of s packets) × IsTooLong s n)
+HasAnswer s bytes (Done n) = (length bytes ≤ 16777216) × ((packets : List Shape) × Frames packets bytes × (n ≡ last_of s packets) × (IsTooLong s n → ⊥))
+HasAnswer s bytes NoMemory = ⊥
+HasAnswer s bytes (BadWords i) = ⊥
+HasAnswer s bytes ReadFault = ⊥
+HasAnswer s bytes SoundFault = ⊥
+HasAnswer s bytes ReplyFault = ⊥
+
+-- an outcome of one of these four kinds is the stream's answer, where the source tells its bytes
+abbrev pub IsAnswer : Settings → Option (List ℕ) → Outcome → Type 0
+IsAnswer s stream (LongStream n) = IfSome stream (λ bytes. HasAnswer s bytes (LongStream n))
+IsAnswer s stream (BadStream packet place fault) = IfSome stream (λ bytes. HasAnswer s bytes (BadStream packet place fault))
+IsAnswer s stream (LongSound n) = IfSome stream (λ bytes. HasAnswer s bytes (LongSound n))
+IsAnswer s stream (Done n) = IfSome stream (λ bytes. HasAnswer s bytes (Done n))
+IsAnswer s stream NoMemory = Unit {0}
+IsAnswer s stream (BadWords i) = ⊥
+IsAnswer s stream ReadFault = Unit {0}
+IsAnswer s stream SoundFault = IfSome stream (λ bytes. (n : ℕ) × HasAnswer s bytes (Done n))
+IsAnswer s stream ReplyFault = IfSome stream (λ bytes. (n : ℕ) × HasAnswer s bytes (Done n))
+
+-- The stream is the frames of some packets, which give so many blocks, and each sink took what they give. Each is said where it is told.
+abbrev pub Played : Settings → Option (List ℕ) → ℕ → Option (List ℕ) → Option (List ℕ) → Option (List ℕ) → Option (List ℕ) → Type 0
+Played s stream blocks sound_old sound_new replies_old replies_new = IfSome stream (λ bytes. (packets : List Shape) × Frames packets bytes
+    × (blocks ≡ last_of s packets) × Appends sound_old sound_new (sound_of s packets) × Appends replies_old replies_new (replies_of s packets))
+
+-- both sinks are as they were where the stream or its length is refused, or the source failed
+abbrev pub IsUntouched : Outcome → Option (List ℕ) → Option (List ℕ) → Option (List ℕ) → Option (List ℕ) → Type 0
+IsUntouched (LongStream n) so sn ro rn = Keeps so sn × Keeps ro rn
+IsUntouched (BadStream packet place fault) so sn ro rn = Keeps so sn × Keeps ro rn
+IsUntouched (LongSound n) so sn ro rn = Keeps so sn × Keeps ro rn
+IsUntouched ReadFault so sn ro rn = Keeps so sn × Keeps ro rn
+IsUntouched (BadWords i) so sn ro rn = Keeps so sn × Keeps ro rn
+IsUntouched (Done n) so sn ro rn = Unit {0}
+IsUntouched NoMemory so sn ro rn = Unit {0}
+IsUntouched SoundFault so sn ro rn = Unit {0}
+IsUntouched ReplyFault so sn ro rn = Unit {0}

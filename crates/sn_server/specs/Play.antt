@@ -1,0 +1,106 @@
+-- What a stream of packets gives: the sequential walk.
+use Rattle.std.specs.Prelude.{ℕ, zero, suc, ◌+◌, ◌*◌, ℤ, pos, Bool, not, List, [], ◌∷◌, ◌++◌, map, replicate, filter, Option, None, unwrap_or}
+use Rattle.sn_osc.specs.Shape.{MessageShape, Shape}
+use Rattle.sn_pcm.specs.declared.settings.Settings.{Settings}
+use Rattle.sn_pcm.specs.Pcm.{wav}
+use Rattle.sn_queue.specs.Waiting.{Waiting, WaitingList}
+use Rattle.sn_queue.specs.Steps.{put, is_due, last_due}
+use Rattle.sn_reply.specs.Frames.{frames_to}
+use Rattle.sn_world.specs.World.{World, Turn, ControlBus}
+use Rattle.sn_world.specs.Commands.{command}
+use Rattle.sn_server.specs.Entries.{Timed, entries_of}
+
+-- what is played: the world, what waits, the samples of the sound so far, frame by frame, and the bytes of the replies so far
+pub record Session : Type 0 where
+  pub world : World
+  pub waiting : WaitingList
+  pub samples : List ℤ
+  pub replies : List ℕ
+
+-- every control bus holds 0, and no synth wrote it
+abbrev pub silent_bus : ControlBus
+silent_bus = record { written = 0; value = pos 0 }
+
+unfoldable pub opening : World
+opening = record { control_buses = replicate 1024 silent_bus }
+
+-- ---- a boundary
+
+-- messages of a client, one after another
+abbrev pub act_messages : ℕ → List MessageShape → Turn → Turn
+act_messages from [] t = t
+act_messages from (m ∷ ms) t = act_messages from ms (command from m t)
+
+-- entries, one after another, and never split
+abbrev pub act_entries : List Waiting → Turn → Turn
+act_entries [] t = t
+act_entries (w ∷ ws) t = act_entries ws (act_messages w.from w.messages t)
+
+-- the entries that are due at a boundary, and those that are not
+abbrev pub due_at : ℕ → WaitingList → List Waiting
+due_at b q = filter (is_due q b) q.waiting
+
+abbrev pub later_than : ℕ → WaitingList → List Waiting
+later_than b q = filter (λ w. not (is_due q b w)) q.waiting
+
+-- At boundary b the entries that are due act in their order.
+abbrev pub turn_at : ℕ → Session → Turn
+turn_at b s = act_entries (due_at b s.waiting) (record { world = s.world; replies = [] })
+
+abbrev pub boundary : ℕ → Session → Session
+boundary b s = record {
+  world = (turn_at b s).world;
+  waiting = record s.waiting { waiting = later_than b s.waiting };
+  samples = s.samples;
+  replies = s.replies ++ frames_to 0 (turn_at b s).replies;
+}
+
+-- ---- a block
+
+-- No unit is built yet, so no synth runs and no audio bus is written: each output bus gives 64 times 0.
+abbrev pub outputs : Settings → World → List ℤ
+outputs s w = replicate (64 * s.channels) (pos 0)
+
+abbrev pub walk : Settings → Session → Session
+walk s p = record p { samples = p.samples ++ outputs s p.world }
+
+-- ---- a run
+
+-- n blocks from block b on, each after its boundary
+abbrev pub blocks : Settings → ℕ → ℕ → Session → Session
+blocks s zero b p = p
+blocks s (suc n) b p = blocks s n (b + 1) (walk s (boundary b p))
+
+-- Entries that arrive at a boundary, from client 0, are put in the order of their numbers.
+abbrev pub put_all : ℕ → List Timed → WaitingList → WaitingList
+put_all b [] q = q
+put_all b (e ∷ es) q = put_all b es (put q e.tag b 0 e.messages)
+
+-- Packets arrive at boundary 0.
+abbrev pub arrive : List Shape → WaitingList → WaitingList
+arrive [] q = q
+arrive (x ∷ xs) q = arrive xs (put_all 0 (entries_of x) q)
+
+-- an empty list, where block 0 begins at time 0
+abbrev pub nothing_waits : Settings → WaitingList
+nothing_waits s = record { base = 0; rate = s.rate; limit = None; puts = 0; waiting = [] }
+
+abbrev pub arrived : Settings → List Shape → WaitingList
+arrived s packets = arrive packets (nothing_waits s)
+
+-- the number of blocks: the greatest due number
+abbrev pub last_of : Settings → List Shape → ℕ
+last_of s packets = unwrap_or (last_due (arrived s packets)) 0
+
+abbrev pub begun : Settings → List Shape → Session
+begun s packets = record { world = opening; waiting = arrived s packets; samples = []; replies = [] }
+
+-- all blocks, and the boundary after the last
+abbrev pub played : Settings → List Shape → Session
+played s packets = boundary (last_of s packets) (blocks s (last_of s packets) 0 (begun s packets))
+
+abbrev pub sound_of : Settings → List Shape → List ℕ
+sound_of s packets = wav s (played s packets).samples
+
+abbrev pub replies_of : Settings → List Shape → List ℕ
+replies_of s packets = (played s packets).replies

@@ -1,0 +1,161 @@
+ghost use Rattle.std.specs.Prelude.{◌≡◌, ◌<◌, ◌≤◌, ◌+◌, ◌*◌, ◌^◌, ℕ, pos, zero, List, map, length, replicate, IfOk, OnOk};
+ghost use Rattle.sn_osc.specs.Shape.{shape};
+ghost use Rattle.sn_ports.specs.Causes.{Rose};
+ghost use Rattle.sn_server.specs.Going.{IsBlock, IsEnd, IsEnded, IsWritten};
+ghost use Rattle.sn_server.specs.Running.{Running, at_boundary};
+ghost use Rattle.sn_server.specs.declared.rendering.Stop.TheVariants as stops;
+
+use crate::engine::Engine;
+use sn_pcm::Settings;
+use sn_ports::{NoMemory, Sink};
+use std::alloc::{AllocError, Global};
+
+/// How many bytes are gathered before they are written.
+const PIECE: usize = 16384;
+
+/// Why a run stopped before its end.
+#[derive(Clone, Copy, Debug, PartialEq, Eq)]
+pub enum Stop {
+    NoMemory,
+    SoundFault,
+    ReplyFault,
+}
+
+impl From<AllocError> for Stop {
+    ghost from_gives = { λ _ e. e ≡ stops.NoMemory };
+
+    fn from(_: AllocError) -> Self {
+        Stop::NoMemory
+    }
+}
+
+impl From<NoMemory> for Stop {
+    ghost from_gives = { λ _ e. e ≡ stops.NoMemory };
+
+    fn from(_: NoMemory) -> Self {
+        Stop::NoMemory
+    }
+}
+
+/// A block of silence: 64 frames of each channel.
+pub fn silent_block(alloc: Global, channels: u32) -> Result<Vec<i32>, AllocError>
+    requires { channels ≤ 8 }
+    ensures { IfOk result (λ v. v.items ≡ replicate (64 * channels) (pos 0)) }
+{
+    vec![in alloc; 0; 64 * channels as usize]
+}
+
+/// Writes the sound that was gathered, where it has `least` bytes.
+fn write_sound<O: Sink>(
+    alloc: Global,
+    engine: &mut Engine,
+    least: usize,
+    sink: &mut O,
+) -> Result<(), Stop>
+    ensures written { OnOk result (IsWritten engine.old.sound engine.new.sound (O.taken sink.old) (O.taken sink.new)) }
+    ensures kept { OnOk result (engine.new ≡ record engine.old { sound = engine.new.sound }) }
+    ensures memory { result ≡ Err Stop.NoMemory → ⊥ }
+    ensures reply { result ≡ Err Stop.ReplyFault → ⊥ }
+    ensures cause { result ≡ Err Stop.SoundFault → Rose (O.faults sink.old) (O.faults sink.new) }
+    ensures later { O.faults sink.old ≤ O.faults sink.new }
+{
+    if engine.sound_len() < least {
+        return Ok(());
+    }
+    match engine.drain_sound(alloc, sink) {
+        Ok(()) => Ok(()),
+        Err(_) => Err(Stop::SoundFault),
+    }
+}
+
+/// Writes the replies that were gathered, where they have `least` bytes.
+fn write_replies<R: Sink>(
+    alloc: Global,
+    engine: &mut Engine,
+    least: usize,
+    sink: &mut R,
+) -> Result<(), Stop>
+    ensures written { OnOk result (IsWritten engine.old.replies engine.new.replies (R.taken sink.old) (R.taken sink.new)) }
+    ensures kept { OnOk result (engine.new ≡ record engine.old { replies = engine.new.replies }) }
+    ensures memory { result ≡ Err Stop.NoMemory → ⊥ }
+    ensures sound { result ≡ Err Stop.SoundFault → ⊥ }
+    ensures cause { result ≡ Err Stop.ReplyFault → Rose (R.faults sink.old) (R.faults sink.new) }
+    ensures later { R.faults sink.old ≤ R.faults sink.new }
+{
+    if engine.replies_len() < least {
+        return Ok(());
+    }
+    match engine.drain_replies(alloc, sink) {
+        Ok(()) => Ok(()),
+        Err(_) => Err(Stop::ReplyFault),
+    }
+}
+
+/// A boundary, a block, and what of the bytes is enough for a piece.
+fn render_block<O: Sink, R: Sink>(
+    alloc: Global,
+    settings: &Settings,
+    samples: &[i32],
+    engine: &mut Engine,
+    sound: &mut O,
+    replies: &mut R,
+) -> Result<(), Stop>
+    requires block { engine.old.block < 2 ^ 62 }
+    requires few { length samples.now ≤ 512 }
+    ensures block { OnOk result (IsBlock settings.now samples.now (O.taken sound.old) (O.taken sound.new) (R.taken replies.old) (R.taken replies.new) engine.old engine.new) }
+    ensures sound { result ≡ Err Stop.SoundFault → Rose (O.faults sound.old) (O.faults sound.new) }
+    ensures reply { result ≡ Err Stop.ReplyFault → Rose (R.faults replies.old) (R.faults replies.new) }
+    ensures sound_later { O.faults sound.old ≤ O.faults sound.new }
+    ensures reply_later { R.faults replies.old ≤ R.faults replies.new }
+{
+    engine.boundary(alloc)?;
+    engine.block(settings, samples)?;
+    write_sound(alloc, engine, PIECE, sound)?;
+    write_replies(alloc, engine, PIECE, replies)
+}
+
+/// The boundary after the last block, and all bytes that are still to be written.
+fn render_end<O: Sink, R: Sink>(
+    alloc: Global,
+    engine: &mut Engine,
+    sound: &mut O,
+    replies: &mut R,
+) -> Result<(), Stop>
+    ensures end { OnOk result (IsEnd (O.taken sound.old) (O.taken sound.new) (R.taken replies.old) (R.taken replies.new) engine.old) }
+    ensures sound { result ≡ Err Stop.SoundFault → Rose (O.faults sound.old) (O.faults sound.new) }
+    ensures reply { result ≡ Err Stop.ReplyFault → Rose (R.faults replies.old) (R.faults replies.new) }
+    ensures sound_later { O.faults sound.old ≤ O.faults sound.new }
+    ensures reply_later { R.faults replies.old ≤ R.faults replies.new }
+{
+    engine.boundary(alloc)?;
+    match engine.drain_sound(alloc, sound) {
+        Ok(()) => {}
+        Err(_) => return Err(Stop::SoundFault),
+    }
+    match engine.drain_replies(alloc, replies) {
+        Ok(()) => Ok(()),
+        Err(_) => Err(Stop::ReplyFault),
+    }
+}
+
+/// Renders so many blocks, and the boundary after the last one.
+pub fn render_blocks<O: Sink, R: Sink>(
+    alloc: Global,
+    settings: &Settings,
+    blocks: u64,
+    mut engine: Engine,
+    sound: &mut O,
+    replies: &mut R,
+) -> Result<(), Stop>
+    requires begun { engine.block ≡ 0 }
+    requires blocks { blocks < 2 ^ 62 }
+    ensures ended { OnOk result (IsEnded settings.now engine blocks (O.taken sound.old) (O.taken sound.new) (R.taken replies.old) (R.taken replies.new)) }
+    ensures sound { result ≡ Err Stop.SoundFault → Rose (O.faults sound.old) (O.faults sound.new) }
+    ensures reply { result ≡ Err Stop.ReplyFault → Rose (R.faults replies.old) (R.faults replies.new) }
+{
+    let samples = silent_block(alloc, settings.channels)?;
+    for number in 0..blocks {
+        render_block(alloc, settings, &samples, &mut engine, sound, replies)?;
+    }
+    render_end(alloc, &mut engine, sound, replies)
+}

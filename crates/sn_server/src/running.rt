@@ -1,0 +1,148 @@
+ghost use Rattle.std.specs.Prelude.{◌≡◌, ◌⊎◌, ◌↔◌, ◌<◌, ◌≤◌, ◌+◌, ◌^◌, ℕ, List, [], Some, None, IfSome, IfOk, OnOk, length, map, unwrap_or};
+ghost use Rattle.std.specs.Io.KnownBytes.{IsAtEnd, Keeps};
+ghost use Rattle.sn_osc.specs.Shape.{shape};
+ghost use Rattle.sn_pcm.specs.Sound.{data_len, header_bytes};
+ghost use Rattle.sn_ports.specs.Causes.{Rose};
+ghost use Rattle.sn_server.specs.Arriving.{ArePut};
+ghost use Rattle.sn_server.specs.Going.{IsEnded};
+ghost use Rattle.sn_server.specs.Outcomes.{Played, IsTooLong, IsAnswer, HasAnswer, IsUntouched};
+ghost use Rattle.sn_server.specs.Play.{last_of, arrive, opening, nothing_waits, arrived};
+ghost use Rattle.sn_server.specs.Running.{Running};
+ghost use Rattle.sn_server.specs.Stream.{Frames, StreamFaultAt};
+ghost use Rattle.sn_server.specs.declared.outcome.Outcome.{Outcome};
+
+use crate::engine::Engine;
+use crate::outcome::Outcome;
+use crate::rendering::{Stop, render_blocks};
+use crate::stream::{Unframed, Unread, decode_stream, read_stream};
+use sn_osc::{Elements, Packet};
+use sn_pcm::{Settings, header, too_long};
+use sn_ports::{Gate, NoMemory, Sink, Source, Text};
+use std::alloc::Global;
+use std::thread::Threads;
+
+/// The most bytes of a stream.
+const MOST_BYTES: u64 = 16777216;
+
+/// Offers packets that arrive at boundary 0, in order.
+fn offer_all(alloc: Global, engine: &mut Engine, packets: Elements) -> Result<(), NoMemory>
+    requires block { engine.old.block ≡ 0 }
+    requires put { ArePut (map shape packets.items) engine.old.waiting.puts }
+    ensures { OnOk result (engine.new ≡ record engine.old { waiting = arrive (map shape packets.items) engine.old.waiting }) }
+{
+    for packet in packets {
+        engine.offer(alloc, packet)?;
+    }
+    Ok(())
+}
+
+/// An engine at boundary 0, at which all packets have arrived.
+fn opened(alloc: Global, settings: &Settings, packets: Elements) -> Result<Engine, NoMemory>
+    requires { ArePut (map shape packets.items) 0 }
+    ensures { IfOk result (λ e. e ≡ record { world = opening; waiting = arrived settings.now (map shape packets.items); block = 0; sound = []; replies = [] }) }
+{
+    let mut engine = Engine::open(alloc, settings)?;
+    offer_all(alloc, &mut engine, packets)?;
+    Ok(engine)
+}
+
+/// Writes the header and all blocks, and all replies.
+fn play<O: Sink, R: Sink>(
+    alloc: Global,
+    settings: &Settings,
+    blocks: u64,
+    mut engine: Engine,
+    sound: &mut O,
+    replies: &mut R,
+) -> Result<(), Stop>
+    requires begun { engine.block ≡ 0 }
+    requires silent { engine.sound ≡ [] }
+    requires short { IsTooLong settings.now blocks → ⊥ }
+    ensures ended { OnOk result (IsEnded settings.now (record engine { sound = header_bytes settings.now (data_len settings.now blocks) }) blocks (O.taken sound.old) (O.taken sound.new) (R.taken replies.old) (R.taken replies.new)) }
+    ensures sound { result ≡ Err Stop.SoundFault → Rose (O.faults sound.old) (O.faults sound.new) }
+    ensures reply { result ≡ Err Stop.ReplyFault → Rose (R.faults replies.old) (R.faults replies.new) }
+{
+    engine.put_sound(&header(settings, blocks))?;
+    render_blocks(alloc, settings, blocks, engine, sound, replies)
+}
+
+/// Reads, decodes and plays a stream.
+fn run_stream<S: Source, O: Sink, R: Sink>(
+    alloc: Global,
+    settings: &Settings,
+    source: &mut S,
+    sound: &mut O,
+    replies: &mut R,
+) -> Outcome
+    ensures answer { IsAnswer settings.now (S.left source.old) result }
+    ensures done { (n : ℕ) → result ≡ Outcome.Done n → Played settings.now (S.left source.old) n
+        (O.taken sound.old) (O.taken sound.new) (R.taken replies.old) (R.taken replies.new) }
+    ensures end { (n : ℕ) → result ≡ Outcome.Done n → IsAtEnd (S.left source.new) }
+    ensures read { result ≡ Outcome.ReadFault → Rose (S.faults source.old) (S.faults source.new) }
+    ensures sound { result ≡ Outcome.SoundFault → Rose (O.faults sound.old) (O.faults sound.new) }
+    ensures reply { result ≡ Outcome.ReplyFault → Rose (R.faults replies.old) (R.faults replies.new) }
+    ensures untouched { IsUntouched result (O.taken sound.old) (O.taken sound.new) (R.taken replies.old) (R.taken replies.new) }
+{
+    let bytes = match read_stream(alloc, source) {
+        Ok(bytes) => bytes,
+        Err(Unread::NoMemory) => return Outcome::NoMemory,
+        Err(Unread::TooLong) => return Outcome::LongStream {
+            bytes: MOST_BYTES + 1,
+        },
+        Err(Unread::Failed) => return Outcome::ReadFault,
+    };
+    let packets = match decode_stream(alloc, &bytes) {
+        Ok(packets) => packets,
+        Err(Unframed::NoMemory) => return Outcome::NoMemory,
+        Err(Unframed::Bad(bad)) => {
+            return Outcome::BadStream {
+                packet: bad.packet,
+                place: bad.place,
+                fault: bad.fault,
+            };
+        }
+    };
+    let Ok(engine) = opened(alloc, settings, packets) else {
+        return Outcome::NoMemory;
+    };
+    let blocks = engine.last().unwrap_or(0);
+    if too_long(settings, blocks) {
+        return Outcome::LongSound { blocks };
+    }
+    match play(alloc, settings, blocks, engine, sound, replies) {
+        Ok(()) => Outcome::Done { blocks },
+        Err(Stop::NoMemory) => Outcome::NoMemory,
+        Err(Stop::SoundFault) => Outcome::SoundFault,
+        Err(Stop::ReplyFault) => Outcome::ReplyFault,
+    }
+}
+
+/// Reads a stream to its end, decodes every packet, checks the length, and then writes the sound and the replies that it gives.
+///
+/// The first refusal in this order is the answer. Before rendering begins neither sink has taken a byte.
+pub fn render<H: Threads + Sync, S: Source, O: Sink, R: Sink, G: Gate>(
+    _rt: &H,
+    alloc: Global,
+    settings: &Settings,
+    source: &mut S,
+    sound: &mut O,
+    replies: &mut R,
+    _gate: &G,
+) -> Outcome
+    // What was done is the sequential walk of the stream, where the objects tell their bytes.
+    ensures done { (n : ℕ) → result ≡ Outcome.Done n → Played settings.now (S.left source.old) n
+        (O.taken sound.old) (O.taken sound.new) (R.taken replies.old) (R.taken replies.new) }
+    ensures end { (n : ℕ) → result ≡ Outcome.Done n → IsAtEnd (S.left source.new) }
+    // Every other answer but want of memory has its cause.
+    ensures answer { IsAnswer settings.now (S.left source.old) result }
+    ensures read { result ≡ Outcome.ReadFault → Rose (S.faults source.old) (S.faults source.new) }
+    ensures sound { result ≡ Outcome.SoundFault → Rose (O.faults sound.old) (O.faults sound.new) }
+    ensures reply { result ≡ Outcome.ReplyFault → Rose (R.faults replies.old) (R.faults replies.new) }
+    // Where no count rises, the answer is the one that the stream has, or want of memory.
+    ensures complete { (bytes : List ℕ) (answer : Outcome) → S.left source.old ≡ Some bytes → HasAnswer settings.now bytes answer → (Rose (S.faults source.old) (S.faults source.new) → ⊥)
+        → (Rose (O.faults sound.old) (O.faults sound.new) → ⊥) → (Rose (R.faults replies.old) (R.faults replies.new) → ⊥) → (result ≡ answer) ⊎ (result ≡ Outcome.NoMemory) }
+    // A refusal takes nothing.
+    ensures untouched { IsUntouched result (O.taken sound.old) (O.taken sound.new) (R.taken replies.old) (R.taken replies.new) }
+{
+    run_stream(alloc, settings, source, sound, replies)
+}

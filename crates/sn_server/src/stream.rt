@@ -1,0 +1,188 @@
+ghost use Rattle.std.specs.Prelude.{◌≡◌, ◌≤◌, ◌<◌, ◌+◌, ◌^◌, ◌++◌, List, ℕ, length, map, IfOk, IfErr, IfSome, OnOk, OnErr, MatchOption, IsTrue, ◌↔◌};
+ghost use Rattle.std.specs.Int.{w32, to_be_bytes};
+ghost use Rattle.std.specs.Io.KnownBytes.{IsAtEnd};
+ghost use Rattle.sn_ports.specs.Causes.{Rose};
+ghost use Rattle.sn_osc.specs.Shape.{Shape, shape};
+ghost use Rattle.sn_osc.specs.Grammar.{Spells};
+ghost use Rattle.sn_osc.specs.Reading.{size_in};
+ghost use Rattle.sn_server.specs.declared.stream.StreamFault.{StreamFault};
+ghost use Rattle.sn_server.specs.declared.stream.Unframed.TheVariants as unframed;
+ghost use Rattle.sn_server.specs.Stream.{IsFrameSize, Frames, FrameFault, StreamFaultAt, IfBad, IsFound, IsRefused};
+
+use sn_osc::{Elements, Packet, PacketKind, Undecoded, decode};
+use sn_ports::{NoMemory, Source, fill};
+use std::alloc::{AllocError, AllocFailed, Global};
+
+/// The most bytes of a stream.
+const MOST_BYTES: usize = 16777216;
+
+/// What is wrong with a stream.
+#[derive(Clone, Copy, Debug, PartialEq, Eq)]
+pub enum StreamFault {
+    /// The bytes of a frame spell no packet.
+    Packet(PacketKind),
+    /// The size of a frame is below 4, above 65,536 or no multiple of 4.
+    FrameSize,
+    /// The stream ends inside a frame or its size.
+    FrameCut,
+}
+
+/// The first frame that is at fault.
+#[derive(Clone, Copy, Debug, PartialEq, Eq)]
+pub struct BadFrame {
+    /// The number of its packet, from 0.
+    pub packet: u32,
+    /// The place of the fault, in bytes of the stream.
+    pub place: u64,
+    pub fault: StreamFault,
+}
+
+/// Why a stream gave no packets.
+#[derive(Clone, Copy, Debug, PartialEq, Eq)]
+pub enum Unframed {
+    NoMemory,
+    Bad(BadFrame),
+}
+
+impl<T: Drop> From<AllocFailed<T>> for Unframed {
+    ghost from_gives = { λ _ e. e ≡ unframed.NoMemory };
+
+    fn from(_: AllocFailed<T>) -> Self {
+        Unframed::NoMemory
+    }
+}
+
+/// Why a stream was not read.
+#[derive(Clone, Copy, Debug, PartialEq, Eq)]
+pub enum Unread {
+    NoMemory,
+    /// The stream has more bytes than may be.
+    TooLong,
+    /// The source failed.
+    Failed,
+}
+
+/// So many bytes to write over.
+fn room(alloc: Global, len: usize) -> Result<Vec<u8>, AllocError>
+    ensures { IfOk result (λ v. length v.items ≡ len) }
+{
+    vec![in alloc; 0; len]
+}
+
+/// Reads a stream to its end.
+///
+/// `TooLong` comes where 16,777,217 bytes were taken, and `Failed` only where the source's count of faults rose.
+pub fn read_stream<S: Source>(alloc: Global, source: &mut S) -> Result<Vec<u8>, Unread>
+    ensures bytes { IfOk result (λ v. IfSome (S.left source.old) (λ xs. v.items ≡ xs)) }
+    ensures end { OnOk result (IsAtEnd (S.left source.new)) }
+    ensures size { IfOk result (λ v. length v.items ≤ 16777216) }
+    ensures too_long { result ≡ Err Unread.TooLong → IfSome (S.left source.old) (λ xs. 16777216 < length xs) }
+    ensures failed { result ≡ Err Unread.Failed → Rose (S.faults source.old) (S.faults source.new) }
+{
+    let Ok(mut bytes) = room(alloc, MOST_BYTES + 1) else {
+        return Err(Unread::NoMemory);
+    };
+    let Ok(count) = fill(source, &mut bytes) else {
+        return Err(Unread::Failed);
+    };
+    if count > MOST_BYTES {
+        return Err(Unread::TooLong);
+    }
+    bytes.truncate(count);
+    Ok(bytes)
+}
+
+/// The size that a frame says.
+fn size_of(bytes: &[u8]) -> u32
+    requires { 4 ≤ length bytes.now }
+    ensures { result ≡ size_in bytes.now }
+{
+    u32::from_be_bytes([bytes[0], bytes[1], bytes[2], bytes[3]])
+}
+
+fn is_frame_size(size: u32) -> bool
+    ensures { IsTrue result ↔ IsFrameSize size }
+{
+    size >= 4 && size <= 65536 && size % 4 == 0
+}
+
+/// The bytes of the first frame's packet, and those behind it; or why there is no frame.
+fn first_frame(bytes: &[u8]) -> Result<(&[u8], &[u8]), StreamFault>
+    requires { 0 < length bytes.now }
+    ensures found { IfOk result (λ x. IsFrameSize (length x.0.now) × (bytes.now ≡ to_be_bytes w32 (length x.0.now) ++ x.0.now ++ x.1.now)) }
+    ensures fault { IfErr result (λ f. (at : ℕ) → FrameFault at bytes.now at f) }
+{
+    if bytes.len() < 4 {
+        return Err(StreamFault::FrameCut);
+    }
+    let size = size_of(bytes);
+    if !is_frame_size(size) {
+        return Err(StreamFault::FrameSize);
+    }
+    let rest = &bytes[4..];
+    if rest.len() < size as usize {
+        return Err(StreamFault::FrameCut);
+    }
+    Ok(rest.split_at(size as usize))
+}
+
+/// The first packet, and the bytes behind its frame. The bytes begin at the place `at` of the stream.
+fn first_packet(
+    alloc: Global,
+    number: u32,
+    at: u64,
+    bytes: &[u8],
+) -> Result<(Packet, &[u8]), Unframed>
+    requires some { 0 < length bytes.now }
+    requires short { at + length bytes.now ≤ 16777216 }
+    ensures found { IfOk result (λ x. (front : List ℕ) × IsFrameSize (length front) × Spells (shape x.0) front × (bytes.now ≡ to_be_bytes w32 (length front) ++ front ++ x.1.now)) }
+    ensures number { IfBad result (λ f. f.packet ≡ number) }
+    ensures fault { IfBad result (λ f. FrameFault at bytes.now f.place f.fault) }
+{
+    let (frame, rest) = match first_frame(bytes) {
+        Ok(parts) => parts,
+        Err(fault) => return Err(Unframed::Bad(BadFrame {
+            packet: number,
+            place: at,
+            fault,
+        })),
+    };
+    match decode(alloc, frame) {
+        Ok(packet) => Ok((packet, rest)),
+        Err(Undecoded::NoMemory) => Err(Unframed::NoMemory),
+        Err(Undecoded::Bad(fault)) => Err(Unframed::Bad(BadFrame {
+            packet: number,
+            place: at + 4 + u64::from(fault.place),
+            fault: StreamFault::Packet(fault.kind),
+        })),
+    }
+}
+
+/// Decodes frame after frame.
+fn decode_frames(alloc: Global, bytes: &[u8]) -> Result<Elements, Unframed>
+    requires { length bytes.now ≤ 16777216 }
+    ensures found { IfOk result (λ v. Frames (map shape v.items) bytes.now) }
+    ensures bad { IfBad result (λ f. StreamFaultAt bytes.now f.packet f.place f.fault) }
+{
+    let mut packets = Vec::new(alloc);
+    let mut rest = bytes;
+    while !rest.is_empty() {
+        let at = (bytes.len() - rest.len()) as u64;
+        let number = packets.len() as u32;
+        let (packet, after) = first_packet(alloc, number, at, rest)?;
+        packets.push(packet)?;
+        rest = after;
+    }
+    Ok(packets)
+}
+
+/// The packets of a stream, or its first fault. Each is the answer exactly where it is there, but for want of memory.
+pub fn decode_stream(alloc: Global, bytes: &[u8]) -> Result<Elements, Unframed>
+    requires { length bytes.now ≤ 16777216 }
+    ensures found { IfOk result (λ v. Frames (map shape v.items) bytes.now) }
+    ensures bad { IfBad result (λ f. StreamFaultAt bytes.now f.packet f.place f.fault) }
+    ensures only_found { (xs : List Shape) → Frames xs bytes.now → IsFound (λ v. map shape v.items) result xs }
+    ensures only_bad { (number place : ℕ) (fault : StreamFault) → StreamFaultAt bytes.now number place fault → IsRefused result number place fault }
+{
+    decode_frames(alloc, bytes)
+}

@@ -1,0 +1,33 @@
+-- What the answer of a command says.
+use Rattle.std.specs.Prelude.{◌≡◌, Option, Some, None, Result, Ok, Err}
+use Rattle.sn_ports.specs.declared.failed.NoMemory.{NoMemory}
+use Rattle.sn_reply.specs.declared.reason.Reason.{Reason}
+use Rattle.sn_world.specs.declared.command.Handled.{Handled}
+use Rattle.sn_world.specs.declared.command.Handled.TheVariants.{Done, Failed, NotMine}
+use Rattle.sn_world.specs.World.{Turn}
+
+-- Of a message's outcome by the rows of some commands, which is none where it is no such command: done, with the turn after it, or
+-- refused for a reason.
+abbrev pub Handles : Result Handled NoMemory → Option (Result Turn Reason) → Turn → Type 0
+Handles (Ok Done) outcome after = outcome ≡ Some (Ok after)
+Handles (Ok (Failed reason)) outcome after = outcome ≡ Some (Err reason)
+Handles (Ok NotMine) outcome after = outcome ≡ None
+Handles (Err e) outcome after = Unit {0}
+
+-- a fact for a message that was not carried out
+abbrev pub UnlessDone : Result Handled NoMemory → Type 0 → Type 0
+UnlessDone (Ok Done) P = Unit {0}
+UnlessDone (Ok (Failed reason)) P = P
+UnlessDone (Ok NotMine) P = P
+UnlessDone (Err e) P = P
+
+-- the same of one row: done, or refused for a reason
+abbrev pub Follows : Result (Option Reason) NoMemory → Result Turn Reason → Turn → Type 0
+Follows (Ok None) outcome after = outcome ≡ Ok after
+Follows (Ok (Some reason)) outcome after = outcome ≡ Err reason
+Follows (Err e) outcome after = Unit {0}
+
+abbrev pub UnlessFollowed : Result (Option Reason) NoMemory → Type 0 → Type 0
+UnlessFollowed (Ok None) P = Unit {0}
+UnlessFollowed (Ok (Some reason)) P = P
+UnlessFollowed (Err e) P = P

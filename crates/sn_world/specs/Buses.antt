@@ -1,0 +1,126 @@
+-- The commands on control buses, and `/sync`.
+use Rattle.std.specs.Prelude.{ℕ, suc, zero, ◌+◌, ℤ, pos, negsuc, Bool, true, false, not, ◌&&◌, List, [], ◌∷◌, ◌++◌, Option, Some, None, Result, Ok, Err, if◌then◌else◌, nat_lt, nat_le, codes}
+use Rattle.sn_osc.specs.Shape.{Argument, int, string, blob, arguments, MessageShape}
+use Rattle.sn_reply.specs.declared.reason.Reason.{Reason}
+use Rattle.sn_reply.specs.declared.reason.Reason.TheVariants.{Bus, Arguments}
+use Rattle.sn_world.specs.declared.repetition.BusNumber.{BusNumber}
+use Rattle.sn_world.specs.declared.repetition.BusValue.{BusValue}
+use Rattle.sn_world.specs.declared.repetition.BusRun.{BusRun}
+use Rattle.sn_world.specs.declared.repetition.BusFill.{BusFill}
+use Rattle.sn_world.specs.World.{World, Turn, ControlBus, replied}
+use Rattle.sn_world.specs.Rows.{first_of, row, question, singles, pairs, triples, some_of}
+
+-- There are 1,024 control buses.
+abbrev pub is_bus : ℤ → Bool
+is_bus (pos n) = nat_lt n 1024
+is_bus (negsuc n) = false
+
+-- The first bus of a run is one, also where the run is empty, and so is the last bus of a run that is not empty.
+abbrev pub is_run : ℤ → ℕ → Bool
+is_run (pos n) count = nat_lt n 1024 && nat_le (n + count) 1024
+is_run (negsuc n) count = false
+
+-- the reason against a bus, and that against a run
+abbrev pub bus_refusal : ℤ → Option Reason
+bus_refusal bus = first_of ((not (is_bus bus), Bus) ∷ [])
+
+abbrev pub run_refusal : ℤ → ℕ → Option Reason
+run_refusal bus count = first_of ((not (is_run bus count), Bus) ∷ [])
+
+-- the buses after a value was set
+abbrev pub with_value : List ControlBus → ℕ → ℤ → List ControlBus
+with_value [] n v = []
+with_value (b ∷ bs) zero v = record b { value = v } ∷ bs
+with_value (b ∷ bs) (suc n) v = b ∷ with_value bs n v
+
+abbrev pub set_bus : ℤ → ℤ → List ControlBus → List ControlBus
+set_bus (pos n) v buses = with_value buses n v
+set_bus (negsuc n) v buses = buses
+
+-- the value of a bus
+abbrev pub value_at : List ControlBus → ℕ → ℤ
+value_at [] n = pos 0
+value_at (b ∷ bs) zero = b.value
+value_at (b ∷ bs) (suc n) = value_at bs n
+
+abbrev pub value_of : World → ℤ → ℤ
+value_of w (pos n) = value_at w.control_buses n
+value_of w (negsuc n) = pos 0
+
+-- ---- `/c_set` (bus value)..
+
+abbrev pub bus_value : Argument → Argument → Option BusValue
+bus_value (int bus) (int value) = Some (record { bus = bus; value = value })
+bus_value (int bus) (string s) = None
+bus_value (int bus) (blob b) = None
+bus_value (string s) y = None
+bus_value (blob b) y = None
+
+abbrev pub judge_set : World → BusValue → Option Reason
+judge_set w r = bus_refusal r.bus
+
+abbrev pub act_set : BusValue → Turn → Turn
+act_set r t = record t { world = record t.world { control_buses = set_bus r.bus r.value t.world.control_buses } }
+
+abbrev pub set_row : ℕ → List Argument → Turn → Result Turn Reason
+set_row from xs = row judge_set act_set (some_of (pairs bus_value xs))
+
+-- ---- `/c_get` bus..
+
+abbrev pub bus_number : Argument → Option BusNumber
+bus_number (int bus) = Some (record { bus = bus })
+bus_number (string s) = None
+bus_number (blob b) = None
+
+abbrev pub judge_get : World → BusNumber → Option Reason
+judge_get w r = bus_refusal r.bus
+
+-- each bus and its value
+abbrev pub buses_and_values : World → List BusNumber → List Argument
+buses_and_values w [] = []
+buses_and_values w (r ∷ rs) = int r.bus ∷ int (value_of w r.bus) ∷ buses_and_values w rs
+
+-- `/c_set` (bus value)..
+abbrev pub answer_get : World → List BusNumber → MessageShape
+answer_get w rs = record { address = codes "/c_set"; body = arguments (buses_and_values w rs) }
+
+abbrev pub get_row : ℕ → List Argument → Turn → Result Turn Reason
+get_row from xs = question judge_get answer_get from (some_of (singles bus_number xs))
+
+-- ---- `/sync` n
+
+abbrev pub synced : ℤ → MessageShape
+synced n = record { address = codes "/synced"; body = arguments (int n ∷ []) }
+
+abbrev pub sync_number : List Argument → Option ℤ
+sync_number (int n ∷ []) = Some n
+sync_number _ = None
+
+abbrev pub sync_outcome : ℕ → Option ℤ → Turn → Result Turn Reason
+sync_outcome from None t = Err Arguments
+sync_outcome from (Some n) t = Ok (replied from (synced n) t)
+
+abbrev pub sync_row : ℕ → List Argument → Turn → Result Turn Reason
+sync_row from xs t = sync_outcome from (sync_number xs) t
+
+-- ---- runs of buses
+
+-- a bus and a count of 0 or more
+abbrev pub bus_run : Argument → Argument → Option BusRun
+bus_run (int bus) (int (pos count)) = Some (record { bus = bus; count = count })
+bus_run (int bus) (int (negsuc n)) = None
+bus_run (int bus) (string s) = None
+bus_run (int bus) (blob b) = None
+bus_run (string s) y = None
+bus_run (blob b) y = None
+
+-- a bus, a count of 0 or more, and a value
+abbrev pub bus_fill : Argument → Argument → Argument → Option BusFill
+bus_fill (int bus) (int (pos count)) (int value) = Some (record { bus = bus; count = count; value = value })
+bus_fill (int bus) (int (pos count)) (string s) = None
+bus_fill (int bus) (int (pos count)) (blob b) = None
+bus_fill (int bus) (int (negsuc n)) z = None
+bus_fill (int bus) (string s) z = None
+bus_fill (int bus) (blob b) z = None
+bus_fill (string s) y z = None
+bus_fill (blob b) y z = None

@@ -1,0 +1,23 @@
+use sn_reply::Reason;
+
+/// A command on control buses, or `/sync`.
+#[derive(Clone, Copy, Debug, PartialEq, Eq)]
+pub enum BusCommand {
+    /// `/c_set`
+    Set,
+    /// `/c_get`
+    Get,
+    /// `/sync`
+    Sync,
+}
+
+/// What a crate of commands did with a message.
+#[derive(Clone, Copy, Debug, PartialEq, Eq)]
+pub enum Handled {
+    /// The command was carried out.
+    Done,
+    /// The command is refused, and nothing has changed.
+    Failed(Reason),
+    /// The address is none of the crate's, and nothing has changed.
+    NotMine,
+}

@@ -1,0 +1,270 @@
+ghost use Rattle.std.specs.Prelude.{◌<◌, ◌^◌, length, IfOk};
+
+use crate::running::run;
+use sn_osc::PacketKind;
+use sn_ports::{Calls, MemorySink, MemorySource, NoMemory, Open, Text, Word};
+use sn_server::{Outcome, StreamFault};
+use std::test::Fail;
+use std::thread::Threads;
+
+/// A bundle at one second with `/c_get 3`, with its size.
+const QUESTION: [u8; 40] = [
+    0, 0, 0, 0x24, 0x23, 0x62, 0x75, 0x6e, 0x64, 0x6c, 0x65, 0, 0, 0, 0, 1, 0, 0, 0, 0, 0, 0, 0,
+    0x10, 0x2f, 0x63, 0x5f, 0x67, 0x65, 0x74, 0, 0, 0x2c, 0x69, 0, 0, 0, 0, 0, 3,
+];
+
+/// `/c_set 3 0`, with its size.
+const ANSWER: [u8; 24] = [
+    0, 0, 0, 0x14, 0x2f, 0x63, 0x5f, 0x73, 0x65, 0x74, 0, 0, 0x2c, 0x69, 0x69, 0, 0, 0, 0, 3, 0, 0,
+    0, 0,
+];
+
+/// The header of 750 blocks of two channels of 16 bits at 48,000 frames a second.
+const HEADER: [u8; 44] = [
+    0x52, 0x49, 0x46, 0x46, 0x24, 0xee, 0x02, 0x00, 0x57, 0x41, 0x56, 0x45, 0x66, 0x6d, 0x74, 0x20,
+    0x10, 0, 0, 0, 1, 0, 2, 0, 0x80, 0xbb, 0, 0, 0, 0xee, 0x02, 0, 4, 0, 0x10, 0, 0x64, 0x61, 0x74,
+    0x61, 0, 0xee, 0x02, 0,
+];
+
+/// `/sync 7`, with its size.
+const SYNC: [u8; 20] = [
+    0, 0, 0, 16, 47, 115, 121, 110, 99, 0, 0, 0, 44, 105, 0, 0, 0, 0, 0, 7,
+];
+
+/// `/synced 7`, with its size.
+const SYNCED: [u8; 20] = [
+    0, 0, 0, 16, 47, 115, 121, 110, 99, 101, 100, 0, 44, 105, 0, 0, 0, 0, 0, 7,
+];
+
+/// `[1: /sync 1]`, `[0: /sync 2]`.
+const EARLY: [u8; 80] = [
+    0, 0, 0, 36, 35, 98, 117, 110, 100, 108, 101, 0, 0, 0, 0, 0, 0, 0, 0, 1, 0, 0, 0, 16, 47, 115,
+    121, 110, 99, 0, 0, 0, 44, 105, 0, 0, 0, 0, 0, 1, 0, 0, 0, 36, 35, 98, 117, 110, 100, 108, 101,
+    0, 0, 0, 0, 0, 0, 0, 0, 0, 0, 0, 0, 16, 47, 115, 121, 110, 99, 0, 0, 0, 44, 105, 0, 0, 0, 0, 0,
+    2,
+];
+
+/// `/synced 1`, `/synced 2`.
+const EARLY_REPLIES: [u8; 40] = [
+    0, 0, 0, 16, 47, 115, 121, 110, 99, 101, 100, 0, 44, 105, 0, 0, 0, 0, 0, 1, 0, 0, 0, 16, 47,
+    115, 121, 110, 99, 101, 100, 0, 44, 105, 0, 0, 0, 0, 0, 2,
+];
+
+/// `[0: /c_set 3 5 4 6, /c_set 3 9 1024 1]`, `[1: /c_get 3 4]`.
+const BUSES: [u8; 136] = [
+    0, 0, 0, 88, 35, 98, 117, 110, 100, 108, 101, 0, 0, 0, 0, 0, 0, 0, 0, 0, 0, 0, 0, 32, 47, 99,
+    95, 115, 101, 116, 0, 0, 44, 105, 105, 105, 105, 0, 0, 0, 0, 0, 0, 3, 0, 0, 0, 5, 0, 0, 0, 4,
+    0, 0, 0, 6, 0, 0, 0, 32, 47, 99, 95, 115, 101, 116, 0, 0, 44, 105, 105, 105, 105, 0, 0, 0, 0,
+    0, 0, 3, 0, 0, 0, 9, 0, 0, 4, 0, 0, 0, 0, 1, 0, 0, 0, 40, 35, 98, 117, 110, 100, 108, 101, 0,
+    0, 0, 0, 0, 0, 0, 0, 1, 0, 0, 0, 20, 47, 99, 95, 103, 101, 116, 0, 0, 44, 105, 105, 0, 0, 0, 0,
+    3, 0, 0, 0, 4,
+];
+
+/// `/fail /c_set "bus"`, `/c_set 3 5 4 6`.
+const BUS_REPLIES: [u8; 64] = [
+    0, 0, 0, 24, 47, 102, 97, 105, 108, 0, 0, 0, 44, 115, 115, 0, 47, 99, 95, 115, 101, 116, 0, 0,
+    98, 117, 115, 0, 0, 0, 0, 32, 47, 99, 95, 115, 101, 116, 0, 0, 44, 105, 105, 105, 105, 0, 0, 0,
+    0, 0, 0, 3, 0, 0, 0, 5, 0, 0, 0, 4, 0, 0, 0, 6,
+];
+
+/// `[0: /sync 1, [0: /sync 2], /sync 3]`.
+const ENCLOSED: [u8; 100] = [
+    0, 0, 0, 96, 35, 98, 117, 110, 100, 108, 101, 0, 0, 0, 0, 0, 0, 0, 0, 0, 0, 0, 0, 16, 47, 115,
+    121, 110, 99, 0, 0, 0, 44, 105, 0, 0, 0, 0, 0, 1, 0, 0, 0, 36, 35, 98, 117, 110, 100, 108, 101,
+    0, 0, 0, 0, 0, 0, 0, 0, 0, 0, 0, 0, 16, 47, 115, 121, 110, 99, 0, 0, 0, 44, 105, 0, 0, 0, 0, 0,
+    2, 0, 0, 0, 16, 47, 115, 121, 110, 99, 0, 0, 0, 44, 105, 0, 0, 0, 0, 0, 3,
+];
+
+/// `/synced 1`, `/synced 3`, `/synced 2`.
+const ENCLOSED_REPLIES: [u8; 60] = [
+    0, 0, 0, 16, 47, 115, 121, 110, 99, 101, 100, 0, 44, 105, 0, 0, 0, 0, 0, 1, 0, 0, 0, 16, 47,
+    115, 121, 110, 99, 101, 100, 0, 44, 105, 0, 0, 0, 0, 0, 3, 0, 0, 0, 16, 47, 115, 121, 110, 99,
+    101, 100, 0, 44, 105, 0, 0, 0, 0, 0, 2,
+];
+
+/// `[0: /c_set with a float, /nothing 1, /sync, /sync 4]`.
+const REFUSED: [u8; 100] = [
+    0, 0, 0, 96, 35, 98, 117, 110, 100, 108, 101, 0, 0, 0, 0, 0, 0, 0, 0, 0, 0, 0, 0, 16, 47, 99,
+    95, 115, 101, 116, 0, 0, 44, 102, 0, 0, 63, 192, 0, 0, 0, 0, 0, 20, 47, 110, 111, 116, 104,
+    105, 110, 103, 0, 0, 0, 0, 44, 105, 0, 0, 0, 0, 0, 1, 0, 0, 0, 12, 47, 115, 121, 110, 99, 0, 0,
+    0, 44, 0, 0, 0, 0, 0, 0, 16, 47, 115, 121, 110, 99, 0, 0, 0, 44, 105, 0, 0, 0, 0, 0, 4,
+];
+
+/// Three `/fail` and `/synced 4`.
+const REFUSED_REPLIES: [u8; 140] = [
+    0, 0, 0, 36, 47, 102, 97, 105, 108, 0, 0, 0, 44, 115, 115, 0, 47, 99, 95, 115, 101, 116, 0, 0,
+    97, 114, 103, 117, 109, 101, 110, 116, 32, 116, 121, 112, 101, 0, 0, 0, 0, 0, 0, 40, 47, 102,
+    97, 105, 108, 0, 0, 0, 44, 115, 115, 0, 47, 110, 111, 116, 104, 105, 110, 103, 0, 0, 0, 0, 117,
+    110, 107, 110, 111, 119, 110, 32, 99, 111, 109, 109, 97, 110, 100, 0, 0, 0, 0, 32, 47, 102, 97,
+    105, 108, 0, 0, 0, 44, 115, 115, 0, 47, 115, 121, 110, 99, 0, 0, 0, 97, 114, 103, 117, 109,
+    101, 110, 116, 115, 0, 0, 0, 0, 0, 0, 16, 47, 115, 121, 110, 99, 101, 100, 0, 44, 105, 0, 0, 0,
+    0, 0, 4,
+];
+
+/// `/sync 7`, and a packet that begins with `A`.
+const SECOND_BAD: [u8; 28] = [
+    0, 0, 0, 16, 47, 115, 121, 110, 99, 0, 0, 0, 44, 105, 0, 0, 0, 0, 0, 7, 0, 0, 0, 4, 65, 0, 0, 0,
+];
+
+/// A bundle without messages, due at boundary 16,777,216.
+const LONG_SOUND: [u8; 20] = [
+    0, 0, 0, 16, 35, 98, 117, 110, 100, 108, 101, 0, 0, 0, 87, 97, 159, 15, 179, 139,
+];
+
+/// What a run over memory came to.
+#[derive(Drop)]
+struct Ran {
+    outcome: Outcome,
+    sound: MemorySink,
+    replies: MemorySink,
+}
+
+fn words<H: AllocGlobal>(rt: &H) -> Result<Vec<Word>, NoMemory>
+    ensures { IfOk result (λ v. length v.items < 2 ^ 32) }
+{
+    let mut words = Vec::new(rt.alloc());
+    words.push(Text::from_slice(rt.alloc(), b"render")?)?;
+    words.push(Text::from_slice(rt.alloc(), b"a")?)?;
+    words.push(Text::from_slice(rt.alloc(), b"b")?)?;
+    words.push(Text::from_slice(rt.alloc(), b"c")?)?;
+    Ok(words)
+}
+
+fn calls<H: AllocGlobal>(rt: &H, numbers: &[u32]) -> Result<Calls, NoMemory> {
+    Ok(Calls::from_vec(Vec::from_slice(rt.alloc(), numbers)?))
+}
+
+/// Runs a stream that is read in pieces, with the calls of the source and of the two sinks that fail.
+fn played<H: AllocGlobal + Threads + Sync>(
+    rt: &H,
+    stream: &[u8],
+    piece: u32,
+    fails: [&[u32]; 3],
+) -> Result<Ran, NoMemory> {
+    let alloc = rt.alloc();
+    let [read_fails, sound_fails, reply_fails] = fails;
+    let words = words(rt)?;
+    let bytes = Text::from_slice(alloc, stream)?;
+    let mut source = MemorySource::new(bytes, piece.max(1), calls(rt, read_fails)?);
+    let mut sound = MemorySink::new(alloc, 1000000, 1000, calls(rt, sound_fails)?)?;
+    let mut replies = MemorySink::new(alloc, 1000000, 7, calls(rt, reply_fails)?)?;
+    let outcome = run(
+        rt,
+        alloc,
+        &words,
+        &mut source,
+        &mut sound,
+        &mut replies,
+        &Open,
+    );
+    Ok(Ran {
+        outcome,
+        sound,
+        replies,
+    })
+}
+
+#[test]
+fn a_bundle_at_one_second(rt: HostRuntime) -> Result<(), Fail> {
+    for piece in [1, 7, 65536] {
+        let ran = played(&rt, &QUESTION, piece, [&[], &[], &[]])?;
+        assert_eq!(rt; ran.outcome, Outcome::Done { blocks: 750 });
+        let sound = ran.sound.taken();
+        assert_eq!(rt; sound.len(), 192044);
+        assert!(rt; sound.starts_with(&HEADER));
+        assert!(rt; sound.iter().skip(44).all(|b| *b == 0));
+        assert_eq!(rt; ran.replies.taken(), ANSWER.as_slice());
+    }
+    Ok(())
+}
+
+#[test]
+fn an_empty_stream_is_a_header(rt: HostRuntime) -> Result<(), Fail> {
+    let ran = played(&rt, &[], 1, [&[], &[], &[]])?;
+    assert_eq!(rt; ran.outcome, Outcome::Done { blocks: 0 });
+    assert_eq!(rt; ran.sound.taken().len(), 44);
+    assert!(rt; ran.sound.taken().starts_with(b"RIFF\x24\0\0\0WAVE"));
+    assert_eq!(rt; ran.replies.taken().len(), 0);
+    Ok(())
+}
+
+#[test]
+fn streams_and_their_replies(rt: HostRuntime) -> Result<(), Fail> {
+    let cases: [(&[u8], &[u8]); 5] = [
+        (&SYNC, &SYNCED),
+        (&EARLY, &EARLY_REPLIES),
+        (&BUSES, &BUS_REPLIES),
+        (&ENCLOSED, &ENCLOSED_REPLIES),
+        (&REFUSED, &REFUSED_REPLIES),
+    ];
+    for (stream, replies) in cases {
+        let ran = played(&rt, stream, 3, [&[], &[], &[]])?;
+        assert_eq!(rt; ran.outcome, Outcome::Done { blocks: 0 });
+        assert_eq!(rt; ran.replies.taken(), replies);
+    }
+    Ok(())
+}
+
+#[test]
+fn streams_that_are_refused(rt: HostRuntime) -> Result<(), Fail> {
+    let bad = |packet, place, fault| Outcome::BadStream {
+        packet,
+        place,
+        fault,
+    };
+    let start = StreamFault::Packet(PacketKind::Start);
+    let cases: [(&[u8], Outcome); 4] = [
+        (&[0, 0, 0, 6, 1], bad(0, 0, StreamFault::FrameSize)),
+        (&SYNC[..12], bad(0, 0, StreamFault::FrameCut)),
+        (&SECOND_BAD, bad(1, 24, start)),
+        (&LONG_SOUND, Outcome::LongSound { blocks: 16777216 }),
+    ];
+    for (stream, outcome) in cases {
+        let ran = played(&rt, stream, 5, [&[], &[], &[]])?;
+        assert_eq!(rt; ran.outcome, outcome);
+        assert_eq!(rt; ran.sound.taken().len(), 0);
+        assert_eq!(rt; ran.replies.taken().len(), 0);
+    }
+    Ok(())
+}
+
+#[test]
+fn a_long_stream_is_refused(rt: HostRuntime) -> Result<(), Fail> {
+    let stream = vec![in rt.alloc(); 0; 16777217]?;
+    let ran = played(&rt, &stream, 1000000, [&[], &[], &[]])?;
+    assert_eq!(rt; ran.outcome, Outcome::LongStream { bytes: 16777217 });
+    assert_eq!(rt; ran.sound.taken().len(), 0);
+    assert_eq!(rt; ran.replies.taken().len(), 0);
+    Ok(())
+}
+
+/// What comes of a run in which these calls fail.
+fn fault_of<H: AllocGlobal + Threads + Sync>(
+    rt: &H,
+    fails: [&[u32]; 3],
+) -> Result<Outcome, NoMemory> {
+    let ran = played(rt, &QUESTION, 16, fails)?;
+    Ok(ran.outcome)
+}
+
+#[test]
+fn a_source_that_fails(rt: HostRuntime) -> Result<(), Fail> {
+    assert_eq!(rt; fault_of(&rt, [&[0], &[], &[]])?, Outcome::ReadFault);
+    assert_eq!(rt; fault_of(&rt, [&[1], &[], &[]])?, Outcome::ReadFault);
+    Ok(())
+}
+
+#[test]
+fn a_sink_for_sound_that_fails(rt: HostRuntime) -> Result<(), Fail> {
+    assert_eq!(rt; fault_of(&rt, [&[], &[0], &[]])?, Outcome::SoundFault);
+    let ran = played(&rt, &QUESTION, 16, [&[], &[2], &[]])?;
+    assert_eq!(rt; ran.sound.taken().len(), 2000);
+    Ok(())
+}
+
+#[test]
+fn a_sink_for_replies_that_fails(rt: HostRuntime) -> Result<(), Fail> {
+    assert_eq!(rt; fault_of(&rt, [&[], &[], &[0]])?, Outcome::ReplyFault);
+    assert_eq!(rt; fault_of(&rt, [&[], &[], &[1]])?, Outcome::ReplyFault);
+    Ok(())
+}

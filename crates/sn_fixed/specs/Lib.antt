@@ -2,4 +2,5 @@ pub mod Fixed
 pub mod Laws
 pub mod Lines
 pub mod Literal
+pub mod Natural
 pub mod Sine

@@ -5,6 +5,7 @@ mod arithmetic;
 mod laws;
 mod lines;
 mod literals;
+mod naturals;
 mod phases;
 #[cfg(test)]
 mod tests;
@@ -16,4 +17,5 @@ pub use arithmetic::{
 pub use laws::{digits_read_back, literal_bytes};
 pub use lines::{line_at, portion};
 pub use literals::literal;
+pub use naturals::natural;
 pub use phases::{frames_of, sine, step_of};

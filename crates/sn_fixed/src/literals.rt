@@ -28,20 +28,20 @@ fn are_digits(digits: &[u8]) -> bool
     digits.iter().all(|digit| digit.is_ascii_digit())
 }
 
-fn is_zero(digits: &[u8]) -> bool
+pub(crate) fn is_zero(digits: &[u8]) -> bool
     ensures { result ≡ is_zero digits.now }
 {
     digits.len() == 1 && digits[0] == b'0'
 }
 
-fn is_positive(digits: &[u8]) -> bool
+pub(crate) fn is_positive(digits: &[u8]) -> bool
     ensures { result ≡ is_positive digits.now }
 {
     are_digits(digits) && digits.len() > 0 && digits[0] >= b'1'
 }
 
 /// The number of the digits, or `MOST` where it is greater.
-fn number(digits: &[u8]) -> u64
+pub(crate) fn number(digits: &[u8]) -> u64
     requires { IsTrue (list_all is_ascii_digit digits.now) }
     ensures { result ≡ min (digits_value 10 digits.now) 1000000000000 }
 {

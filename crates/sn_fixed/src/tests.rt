@@ -1,6 +1,6 @@
 use crate::{
-    ONE, add, added, frames_of, line_at, literal, mul, mul_add, portion, products, sat, sat_wide,
-    scaled, scaled_sample, sine, step_of, sub, times, total, weighted,
+    ONE, add, added, frames_of, line_at, literal, mul, mul_add, natural, portion, products, sat,
+    sat_wide, scaled, scaled_sample, sine, step_of, sub, times, total, weighted,
 };
 
 #[test]
@@ -58,4 +58,15 @@ fn literals(rt: HostRuntime) {
     assert_eq!(rt; literal(b"-0"), None);
     assert_eq!(rt; literal(b".5"), None);
     assert_eq!(rt; literal(b""), None);
+}
+
+#[test]
+fn naturals(rt: HostRuntime) {
+    assert_eq!(rt; natural(b"0"), Some(0));
+    assert_eq!(rt; natural(b"4294967295"), Some(4_294_967_295));
+    assert_eq!(rt; natural(b"4294967296"), None);
+    assert_eq!(rt; natural(b"100000000000000000000"), None);
+    assert_eq!(rt; natural(b"08"), None);
+    assert_eq!(rt; natural(b"+8"), None);
+    assert_eq!(rt; natural(b""), None);
 }

@@ -4,12 +4,12 @@
 ghost use Rattle.std.specs.Prelude.{◌<◌, ◌^◌, length};
 
 mod running;
-mod words;
 
 use running::run;
 use sn_osc::PacketKind;
 use sn_ports::{Calls, FileSink, FileSource, MemorySink, MemorySource, NoMemory, Open, Text, Word};
 use sn_server::{Outcome, StreamFault};
+use sn_words::settings;
 use std::process::ExitCode;
 use std::rt::{Env, Files};
 use std::thread::Threads;
@@ -92,7 +92,7 @@ fn outcome<H: Env + Files + AllocGlobal + Threads + Sync>(
         return Err(NoMemory);
     }
     match args.as_slice() {
-        [_, commands, sound, replies] if words::first_bad(&words).is_none() => {
+        [.., commands, sound, replies] if settings(&words).is_ok() => {
             let paths = [commands.as_str(), sound.as_str(), replies.as_str()];
             Ok(run_on_files(rt, &words, paths).ok())
         }

@@ -1,19 +1,21 @@
-ghost use Rattle.std.specs.Prelude.{◌≡◌, ◌⊎◌, ◌<◌, ◌^◌, ◌↔◌, ℕ, List, Some, None, length};
+ghost use Rattle.std.specs.Prelude.{◌≡◌, ◌⊎◌, ◌<◌, ◌^◌, ◌↔◌, ℕ, List, Some, Ok, Err, length};
 ghost use Rattle.std.specs.Io.KnownBytes.{IsAtEnd};
 ghost use Rattle.sn_ports.specs.Causes.{Rose};
-ghost use Rattle.sn_pcm.specs.Opening.{opening};
+ghost use Rattle.sn_pcm.specs.declared.settings.Settings.{Settings};
 ghost use Rattle.sn_server.specs.Outcomes.{Played, IsAnswer, HasAnswer, IsUntouched};
 ghost use Rattle.sn_server.specs.declared.outcome.Outcome.{Outcome};
-ghost use Rattle.snova.specs.Words.{texts, first_bad};
+ghost use Rattle.sn_words.specs.Choices.{numbers};
+ghost use Rattle.sn_words.specs.Words.{settings_of, bad_word};
+ghost use Rattle.snova.specs.Headline.{AreChosen, ByWords};
 
-use crate::words;
-use sn_pcm::Settings;
 use sn_ports::{Gate, Sink, Source, Word};
 use sn_server::{Outcome, render};
+use sn_words::settings;
 use std::alloc::Global;
 use std::thread::Threads;
 
-/// Does what the words say: reads a command stream, and writes the sound and the replies that it gives.
+/// Does what the words `render [key=value ..] COMMANDS SOUND REPLIES` say: reads a command stream, and writes the sound and the
+/// replies that it gives.
 pub fn run<H: Threads + Sync, S: Source, O: Sink, R: Sink, G: Gate>(
     rt: &H,
     alloc: Global,
@@ -25,28 +27,29 @@ pub fn run<H: Threads + Sync, S: Source, O: Sink, R: Sink, G: Gate>(
 ) -> Outcome
     requires { length words.now < 2 ^ 32 }
 
-    // What was done is the sequential walk of the stream, where the objects tell their bytes.
-    ensures done { (n : ℕ) → result ≡ Outcome.Done n → Played opening (S.left source.old) n
+    // What was done is the sequential walk of the stream, by the settings of the words, where the objects tell their bytes.
+    ensures done { (n : ℕ) → result ≡ Outcome.Done n → (s : Settings) × AreChosen words.now s × Played s (S.left source.old) n
         (O.taken sound.old) (O.taken sound.new) (R.taken replies.old) (R.taken replies.new) }
     ensures end { (n : ℕ) → result ≡ Outcome.Done n → IsAtEnd (S.left source.new) }
 
     // Every other answer but want of memory has its cause.
-    ensures words { (i : ℕ) → (result ≡ Outcome.BadWords i) ↔ (first_bad (texts words.now) ≡ Some i) }
-    ensures answer { first_bad (texts words.now) ≡ None → IsAnswer opening (S.left source.old) result }
+    ensures words { (i : ℕ) → (result ≡ Outcome.BadWords i) ↔ (settings_of words.now ≡ Err i) }
     ensures read { result ≡ Outcome.ReadFault → Rose (S.faults source.old) (S.faults source.new) }
     ensures sound { result ≡ Outcome.SoundFault → Rose (O.faults sound.old) (O.faults sound.new) }
     ensures reply { result ≡ Outcome.ReplyFault → Rose (R.faults replies.old) (R.faults replies.new) }
 
-    // Where the words are good and no count rises, the answer is the one that the stream has, or want of memory.
-    ensures complete { (bytes : List ℕ) (answer : Outcome) → first_bad (texts words.now) ≡ None → S.left source.old ≡ Some bytes → HasAnswer opening bytes answer
+    // Where the words choose settings, the answer is one that the stream has by them; and where no count rises, it is the one that
+    // the stream has, or want of memory.
+    ensures answer { ByWords words.now (λ s. IsAnswer s (S.left source.old) result) }
+    ensures complete { ByWords words.now (λ s. (bytes : List ℕ) (answer : Outcome) → S.left source.old ≡ Some bytes → HasAnswer s bytes answer
         → (Rose (S.faults source.old) (S.faults source.new) → ⊥) → (Rose (O.faults sound.old) (O.faults sound.new) → ⊥) → (Rose (R.faults replies.old) (R.faults replies.new) → ⊥)
-        → (result ≡ answer) ⊎ (result ≡ Outcome.NoMemory) }
+        → (result ≡ answer) ⊎ (result ≡ Outcome.NoMemory)) }
 
     // A refusal takes nothing.
     ensures untouched { IsUntouched result (O.taken sound.old) (O.taken sound.new) (R.taken replies.old) (R.taken replies.new) }
 {
-    if let Some(index) = words::first_bad(words) {
-        return Outcome::BadWords { index };
+    match settings(words) {
+        Ok(chosen) => render(rt, alloc, &chosen, source, sound, replies, gate),
+        Err(bad) => Outcome::BadWords { index: bad.index },
     }
-    render(rt, alloc, &Settings::new(), source, sound, replies, gate)
 }

@@ -1,5 +1,3 @@
-ghost use Rattle.std.specs.Prelude.{◌<◌, ◌^◌, length, IfOk};
-
 use crate::running::run;
 use sn_osc::PacketKind;
 use sn_ports::{Calls, MemorySink, MemorySource, NoMemory, Open, Text, Word};
@@ -111,6 +109,11 @@ const LONG_SOUND: [u8; 20] = [
     0, 0, 0, 16, 35, 98, 117, 110, 100, 108, 101, 0, 0, 0, 87, 97, 159, 15, 179, 139,
 ];
 
+/// A bundle without messages, due at boundary 2,796,203 of 96,000 frames a second.
+const LONG_FINE_SOUND: [u8; 20] = [
+    0, 0, 0, 16, 35, 98, 117, 110, 100, 108, 101, 0, 0, 0, 7, 72, 34, 165, 52, 145,
+];
+
 /// What a run over memory came to.
 #[derive(Drop)]
 struct Ran {
@@ -119,14 +122,11 @@ struct Ran {
     replies: MemorySink,
 }
 
-fn words<H: AllocGlobal>(rt: &H) -> Result<Vec<Word>, NoMemory>
-    ensures { IfOk result (λ v. length v.items < 2 ^ 32) }
-{
+fn words<H: AllocGlobal>(rt: &H, texts: &[&str]) -> Result<Vec<Word>, NoMemory> {
     let mut words = Vec::new(rt.alloc());
-    words.push(Text::from_slice(rt.alloc(), b"render")?)?;
-    words.push(Text::from_slice(rt.alloc(), b"a")?)?;
-    words.push(Text::from_slice(rt.alloc(), b"b")?)?;
-    words.push(Text::from_slice(rt.alloc(), b"c")?)?;
+    for text in texts {
+        words.push(Text::from_slice(rt.alloc(), text.as_bytes())?)?;
+    }
     Ok(words)
 }
 
@@ -135,15 +135,19 @@ fn calls<H: AllocGlobal>(rt: &H, numbers: &[u32]) -> Result<Calls, NoMemory> {
 }
 
 /// Runs a stream that is read in pieces, with the calls of the source and of the two sinks that fail.
-fn played<H: AllocGlobal + Threads + Sync>(
+fn run_by<H: AllocGlobal + Threads + Sync>(
     rt: &H,
+    texts: &[&str],
     stream: &[u8],
     piece: u32,
     fails: [&[u32]; 3],
 ) -> Result<Ran, NoMemory> {
     let alloc = rt.alloc();
     let [read_fails, sound_fails, reply_fails] = fails;
-    let words = words(rt)?;
+    let words = words(rt, texts)?;
+    if u32::try_from(words.len()).is_err() {
+        return Err(NoMemory);
+    }
     let bytes = Text::from_slice(alloc, stream)?;
     let mut source = MemorySource::new(bytes, piece.max(1), calls(rt, read_fails)?);
     let mut sound = MemorySink::new(alloc, 1000000, 1000, calls(rt, sound_fails)?)?;
@@ -162,6 +166,16 @@ fn played<H: AllocGlobal + Threads + Sync>(
         sound,
         replies,
     })
+}
+
+/// The same with the words `render a b c`.
+fn played<H: AllocGlobal + Threads + Sync>(
+    rt: &H,
+    stream: &[u8],
+    piece: u32,
+    fails: [&[u32]; 3],
+) -> Result<Ran, NoMemory> {
+    run_by(rt, &["render", "a", "b", "c"], stream, piece, fails)
 }
 
 #[test]
@@ -266,5 +280,65 @@ fn a_sink_for_sound_that_fails(rt: HostRuntime) -> Result<(), Fail> {
 fn a_sink_for_replies_that_fails(rt: HostRuntime) -> Result<(), Fail> {
     assert_eq!(rt; fault_of(&rt, [&[], &[], &[0]])?, Outcome::ReplyFault);
     assert_eq!(rt; fault_of(&rt, [&[], &[], &[1]])?, Outcome::ReplyFault);
+    Ok(())
+}
+
+/// What comes of the words, over one stream.
+fn outcome_of<H: AllocGlobal + Threads + Sync>(
+    rt: &H,
+    texts: &[&str],
+    stream: &[u8],
+) -> Result<Outcome, NoMemory> {
+    let ran = run_by(rt, texts, stream, 9, [&[], &[], &[]])?;
+    Ok(ran.outcome)
+}
+
+#[test]
+fn words_that_are_refused(rt: HostRuntime) -> Result<(), Fail> {
+    assert_eq!(rt;
+        outcome_of(&rt, &[], &QUESTION)?,
+        Outcome::BadWords { index: 0 }
+    );
+    let few = ["render", "a", "b"];
+    assert_eq!(rt;
+        outcome_of(&rt, &few, &QUESTION)?,
+        Outcome::BadWords { index: 3 }
+    );
+    Ok(())
+}
+
+#[test]
+fn settings_that_are_refused(rt: HostRuntime) -> Result<(), Fail> {
+    let rate = ["render", "rate=44000", "a", "b", "c"];
+    assert_eq!(rt;
+        outcome_of(&rt, &rate, &QUESTION)?,
+        Outcome::BadWords { index: 1 }
+    );
+    let twice = ["render", "bits=16", "bits=24", "a", "b", "c"];
+    assert_eq!(rt;
+        outcome_of(&rt, &twice, &QUESTION)?,
+        Outcome::BadWords { index: 2 }
+    );
+    Ok(())
+}
+
+#[test]
+fn words_choose_the_settings(rt: HostRuntime) -> Result<(), Fail> {
+    let slow = ["render", "rate=44100", "a", "b", "c"];
+    assert_eq!(rt;
+        outcome_of(&rt, &slow, &QUESTION)?,
+        Outcome::Done { blocks: 689 }
+    );
+    let fine = [
+        "render",
+        "rate=96000",
+        "channels=8",
+        "bits=24",
+        "a",
+        "b",
+        "c",
+    ];
+    let outcome = outcome_of(&rt, &fine, &LONG_FINE_SOUND)?;
+    assert_eq!(rt; outcome, Outcome::LongSound { blocks: 2796203 });
     Ok(())
 }

@@ -1,0 +1,82 @@
+-- Words `key=value`, and the settings that a list of them chooses.
+use Rattle.std.specs.Prelude.{ℕ, ◌+◌, ◌==◌, Bool, ◌&&◌, cond, List, [], ◌∷◌, ◌++◌, length, take, drop, position, codes, Option, Some, None, unwrap_or}
+use Rattle.std.specs.Option.{is_some, is_none, option_or}
+use Rattle.std.specs.List.{list_any}
+use Rattle.std.specs.Str.{bytes_eq}
+use Rattle.sn_ports.specs.Octets.{Octets}
+use Rattle.sn_fixed.specs.Natural.{natural}
+use Rattle.sn_pcm.specs.Allowed.{is_rate, is_width, is_within}
+use Rattle.sn_words.specs.declared.keys.Key.{Key}
+use Rattle.sn_words.specs.Choices.{Choices}
+
+abbrev pub keys : List Key
+keys = Key.Rate ∷ Key.Channels ∷ Key.Bits ∷ Key.Workers ∷ Key.Memory ∷ []
+
+abbrev pub name : Key → List ℕ
+name Key.Rate = codes "rate"
+name Key.Channels = codes "channels"
+name Key.Bits = codes "bits"
+name Key.Workers = codes "workers"
+name Key.Memory = codes "memory"
+
+-- the values that a key may have
+abbrev pub allows : Key → ℕ → Bool
+allows Key.Rate n = is_rate n
+allows Key.Channels n = is_within 1 8 n
+allows Key.Bits n = is_width n
+allows Key.Workers n = is_within 1 16 n
+allows Key.Memory n = is_within 65536 16777216 n
+
+-- its value where no word gives one
+abbrev pub default_value : Key → ℕ
+default_value Key.Rate = 48000
+default_value Key.Channels = 2
+default_value Key.Bits = 16
+default_value Key.Workers = 4
+default_value Key.Memory = 1048576
+
+-- a number as a value of the key
+abbrev pub allowed : Key → Option ℕ → Option ℕ
+allowed key (Some n) = cond (allows key n) (Some n) None
+allowed key None = None
+
+-- a word that is divided at its `=`, or has none
+abbrev pub value_at : Key → List ℕ → Option ℕ → Option ℕ
+value_at key word (Some at) = cond (bytes_eq (take at word) (name key)) (allowed key (natural (drop (at + 1) word))) None
+value_at key word None = None
+
+-- The value that a word `key=value` gives the key, where the key may have it; 61 is `=`.
+unfoldable pub value_in : Key → List ℕ → Option ℕ
+value_in key word = value_at key word (position (λ byte. byte == 61) word)
+
+-- The value that the first such word gives the key.
+unfoldable pub given : Key → List Octets → Option ℕ
+given key [] = None
+given key (word ∷ words) = option_or (value_in key word.bytes) (given key words)
+
+-- the word gives the key a value, and no word before it does
+abbrev pub adds : List Octets → List ℕ → Key → Bool
+adds before word key = is_some (value_in key word) && is_none (given key before)
+
+-- A word is good where it gives a value to a key to which the words before it give none.
+abbrev pub is_good : List Octets → List ℕ → Bool
+is_good before word = list_any (adds before word) keys
+
+-- The index of the first bad word, where the words before are good and further words follow them.
+unfoldable pub first_bad : List Octets → List Octets → Option ℕ
+first_bad before [] = None
+first_bad before (word ∷ words) = cond (is_good before word.bytes) (first_bad (before ++ word ∷ []) words) (Some (length before))
+
+-- the value of a setting
+abbrev pub value_of : List Octets → Key → ℕ
+value_of words key = unwrap_or (given key words) (default_value key)
+
+-- What good words choose.
+abbrev pub choices : List Octets → Choices
+choices words = record {
+  rate = value_of words Key.Rate;
+  channels = value_of words Key.Channels;
+  bits = value_of words Key.Bits;
+  workers = value_of words Key.Workers;
+  memory = value_of words Key.Memory;
+}

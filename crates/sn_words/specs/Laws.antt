@@ -1,0 +1,30 @@
+-- Laws about the first bad word, and about settings that no word chooses.
+use Rattle.std.specs.Prelude.{◌≡◌, ◌<◌, ℕ, Bool, true, false, List, [], length, get_or, take, Option, MatchOption}
+use Rattle.sn_ports.specs.Octets.{Octets}
+use Rattle.sn_pcm.specs.Opening.{opening}
+use Rattle.sn_words.specs.Choices.{numbers}
+use Rattle.sn_words.specs.Keys.{is_good, first_bad, choices}
+
+abbrev pub no_word : Octets
+no_word = record { bytes = []; spare = 0 }
+
+-- The word with this index is good after the words before it.
+abbrev pub is_good_at : List Octets → ℕ → Bool
+is_good_at words i = is_good (take i words) (get_or words i no_word).bytes
+
+abbrev pub AreGood : List Octets → ℕ → Type 0
+AreGood words n = (i : ℕ) → i < n → is_good_at words i ≡ true
+
+-- The word with this index is bad, and each word before it is good.
+abbrev pub IsFirstBad : List Octets → ℕ → Type 0
+IsFirstBad words i = (i < length words) × (is_good_at words i ≡ false) × AreGood words i
+
+-- Each word is good where there is no index; else the index is that of the first bad one.
+abbrev pub Tells : List Octets → Option ℕ → Type 0
+Tells words index = MatchOption index (AreGood words (length words)) (IsFirstBad words)
+
+abbrev pub FindsFirstBad : List Octets → Type 0
+FindsFirstBad words = Tells words (first_bad [] words)
+
+abbrev pub HasOpeningDefaults : Type 0
+HasOpeningDefaults = choices [] ≡ numbers opening

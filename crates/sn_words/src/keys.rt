@@ -1,0 +1,92 @@
+//! The settings, and words `key=value`.
+ghost use Rattle.std.specs.Prelude.{◌≡◌, ◌==◌, position, IsTrue, IfSome};
+ghost use Rattle.sn_words.specs.Keys.{name, allows, default_value, allowed, value_in};
+
+use sn_fixed::natural;
+
+/// A setting that a word may choose.
+#[derive(Clone, Copy, Debug)]
+pub(crate) enum Key {
+    /// Frames a second.
+    Rate,
+    /// Channels of the sound.
+    Channels,
+    /// Bits of a sample in the sound.
+    Bits,
+    /// Workers that share a block.
+    Workers,
+    /// Words of 8 bytes in the pool.
+    Memory,
+}
+
+impl Key {
+    /// What stands before the `=`.
+    fn name(self) -> &'static [u8]
+        ensures { result.now ≡ name self }
+    {
+        match self {
+            Key::Rate => b"rate",
+            Key::Channels => b"channels",
+            Key::Bits => b"bits",
+            Key::Workers => b"workers",
+            Key::Memory => b"memory",
+        }
+    }
+
+    fn allows(self, value: u32) -> bool
+        ensures { result ≡ allows self value }
+    {
+        match self {
+            Key::Rate => value == 44_100 || value == 48_000 || value == 96_000,
+            Key::Channels => 1 <= value && value <= 8,
+            Key::Bits => value == 16 || value == 24,
+            Key::Workers => 1 <= value && value <= 16,
+            Key::Memory => 65_536 <= value && value <= 16_777_216,
+        }
+    }
+
+    /// The value where no word gives one.
+    pub(crate) fn default_value(self) -> u32
+        ensures value { result ≡ default_value self }
+        ensures allowed { IsTrue (allows self result) }
+    {
+        match self {
+            Key::Rate => 48_000,
+            Key::Channels => 2,
+            Key::Bits => 16,
+            Key::Workers => 4,
+            Key::Memory => 1_048_576,
+        }
+    }
+
+    fn allowed(self, number: Option<u32>) -> Option<u32>
+        ensures value { result ≡ allowed self number }
+        ensures allowed { IfSome result (λ n. IsTrue (allows self n)) }
+    {
+        match number {
+            Some(number) if self.allows(number) => Some(number),
+            _ => None,
+        }
+    }
+
+    /// The value that a word `key=value` gives this key, where the key may have it.
+    #[tactic(auto, unfolding(crate::specs::Keys::value_in))]
+    pub(crate) fn value_in(self, word: &[u8]) -> Option<u32>
+        ensures value { result ≡ value_in self word.now }
+        ensures allowed { IfSome result (λ n. IsTrue (allows self n)) }
+    {
+        let at = equals_sign(word)?;
+        if &word[..at] == self.name() {
+            self.allowed(natural(&word[at + 1..]))
+        } else {
+            None
+        }
+    }
+}
+
+/// The index of the first `=`.
+fn equals_sign(word: &[u8]) -> Option<usize>
+    ensures { result ≡ position (λ byte. byte == 61) word.now }
+{
+    word.iter().position(|byte| *byte == b'=')
+}

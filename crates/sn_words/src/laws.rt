@@ -1,0 +1,15 @@
+//! Laws about the definitions of this crate. Each function's contract is one law.
+ghost use Rattle.std.specs.Prelude.{List};
+ghost use Rattle.sn_ports.specs.Octets.{Octets};
+ghost use Rattle.sn_words.specs.Laws.{FindsFirstBad, HasOpeningDefaults};
+
+/// The index of the first bad word is that of a bad word, and each word before it is good. Where
+/// there is no such index, each word is good.
+pub fn first_bad_word()
+    ensures { (words : List Octets) → FindsFirstBad words }
+{}
+
+/// Where no word gives a value, the settings are those of `Settings::new`.
+pub fn defaults_stand()
+    ensures { HasOpeningDefaults }
+{}

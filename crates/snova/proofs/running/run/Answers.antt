@@ -1,0 +1,11 @@
+use Rattle.snova.proofs.ByWordsLemmas.{by_words}
+use Rattle.snova.proofs.running.run.Goals as goal
+
+pub returns-in-Ok-clause-done : goal.returns-in-Ok-clause-done
+returns-in-Ok-clause-done g c = λ n done. (c.in-Ok.chosen, c.in-Ok.ensures.ok, c.render.ensures.done n done)
+
+pub returns-in-Ok-clause-answer : goal.returns-in-Ok-clause-answer
+returns-in-Ok-clause-answer g c = by_words c.args.words.now c.in-Ok.chosen _ c.in-Ok.ensures.ok c.render.ensures.answer
+
+pub returns-in-Ok-clause-complete : goal.returns-in-Ok-clause-complete
+returns-in-Ok-clause-complete g c = by_words c.args.words.now c.in-Ok.chosen _ c.in-Ok.ensures.ok c.render.ensures.complete

@@ -1,0 +1,8 @@
+use Rattle.std.proofs.Common.{◌≡◌, ◌∙◌, Option, Some, None, sym, ap, w32, to_z, of_z, rules}
+use mir.Val.{SFits}
+use Rattle.std.proofs.lemmas.Int.{to_z-of_z}
+use Rattle.sn_tree.proofs.Showing.{first_shown}
+use Rattle.sn_tree.proofs.tree.Tree.first.Goals as goal
+
+pub returns : goal.returns
+returns g c = (let fit : SFits w32 c.args.group = c.ranges.group in simp to_z-of_z at c.first_in.ensures) ∙ first_shown c.self.inside.root c.self.inside.payloads.slots c.self.inside.order c.args.self.now c.self.view_is c.args.group

@@ -1,0 +1,8 @@
+use Rattle.std.proofs.Common.{◌≡◌, ◌∙◌, Option, Some, None, sym, ap, w32, to_z, of_z, rules}
+use mir.Val.{SFits}
+use Rattle.std.proofs.lemmas.Int.{to_z-of_z}
+use Rattle.sn_tree.proofs.Showing.{count_shown}
+use Rattle.sn_tree.proofs.tree.Tree.len.Goals as goal
+
+pub returns-clause-value : goal.returns-clause-value
+returns-clause-value g c = c.len.ensures.value ∙ count_shown c.self.inside.root c.self.inside.payloads.slots c.self.inside.order c.args.self.now c.self.view_is

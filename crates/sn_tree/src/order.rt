@@ -1,0 +1,176 @@
+//! The nodes in one list: the attached ones in the order of the walk, and the detached ones behind them in reverse order.
+ghost use Rattle.std.specs.Prelude.{◌≡◌, ◌≤◌, ◌+◌, ◌<◌, None, Some, true, List, ◌++◌, length, take, drop, IfOk, OnOk, OnErr, MatchResult, ℤ, pos};
+ghost use Rattle.std.specs.List.{insert};
+ghost use Rattle.std.specs.Option.{option_map};
+ghost use Rattle.sn_tree.specs.declared.entry.Entry.{Entry};
+ghost use Rattle.sn_tree.specs.declared.node.NodeKind.TheVariants.{Group};
+ghost use Rattle.sn_tree.specs.Trees.{none, holds, count, ids, next_after, first_of, children, label_of, put, leaf, without, subtree, joined, changed, with_running};
+ghost use Rattle.sn_tree.specs.Faults.{insert_fault, detach_fault, set_run_fault, fault_of};
+ghost use Rattle.sn_tree.specs.Order.{IsFlat, flat, tree_of};
+ghost use Rattle.sn_tree.specs.Places.{IsPlace, IsSmall, IsDetached, IsSetRunning, lifted};
+
+use crate::change::{detach_from, lift, set_running_from};
+use crate::entry::{Entry, Place};
+use crate::node::{NodeKind, Spot, TreeFault};
+use crate::search::{first_in, key_in, next_of, place_for_new};
+use sn_ports::NoMemory;
+use std::alloc::Global;
+use std::marker::Model;
+
+#[derive(Drop)]
+pub struct Order {
+    entries: Vec<Entry>,
+    attached: usize,
+}
+
+impl Model for Order {
+    ghost use Rattle.sn_tree.specs.Arranged.{Arranged, arranged_code, arranged, IsArranged};
+
+    ghost Value = { Arranged };
+
+    ghost coded = { arranged_code };
+
+    ghost view = { λ o. arranged o.entries.items o.attached };
+
+    ghost invariant = { λ o. IsArranged o.entries.items o.attached };
+}
+
+/// Puts a new entry at its place, where there is room for it.
+fn put_entry(entries: &mut Vec<Entry>, place: Place, entry: Entry) -> Result<(), NoMemory>
+    requires at { place.at ≤ length entries.old.items }
+    requires target { place.target < length entries.old.items }
+    requires few { IsSmall (take (place.target + 1) (insert entries.old.items place.at entry)) }
+    ensures ok { OnOk result (entries.new.items ≡ lifted place 1 (insert entries.old.items place.at entry)) }
+    ensures err { OnErr result (entries.new.items ≡ entries.old.items) }
+{
+    entries.insert(place.at, entry)?;
+    lift(entries, place, 1);
+    Ok(())
+}
+
+fn detach_vec(entries: &mut Vec<Entry>, attached: usize, id: i32) -> Result<usize, TreeFault>
+    requires cut { attached ≤ length entries.old.items }
+    requires flat { IsFlat (take attached entries.old.items) }
+    requires few { attached ≤ 4096 }
+    ensures { MatchResult result (λ n. (fronts : List Entry) × IsDetached (take attached entries.old.items) fronts id n × (entries.new.items ≡ fronts ++ drop attached entries.old.items)) (λ fault. (entries.new.items ≡ entries.old.items) × (detach_fault id (tree_of (take attached entries.old.items)) ≡ Some fault)) }
+{
+    detach_from(entries, attached, id)
+}
+
+fn set_running_vec(
+    entries: &mut Vec<Entry>,
+    attached: usize,
+    id: i32,
+    on: bool,
+) -> Result<(), TreeFault>
+    requires cut { attached ≤ length entries.old.items }
+    requires flat { IsFlat (take attached entries.old.items) }
+    ensures { MatchResult result (λ _. (fronts : List Entry) × IsSetRunning (take attached entries.old.items) fronts id on × (entries.new.items ≡ fronts ++ drop attached entries.old.items)) (λ fault. (entries.new.items ≡ entries.old.items) × (set_run_fault id (tree_of (take attached entries.old.items)) ≡ Some fault)) }
+{
+    set_running_from(entries, attached, id, on)
+}
+
+impl Order {
+    /// The root alone.
+    pub fn new(alloc: Global) -> Result<Order, NoMemory>
+        ensures { IfOk result (λ o. o ≡ record { attached = leaf (pos 0) Group None; detached = none }) }
+    {
+        let root = Entry {
+            id: 0,
+            kind: NodeKind::Group,
+            running: true,
+            key: None,
+            below: 0,
+        };
+        Ok(Order {
+            entries: Vec::from_slice(alloc, &[root])?,
+            attached: 1,
+        })
+    }
+
+    /// How many nodes are attached.
+    pub fn len(&self) -> usize
+        ensures value { result ≡ count self.now.attached }
+        ensures bound { result ≤ 4096 }
+    {
+        self.attached
+    }
+
+    pub fn next_of(&self, id: i32) -> Option<i32>
+        ensures { result ≡ next_after id (ids self.now.attached) }
+    {
+        next_of(&self.entries[..self.attached], id)
+    }
+
+    pub fn first_in(&self, id: i32) -> Option<i32>
+        ensures { result ≡ first_of (children id self.now.attached) }
+    {
+        first_in(&self.entries[..self.attached], id)
+    }
+
+    /// Under which key the payload of a node is kept.
+    pub fn key_of(&self, id: i32) -> Option<Option<usize>>
+        ensures { result ≡ option_map (λ l. l.payload) (label_of id self.now.attached) }
+    {
+        key_in(&self.entries[..self.attached], id)
+    }
+
+    /// Where a new node goes, or why it can't be put.
+    pub fn place_for_new(&self, id: i32, spot: Spot) -> Result<Place, TreeFault>
+        ensures { MatchResult result (λ place. (insert_fault id spot.action spot.target self.now.attached ≡ None) × (place.spot ≡ spot) × IsPlace (flat self.now.attached) spot.action spot.target place) (λ fault. insert_fault id spot.action spot.target self.now.attached ≡ Some fault) }
+    {
+        place_for_new(&self.entries[..self.attached], id, spot)
+    }
+
+    /// Puts a new node, whose payload has this key.
+    pub fn put_new(
+        &mut self,
+        place: Place,
+        id: i32,
+        kind: NodeKind,
+        key: usize,
+    ) -> Result<(), NoMemory>
+        requires place { IsPlace (flat self.old.attached) place.spot.action place.spot.target place }
+        requires few { count self.old.attached < 4096 }
+        ensures ok { OnOk result (self.new ≡ record { attached = put place.spot.action place.spot.target (leaf id kind (Some key)) self.old.attached; detached = self.old.detached }) }
+        ensures err { OnErr result (self.new ≡ self.old) }
+    {
+        let entry = Entry {
+            id,
+            kind,
+            running: true,
+            key: Some(key),
+            below: 0,
+        };
+        put_entry(&mut self.entries, place, entry)?;
+        self.attached += 1;
+        Ok(())
+    }
+
+    /// Takes a subtree out, and keeps it aside.
+    pub fn detach(&mut self, id: i32) -> Result<(), TreeFault>
+        ensures fault { fault_of result ≡ detach_fault id self.old.attached }
+        ensures ok { OnOk result (self.new ≡ record { attached = without id self.old.attached; detached = joined self.old.detached (subtree id self.old.attached) }) }
+        ensures err { OnErr result (self.new ≡ self.old) }
+    {
+        let count = match detach_vec(&mut self.entries, self.attached, id) {
+            Ok(count) => count,
+            Err(fault) => return Err(fault),
+        };
+        self.attached -= count;
+        Ok(())
+    }
+
+    /// Sets the run flag of an attached node.
+    pub fn set_run(&mut self, id: i32, on: bool) -> Result<(), TreeFault>
+        ensures fault { fault_of result ≡ set_run_fault id self.old.attached }
+        ensures ok { OnOk result (self.new ≡ record { attached = changed id (with_running on) self.old.attached; detached = self.old.detached }) }
+        ensures err { OnErr result (self.new ≡ self.old) }
+    {
+        match set_running_vec(&mut self.entries, self.attached, id, on) {
+            Ok(()) => {}
+            Err(fault) => return Err(fault),
+        }
+        Ok(())
+    }
+}

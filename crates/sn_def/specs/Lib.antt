@@ -1,0 +1,11 @@
+pub mod Units
+pub mod Rows
+pub mod Known
+pub mod Definition
+pub mod Params
+pub mod Drafts
+pub mod Defs
+pub mod Reading
+pub mod Answers
+pub mod Parts
+pub mod Asked

@@ -1,0 +1,52 @@
+ghost use Rattle.std.specs.Prelude.{◌≡◌, List};
+
+use std::marker::Model;
+
+/// What a unit's run is told of its surroundings.
+#[derive(Clone, Copy, Debug)]
+pub struct Now {
+    /// Frames a second: 44,100, 48,000 or 96,000.
+    pub rate: u32,
+    /// The block's number, from 0.
+    pub block: u64,
+    /// The synth's node id.
+    pub node: i32,
+    /// The unit's number in its definition, from 0.
+    pub unit: u32,
+}
+
+/// A control of a synth: its own value, and the control bus that it follows, if any.
+#[derive(Clone, Copy, Debug)]
+pub struct Control {
+    pub value: i32,
+    pub bus: Option<u32>,
+}
+
+/// The controls of a synth, one for each control of its definition, in that order.
+#[derive(Debug, Drop)]
+pub struct Controls {
+    items: Vec<Control>,
+}
+
+impl Model for Controls {
+    ghost use Rattle.std.specs.Prelude.{List};
+    ghost use Rattle.sn_def.specs.declared.control.Control.{Control};
+
+    ghost Value = { List Control };
+
+    ghost view = { λ s. s.items.items };
+}
+
+impl Controls {
+    pub fn from_vec(items: Vec<Control>) -> Self
+        ensures { result ≡ items.items }
+    {
+        Controls { items }
+    }
+
+    pub fn as_slice(&self) -> &[Control]
+        ensures { result.now ≡ self.now }
+    {
+        &self.items
+    }
+}

@@ -1,0 +1,30 @@
+//! Definitions of instruments: the text in which they are written, read and printed.
+#![tactic(auto)]
+
+mod asked;
+mod control;
+mod definition;
+mod draft;
+mod fault;
+mod fields;
+mod inputs;
+mod kind;
+mod known;
+mod line;
+mod lookup;
+mod parts;
+mod table;
+mod text;
+mod unit;
+mod wires;
+
+pub use control::{Control, Controls, Now};
+pub use definition::{Def, Names, Param, Params};
+pub use fault::{DefFault, DefKind, Unread};
+pub use kind::Kind;
+pub use table::{BUILT, Mark, Row, Words, row_of};
+pub use text::read;
+pub use unit::{Input, Inputs, Unit, Units};
+
+#[cfg(test)]
+mod tests;

@@ -1,0 +1,146 @@
+ghost use Rattle.std.specs.Prelude.{◌≡◌, ◌<◌, length};
+ghost use Rattle.sn_def.specs.Reading.{pieces, line_at, at_line, line_number, fault, is_over, body_at, end_at, def_at, def_and_body, named_at, after_title, title_at, text_at};
+ghost use Rattle.sn_def.specs.Defs.{definition_of};
+ghost use Rattle.sn_def.specs.Answers.{Reads, texts};
+ghost use Rattle.sn_def.specs.declared.fault.Unread.TheVariants as unread;
+
+use crate::definition::Def;
+use crate::draft::Draft;
+use crate::fault::{DefFault, DefKind, Refused, Unread};
+use crate::fields::{fields, is_name, lines};
+use crate::line::line;
+use sn_ports::Text;
+use std::alloc::Global;
+
+fn bad(line: u32, kind: DefKind) -> Unread
+    ensures { result ≡ unread.Bad (fault line kind) }
+{
+    Unread::Bad(DefFault { line, kind })
+}
+
+/// Whether nothing stands after the last line feed.
+fn is_over(after: &[&[u8]]) -> bool
+    ensures { result ≡ is_over (texts after.now) }
+{
+    match after {
+        [last] => last.is_empty(),
+        _ => false,
+    }
+}
+
+/// The line `end` is the last one.
+fn end<'a>(draft: Draft<'a>, after: &[&'a [u8]]) -> Result<Draft<'a>, Unread>
+    ensures { Reads (λ d. d) result (end_at draft.entry (texts after.now)) }
+{
+    if is_over(after) {
+        return Ok(draft);
+    }
+    Err(bad(draft.line() + 1, DefKind::Line))
+}
+
+/// A line between the first two and `end`.
+fn next_line<'a>(alloc: Global, draft: Draft<'a>, text: &'a [u8]) -> Result<Draft<'a>, Unread>
+    ensures { Reads (λ d. d) result (at_line (line_number draft.entry) (line_at draft.entry (pieces 32 text.now))) }
+{
+    let number = draft.line();
+    let fields = fields(alloc, text)?;
+    match line(alloc, draft, &fields) {
+        Ok(next) => Ok(next),
+        Err(Refused::NoMemory) => Err(Unread::NoMemory),
+        Err(Refused::Because(kind)) => Err(bad(number, kind)),
+    }
+}
+
+/// The lines after the first two.
+fn body<'a>(alloc: Global, draft: Draft<'a>, lines: &[&'a [u8]]) -> Result<Draft<'a>, Unread>
+    ensures { Reads (λ d. d) result (body_at draft.entry (texts lines.now)) }
+{
+    let mut read = draft;
+    for (at, text) in lines.iter().enumerate() {
+        if at + 1 == lines.len() {
+            return Err(bad(read.line(), DefKind::Line));
+        }
+        if *text == b"end".as_slice() {
+            return end(read, &lines[at + 1..]);
+        }
+        read = next_line(alloc, read, text)?;
+    }
+    Err(bad(read.line(), DefKind::Line))
+}
+
+/// The fields of the line `def NAME`.
+fn named<'a>(alloc: Global, word: &[u8], name: &[u8]) -> Result<Draft<'a>, Unread>
+    ensures { Reads (λ d. d) result (named_at word.now name.now) }
+{
+    if word != b"def".as_slice() || name.is_empty() {
+        return Err(bad(2, DefKind::Line));
+    }
+    if !is_name(name) {
+        return Err(bad(2, DefKind::Name));
+    }
+    Ok(Draft::new(alloc, Text::from_slice(alloc, name)?))
+}
+
+/// The line `def NAME`, by its fields.
+fn def<'a>(alloc: Global, fields: &[&[u8]]) -> Result<Draft<'a>, Unread>
+    ensures { Reads (λ d. d) result (def_at (texts fields.now)) }
+{
+    match fields {
+        [word, name] => named(alloc, word, name),
+        _ => Err(bad(2, DefKind::Line)),
+    }
+}
+
+/// The line `def NAME`, and the lines after it.
+fn def_and_body<'a>(alloc: Global, text: &[u8], after: &[&'a [u8]]) -> Result<Draft<'a>, Unread>
+    ensures { Reads (λ d. d) result (def_and_body (pieces 32 text.now) (texts after.now)) }
+{
+    let fields = fields(alloc, text)?;
+    let draft = def(alloc, &fields)?;
+    body(alloc, draft, after)
+}
+
+/// The lines after the first.
+fn after_title<'a>(alloc: Global, lines: &[&'a [u8]]) -> Result<Draft<'a>, Unread>
+    ensures { Reads (λ d. d) result (after_title (texts lines.now)) }
+{
+    match lines {
+        [] => Err(bad(2, DefKind::Line)),
+        [text, after @ ..] => {
+            if after.is_empty() {
+                return Err(bad(2, DefKind::Line));
+            }
+            def_and_body(alloc, text, after)
+        }
+    }
+}
+
+/// The lines of a text.
+fn title<'a>(alloc: Global, lines: &[&'a [u8]]) -> Result<Draft<'a>, Unread>
+    ensures { Reads (λ d. d) result (title_at (texts lines.now)) }
+{
+    match lines {
+        [] => Err(bad(1, DefKind::Line)),
+        [text, after @ ..] => {
+            if after.is_empty() || *text != b"snova 1".as_slice() {
+                return Err(bad(1, DefKind::Line));
+            }
+            after_title(alloc, after)
+        }
+    }
+}
+
+/// The definition that a text is, or the first line at which no valid text continues and what is
+/// wrong there.
+///
+/// # Errors
+///
+/// `Bad` comes exactly where the text is no definition text.
+#[tactic(auto, unfolding(crate::specs::Reading::text_at))]
+pub fn read(alloc: Global, text: &[u8]) -> Result<Def, Unread>
+    ensures { Reads definition_of result (text_at text.now) }
+{
+    let lines = lines(alloc, text)?;
+    let draft = title(alloc, &lines)?;
+    Ok(draft.into_def())
+}

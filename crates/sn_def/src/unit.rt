@@ -1,0 +1,79 @@
+ghost use Rattle.std.specs.Prelude.{◌≡◌, List};
+
+use crate::kind::Kind;
+use std::marker::Model;
+
+/// An input of a unit. Controls and wires are numbered from 0, in the order of the text.
+#[derive(Clone, Copy, Debug)]
+pub enum Input {
+    /// A raw value.
+    Literal(i32),
+    Control(u32),
+    Wire(u32),
+}
+
+/// The inputs of a unit.
+#[derive(Debug, Drop)]
+pub struct Inputs {
+    items: Vec<Input>,
+}
+
+impl Model for Inputs {
+    ghost use Rattle.std.specs.Prelude.{List};
+    ghost use Rattle.sn_def.specs.declared.unit.Input.{Input};
+
+    ghost Value = { List Input };
+
+    ghost view = { λ s. s.items.items };
+}
+
+impl Inputs {
+    pub fn from_vec(items: Vec<Input>) -> Self
+        ensures { result ≡ items.items }
+    {
+        Inputs { items }
+    }
+
+    pub fn as_slice(&self) -> &[Input]
+        ensures { result.now ≡ self.now }
+    {
+        &self.items
+    }
+}
+
+/// A unit line. Its outputs are the next `outputs` wires, in the order of the text.
+#[derive(Debug, Drop)]
+pub struct Unit {
+    pub kind: Kind,
+    pub inputs: Inputs,
+    pub outputs: u32,
+}
+
+/// The units of a definition, in the order in which they run.
+#[derive(Debug, Drop)]
+pub struct Units {
+    items: Vec<Unit>,
+}
+
+impl Model for Units {
+    ghost use Rattle.std.specs.Prelude.{List};
+    ghost use Rattle.sn_def.specs.declared.unit.Unit.{Unit};
+
+    ghost Value = { List Unit };
+
+    ghost view = { λ s. s.items.items };
+}
+
+impl Units {
+    pub fn from_vec(items: Vec<Unit>) -> Self
+        ensures { result ≡ items.items }
+    {
+        Units { items }
+    }
+
+    pub fn as_slice(&self) -> &[Unit]
+        ensures { result.now ≡ self.now }
+    {
+        &self.items
+    }
+}

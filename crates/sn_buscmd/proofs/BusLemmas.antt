@@ -1,27 +1,22 @@
 -- What the words of the control buses stand for.
-use Rattle.std.proofs.Common.{◌≡◌, ◌≢◌, ℕ, zero, suc, ℤ, pos, negsuc, nat_abs, ◌+◌, ◌*◌, ◌%◌, ◌^◌, ◌<◌, ◌≤◌, List, [], ◌∷◌, length, get_or, set, take, drop, refl, ap, sym, ◌∙◌, arith, Bool, true, false, not, ◌||◌, ◌&&◌, Option, Some, None, length-set}
+use Rattle.std.proofs.Common.{◌≡◌, ◌≢◌, ℕ, zero, suc, ℤ, pos, negsuc, nat_abs, ◌+◌, ◌*◌, ◌%◌, ◌^◌, ◌<◌, ◌≤◌, List, [], ◌∷◌, length, get_or, set, refl, ap, sym, ◌∙◌, arith, Bool, true, false, not, ◌||◌, None, length-set, get_or-set_other}
 use Rattle.std.specs.Prelude.{FitsSigned, slice_index}
-use Rattle.std.specs.Int.{w32, cast_unsigned, cast_signed}
-use Rattle.std.proofs.lemmas.List.{get_or-set_same, get_or-set_other, drop-set-lt, take-set-le}
-use Rattle.std.proofs.lemmas.Int.{to_z-of_z, ints}
-use Rattle.std.proofs.Math.Facts.{Fits-of_z}
-use Rattle.std.proofs.Math.Nat.{mod-eq_of_lt}
+use Rattle.std.specs.Int.{w32}
+use Rattle.std.proofs.lemmas.List.{get_or-set_same}
+use Rattle.std.proofs.lemmas.Int.{ints}
 use Rattle.std.proofs.lemmas.Bool.{ltb-true, lt-ltb}
 use borrow.Author.Gap.{read_sfits}
 use Rattle.sn_osc.specs.Bytes.{fits_int}
 use Rattle.sn_mem.specs.declared.extents.Foot.{Foot}
 use Rattle.sn_mem.specs.Words.{writes, touches, has}
 use Rattle.sn_mem.specs.Blocks.{word_for, sample_in}
-use Rattle.sn_reply.specs.declared.reason.Reason.{Reason}
+use Rattle.sn_mem.specs.Buses.{ControlBus, control_bus, control_buses, resting}
+use Rattle.sn_mem.proofs.BusLaws.{sample_in-word_for, control_set, control_at}
+use Rattle.sn_mem.proofs.Tables.{length-table}
 use Rattle.sn_reply.specs.declared.reason.Reason.TheVariants.{Bus}
-use Rattle.sn_world.specs.World.{ControlBus, bus_from, buses_from, control_buses, first_control, world_of, KeepsOtherWords}
 use Rattle.sn_world.specs.Rows.{first_of}
 use Rattle.sn_world.specs.Buses.{is_bus, bus_refusal, with_value, set_bus, value_at, value_of}
-
-pub sample_in-word_for : (v : ℤ) → FitsSigned w32 v → sample_in (word_for v) ≡ v
-sample_in-word_for v fits =
-    let small : cast_unsigned w32 v < 2 ^ 32 = (Fits-of_z fits).fits in
-    ap (cast_signed w32) (mod-eq_of_lt small) ∙ to_z-of_z w32 v fits
+use Rattle.sn_buscmd.specs.Setting.{KeepsOtherWords}
 
 pub touched : (f : Foot) (x : ℕ) → writes f x ≡ true → touches f x ≡ true
 touched f x h = ap (λ b. b || has f.reads x) h
@@ -33,75 +28,73 @@ allowed bus h = at (is_bus bus) h
     at true h = refl
     at false h = absurd cc
 
+pub bus-below : (bus : ℤ) → is_bus bus ≡ true → nat_abs bus < 1024
+bus-below (pos n) h = ltb-true n 1024 h
+bus-below (negsuc n) h = absurd cc
+
+length-control_buses : (words : List ℕ) → length (control_buses words) ≡ 1024
+unfolding control_buses
+length-control_buses words = length-table (control_bus words) 1024
+
 -- ---- a word that is stored
 
-same_bus : (w w' : ℕ) (v v' : ℤ) → w ≡ w' → v ≡ v' → (let b : ControlBus = record { written = w; value = v } in b) ≡ (let b : ControlBus = record { written = w'; value = v' } in b)
+same_bus : (w w' : ℕ) (v v' : ℤ) → w ≡ w' → v ≡ v' → ◌≡◌ {A = ControlBus} (record { written = w; value = v }) (record { written = w'; value = v' })
 same_bus w w' v v' p q = cc
 
-two_parts : (b b' : ControlBus) (bs bs' : List ControlBus) → b ≡ b' → bs ≡ bs' → b ∷ bs ≡ b' ∷ bs'
-two_parts b b' bs bs' p q = cc
+with_value-set : (bs : List ControlBus) (n : ℕ) (v : ℤ) (d : ControlBus) → with_value bs n v ≡ set bs n (record (get_or bs n d) { value = v })
+with_value-set [] n v d = refl
+with_value-set (b ∷ bs) zero v d = refl
+with_value-set (b ∷ bs) (suc n) v d = ap (λ (t : List ControlBus). b ∷ t) (with_value-set bs n v d)
 
-other : (words : List ℕ) (i at x : ℕ) → at ≢ i → at + 1 ≢ i → bus_from (set words i x) at ≡ bus_from words at
-other words i at x p q = same_bus _ _ _ _ (get_or-set_other words i at x 0 p) (ap sample_in (get_or-set_other words i (at + 1) x 0 q))
-
--- a word before them changes none
-buses_from-before : (words : List ℕ) (at k i x : ℕ) → i < at → buses_from (set words i x) at k ≡ buses_from words at k
-unfolding buses_from
-buses_from-before words at zero i x below = refl
-buses_from-before words at (suc k) i x below =
-    let p : at ≢ i = omega arith in
-    let q : at + 1 ≢ i = omega arith in
-    two_parts _ _ _ _ (other words i at x p q) (buses_from-before words (at + 2) k i x (omega arith))
-
-buses_from-set : (words : List ℕ) (at k n i : ℕ) (v : ℤ) → FitsSigned w32 v → i ≡ at + 2 * n + 1 → n < k → at + 2 * k ≤ length words → buses_from (set words i (word_for v)) at k ≡ with_value (buses_from words at k) n v
-unfolding buses_from
-buses_from-set words at zero n i v fits is below long = absurd (omega arith)
-buses_from-set words at (suc k) zero i v fits is below long =
-    let p : at ≢ i = omega arith in
-    let here : at + 1 ≡ i = omega arith in
-    let inside : i < length words = omega arith in
-    two_parts _ _ _ _
-    (same_bus _ _ _ _ (get_or-set_other words i at (word_for v) 0 p) (ap sample_in (ap (λ j. get_or (set words i (word_for v)) j 0) here ∙ get_or-set_same words i (word_for v) 0 inside) ∙ sample_in-word_for v fits))
-    (buses_from-before words (at + 2) k i (word_for v) (omega arith))
-buses_from-set words at (suc k) (suc n) i v fits is below long =
-    let p : at ≢ i = omega arith in
-    let q : at + 1 ≢ i = omega arith in
-    two_parts _ _ _ _ (other words i at (word_for v) p q) (buses_from-set words (at + 2) k n i v fits (omega arith) (omega arith) (omega arith))
+-- one word, and no other
+elsewhere : (old new : List ℕ) (i k x : ℕ) → new ≡ set old i x → k ≢ i → get_or new k 0 ≡ get_or old k 0
+elsewhere old new i k x stored ne = ap (λ (ws : List ℕ). get_or ws k 0) stored ∙ get_or-set_other old i k x 0 ne
 
 -- the store of a value to its bus
-pub control_buses-set : (old new : List ℕ) (bus v : ℤ) (x : ℕ) → FitsSigned w32 v → is_bus bus ≡ true → new ≡ set old (8321 + 2 * nat_abs bus) x → x ≡ word_for v → 10368 ≤ length old → control_buses new ≡ set_bus bus v (control_buses old)
-unfolding control_buses
-control_buses-set old new (pos n) v x fits is_bus stored is_word long =
-    let below : n < 1024 = ltb-true n 1024 is_bus in
-    let i = 8321 + 2 * n in
-    let at : i ≡ first_control + 2 * n + 1 = omega arith in
-    ap (λ ws. buses_from ws first_control 1024) (stored ∙ ap (set old i) is_word) ∙ buses_from-set old first_control 1024 n i v fits at below (omega arith)
-control_buses-set old new (negsuc n) v x fits is_bus stored is_word long = absurd cc
+pub stored_to : (old new : List ℕ) (n x : ℕ) (v : ℤ) → FitsSigned w32 v → n < 1024 → new ≡ set old (8320 + 2 * n + 1) x → x ≡ word_for v → 10368 ≤ length old → control_buses new ≡ with_value (control_buses old) n v
+stored_to old new n x v fits below stored is_word long =
+    let i = 8320 + 2 * n + 1 in
+    let first : get_or new (8320 + 2 * n) 0 ≡ get_or old (8320 + 2 * n) 0 = elsewhere old new i (8320 + 2 * n) x stored (omega arith) in
+    let second : sample_in (get_or new i 0) ≡ v = ap sample_in (ap (λ (ws : List ℕ). get_or ws i 0) stored ∙ get_or-set_same old i x 0 (omega arith) ∙ is_word) ∙ sample_in-word_for v fits in
+    let was : get_or (control_buses old) n resting ≡ control_bus old n = control_at old n resting below in
+    let bus : control_bus new n ≡ record (get_or (control_buses old) n resting) { value = v } =
+    same_bus _ _ _ _ first second ∙ ap (λ (b : ControlBus). let c : ControlBus = record b { value = v } in c) (sym was) in
+    control_set new old n below (λ k from to apart. elsewhere old new i k x stored (λ (e : k ≡ i). apart (omega (arith, e)) (omega (arith, e))))
+    ∙ ap (set (control_buses old) n) bus
+    ∙ sym (with_value-set (control_buses old) n v resting)
 
--- and no other word
-pub others-set : (old new : List ℕ) (bus : ℤ) (x : ℕ) → is_bus bus ≡ true → new ≡ set old (8321 + 2 * nat_abs bus) x → KeepsOtherWords old new
-others-set old new (pos n) x is_bus stored =
-    let below : n < 1024 = ltb-true n 1024 is_bus in
-    record {
-      len = ap length stored ∙ length-set old (8321 + 2 * n) x;
-      below = ap (take 8320) stored ∙ take-set-le 8320 old (8321 + 2 * n) x (omega arith);
-      above = ap (drop 10368) stored ∙ drop-set-lt 10368 old (8321 + 2 * n) x (omega arith);
-    }
-others-set old new (negsuc n) x is_bus stored = absurd cc
+pub pair-set : (bus v : ℤ) (bs : List ControlBus) → is_bus bus ≡ true → set_bus bus v bs ≡ with_value bs (nat_abs bus) v
+pair-set (pos n) v bs is_bus = refl
+pair-set (negsuc n) v bs is_bus = absurd cc
+
+pub others-set : (old new : List ℕ) (i x : ℕ) → new ≡ set old i x → 8320 ≤ i → i < 10368 → KeepsOtherWords old new
+others-set old new i x stored from to = record {
+  len = ap length stored ∙ length-set old i x;
+  below = λ k lt. elsewhere old new i k x stored (omega arith);
+  above = λ k le. elsewhere old new i k x stored (omega arith);
+}
+
+pub others-again : (old mid new : List ℕ) → KeepsOtherWords old mid → KeepsOtherWords mid new → KeepsOtherWords old new
+others-again old mid new p q = record {
+  len = q.len ∙ p.len;
+  below = λ k lt. q.below k lt ∙ p.below k lt;
+  above = λ k le. q.above k le ∙ p.above k le;
+}
 
 -- ---- a word that is read
 
-value_at-buses_from : (words : List ℕ) (at k n i : ℕ) → n < k → i ≡ at + 2 * n + 1 → sample_in (slice_index words i) ≡ value_at (buses_from words at k) n
-unfolding buses_from
-value_at-buses_from words at zero n i below is = absurd (omega arith)
-value_at-buses_from words at (suc k) zero i below is =
-    let here : i ≡ at + 1 = omega arith in
-    ap (λ j. sample_in (slice_index words j)) here
-value_at-buses_from words at (suc k) (suc n) i below is = value_at-buses_from words (at + 2) k n i (omega arith) (omega arith)
+value_at-get : (bs : List ControlBus) (n : ℕ) (d : ControlBus) → n < length bs → value_at bs n ≡ (get_or bs n d).value
+value_at-get [] n d lt = absurd (omega arith)
+value_at-get (b ∷ bs) zero d lt = refl
+value_at-get (b ∷ bs) (suc n) d lt = value_at-get bs n d (omega arith)
 
-pub value-read : (words : List ℕ) (bus : ℤ) → is_bus bus ≡ true → sample_in (slice_index words (8321 + 2 * nat_abs bus)) ≡ value_of (world_of words) bus
-unfolding control_buses
-value-read words (pos n) is_bus = value_at-buses_from words first_control 1024 n (8321 + 2 * n) (ltb-true n 1024 is_bus) (omega arith)
+value_at-word : (words : List ℕ) (n : ℕ) → n < 1024 → value_at (control_buses words) n ≡ sample_in (slice_index words (8320 + 2 * n + 1))
+value_at-word words n below =
+    value_at-get (control_buses words) n resting (omega (arith, length-control_buses words))
+    ∙ ap (λ (b : ControlBus). b.value) (control_at words n resting below)
+
+pub value-read : (words : List ℕ) (bus : ℤ) → is_bus bus ≡ true → sample_in (slice_index words (8320 + 2 * nat_abs bus + 1)) ≡ value_of (control_buses words) bus
+value-read words (pos n) is_bus = sym (value_at-word words n (ltb-true n 1024 is_bus))
 value-read words (negsuc n) is_bus = absurd cc
 
 -- ---- values fit 32 bits
@@ -110,16 +103,10 @@ fits_int-test : (n : ℤ) → FitsSigned w32 n → fits_int n ≡ true
 fits_int-test (pos n) h = lt-ltb n (2 ^ 31) (omega (arith, ints, h))
 fits_int-test (negsuc n) h = lt-ltb n (2 ^ 31) (omega (arith, ints, h))
 
-value_at-fits : (words : List ℕ) (at k n : ℕ) → fits_int (value_at (buses_from words at k) n) ≡ true
-unfolding buses_from
-value_at-fits words at zero n = refl
-value_at-fits words at (suc k) zero = fits_int-test (sample_in (slice_index words (at + 1))) (read_sfits w32 (slice_index words (at + 1) % 4294967296))
-value_at-fits words at (suc k) (suc n) = value_at-fits words (at + 2) k n
-
-pub value_of-fits : (words : List ℕ) (bus : ℤ) → fits_int (value_of (world_of words) bus) ≡ true
-unfolding control_buses
-value_of-fits words (pos n) = value_at-fits words first_control 1024 n
-value_of-fits words (negsuc n) = refl
+pub value_of-fits : (words : List ℕ) (bus : ℤ) → is_bus bus ≡ true → fits_int (value_of (control_buses words) bus) ≡ true
+value_of-fits words bus is_bus =
+    ap fits_int (sym (value-read words bus is_bus))
+    ∙ fits_int-test (sample_in (slice_index words (8320 + 2 * nat_abs bus + 1))) (read_sfits w32 (slice_index words (8320 + 2 * nat_abs bus + 1) % 4294967296))
 
 pub bus-fits : (bus : ℤ) → is_bus bus ≡ true → fits_int bus ≡ true
 bus-fits (pos n) h = let below : n < 1024 = ltb-true n 1024 h in lt-ltb n (2 ^ 31) (omega arith)

@@ -1,10 +1,11 @@
 -- Control buses that are set one after the other.
-use Rattle.std.specs.Prelude.{List, [], ◌∷◌, Option}
+use Rattle.std.specs.Prelude.{◌≡◌, ◌≤◌, ◌<◌, ℕ, List, [], ◌∷◌, length, replicate, slice_index, Option}
+use Rattle.sn_mem.specs.Buses.{ControlBus}
 use Rattle.sn_reply.specs.declared.reason.Reason.{Reason}
 use Rattle.sn_world.specs.declared.repetition.BusNumber.{BusNumber}
 use Rattle.sn_world.specs.declared.repetition.BusValue.{BusValue}
-use Rattle.sn_world.specs.World.{ControlBus}
-use Rattle.sn_world.specs.Buses.{set_bus, bus_refusal}
+use Rattle.sn_world.specs.declared.repetition.BusFill.{BusFill}
+use Rattle.sn_world.specs.Buses.{set_bus, set_run, bus_refusal, run_refusal}
 
 abbrev pub value_refusal : BusValue → Option Reason
 value_refusal r = bus_refusal r.bus
@@ -12,7 +13,22 @@ value_refusal r = bus_refusal r.bus
 abbrev pub number_refusal : BusNumber → Option Reason
 number_refusal r = bus_refusal r.bus
 
--- the buses after all pairs
-abbrev pub set_buses : List BusValue → List ControlBus → List ControlBus
-set_buses [] buses = buses
-set_buses (r ∷ rs) buses = set_buses rs (set_bus r.bus r.value buses)
+abbrev pub fill_refusal : BusFill → Option Reason
+fill_refusal r = run_refusal r.bus r.count
+
+abbrev pub set_pair : BusValue → List ControlBus → List ControlBus
+set_pair r buses = set_bus r.bus r.value buses
+
+abbrev pub fill_run : BusFill → List ControlBus → List ControlBus
+fill_run r buses = set_run r.bus (replicate r.count r.value) buses
+
+-- the buses after all repetitions
+abbrev pub change_all : {R : Type 0} → (R → List ControlBus → List ControlBus) → List R → List ControlBus → List ControlBus
+change_all change [] buses = buses
+change_all change (r ∷ rs) buses = change_all change rs (change r buses)
+
+-- all words but those of the control buses stay as they were
+pub record KeepsOtherWords (old new : List ℕ) : Type 0 where
+  pub len : length new ≡ length old
+  pub below : (k : ℕ) → k < 8320 → slice_index new k ≡ slice_index old k
+  pub above : (k : ℕ) → 10368 ≤ k → slice_index new k ≡ slice_index old k

@@ -2,13 +2,16 @@
 ghost use Rattle.std.specs.Prelude.{◌≡◌, ◌+◌, ◌*◌, ◌^◌, ◌<◌, length, map, None, IfOk};
 ghost use Rattle.sn_osc.specs.Shape.{argument_of, message_of};
 ghost use Rattle.sn_reply.specs.Sending.{IsSendable};
-ghost use Rattle.sn_world.specs.World.{world_of, turn_of, WritesControlBuses};
+ghost use Rattle.sn_mem.specs.Buses.{control_buses};
+ghost use Rattle.sn_world.specs.declared.stage.Stage.{Stage};
+ghost use Rattle.sn_world.specs.World.{turn_of};
+ghost use Rattle.sn_world.specs.Pictures.{WritesBuses};
 ghost use Rattle.sn_world.specs.Rows.{first_refusal};
 ghost use Rattle.sn_world.specs.Buses.{bus_refusal, value_of, buses_and_values, answer_get, get_row};
 ghost use Rattle.sn_world.specs.Answers.{Follows, UnlessFollowed};
 ghost use Rattle.sn_buscmd.specs.Setting.{number_refusal};
 
-use crate::judging::first_refusal;
+use crate::judging::{first_refusal, value_place};
 use sn_mem::{Port, sample_of};
 use sn_osc::{Arg, Args, Body, Message};
 use sn_ports::{NoMemory, Text};
@@ -19,14 +22,13 @@ use std::alloc::Global;
 /// The value of a control bus.
 fn value_of<P: Port>(port: &mut P, number: &BusNumber) -> i32
     requires bus { bus_refusal number.now.bus ≡ None }
-    requires foot { WritesControlBuses (P.foot port.old) }
-    ensures value { result ≡ value_of (world_of (P.words port.old)) number.now.bus }
+    requires foot { WritesBuses (P.foot port.old) }
+    ensures value { result ≡ value_of (control_buses (P.words port.old)) number.now.bus }
     ensures words { P.words port.new ≡ P.words port.old }
     ensures foot { P.foot port.new ≡ P.foot port.old }
     ensures rest { P.rest port.new ≡ P.rest port.old }
 {
-    let at = 8321 + 2 * number.bus as u32;
-    sample_of(port.load(at))
+    sample_of(port.load(value_place(number.bus)))
 }
 
 /// Control buses, each with its value.
@@ -36,8 +38,8 @@ fn buses_and_values<P: Port>(
     numbers: &[BusNumber],
 ) -> Result<Args, NoMemory>
     requires all { first_refusal number_refusal numbers.now ≡ None }
-    requires foot { WritesControlBuses (P.foot port.old) }
-    ensures values { IfOk result (λ found. map argument_of found ≡ buses_and_values (world_of (P.words port.old)) numbers.now) }
+    requires foot { WritesBuses (P.foot port.old) }
+    ensures values { IfOk result (λ found. map argument_of found ≡ buses_and_values (control_buses (P.words port.old)) numbers.now) }
     ensures words { P.words port.new ≡ P.words port.old }
     ensures foot { P.foot port.new ≡ P.foot port.old }
     ensures rest { P.rest port.new ≡ P.rest port.old }
@@ -54,8 +56,8 @@ fn buses_and_values<P: Port>(
 fn answer<P: Port>(alloc: Global, port: &mut P, numbers: &[BusNumber]) -> Result<Message, NoMemory>
     requires all { first_refusal number_refusal numbers.now ≡ None }
     requires few { 16 * length numbers.now + 2 ^ 20 < 2 ^ 31 }
-    requires foot { WritesControlBuses (P.foot port.old) }
-    ensures message { IfOk result (λ m. message_of m ≡ answer_get (world_of (P.words port.old)) numbers.now) }
+    requires foot { WritesBuses (P.foot port.old) }
+    ensures message { IfOk result (λ m. message_of m ≡ answer_get (control_buses (P.words port.old)) numbers.now) }
     ensures sendable { IfOk result (λ m. IsSendable (message_of m)) }
     ensures words { P.words port.new ≡ P.words port.old }
     ensures foot { P.foot port.new ≡ P.foot port.old }
@@ -77,8 +79,8 @@ pub fn run_get<P: Port>(
     replies: &mut Replies,
 ) -> Result<Option<Reason>, NoMemory>
     requires few { 16 * length arguments.now + 2 ^ 20 < 2 ^ 31 }
-    requires foot { WritesControlBuses (P.foot port.old) }
-    ensures row { Follows result (get_row from (map argument_of arguments.now) (turn_of (P.words port.old) replies.old)) (turn_of (P.words port.old) replies.new) }
+    requires foot { WritesBuses (P.foot port.old) }
+    ensures row { (stage : Stage) → Follows result (get_row from (map argument_of arguments.now) (turn_of stage (P.words port.old) replies.old)) (turn_of stage (P.words port.old) replies.new) }
     ensures unchanged { UnlessFollowed result (replies.new ≡ replies.old) }
     ensures words { P.words port.new ≡ P.words port.old }
     ensures foot { P.foot port.new ≡ P.foot port.old }

@@ -1,10 +1,11 @@
 //! Repetitions that are judged before any of them acts.
-ghost use Rattle.std.specs.Prelude.{◌≡◌};
+ghost use Rattle.std.specs.Prelude.{◌≡◌, ◌+◌, ◌*◌, ◌<◌, nat_abs, None};
 ghost use Rattle.sn_world.specs.Rows.{first_refusal};
-ghost use Rattle.sn_world.specs.Buses.{is_bus, bus_refusal};
+ghost use Rattle.sn_world.specs.Buses.{is_bus, is_run, bus_refusal, run_refusal};
 
+use sn_mem::Places;
 use sn_reply::Reason;
-use sn_world::{BusNumber, BusValue};
+use sn_world::{BusFill, BusNumber, BusValue};
 
 /// What a message repeats, where no repetition changes what is against another.
 pub trait Judged {
@@ -33,6 +34,34 @@ fn bus_refusal(bus: i32) -> Option<Reason>
     None
 }
 
+/// The word that holds the value of a control bus.
+pub fn value_place(bus: i32) -> u32
+    requires { bus_refusal bus ≡ None }
+    ensures place { result ≡ 8320 + 2 * nat_abs bus + 1 }
+    ensures below { result < 10368 }
+{
+    Places::control(bus as u32).at + 1
+}
+
+fn is_run(bus: i32, count: u32) -> bool
+    ensures { result ≡ is_run bus count }
+{
+    if bus < 0 {
+        return false;
+    }
+    let first = bus as u64;
+    first < 1024 && first + u64::from(count) <= 1024
+}
+
+fn run_refusal(bus: i32, count: u32) -> Option<Reason>
+    ensures { result ≡ run_refusal bus count }
+{
+    if !is_run(bus, count) {
+        return Some(Reason::Bus);
+    }
+    None
+}
+
 impl Judged for BusValue {
     ghost judge = { λ r. bus_refusal r.bus };
 
@@ -46,6 +75,14 @@ impl Judged for BusNumber {
 
     fn refusal(&self) -> Option<Reason> {
         bus_refusal(self.bus)
+    }
+}
+
+impl Judged for BusFill {
+    ghost judge = { λ r. run_refusal r.bus r.count };
+
+    fn refusal(&self) -> Option<Reason> {
+        run_refusal(self.bus, self.count)
     }
 }
 

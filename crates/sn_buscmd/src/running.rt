@@ -1,23 +1,26 @@
 //! Messages that are run as commands.
-ghost use Rattle.std.specs.Prelude.{◌≡◌, ◌+◌, ◌*◌, ◌^◌, ◌<◌, List, length, map, IfSome, OnOk, OnErr};
+ghost use Rattle.std.specs.Prelude.{◌≡◌, ◌+◌, ◌*◌, ◌^◌, ◌<◌, List, length, map, IfSome};
 ghost use Rattle.std.specs.Option.{option_map};
 ghost use Rattle.std.specs.Borrow.{Bor};
 ghost use Rattle.sn_osc.specs.declared.packet.Arg.{Arg};
 ghost use Rattle.sn_osc.specs.Shape.{argument_of, body_of, message_of};
 ghost use Rattle.sn_reply.specs.Sending.{IsAnswerable};
-ghost use Rattle.sn_world.specs.World.{turn_of, WritesControlBuses, KeepsOtherWords};
-ghost use Rattle.sn_world.specs.Commands.{bus_command_of, bus_row, run_bus, command};
+ghost use Rattle.sn_world.specs.World.{turn_of};
+ghost use Rattle.sn_world.specs.Pictures.{Pictures, WritesBuses, WritesWorld};
+ghost use Rattle.sn_world.specs.Commands.{bus_command_of, bus_row, run_bus};
 ghost use Rattle.sn_world.specs.Answers.{Follows, UnlessFollowed, Handles, UnlessDone};
 ghost use Rattle.sn_buscmd.specs.Given.{ArgumentsOf};
 
 use crate::asking::run_get;
+use crate::filling::run_fill;
+use crate::receiving::run_receive;
 use crate::setting::run_set;
 use crate::syncing::run_sync;
 use sn_mem::Port;
 use sn_osc::{Arg, Body, Message};
 use sn_ports::NoMemory;
-use sn_reply::{Reason, Replies, To, fail};
-use sn_world::{BusCommand, Handled};
+use sn_reply::{Reason, Replies};
+use sn_world::{BusCommand, Handled, Stage};
 use std::alloc::Global;
 
 fn bus_command_of(address: &[u8]) -> Option<BusCommand>
@@ -26,11 +29,17 @@ fn bus_command_of(address: &[u8]) -> Option<BusCommand>
     if address == b"/c_set".as_slice() {
         return Some(BusCommand::Set);
     }
+    if address == b"/c_fill".as_slice() {
+        return Some(BusCommand::Fill);
+    }
     if address == b"/c_get".as_slice() {
         return Some(BusCommand::Get);
     }
     if address == b"/sync".as_slice() {
         return Some(BusCommand::Sync);
+    }
+    if address == b"/d_recv".as_slice() {
+        return Some(BusCommand::Receive);
     }
     None
 }
@@ -51,6 +60,7 @@ fn arguments_of(message: &Message) -> Option<&[Arg]>
 /// A command with its arguments, whole or not at all.
 fn run_row<P: Port>(
     alloc: Global,
+    stage: &mut Stage,
     port: &mut P,
     command: BusCommand,
     arguments: &[Arg],
@@ -58,38 +68,45 @@ fn run_row<P: Port>(
     replies: &mut Replies,
 ) -> Result<Option<Reason>, NoMemory>
     requires few { 16 * length arguments.now + 2 ^ 20 < 2 ^ 31 }
-    requires foot { WritesControlBuses (P.foot port.old) }
-    ensures row { Follows result (bus_row command from (map argument_of arguments.now) (turn_of (P.words port.old) replies.old)) (turn_of (P.words port.new) replies.new) }
-    ensures unchanged { UnlessFollowed result (P.words port.new ≡ P.words port.old) }
-    ensures unsaid { UnlessFollowed result (replies.new ≡ replies.old) }
-    ensures others { KeepsOtherWords (P.words port.old) (P.words port.new) }
+    requires pictures { Pictures stage.old (P.words port.old) }
+    requires foot { WritesBuses (P.foot port.old) }
+    ensures row { Follows result (bus_row command from (map argument_of arguments.now) (turn_of stage.old (P.words port.old) replies.old)) (turn_of stage.new (P.words port.new) replies.new) }
+    ensures unchanged { UnlessFollowed result (turn_of stage.new (P.words port.new) replies.new ≡ turn_of stage.old (P.words port.old) replies.old) }
+    ensures pictures { Pictures stage.new (P.words port.new) }
+    ensures region { stage.new.pool.region ≡ stage.old.pool.region }
+    ensures len { length (P.words port.new) ≡ length (P.words port.old) }
     ensures foot { P.foot port.new ≡ P.foot port.old }
     ensures rest { P.rest port.new ≡ P.rest port.old }
 {
     match command {
         BusCommand::Set => run_set(alloc, port, arguments),
+        BusCommand::Fill => run_fill(alloc, port, arguments),
         BusCommand::Get => run_get(alloc, port, arguments, from, replies),
         BusCommand::Sync => run_sync(alloc, arguments, from, replies),
+        BusCommand::Receive => run_receive(alloc, stage, arguments, from, replies),
     }
 }
 
-/// Runs a message from a client, where it is a command on control buses or `/sync`.
+/// Runs a message from a client, where it is a command on control buses or definitions, or `/sync`.
 ///
 /// `Done` comes where the command was carried out, `Failed` with the first reason against it, and `NotMine` where the address is that of
-/// another command or of none. All but `Done` leave the words and the replies as they were.
+/// another command or of none. All but `Done` leave the world and the replies as they were.
 pub fn run_bus_command<P: Port>(
     alloc: Global,
+    stage: &mut Stage,
     port: &mut P,
     message: &Message,
     from: u32,
     replies: &mut Replies,
 ) -> Result<Handled, NoMemory>
     requires message { IsAnswerable (message_of message.now) }
-    requires foot { WritesControlBuses (P.foot port.old) }
-    ensures row { Handles result (run_bus from (message_of message.now) (turn_of (P.words port.old) replies.old)) (turn_of (P.words port.new) replies.new) }
-    ensures unchanged { UnlessDone result (P.words port.new ≡ P.words port.old) }
-    ensures unsaid { UnlessDone result (replies.new ≡ replies.old) }
-    ensures others { KeepsOtherWords (P.words port.old) (P.words port.new) }
+    requires pictures { Pictures stage.old (P.words port.old) }
+    requires foot { WritesWorld (P.foot port.old) stage.old.pool.region }
+    ensures row { Handles result (run_bus from (message_of message.now) (turn_of stage.old (P.words port.old) replies.old)) (turn_of stage.new (P.words port.new) replies.new) }
+    ensures unchanged { UnlessDone result (turn_of stage.new (P.words port.new) replies.new ≡ turn_of stage.old (P.words port.old) replies.old) }
+    ensures pictures { Pictures stage.new (P.words port.new) }
+    ensures region { stage.new.pool.region ≡ stage.old.pool.region }
+    ensures len { length (P.words port.new) ≡ length (P.words port.old) }
     ensures foot { P.foot port.new ≡ P.foot port.old }
     ensures rest { P.rest port.new ≡ P.rest port.old }
 {
@@ -99,34 +116,8 @@ pub fn run_bus_command<P: Port>(
     let Some(arguments) = arguments_of(message) else {
         return Ok(Handled::Failed(Reason::ArgumentType));
     };
-    match run_row(alloc, port, command, arguments, from, replies)? {
+    match run_row(alloc, stage, port, command, arguments, from, replies)? {
         None => Ok(Handled::Done),
         Some(reason) => Ok(Handled::Failed(reason)),
     }
-}
-
-/// Runs a message from a client, whichever command it is, and answers `/fail` where it is refused.
-pub fn run_command<P: Port>(
-    alloc: Global,
-    port: &mut P,
-    message: &Message,
-    from: u32,
-    replies: &mut Replies,
-) -> Result<(), NoMemory>
-    requires message { IsAnswerable (message_of message.now) }
-    requires foot { WritesControlBuses (P.foot port.old) }
-    ensures command { OnOk result (turn_of (P.words port.new) replies.new ≡ command from (message_of message.now) (turn_of (P.words port.old) replies.old)) }
-    ensures unchanged { OnErr result (P.words port.new ≡ P.words port.old) }
-    ensures unsaid { OnErr result (replies.new ≡ replies.old) }
-    ensures others { KeepsOtherWords (P.words port.old) (P.words port.new) }
-    ensures foot { P.foot port.new ≡ P.foot port.old }
-    ensures rest { P.rest port.new ≡ P.rest port.old }
-{
-    let reason = match run_bus_command(alloc, port, message, from, replies)? {
-        Handled::Done => return Ok(()),
-        Handled::Failed(reason) => reason,
-        Handled::NotMine => Reason::UnknownCommand,
-    };
-    let refusal = fail(alloc, &message.address, reason)?;
-    replies.push(To::Client(from), refusal)
 }

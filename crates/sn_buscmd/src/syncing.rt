@@ -2,6 +2,7 @@
 ghost use Rattle.std.specs.Prelude.{◌≡◌, List, ℕ, map, IfOk};
 ghost use Rattle.sn_osc.specs.Shape.{argument_of, message_of};
 ghost use Rattle.sn_reply.specs.Sending.{IsSendable};
+ghost use Rattle.sn_world.specs.declared.stage.Stage.{Stage};
 ghost use Rattle.sn_world.specs.World.{turn_of};
 ghost use Rattle.sn_world.specs.Buses.{sync_number, sync_row, synced};
 ghost use Rattle.sn_world.specs.Answers.{Follows, UnlessFollowed};
@@ -40,7 +41,7 @@ pub fn run_sync(
     from: u32,
     replies: &mut Replies,
 ) -> Result<Option<Reason>, NoMemory>
-    ensures row { (words : List ℕ) → Follows result (sync_row from (map argument_of arguments.now) (turn_of words replies.old)) (turn_of words replies.new) }
+    ensures row { (stage : Stage) (words : List ℕ) → Follows result (sync_row from (map argument_of arguments.now) (turn_of stage words replies.old)) (turn_of stage words replies.new) }
     ensures unchanged { UnlessFollowed result (replies.new ≡ replies.old) }
 {
     let Some(number) = sync_number(arguments) else {

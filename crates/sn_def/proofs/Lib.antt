@@ -6,3 +6,20 @@ pub mod Fielding
 pub mod Uniting
 pub mod BodyLoop
 pub mod Placing
+mod Samples
+mod Standing
+pub mod Forming
+mod Counting
+mod Distinct
+mod Lines
+mod Sound
+mod Whole
+mod Plain
+mod Complete
+mod Printed
+mod Sets
+mod PrintLoop
+mod Prefix
+mod Halting
+mod Faulting
+mod Unique

@@ -9,3 +9,8 @@ pub mod Reading
 pub mod Answers
 pub mod Parts
 pub mod Asked
+pub mod WellFormed
+pub mod StateWords
+pub mod Grammar
+pub mod Printing
+pub mod Faults

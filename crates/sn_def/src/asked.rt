@@ -3,6 +3,7 @@ ghost use Rattle.std.specs.List.{list_any};
 ghost use Rattle.std.specs.Str.{bytes_eq};
 ghost use Rattle.sn_def.specs.Asked.{is_index_input, has_index, is_index, control_named};
 ghost use Rattle.sn_def.specs.Defs.{definition_of};
+ghost use Rattle.sn_def.specs.WellFormed.{IsWellFormed};
 
 use crate::definition::{Def, Param};
 use crate::table::{Mark, row_of};
@@ -51,6 +52,12 @@ fn place_of(controls: &[Param], name: &[u8]) -> Option<usize>
 }
 
 impl Def {
+    /// A definition keeps the limits, and each of its units is built and takes as many inputs and
+    /// gives as many outputs as its row says, of the kinds that its row says, from earlier lines.
+    pub fn well_formed(&self)
+        ensures { IsWellFormed (definition_of self.now) }
+    {}
+
     /// Whether a unit has this control as the number of a bus or of a buffer.
     pub fn is_index(&self, control: u32) -> bool
         ensures { result ≡ is_index (definition_of self.now) control }

@@ -10,9 +10,12 @@ mod fields;
 mod inputs;
 mod kind;
 mod known;
+mod laws;
 mod line;
 mod lookup;
 mod parts;
+mod printing;
+mod state;
 mod table;
 mod text;
 mod unit;
@@ -22,6 +25,10 @@ pub use control::{Control, Controls, Now};
 pub use definition::{Def, Names, Param, Params};
 pub use fault::{DefFault, DefKind, Unread};
 pub use kind::Kind;
+pub use laws::{
+    first_fault_is_read, lines_are_read, no_prefix, one_definition, written_is_well_formed,
+};
+pub use printing::print;
 pub use table::{BUILT, Mark, Row, Words, row_of};
 pub use text::read;
 pub use unit::{Input, Inputs, Unit, Units};

@@ -45,12 +45,16 @@ pub struct Row {
 }
 
 /// The kinds that are built. A unit of another kind is unknown to `read`.
-pub const BUILT: [Kind; 6] = [
+pub const BUILT: [Kind; 10] = [
     Kind::SinOsc,
     Kind::LFSaw,
     Kind::LFPulse,
     Kind::LFTri,
+    Kind::Impulse,
     Kind::WhiteNoise,
+    Kind::Phasor,
+    Kind::Line,
+    Kind::Linen,
     Kind::Outar,
 ];
 

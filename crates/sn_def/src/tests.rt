@@ -38,6 +38,51 @@ fn a_tone_is_read(rt: HostRuntime) -> Result<(), Fail> {
     Ok(())
 }
 
+fn delay(alloc: Global, kind: Kind, longest: i32) -> Result<Unit, NoMemory> {
+    let inputs = vec![in alloc; Input::Wire(0), Input::Literal(longest), Input::Literal(0)]?;
+    Ok(Unit {
+        kind,
+        inputs: Inputs::from_vec(inputs),
+        outputs: 1,
+    })
+}
+
+#[test]
+fn a_definition_is_printed(rt: HostRuntime) -> Result<(), Fail> {
+    let alloc = rt.alloc();
+    let tone = read(alloc, TONE)?;
+    assert_eq!(rt; print(alloc, &tone)?.as_slice(), TONE);
+    let half = read(
+        alloc,
+        b"snova 1\ndef half\ncontrol x 0.5\na = SinOsc x -0.1\nend\n",
+    )?;
+    assert_eq!(rt;
+        print(alloc, &half)?.as_slice(),
+        b"snova 1\ndef half\ncontrol x 8388608\na = SinOsc x -1677722\nend\n".as_slice()
+    );
+    Ok(())
+}
+
+#[test]
+fn words_of_state_are_counted(rt: HostRuntime) -> Result<(), Fail> {
+    let alloc = rt.alloc();
+    let tone = read(alloc, TONE)?;
+    tone.well_formed();
+    written_is_well_formed();
+    lines_are_read();
+    one_definition();
+    no_prefix();
+    first_fault_is_read();
+    assert_eq!(rt; tone.state_words(48_000), 1);
+    assert_eq!(rt;
+        delay(alloc, Kind::DelayN, 60_000)?.state_words(96_000),
+        5_760_002
+    );
+    assert_eq!(rt; delay(alloc, Kind::CombN, 0)?.state_words(44_100), 3);
+    assert_eq!(rt; delay(alloc, Kind::CombN, 100)?.state_words(44_100), 4_412);
+    Ok(())
+}
+
 #[test]
 fn the_first_fault_is_named(rt: HostRuntime) -> Result<(), Fail> {
     let alloc = rt.alloc();
@@ -97,11 +142,12 @@ fn the_greatest_definition_is_read(rt: HostRuntime) -> Result<(), Fail> {
         text.append(line.as_bytes())?;
     }
     for number in 0..256 {
-        let line = format!(in alloc; "w{number} = SinOsc c127 0.5\n")?;
+        let line = format!(in alloc; "w{number} = SinOsc c127 8388608\n")?;
         text.append(line.as_bytes())?;
     }
     text.append(b"end\n")?;
     let great = read(alloc, text.as_slice())?;
+    assert_eq!(rt; print(alloc, &great)?.as_slice(), text.as_slice());
     assert_eq!(rt; great.controls.as_slice().len(), 128);
     assert_eq!(rt; great.units.as_slice().len(), 256);
     assert_eq!(rt; great.wires.as_slice().len(), 256);

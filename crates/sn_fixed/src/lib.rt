@@ -7,15 +7,19 @@ mod lines;
 mod literals;
 mod naturals;
 mod phases;
+mod ranges;
 #[cfg(test)]
 mod tests;
+mod triggers;
 
 pub use arithmetic::{
     ONE, add, added, mul, mul_add, products, sat, sat_wide, scaled, scaled_sample, sub, times,
     total, weighted,
 };
 pub use laws::{digits_read_back, literal_bytes};
-pub use lines::{line_at, portion};
+pub use lines::{distance, line_at, portion};
 pub use literals::literal;
 pub use naturals::natural;
 pub use phases::{frames_of, sine, step_of};
+pub use ranges::into_range;
+pub use triggers::rises;

@@ -46,14 +46,15 @@ pub fn portion(whole: i64, k: u32, n: u32) -> i64
     narrow(wide_portion(whole, k, n))
 }
 
-fn distance(start: i32, end: i32) -> i64
+/// The exact difference of two samples.
+pub fn distance(start: i32, end: i32) -> i64
     ensures value { result ≡ end -ℤ start }
     ensures bound { unsigned_abs result ≤ 2 ^ 33 }
 {
     i64::from(end) - i64::from(start)
 }
 
-fn moved(start: i32, by: i64) -> i32
+pub(crate) fn moved(start: i32, by: i64) -> i32
     requires { FitsSigned w32 (start +ℤ by) }
     ensures { result ≡ start +ℤ by }
 {

@@ -1,6 +1,6 @@
 use crate::{
-    ONE, add, added, frames_of, line_at, literal, mul, mul_add, natural, portion, products, sat,
-    sat_wide, scaled, scaled_sample, sine, step_of, sub, times, total, weighted,
+    ONE, add, added, frames_of, line_at, literal, mul, mul_add, natural, portion, products, rises,
+    sat, sat_wide, scaled, scaled_sample, sine, step_of, sub, times, total, weighted,
 };
 
 #[test]
@@ -30,6 +30,10 @@ fn exact_steps(rt: HostRuntime) {
 #[test]
 fn phases_and_times(rt: HostRuntime) {
     assert_eq!(rt; step_of(440_000, 48_000), 39_370_533);
+    assert_eq!(rt;
+        (rises(0, 1), rises(1, 2), rises(-1, 0)),
+        (true, false, false)
+    );
     assert_eq!(rt; step_of(-1, 48_000), 4_294_967_206);
     assert_eq!(rt; frames_of(74, 44_100), 3_263);
     assert_eq!(rt; frames_of(-1, 44_100), 0);

@@ -4,3 +4,5 @@ pub mod Meetings
 pub mod Tables
 pub mod Masks
 pub mod Puts
+pub mod Windows
+pub mod BusLaws

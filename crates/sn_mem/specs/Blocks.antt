@@ -36,9 +36,13 @@ unfoldable pub scan : {S : Type 0} → (S → List (List ℤ) → ℕ → S × �
 scan step s inputs zero = (s, [])
 scan step s inputs (suc k) = let r = scan step s inputs k in let t = step r.0 inputs k in (t.0, r.1 ++ t.1 ∷ [])
 
--- a recurrence over a block, with its state in `size` words from a place on: the words after it, and the samples
+-- a recurrence over a block, from the words that hold its state: the words that hold it after the block, and the samples
+abbrev pub recurrence : {S : Type 0} → (List ℕ → S) → (S → List ℕ) → (S → List (List ℤ) → ℕ → S × ℤ) → List ℕ → List (List ℤ) → List ℕ × List ℤ
+recurrence loaded stored step state inputs = let r = scan step (loaded state) inputs 64 in (stored r.0, r.1)
+
+-- the same with its state in `size` words from a place on: all words after it, and the samples
 abbrev pub recurred : {S : Type 0} → ℕ → (List ℕ → S) → (S → List ℕ) → (S → List (List ℤ) → ℕ → S × ℤ) → List ℕ → ℕ → List (List ℤ) → List ℕ × List ℤ
-recurred size loaded stored step ws at inputs = let r = scan step (loaded (window ws at size)) inputs 64 in (put ws at (stored r.0), r.1)
+recurred size loaded stored step ws at inputs = let r = recurrence loaded stored step (window ws at size) inputs in (put ws at r.0, r.1)
 
 -- 64 samples in words
 abbrev pub samples_at : List ℕ → ℕ → List ℤ

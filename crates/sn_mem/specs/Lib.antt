@@ -4,3 +4,5 @@ pub mod Layout
 pub mod Blocks
 pub mod Frames
 pub mod Seen
+pub mod Buses
+pub mod Done

@@ -1,6 +1,8 @@
 //! States of units in words.
 ghost use Rattle.std.specs.Prelude.{◌≡◌, ◌≤◌, ℕ, List, length};
 
+use crate::samples::{sample_of, word_of};
+
 /// A state that some words hold.
 pub trait Stored {
     /// The number of words.
@@ -46,5 +48,29 @@ impl Stored for u32 {
 
     fn store(self, words: &mut [u64]) {
         words[0] = u64::from(self);
+    }
+}
+
+/// A sample in one word.
+impl Stored for i32 {
+    ghost use Rattle.std.specs.Prelude.{◌∷◌, [], slice_index};
+    ghost use Rattle.sn_mem.specs.Blocks.{word_for, sample_in};
+
+    ghost size = { 1 };
+
+    ghost loaded = { λ ws. sample_in (slice_index ws 0) };
+
+    ghost stored = { λ x. word_for x ∷ [] };
+
+    fn size() -> usize {
+        1
+    }
+
+    fn load(words: &[u64]) -> i32 {
+        sample_of(words[0])
+    }
+
+    fn store(self, words: &mut [u64]) {
+        words[0] = word_of(self);
     }
 }

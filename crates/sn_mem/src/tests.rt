@@ -3,6 +3,7 @@ ghost use Rattle.std.specs.Prelude.{◌≡◌, replicate, IfOk};
 use crate::blocks::Blocks;
 use crate::bus_words::{Change, change_block};
 use crate::clashes::clash;
+use crate::done::ended;
 use crate::extents::{Extent, Extents, Foot};
 use crate::framed::Framed;
 use crate::places::Places;
@@ -111,6 +112,7 @@ fn plain(alloc: Global) -> Result<PlainPort, NoMemory>
 #[test]
 fn one_sample() {
     prove!(sample_of(word_of(-1)) == -1);
+    prove!(ended(0) == 1 && ended(2) == 2);
 }
 
 #[test]

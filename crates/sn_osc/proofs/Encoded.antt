@@ -1,12 +1,12 @@
 -- The bytes of a packet are its one spelling.
-use Rattle.std.proofs.Common.{◌≡◌, ℕ, zero, suc, ◌+◌, ◌-◌, ◌*◌, ◌%◌, ◌^◌, ◌<◌, ◌≤◌, Bool, true, false, not, ltb, eqb, ◌&&◌, List, [], ◌∷◌, ◌++◌, length, map, replicate, refl, sym, ap, subst, ◌∙◌, append_assoc, arith, eq-eqb, IsTrue}
+use Rattle.std.proofs.Common.{◌≡◌, ℕ, zero, suc, ◌-◌, ◌*◌, ◌%◌, ◌^◌, ◌<◌, ◌≤◌, Bool, true, false, not, ltb, eqb, ◌&&◌, List, [], ◌∷◌, ◌++◌, length, map, replicate, refl, sym, ap, subst, ◌∙◌, append_assoc, arith, eq-eqb}
 use Rattle.std.specs.Int.{w32, w64, to_be_bytes}
 use Rattle.std.specs.List.{list_all}
 use Rattle.std.proofs.lemmas.Bool.{ltb-true, lt-ltb, eqb-true}
 use Rattle.std.proofs.lemmas.List.{length-append, length-replicate}
 use Rattle.sn_osc.specs.Shape.{Argument, int, string, blob, BodyShape, bare, arguments, foreign, MessageShape, Shape, Shapes, message, bundle, none, more}
 use Rattle.sn_osc.specs.Bytes.{string_bytes, argument_bytes, arguments_bytes, tag_of, body_bytes, message_bytes, bundle_head, packet_bytes, elements_bytes, has_no_null, begins_with, is_argument, is_argument_tag, is_body, is_message, counts_as, is_early, is_packet, are_packets}
-use Rattle.sn_osc.specs.Grammar.{SpellsString, SpellsArgument, SpellsArguments, SpellsBody, SpellsMessage, SpellsWithin, SpellsElements, Spells, IsSpellable}
+use Rattle.sn_osc.specs.Grammar.{SpellsArgument, SpellsArguments, SpellsBody, SpellsMessage, SpellsWithin, SpellsElements, Spells, IsSpellable}
 use Rattle.sn_osc.proofs.Fields.{and_yes}
 
 both : (a b : Bool) → a ≡ true → b ≡ true → (a && b) ≡ true

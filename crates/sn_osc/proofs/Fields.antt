@@ -1,16 +1,14 @@
 -- A datum that is read is the one that is spelled, and what is spelled is read.
-use Rattle.std.proofs.Common.{◌≡◌, ◌≢◌, ℕ, ℤ, pos, negsuc, zero, suc, ◌+◌, ◌-◌, ◌*◌, ◌/◌, ◌%◌, ◌^◌, ◌<◌, ◌≤◌, min, Bool, true, false, not, cond, ltb, leb, eqb, ◌&&◌, List, [], ◌∷◌, ◌++◌, length, get_or, take, drop, replicate, Result, Ok, Err, refl, sym, ap, subst, ◌∙◌, append_assoc, append-nil, arith, inl, inr, FitsSigned, eq-eqb, ne_eqb, IsTrue}
-use Rattle.std.specs.Int.{Width, w32, w64, from_be_bytes, to_be_bytes, cast_signed, cast_unsigned}
-use Rattle.std.specs.List.{position_or_len, list_all}
+use Rattle.std.proofs.Common.{◌≡◌, ℕ, ℤ, pos, negsuc, zero, suc, ◌+◌, ◌-◌, ◌%◌, ◌^◌, ◌<◌, ◌≤◌, Bool, true, false, not, cond, ltb, leb, eqb, ◌&&◌, List, [], ◌∷◌, ◌++◌, length, get_or, take, drop, replicate, Result, Ok, Err, refl, sym, ap, subst, ◌∙◌, append_assoc, arith, inl, inr, FitsSigned}
+use Rattle.std.specs.Int.{w32, from_be_bytes, to_be_bytes, cast_signed, cast_unsigned}
 use Rattle.std.proofs.lemmas.Bool.{cases_lt, ltb-true, ltb-false, lt-ltb, le-ltb, leb-true, le-leb, eqb-true}
-use Rattle.std.proofs.lemmas.List.{take_at, drop_at, take-append-drop, length-append, length-take, length-drop, length-replicate, get_or-drop, get_or-take, get_or_past, take-take, drop-drop}
-use Rattle.std.proofs.lemmas.List.Sums.{prefix_len-le-length}
-use Rattle.std.proofs.lemmas.Nat.{be_bytes_4, be_bytes_8, from_be_bytes-to_be_bytes_4, from_be_bytes-to_be_bytes_8}
+use Rattle.std.proofs.lemmas.List.{take_at, drop_at, take-append-drop, length-append, length-take, length-drop, length-replicate, get_or-drop, get_or-take, get_or_past, take-take}
+use Rattle.std.proofs.lemmas.Nat.{be_bytes_4, from_be_bytes-to_be_bytes_4}
 use Rattle.std.proofs.lemmas.Int.{of_z-to_z, to_z-of_z, ints}
 use borrow.Author.Gap.{read_sfits}
 use mir.Facts.{Fits-of_z}
 use Rattle.sn_osc.specs.declared.fault.PacketFault.{PacketFault}
-use Rattle.sn_osc.specs.Bytes.{int_bytes, string_bytes, blob_bytes, has_no_null, fits_int}
+use Rattle.sn_osc.specs.Bytes.{blob_bytes, has_no_null, fits_int}
 use Rattle.sn_osc.specs.Grammar.{SpellsInt, SpellsString, SpellsBlob}
 use Rattle.sn_osc.specs.Reading.{◌>>=◌, int_in, size_in, text_len, string_len, null_len, is_ended, padded_at, string_at, blob_len, blob_at}
 
@@ -146,7 +144,7 @@ text_then x xs false e others =
     let more : 1 + text_len xs ≡ suc (text_len xs) = omega arith in
     rw (more, e) others
 
-text_has_none : (xs : List ℕ) → has_no_null (take (text_len xs) xs) ≡ true
+pub text_has_none : (xs : List ℕ) → has_no_null (take (text_len xs) xs) ≡ true
 text_has_none [] = refl
 text_has_none (x ∷ xs) = text_then x xs (eqb x 0) refl (text_has_none xs)
 

@@ -1,5 +1,5 @@
 -- Frames stand by themselves: where one begins a list of bytes, what follows does not change it.
-use Rattle.std.proofs.Common.{◌≡◌, ℕ, ℤ, ◌+◌, ◌^◌, ◌%◌, ◌<◌, ◌≤◌, Bool, true, false, not, cond, ltb, leb, eqb, ◌&&◌, List, [], ◌∷◌, ◌++◌, length, take, drop, refl, sym, ap, ◌∙◌, append_assoc, append-nil, arith}
+use Rattle.std.proofs.Common.{◌≡◌, ℕ, ℤ, ◌+◌, ◌^◌, ◌%◌, ◌<◌, ◌≤◌, Bool, true, false, not, cond, ltb, leb, eqb, ◌&&◌, List, [], ◌++◌, length, take, drop, refl, sym, ap, ◌∙◌, append_assoc, arith}
 use Rattle.std.specs.Int.{w32, to_be_bytes}
 use Rattle.std.proofs.lemmas.Bool.{ltb-false, le-ltb, leb-true}
 use Rattle.std.proofs.lemmas.List.{take_at, drop_at, take-append-drop, drop-drop, length-append, length-take, nil_from_length}
@@ -43,7 +43,7 @@ not_bad : (b : Bool) (size : ℤ) (x : FirstFrame) (packet rest : List ℕ) → 
 not_bad true size x packet rest e = absurd cc
 not_bad false size x packet rest e = (refl, e)
 
-same_frame : (a b c d : List ℕ) → frame a b ≡ frame c d → (a ≡ c) × (b ≡ d)
+pub same_frame : (a b c d : List ℕ) → frame a b ≡ frame c d → (a ≡ c) × (b ≡ d)
 same_frame a b c d e = (cc, cc)
 
 -- a frame that is found stands at the front

@@ -9,3 +9,9 @@ pub mod PacketLaws
 pub mod Encoded
 pub mod Decoded
 pub mod Frames
+pub mod Streams
+pub mod Framing
+pub mod DataFaults
+pub mod PacketFaults
+pub mod DataFound
+pub mod PacketFound

@@ -1,10 +1,10 @@
 -- A message that is read is the one that is spelled, and what is spelled is read.
-use Rattle.std.proofs.Common.{◌≡◌, ℕ, zero, suc, ◌+◌, ◌-◌, ◌%◌, ◌^◌, ◌<◌, ◌≤◌, Bool, true, false, not, cond, ltb, leb, eqb, ◌&&◌, List, [], ◌∷◌, ◌++◌, length, take, drop, map, replicate, Result, Ok, Err, refl, sym, ap, subst, ◌∙◌, append_assoc, append-nil, arith, ne_eqb}
+use Rattle.std.proofs.Common.{◌≡◌, ℕ, ◌-◌, ◌%◌, ◌^◌, ◌<◌, ◌≤◌, Bool, true, false, not, cond, ltb, eqb, ◌&&◌, List, [], ◌∷◌, ◌++◌, length, take, drop, map, Result, Ok, refl, sym, ap, subst, ◌∙◌, append_assoc, append-nil, arith, ne_eqb}
 use Rattle.std.specs.List.{list_all}
-use Rattle.std.proofs.lemmas.Bool.{ltb-false, le-ltb, leb-true, eqb-true}
+use Rattle.std.proofs.lemmas.Bool.{ltb-false, le-ltb, eqb-true}
 use Rattle.std.proofs.lemmas.List.{take-append-drop, length-append, nil_from_length}
 use Rattle.sn_osc.specs.declared.fault.PacketFault.{PacketFault}
-use Rattle.sn_osc.specs.declared.fault.PacketKind.TheVariants.{LongArgs, NoTags, ShortArgs}
+use Rattle.sn_osc.specs.declared.fault.PacketKind.TheVariants.{LongArgs}
 use Rattle.sn_osc.specs.Shape.{Argument, int, string, blob, BodyShape, bare, arguments, foreign, MessageShape}
 use Rattle.sn_osc.specs.Bytes.{string_bytes, tag_of, begins_with, is_argument_tag}
 use Rattle.sn_osc.specs.Grammar.{SpellsString, SpellsArgument, SpellsArguments, SpellsBody, SpellsMessage}
@@ -16,10 +16,10 @@ use Rattle.sn_osc.proofs.Fields.{IsBytes, IsBytes-drop, bind_ok, guard_not, guar
 abbrev pub ArgumentTaken : ℕ → List ℕ → Argument × List ℕ → Type 0
 ArgumentTaken tag bytes x = (front : List ℕ) × SpellsArgument x.0 front × (tag_of x.0 ≡ tag) × Takes bytes front x.1
 
-abbrev read_string : ℕ → List ℕ → Result (Argument × List ℕ) PacketFault
+abbrev pub read_string : ℕ → List ℕ → Result (Argument × List ℕ) PacketFault
 read_string end bytes = string_at end bytes >>= λ s. Ok (string s.0, s.1)
 
-abbrev read_blob : ℕ → List ℕ → Result (Argument × List ℕ) PacketFault
+abbrev pub read_blob : ℕ → List ℕ → Result (Argument × List ℕ) PacketFault
 read_blob end bytes = blob_at end bytes >>= λ b. Ok (blob b.0, b.1)
 
 argument_by_tag : (end tag : ℕ) (bytes : List ℕ) (x : Argument × List ℕ) (i s : Bool) → eqb tag 105 ≡ i → eqb tag 115 ≡ s → IsBytes bytes → cond i true (cond s true (eqb tag 98)) ≡ true → 4 ≤ length bytes → length bytes < 2 ^ 31
@@ -36,13 +36,13 @@ argument_by_tag end tag bytes x false false is-i is-s fits known long small e =
     let t = blob_takes end bytes b.0 fits long small b.1 in
     subst (ArgumentTaken tag bytes) (ok_is (blob b.0.0, b.0.1) x b.2) (t.0, t.1, sym (eqb-true _ _ known), t.2)
 
-argument_takes : (end tag : ℕ) (bytes : List ℕ) (x : Argument × List ℕ) → IsBytes bytes → is_argument_tag tag ≡ true → length bytes < 2 ^ 31 → argument_at end tag bytes ≡ Ok x → ArgumentTaken tag bytes x
+pub argument_takes : (end tag : ℕ) (bytes : List ℕ) (x : Argument × List ℕ) → IsBytes bytes → is_argument_tag tag ≡ true → length bytes < 2 ^ 31 → argument_at end tag bytes ≡ Ok x → ArgumentTaken tag bytes x
 unfolding argument_at
 argument_takes end tag bytes x fits known small e =
     let g = guard_not (ltb (length bytes) 4) _ (cond (eqb tag 105) (Ok (int (int_in bytes), drop 4 bytes)) (cond (eqb tag 115) (read_string end bytes) (read_blob end bytes))) x e in
     argument_by_tag end tag bytes x (eqb tag 105) (eqb tag 115) refl refl fits known (ltb-false _ _ g.0) small g.1
 
-argument_again : (end : ℕ) (x : Argument) (front rest : List ℕ) → SpellsArgument x front → argument_at end (tag_of x) (front ++ rest) ≡ Ok (x, rest)
+pub argument_again : (end : ℕ) (x : Argument) (front rest : List ℕ) → SpellsArgument x front → argument_at end (tag_of x) (front ++ rest) ≡ Ok (x, rest)
 unfolding argument_at
 argument_again end (int n) front rest h =
     let t = int_again n front rest h in
@@ -57,10 +57,10 @@ argument_again end (blob b) front rest h =
 
 -- ---- the arguments
 
-abbrev ArgumentsTaken : List ℕ → List ℕ → List Argument × List ℕ → Type 0
+abbrev pub ArgumentsTaken : List ℕ → List ℕ → List Argument × List ℕ → Type 0
 ArgumentsTaken tags bytes x = (front : List ℕ) × SpellsArguments x.0 front × (map tag_of x.0 ≡ tags) × Takes bytes front x.1
 
-arguments_take : (end : ℕ) (tags bytes : List ℕ) (x : List Argument × List ℕ) → IsBytes bytes → list_all is_argument_tag tags ≡ true → length bytes < 2 ^ 31 → arguments_at end tags bytes ≡ Ok x → ArgumentsTaken tags bytes x
+pub arguments_take : (end : ℕ) (tags bytes : List ℕ) (x : List Argument × List ℕ) → IsBytes bytes → list_all is_argument_tag tags ≡ true → length bytes < 2 ^ 31 → arguments_at end tags bytes ≡ Ok x → ArgumentsTaken tags bytes x
 unfolding arguments_at
 arguments_take end [] bytes x fits known small e = subst (ArgumentsTaken [] bytes) (ok_is ([], bytes) x e) ([], refl, refl, record { parts = refl; rest_fits = fits })
 arguments_take end (tag ∷ tags) bytes x fits known small e =
@@ -73,7 +73,7 @@ arguments_take end (tag ∷ tags) bytes x fits known small e =
     subst (ArgumentsTaken (tag ∷ tags) bytes) (ok_is (a.0.0 ∷ b.0.0, b.0.1) x b.2)
     (first.0 ++ others.0, (first.0, others.0, first.1, others.1, refl), ap (λ t. tag_of a.0.0 ∷ t) others.2 ∙ ap (λ t. t ∷ tags) first.2, then_takes bytes first.0 a.0.1 others.0 b.0.1 first.3 others.3)
 
-arguments_again : (end : ℕ) (xs : List Argument) (front rest : List ℕ) → SpellsArguments xs front → arguments_at end (map tag_of xs) (front ++ rest) ≡ Ok (xs, rest)
+pub arguments_again : (end : ℕ) (xs : List Argument) (front rest : List ℕ) → SpellsArguments xs front → arguments_at end (map tag_of xs) (front ++ rest) ≡ Ok (xs, rest)
 unfolding arguments_at
 arguments_again end [] front rest h = ap (λ (t : List ℕ). Ok ([], t ++ rest)) h
 arguments_again end (x ∷ xs) front rest h =
@@ -81,7 +81,7 @@ arguments_again end (x ∷ xs) front rest h =
     let bytes : front ++ rest ≡ first ++ (others ++ rest) = ap (λ (t : List ℕ). t ++ rest) parts ∙ append_assoc first others rest in
     ap (arguments_at end (tag_of x ∷ map tag_of xs)) bytes ∙ rw (argument_again end x first (others ++ rest) spelled, arguments_again end xs others rest more) refl
 
-known_tags : (xs : List Argument) → list_all is_argument_tag (map tag_of xs) ≡ true
+pub known_tags : (xs : List Argument) → list_all is_argument_tag (map tag_of xs) ≡ true
 known_tags [] = refl
 known_tags (int n ∷ xs) = known_tags xs
 known_tags (string s ∷ xs) = known_tags xs
@@ -108,10 +108,10 @@ pub string_ended : (end : ℕ) (bytes : List ℕ) (x : List ℕ × List ℕ) →
 unfolding string_at
 string_ended end bytes x e = (guard_yes (is_ended bytes) _ (padded_at end (text_len bytes) (string_len (text_len bytes)) bytes) x e).0
 
-abbrev TagsTaken : List ℕ → List ℕ × List ℕ → Type 0
+abbrev pub TagsTaken : List ℕ → List ℕ × List ℕ → Type 0
 TagsTaken bytes x = (front : List ℕ) × SpellsString (44 ∷ x.0) front × Takes bytes front x.1
 
-tags_take : (end : ℕ) (bytes : List ℕ) (x : List ℕ × List ℕ) → IsBytes bytes → tags_at end bytes ≡ Ok x → TagsTaken bytes x
+pub tags_take : (end : ℕ) (bytes : List ℕ) (x : List ℕ × List ℕ) → IsBytes bytes → tags_at end bytes ≡ Ok x → TagsTaken bytes x
 unfolding tags_at
 tags_take end bytes x fits e =
     let g = guard_not (is_ended bytes && not (begins_with 44 bytes)) _ (string_at end bytes >>= λ tagged. Ok (drop 1 tagged.0, tagged.1)) x e in
@@ -126,7 +126,7 @@ tags_take end bytes x fits e =
     no_other true false is e = absurd cc
     no_other false b is e = absurd cc
 
-tags_again : (end : ℕ) (ts front rest : List ℕ) → SpellsString (44 ∷ ts) front → tags_at end (front ++ rest) ≡ Ok (ts, rest)
+pub tags_again : (end : ℕ) (ts front rest : List ℕ) → SpellsString (44 ∷ ts) front → tags_at end (front ++ rest) ≡ Ok (ts, rest)
 unfolding tags_at
 tags_again end ts front rest h =
     let read = string_again end (44 ∷ ts) front rest h in
@@ -153,7 +153,7 @@ arguments_all_again end xs bytes h =
     let read : arguments_at end (map tag_of xs) bytes ≡ Ok (xs, []) = ap (arguments_at end (map tag_of xs)) whole ∙ arguments_again end xs bytes [] h in
     rw read refl
 
-abbrev read_body : ℕ → Bool → List ℕ × List ℕ → Result BodyShape PacketFault
+abbrev pub read_body : ℕ → Bool → List ℕ × List ℕ → Result BodyShape PacketFault
 read_body end known tags = cond known (arguments_in end tags.0 tags.1 >>= λ xs. Ok (arguments xs)) (Ok (foreign tags.0 tags.1))
 
 body_by_tags : (end : ℕ) (bytes : List ℕ) (x : BodyShape) (tags : List ℕ × List ℕ) (known : Bool) → list_all is_argument_tag tags.0 ≡ known → length bytes < 2 ^ 31 → length bytes % 4 ≡ 0 → TagsTaken bytes tags
@@ -178,7 +178,7 @@ body_takes : (end : ℕ) (bytes : List ℕ) (x : BodyShape) → IsBytes bytes �
 unfolding body_in
 body_takes end bytes x fits small whole e = body_by_length end bytes x (eqb (length bytes) 0) refl fits small whole e
 
-some_bytes : (s front rest : List ℕ) → SpellsString s front → eqb (length (front ++ rest)) 0 ≡ false
+pub some_bytes : (s front rest : List ℕ) → SpellsString s front → eqb (length (front ++ rest)) 0 ≡ false
 some_bytes s front rest h = ne_eqb _ _ (λ e. omega (arith, e, length-append front rest, string_len-is s front h))
 
 body_again : (end : ℕ) (x : BodyShape) (bytes : List ℕ) → SpellsBody x bytes → body_in end bytes ≡ Ok x
@@ -218,12 +218,12 @@ message_slash x bytes h =
 
 -- ---- lengths are multiples of 4
 
-argument_whole : (x : Argument) (bytes : List ℕ) → SpellsArgument x bytes → length bytes % 4 ≡ 0
+pub argument_whole : (x : Argument) (bytes : List ℕ) → SpellsArgument x bytes → length bytes % 4 ≡ 0
 argument_whole (int n) bytes h = omega (arith, ap length h.1)
 argument_whole (string s) bytes h = omega (arith, string_len-is s bytes h)
 argument_whole (blob b) bytes h = omega (arith, blob_len-is b bytes h)
 
-arguments_whole : (xs : List Argument) (bytes : List ℕ) → SpellsArguments xs bytes → length bytes % 4 ≡ 0
+pub arguments_whole : (xs : List Argument) (bytes : List ℕ) → SpellsArguments xs bytes → length bytes % 4 ≡ 0
 arguments_whole [] bytes h = omega (arith, ap length h)
 arguments_whole (x ∷ xs) bytes h =
     let (front, rest, spelled, others, parts) = h in

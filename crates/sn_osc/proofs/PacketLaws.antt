@@ -1,14 +1,14 @@
 -- The two laws of packets: what is read is spelled so, and what is spelled so is read.
-use Rattle.std.proofs.Common.{◌≡◌, ℕ, zero, suc, ◌+◌, ◌-◌, ◌%◌, ◌^◌, ◌<◌, ◌≤◌, Bool, true, false, not, cond, ltb, leb, eqb, ◌&&◌, ◌||◌, List, [], ◌∷◌, ◌++◌, length, take, drop, Result, Ok, Err, refl, sym, ap, subst, ◌∙◌, append_assoc, arith, eq-eqb, inl, inr}
-use Rattle.std.specs.Int.{w32, w64, from_be_bytes, to_be_bytes}
+use Rattle.std.proofs.Common.{◌≡◌, ℕ, zero, suc, ◌+◌, ◌-◌, ◌%◌, ◌^◌, ◌<◌, ◌≤◌, Bool, true, false, not, cond, ltb, leb, eqb, ◌&&◌, ◌||◌, List, [], ◌∷◌, ◌++◌, length, take, drop, Result, Ok, refl, sym, ap, subst, ◌∙◌, append_assoc, arith, eq-eqb}
+use Rattle.std.specs.Int.{w32, w64, to_be_bytes}
 use Rattle.std.specs.List.{starts_with}
-use Rattle.std.proofs.lemmas.Bool.{ltb-true, ltb-false, lt-ltb, le-ltb, eqb-true, leb-true, le-leb}
-use Rattle.std.proofs.lemmas.List.{take_at, drop_at, take-append-drop, length-append, length-take, length-drop, drop-drop, nil_from_length}
+use Rattle.std.proofs.lemmas.Bool.{ltb-false, lt-ltb, le-ltb, eqb-true, leb-true, le-leb}
+use Rattle.std.proofs.lemmas.List.{take_at, drop_at, take-append-drop, length-append, length-take, length-drop, drop-drop}
 use Rattle.std.proofs.lemmas.Nat.{be_bytes_8, from_be_bytes-to_be_bytes_8}
 use Rattle.std.proofs.lemmas.Slice.Eq.{bytes_eq-Decides}
 use Rattle.sn_osc.specs.declared.fault.PacketFault.{PacketFault}
-use Rattle.sn_osc.specs.declared.fault.PacketKind.TheVariants.{Start, Head, ElementSize, NestedEarly}
-use Rattle.sn_osc.specs.Shape.{MessageShape, Shape, Shapes, message, bundle, none, more, shapes_from}
+use Rattle.sn_osc.specs.declared.fault.PacketKind.TheVariants.{Start, Head}
+use Rattle.sn_osc.specs.Shape.{Shape, Shapes, message, bundle, none, more, shapes_from}
 use Rattle.sn_osc.specs.Bytes.{bundle_head, begins_with, counts_as, is_early}
 use Rattle.sn_osc.specs.Grammar.{SpellsWithin, SpellsElements, Spells}
 use Rattle.sn_osc.specs.Reading.{◌>>=◌, fault, size_in, message_in, element_at, elements_in, tag_in, bundle_in, is_headed, packet_or, packet_in, is_packet_size, read}
@@ -39,13 +39,14 @@ mutual
 
 -- ---- one element
 
-record Element (bytes : List ℕ) (parts : List ℕ × List ℕ) : Type 0 where
-  whole : length parts.0 % 4 ≡ 0
-  short : length parts.0 < 2 ^ 31
-  fits : IsBytes parts.0
-  taken : Takes bytes (to_be_bytes w32 (length parts.0) ++ parts.0) parts.1
+pub record Element (bytes : List ℕ) (parts : List ℕ × List ℕ) : Type 0 where
+  pub least : 4 ≤ length parts.0
+  pub whole : length parts.0 % 4 ≡ 0
+  pub short : length parts.0 < 2 ^ 31
+  pub fits : IsBytes parts.0
+  pub taken : Takes bytes (to_be_bytes w32 (length parts.0) ++ parts.0) parts.1
 
-element_takes : (end : ℕ) (bytes : List ℕ) (parts : List ℕ × List ℕ) → IsBytes bytes → length bytes < 2 ^ 31 → element_at end bytes ≡ Ok parts → Element bytes parts
+pub element_takes : (end : ℕ) (bytes : List ℕ) (parts : List ℕ × List ℕ) → IsBytes bytes → length bytes < 2 ^ 31 → element_at end bytes ≡ Ok parts → Element bytes parts
 unfolding element_at
 element_takes end bytes parts fits small e =
     let n = size_in bytes in
@@ -61,7 +62,9 @@ element_takes end bytes parts fits small e =
     let head : Takes bytes (take 4 bytes) rest = record { parts = sym (take-append-drop 4 bytes); rest_fits = rest_fits } in
     let body : Takes rest (take n rest) (drop n rest) = record { parts = sym (take-append-drop n rest); rest_fits = IsBytes-drop n rest rest_fits } in
     let size : take 4 bytes ≡ to_be_bytes w32 (length (take n rest)) = sym (size_back bytes fits long) ∙ ap (to_be_bytes w32) (sym len) in
+    let four : 4 ≤ n = ltb-false _ _ (or_no (ltb (length bytes) 4) (ltb n 4) sizes.0).1 in
     let made : Element bytes (take n rest, drop n rest) = record {
+      least = rw len four;
       whole = rw len whole;
       short = omega (arith, len, inside, length-drop 4 bytes, small);
       fits = IsBytes-take n rest rest_fits;
@@ -73,7 +76,7 @@ element_takes end bytes parts fits small e =
     not_no true e = refl
     not_no false e = absurd cc
 
-element_again : (end : ℕ) (front rest : List ℕ) → 4 ≤ length front → length front % 4 ≡ 0 → length front < 2 ^ 31 → element_at end (to_be_bytes w32 (length front) ++ (front ++ rest)) ≡ Ok (front, rest)
+pub element_again : (end : ℕ) (front rest : List ℕ) → 4 ≤ length front → length front % 4 ≡ 0 → length front < 2 ^ 31 → element_at end (to_be_bytes w32 (length front) ++ (front ++ rest)) ≡ Ok (front, rest)
 unfolding element_at
 element_again end front rest long whole short =
     let n = length front in
@@ -88,15 +91,15 @@ element_again end front rest long whole short =
 
 -- ---- elements
 
-abbrev Reader : Type 0
+abbrev pub Reader : Type 0
 Reader = ℕ → List ℕ → Result Shape PacketFault
 
 -- what the reader reads is spelled so
-abbrev ReadsSpelled : ℕ → ℕ → Reader → Type 0
+abbrev pub ReadsSpelled : ℕ → ℕ → Reader → Type 0
 ReadsSpelled deep around reader = (end : ℕ) (bytes : List ℕ) (x : Shape) → IsBytes bytes → length bytes < 2 ^ 31 → length bytes % 4 ≡ 0 → reader end bytes ≡ Ok x → SpellsWithin deep around x bytes
 
 -- what is spelled so the reader reads
-abbrev SpelledRead : ℕ → ℕ → Reader → Type 0
+abbrev pub SpelledRead : ℕ → ℕ → Reader → Type 0
 SpelledRead deep around reader = (end : ℕ) (bytes : List ℕ) (x : Shape) → SpellsWithin deep around x bytes → reader end bytes ≡ Ok x
 
 elements_take : (deep around : ℕ) (reader : Reader) → ReadsSpelled deep around reader → (end n : ℕ) (bytes : List ℕ) (xs : List Shape) → IsBytes bytes → length bytes < 2 ^ 31 → length bytes ≤ n
@@ -143,7 +146,7 @@ tag_below bytes fits =
     let small = IsBytes-take 8 (drop 8 bytes) (IsBytes-drop 8 bytes fits) in
     omega (arith, small 0, small 1, small 2, small 3, small 4, small 5, small 6, small 7)
 
-headed_is : (bytes : List ℕ) → is_headed bytes ≡ true → (16 ≤ length bytes) × (take 8 bytes ≡ bundle_head)
+pub headed_is : (bytes : List ℕ) → is_headed bytes ≡ true → (16 ≤ length bytes) × (take 8 bytes ≡ bundle_head)
 headed_is bytes h =
     let both = and_yes (leb 16 (length bytes)) (starts_with (λ a b. eqb a b) bytes bundle_head) h in
     (leb-true _ _ both.0, sym ((bytes_eq-Decides bundle_head (take 8 bytes)).0 both.1))

@@ -1,5 +1,5 @@
 -- What is read of a packet, by how it begins.
-use Rattle.std.proofs.Common.{◌≡◌, ℕ, zero, suc, ◌-◌, ◌<◌, Bool, true, false, List, length, Result, Ok, Err, refl, sym, ap, ◌∙◌, arith}
+use Rattle.std.proofs.Common.{◌≡◌, ℕ, zero, suc, ◌-◌, ◌<◌, true, false, List, length, Result, Ok, refl, ap, ◌∙◌, arith}
 use Rattle.sn_osc.specs.declared.fault.PacketFault.{PacketFault}
 use Rattle.sn_osc.specs.declared.fault.PacketKind.TheVariants.{Start, Head, TooDeep}
 use Rattle.sn_osc.specs.declared.fault.Undecoded.{Undecoded}

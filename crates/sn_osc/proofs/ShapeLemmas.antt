@@ -1,10 +1,10 @@
 -- The shape of a bundle is that of its elements.
-use Rattle.std.proofs.Common.{◌≡◌, ℕ, List, [], ◌∷◌, map, refl, sym, ap, ◌∙◌}
+use Rattle.std.proofs.Common.{◌≡◌, refl, ap, ◌∙◌}
 use mathlib.Core.Former.{Count}
 use Rattle.sn_osc.specs.declared.packet.Bundle.{Bundle}
 use Rattle.sn_osc.specs.declared.packet.Packet.{Packet, Bundle', Row_of-Packet, end_of-Packet, more_of-Packet, items-the_row-Packet, items_hidden-the_row-Packet-0}
 use Rattle.sn_osc.specs.declared.packet.Packet as packets
-use Rattle.sn_osc.specs.Shape.{Shape, Shapes, bundle, more, shapes_from, shape, row_shapes, shapes}
+use Rattle.sn_osc.specs.Shape.{bundle, more, shape, row_shapes, shapes}
 
 abbrev row_of : Packet → (n : Count) × Row_of-Packet n
 row_of (Bundle' tag room row) = (_, row)

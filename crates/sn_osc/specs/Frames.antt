@@ -1,26 +1,25 @@
 -- A stream is frames: before each packet stands its int32 size.
-use Rattle.std.specs.Prelude.{◌≡◌, ◌≢◌, ◌≤◌, ◌+◌, ◌-◌, ◌%◌, ℕ, ℤ, List, [], ◌∷◌, ◌++◌, length, take, drop, Bool, not, nat_lt, nat_le, ◌==◌, ◌&&◌, if◌then◌else◌, Option, Some, None, Result, Ok, Err}
-use Rattle.sn_osc.specs.declared.fault.PacketKind.{PacketKind}
+use Rattle.std.specs.Prelude.{◌≡◌, ◌<◌, ◌+◌, ◌%◌, ℕ, ℤ, List, [], ◌∷◌, ◌++◌, length, take, drop, Bool, not, nat_lt, nat_le, ◌==◌, ◌&&◌, if◌then◌else◌, IsTrue}
 use Rattle.sn_osc.specs.declared.fault.StreamFault.{StreamFault}
-use Rattle.sn_osc.specs.declared.fault.StreamFault.TheVariants as faults
-use Rattle.sn_osc.specs.declared.frame.Frame.{Frame}
-use Rattle.sn_osc.specs.declared.frame.Unframed.{Unframed}
-use Rattle.sn_osc.specs.declared.frame.Unframed.TheVariants as unframed
-use Rattle.sn_osc.specs.Framing.{Framing}
+use Rattle.sn_osc.specs.declared.fault.StreamFault.TheVariants.{Packet, FrameSize, FrameCut}
+use Rattle.sn_osc.specs.declared.frame.NoFrame.{NoFrame}
+use Rattle.sn_osc.specs.declared.frame.NoFrame.TheVariants as noframe
 use Rattle.sn_osc.specs.Shape.{Shape}
 use Rattle.sn_osc.specs.Bytes.{frame_bytes}
 use Rattle.sn_osc.specs.Grammar.{Spells}
-use Rattle.sn_osc.specs.Reading.{int_in, size_in, FirstFault}
+use Rattle.sn_osc.specs.Reading.{int_in, size_in}
+use Rattle.sn_osc.specs.Faults.{FirstFault}
 
--- The bytes are the joined frames of the packets.
-abbrev pub Frames : List ℕ → List Shape → Type 0
-Frames bytes [] = bytes ≡ []
-Frames bytes (x ∷ xs) = (packet : List ℕ) × (rest : List ℕ) × Spells x packet × (length packet ≤ 65536) × Frames rest xs × (bytes ≡ frame_bytes packet ++ rest)
-
+-- 4 to 65,536, a multiple of 4
 abbrev pub is_frame_size : ℕ → Bool
 is_frame_size n = nat_le 4 n && nat_le n 65536 && n % 4 == 0
 
--- What stands first in a stream: a frame that is cut off, a bad size, or a packet's bytes with what follows them.
+-- The bytes are the joined frames of the packets.
+abbrev pub Frames : List Shape → List ℕ → Type 0
+Frames [] bytes = bytes ≡ []
+Frames (x ∷ xs) bytes = (packet : List ℕ) × (rest : List ℕ) × IsTrue (is_frame_size (length packet)) × Spells x packet × Frames xs rest × (bytes ≡ frame_bytes packet ++ rest)
+
+-- What stands first in a stream: no whole frame, a bad size, or a packet's bytes with what follows them.
 pub data FirstFrame : Type 0 where
   cut : FirstFrame
   bad_size : ℤ → FirstFrame
@@ -33,26 +32,30 @@ first_frame bytes =
     if nat_lt (length (drop 4 bytes)) (size_in bytes) then cut else
     frame (take (size_in bytes) (drop 4 bytes)) (drop (size_in bytes) (drop 4 bytes))
 
--- the fault of what stands first, at a byte counted from there
-abbrev pub FrameFault : List ℕ → ℕ → StreamFault → Type 0
-FrameFault bytes place faults.FrameCut = (bytes ≢ []) × (first_frame bytes ≡ cut) × (place ≡ 0)
-FrameFault bytes place faults.FrameSize = (size : ℤ) × (first_frame bytes ≡ bad_size size) × (place ≡ 0)
-FrameFault bytes place (faults.Packet kind) = (packet : List ℕ) × (rest : List ℕ) × (at : ℕ) × (first_frame bytes ≡ frame packet rest) × FirstFault packet kind at × (place ≡ 4 + at)
+-- what stands first where no whole frame does
+abbrev pub instead : NoFrame → FirstFrame
+instead noframe.Cut = cut
+instead (noframe.BadSize size) = bad_size size
 
--- the first fault of a stream: the number of its packet from 0, and its byte
+-- ---- the first fault of a stream
+
+-- Why no packet stands at the front of the bytes, which begin at a place of the stream: the first that applies of a cut size, a bad
+-- size, a cut packet and a fault of the packet.
+abbrev pub FrameFault : ℕ → List ℕ → ℕ → StreamFault → Type 0
+FrameFault at bytes place FrameCut = (place ≡ at) × (0 < length bytes) × (first_frame bytes ≡ cut)
+FrameFault at bytes place FrameSize = (size : ℤ) × (place ≡ at) × (first_frame bytes ≡ bad_size size)
+FrameFault at bytes place (Packet kind) = (packet : List ℕ) × (rest : List ℕ) × (p : ℕ) × (place ≡ at + 4 + p) × (first_frame bytes ≡ frame packet rest) × FirstFault packet kind p
+
+-- Bytes that begin at a place of the stream are frames, as many as the number says, and then comes no packet.
+pub record FaultFrom (base : ℕ) (bytes : List ℕ) (number place : ℕ) (fault : StreamFault) : Type 0 where
+  pub before : List Shape
+  pub front : List ℕ
+  pub rest : List ℕ
+  pub frames : Frames before front
+  pub parts : bytes ≡ front ++ rest
+  pub count : length before ≡ number
+  pub why : FrameFault (base + length front) rest place fault
+
+-- the first fault of a stream: the number of the packet that is at fault, from 0, and the place in the stream
 abbrev pub StreamFaultAt : List ℕ → ℕ → ℕ → StreamFault → Type 0
-StreamFaultAt bytes number place fault = (before : List Shape) × (front : List ℕ) × (rest : List ℕ) × (at : ℕ) × Frames front before × FrameFault rest at fault
-    × (bytes ≡ front ++ rest) × (number ≡ length before) × (place ≡ length front + at)
-
--- ---- a framer
-
--- the place in the stream of the first byte that is kept
-abbrev pub kept_place : Framing → ℕ
-kept_place f = f.fed - length f.kept
-
--- what asking for the next frame answers, and what it leaves
-abbrev pub Next : Framing → Framing → Result (Option Frame) Unframed → Type 0
-Next old new (Ok None) = (first_frame old.kept ≡ cut) × (new ≡ old)
-Next old new (Ok (Some f)) = (first_frame old.kept ≡ frame f.bytes.bytes new.kept) × (new.fed ≡ old.fed) × (f.place ≡ kept_place old + 4)
-Next old new (Err unframed.NoMemory) = new ≡ old
-Next old new (Err (unframed.Bad size place)) = (first_frame old.kept ≡ bad_size size) × (place ≡ kept_place old) × (new ≡ old)
+StreamFaultAt bytes number place fault = FaultFrom 0 bytes number place fault

@@ -4,3 +4,5 @@ pub mod Bytes
 pub mod Reading
 pub mod Framing
 pub mod Frames
+pub mod Framed
+pub mod Faults

@@ -1,8 +1,8 @@
 -- Reading a packet from left to right, up to the first fault. A place is that of a byte in the whole packet; end is the place
 -- behind the last byte of what is read.
-use Rattle.std.specs.Prelude.{◌≡◌, ◌+◌, ◌-◌, ◌*◌, ◌/◌, ◌%◌, ℕ, zero, suc, ℤ, List, [], ◌∷◌, length, take, drop, Result, Ok, Err, Bool, true, false, not, nat_lt, nat_le, ◌==◌, ◌&&◌, ◌||◌, if◌then◌else◌}
+use Rattle.std.specs.Prelude.{◌≡◌, ◌+◌, ◌-◌, ◌%◌, ℕ, zero, suc, ℤ, List, [], ◌∷◌, length, take, drop, Result, Ok, Err, Bool, not, nat_lt, nat_le, ◌==◌, ◌&&◌, ◌||◌, if◌then◌else◌}
 use Rattle.std.specs.List.{position_or_len, list_all, starts_with}
-use Rattle.std.specs.Int.{Width, w32, w64, from_be_bytes, cast_signed}
+use Rattle.std.specs.Int.{w32, w64, from_be_bytes, cast_signed}
 use Rattle.sn_osc.specs.declared.fault.PacketFault.{PacketFault}
 use Rattle.sn_osc.specs.declared.fault.PacketKind.{PacketKind}
 use Rattle.sn_osc.specs.declared.fault.PacketKind.TheVariants.{Size, Start, Unended, Padding, NoTags, ShortArgs, LongArgs, BlobSize, ElementSize, Head, NestedEarly, TooDeep}
@@ -171,10 +171,6 @@ is_packet_size n = nat_lt 0 n && nat_le n 65536 && n % 4 == 0
 -- all of the bytes
 unfoldable pub read : List ℕ → Result Shape PacketFault
 read bytes = if is_packet_size (length bytes) then packet_in 8 1 (length bytes) bytes else fault Size 0
-
--- the first fault of the bytes, where reading from left to right meets one
-abbrev pub FirstFault : List ℕ → PacketKind → ℕ → Type 0
-FirstFault bytes kind place = read bytes ≡ Err (record { kind = kind; place = place })
 
 abbrev pub BadHas : Undecoded → (PacketFault → Type 0) → Type 0
 BadHas undecoded.NoMemory P = Unit {0}

@@ -4,7 +4,8 @@ ghost use Rattle.std.specs.Int.{w64};
 ghost use Rattle.sn_osc.specs.Shape.{Shape, message, bundle, shape, shapes, message_of};
 ghost use Rattle.sn_osc.specs.Bytes.{counts_as, is_early};
 ghost use Rattle.sn_osc.specs.Grammar.{Spells};
-ghost use Rattle.sn_osc.specs.Reading.{Gives, IfBad, FirstFault, tag_in, is_headed, element_at, elements_in, bundle_in, packet_in, read};
+ghost use Rattle.sn_osc.specs.Reading.{Gives, IfBad, tag_in, is_headed, element_at, elements_in, bundle_in, packet_in, read};
+ghost use Rattle.sn_osc.specs.Faults.{FirstFault};
 ghost use Rattle.sn_osc.specs.declared.fault.PacketFault.{PacketFault};
 
 use crate::fault::{PacketKind, Undecoded};

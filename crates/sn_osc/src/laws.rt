@@ -1,11 +1,16 @@
 //! Laws of packets and frames, each a fact about all of them.
-ghost use Rattle.std.specs.Prelude.{◌≡◌, ◌≤◌, ◌<◌, ◌^◌, ◌*◌, ◌++◌, IsTrue, slice_index, List, [], ℕ, Ok, length};
+ghost use Rattle.std.specs.Prelude.{◌≡◌, ◌≤◌, ◌<◌, ◌^◌, ◌*◌, ◌++◌, ◌↔◌, IsTrue, slice_index, List, [], ℕ, ℤ, Ok, length, map};
 ghost use Rattle.sn_osc.specs.Shape.{Argument, MessageShape, Shape, arguments};
 ghost use Rattle.sn_osc.specs.Bytes.{message_bytes, packet_bytes, frame_bytes};
-ghost use Rattle.sn_osc.specs.Frames.{frame, is_frame_size, first_frame};
+ghost use Rattle.sn_osc.specs.Frames.{frame, bad_size, is_frame_size, first_frame};
+ghost use Rattle.sn_osc.specs.Framing.{Framing};
+ghost use Rattle.sn_osc.specs.Framed.{AreFirst, HasNoFrame, packet_of};
 ghost use Rattle.sn_osc.specs.Grammar.{Spells, IsSpellable};
-ghost use Rattle.sn_osc.specs.Reading.{FirstFault, read};
+ghost use Rattle.sn_osc.specs.Reading.{fault, read};
+ghost use Rattle.sn_osc.specs.Faults.{FirstFault};
 ghost use Rattle.sn_osc.specs.declared.fault.PacketFault.{PacketFault};
+ghost use Rattle.sn_osc.specs.declared.fault.PacketKind.{PacketKind};
+ghost use Rattle.sn_osc.specs.declared.frame.Frame.{Frame};
 
 /// Each packet has one spelling.
 pub fn one_spelling()
@@ -45,4 +50,20 @@ pub fn frame_stands()
 /// Each argument has 4 bytes or more.
 pub fn four_bytes_each()
     ensures { (x : MessageShape) (xs : List Argument) → x.body ≡ arguments xs → 4 * length xs ≤ length (message_bytes x) }
+{}
+
+/// Whatever pieces a stream came in, its whole frames are the same, and so is what is kept.
+pub fn one_framing()
+    ensures { (stream : List ℕ) (fs gs : List Frame) (f g : Framing) → AreFirst stream fs f → AreFirst stream gs g → HasNoFrame f.kept → HasNoFrame g.kept → (map packet_of fs ≡ map packet_of gs) × (f ≡ g) }
+{}
+
+/// A bad size stays one, whatever follows it.
+pub fn bad_for_good()
+    ensures { (bytes more : List ℕ) (size : ℤ) → first_frame bytes ≡ bad_size size → first_frame (bytes ++ more) ≡ bad_size size }
+{}
+
+/// Reading from left to right meets a fault exactly where it is the first: whole data that the grammar allows stand
+/// before it.
+pub fn first_fault()
+    ensures { (bytes : List ℕ) (kind : PacketKind) (place : ℕ) → ((i : ℕ) → slice_index bytes i < 256) → (read bytes ≡ fault kind place) ↔ FirstFault bytes kind place }
 {}

@@ -5,6 +5,7 @@ mod decoding;
 mod encoding;
 mod fault;
 mod frame;
+mod framer;
 mod laws;
 mod lengths;
 mod packet;
@@ -16,10 +17,11 @@ mod tests;
 pub use decoding::decode;
 pub use encoding::encode;
 pub use fault::{PacketFault, PacketKind, StreamFault, Undecoded};
-pub use frame::{Frame, Unframed};
+pub use frame::{Frame, NoFrame, Unframed, first_frame};
+pub use framer::{Framer, frames_of};
 pub use laws::{
-    decoded_again, four_bytes_each, frame_found, frame_stands, no_fault, no_prefix, one_packet,
-    one_spelling,
+    bad_for_good, decoded_again, first_fault, four_bytes_each, frame_found, frame_stands, no_fault,
+    no_prefix, one_framing, one_packet, one_spelling,
 };
 pub use packet::{Arg, Args, Body, Bundle, Elements, Message, Packet};
 pub use spelling::spellable;

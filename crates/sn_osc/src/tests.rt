@@ -1,4 +1,7 @@
+ghost use Rattle.std.specs.Prelude.{◌≡◌, ◌<◌, ◌+◌, ◌^◌, length, IsTrue};
+
 use super::*;
+use sn_ports::{NoMemory, Text};
 use std::alloc::Global;
 use std::test::Fail;
 
@@ -98,5 +101,106 @@ fn is_bare(packet: &Packet) -> bool {
 fn an_address_alone(rt: HostRuntime) -> Result<(), Fail> {
     let packet = decode(rt.alloc(), b"/a\0\0")?;
     assert!(rt; is_bare(&packet));
+    Ok(())
+}
+
+/// The frame of `/sync 7`.
+const FRAMED: &[u8] = b"\0\0\0\x10/sync\0\0\0,i\0\0\0\0\0\x07";
+
+/// The frames of `/sync 7`, of `/a` and of `/sync 7`.
+const STREAM: &[u8] =
+    b"\0\0\0\x10/sync\0\0\0,i\0\0\0\0\0\x07\0\0\0\x04/a\0\0\0\0\0\x10/sync\0\0\0,i\0\0\0\0\0\x07";
+
+fn has_room(framer: &Framer, piece: &[u8]) -> bool
+    ensures { IsTrue result → (length framer.now.kept + length piece.now < 2 ^ 32) × (framer.now.fed < 2 ^ 62) }
+{
+    framer.kept() < 1000 && piece.len() < 1000 && framer.fed() < 1000
+}
+
+fn put(framer: &mut Framer, piece: &[u8]) -> Result<(), NoMemory> {
+    if !has_room(framer, piece) {
+        return Err(NoMemory);
+    }
+    framer.feed(piece)
+}
+
+#[test]
+fn byte_by_byte(rt: HostRuntime) -> Result<(), Fail> {
+    let mut framer = Framer::new(rt.alloc());
+    for byte in FRAMED.iter().take(19) {
+        put(&mut framer, &[*byte])?;
+        assert!(rt; framer.next()?.is_none());
+    }
+    put(&mut framer, b"\x07")?;
+    assert_eq!(rt; framer.kept(), 20);
+    let frame = framer.next()?.ok_or("no frame")?;
+    assert_eq!(rt; frame.place, 4);
+    assert!(rt; frame.bytes.as_slice() == SYNC);
+    assert_eq!(rt; framer.kept(), 0);
+    assert_eq!(rt; framer.fed(), 20);
+    Ok(())
+}
+
+fn in_pieces(alloc: Global, size: usize) -> Result<Vec<Frame>, NoMemory> {
+    let mut framer = Framer::new(alloc);
+    let mut frames = Vec::new(alloc);
+    let mut rest = STREAM;
+    for _ in 0..48 {
+        let (piece, after) = rest.split_at(size.min(rest.len()));
+        if !has_room(&framer, piece) {
+            return Err(NoMemory);
+        }
+        framer.feed_and_take(piece, &mut frames)?;
+        rest = after;
+    }
+    Ok(frames)
+}
+
+fn are_all(frames: &[Frame]) -> bool {
+    match frames {
+        [a, b, c] => {
+            a.place == 4
+                && a.bytes.as_slice() == SYNC
+                && b.place == 24
+                && b.bytes.as_slice() == b"/a\0\0".as_slice()
+                && c.place == 32
+                && c.bytes.as_slice() == SYNC
+        }
+        _ => false,
+    }
+}
+
+#[test]
+fn pieces_of_every_size(rt: HostRuntime) -> Result<(), Fail> {
+    for size in 1..41 {
+        assert!(rt; are_all(&in_pieces(rt.alloc(), size)?), "{size}");
+    }
+    let whole = Text::from_slice(rt.alloc(), STREAM)?;
+    let (frames, framer) = frames_of(rt.alloc(), &[whole])?;
+    assert!(rt; are_all(&frames));
+    assert_eq!(rt; framer.kept(), 0);
+    Ok(())
+}
+
+fn bad_size(framer: &mut Framer) -> Option<(i32, u64)> {
+    match framer.next() {
+        Err(Unframed::Bad { size, place }) => Some((size, place)),
+        _ => None,
+    }
+}
+
+#[test]
+fn bad_for_good(rt: HostRuntime) -> Result<(), Fail> {
+    let mut framer = Framer::new(rt.alloc());
+    put(&mut framer, FRAMED)?;
+    put(&mut framer, b"\0\x01\0\x04")?;
+    assert!(rt; framer.next()?.is_some());
+    assert_eq!(rt; bad_size(&mut framer), Some((65540, 20)));
+    assert_eq!(rt; bad_size(&mut framer), Some((65540, 20)));
+    put(&mut framer, FRAMED)?;
+    assert_eq!(rt; bad_size(&mut framer), Some((65540, 20)));
+    assert_eq!(rt; framer.kept(), 24);
+    let rest = [0xff, 0xff, 0xff, 0xfc];
+    assert_eq!(rt; first_frame(&rest), Err(NoFrame::BadSize(-4)));
     Ok(())
 }

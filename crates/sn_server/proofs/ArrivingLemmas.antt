@@ -8,7 +8,8 @@ use Rattle.sn_server.specs.Arriving.{ArePut}
 use Rattle.sn_server.specs.Entries.{entries_of}
 use Rattle.sn_server.specs.Play.{put_all, arrive}
 use Rattle.sn_server.specs.Running.{Running}
-use Rattle.sn_server.specs.Stream.{Frames}
+use Rattle.sn_osc.specs.Frames.{Frames}
+use Rattle.sn_osc.proofs.Streams.{four_or_more, no_more}
 use Rattle.sn_server.proofs.PutLemmas.{puts_all, entries_answerable, entries_few}
 
 -- what is left to offer after one packet
@@ -29,5 +30,5 @@ frames_put [] bytes puts h few = tt
 frames_put (x ∷ xs) bytes puts h few =
     let (front, rest, size, spelled, others, parts) = h in
     let len : length bytes ≡ 4 + length front + length rest = omega (arith, ap length parts, length-append (to_be_bytes w32 (length front) ++ front) rest, length-append (to_be_bytes w32 (length front)) front) in
-    let less : length (entries_of x) ≤ length front = entries_few x front spelled size.0 in
-    (entries_answerable x front spelled size.1, omega arith, frames_put xs rest (puts + length (entries_of x)) others (omega arith))
+    let less : length (entries_of x) ≤ length front = entries_few x front spelled (four_or_more (length front) size) in
+    (entries_answerable x front spelled (no_more (length front) size), omega arith, frames_put xs rest (puts + length (entries_of x)) others (omega arith))

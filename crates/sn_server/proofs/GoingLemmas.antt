@@ -1,20 +1,27 @@
 -- A run goes on from block to block, and ends.
-use Rattle.std.proofs.Common.{◌≡◌, ℕ, zero, suc, ◌+◌, ◌*◌, ◌/◌, Result, Ok, Err, OnOk, ℤ, pos, List, [], ◌∷◌, ◌++◌, length, replicate, Option, Some, None, refl, sym, ap, subst, ◌∙◌, append_assoc, append-nil, arith, Bool, true, false, eqb, ◌⊎◌, inl, inr, IsTrue}
+use Rattle.std.proofs.Common.{◌≡◌, ℕ, zero, suc, ◌+◌, ◌*◌, ◌/◌, Result, Ok, Err, OnOk, ℤ, pos, List, [], ◌∷◌, ◌++◌, length, replicate, Option, Some, None, rules, ◌<◌, ◌≤◌, ◌^◌, mul-suc, refl, sym, ap, subst, ◌∙◌, append_assoc, append-nil, arith, Bool, true, false, eqb, ◌⊎◌, inl, inr, IsTrue}
 use Rattle.std.specs.List.{flat_map}
 use Rattle.std.proofs.lemmas.Bool.{eqb-true}
 use Rattle.std.specs.Io.KnownBytes.{Appends}
 use Rattle.std.proofs.KnownBytes.{Appends-trans}
 use Rattle.std.proofs.lemmas.List.{length-append, length-replicate}
 use Rattle.sn_pcm.specs.declared.settings.Settings.{Settings}
-use Rattle.sn_pcm.specs.Allowed.{is_width}
+use Rattle.sn_pcm.specs.Allowed.{is_width, is_within}
+use Rattle.std.proofs.lemmas.Bool.Decides.{leb_tells}
+use Rattle.sn_server.specs.Outcomes.{IsTooLong}
 use Rattle.sn_pcm.specs.Pcm.{pcm, sample_bytes, wav}
 use Rattle.sn_pcm.specs.Sound.{data_len, header_bytes}
 use Rattle.sn_pcm.proofs.PcmLemmas.{pcm_length_is}
 use Rattle.sn_queue.specs.Waiting.{WaitingList}
 use Rattle.sn_reply.specs.Frames.{frames_to}
+use Rattle.std.specs.Prelude.{slice_index_or}
+use Rattle.sn_mem.specs.Buses.{heard, silent}
+use Rattle.sn_server.proofs.HearingLemmas.{frames_made}
 use Rattle.sn_world.specs.World.{World}
+use Rattle.sn_world.specs.Walk.{walk}
+use Rattle.sn_world.specs.Opening.{opening}
 use Rattle.sn_osc.specs.Shape.{Shape}
-use Rattle.sn_server.specs.Play.{Session, boundary, walk, blocks, outputs, turn_at, opening, arrived, begun, last_of, played, sound_of, replies_of}
+use Rattle.sn_server.specs.Play.{Session, boundary, play_block, blocks, frame_of, frames_of, outputs, turn_at, arrived, begun, last_of, played, sound_of, replies_of}
 use Rattle.sn_server.specs.Running.{Running, at_boundary, with_block, turn_due}
 use Rattle.sn_server.specs.Going.{session_of, IsGoing, IsWritten, IsBlock, IsEnd, IsEnded}
 
@@ -70,13 +77,22 @@ begins s total so ro r = record {
   replies_taken = nothing_more ro;
 }
 
-pub goes_on : (s : Settings) (begun : Running) (total left : ℕ) (samples : List ℤ) (so sm sn ro rm rn : Option (List ℕ)) (old new : Running)
-    → samples ≡ outputs s old.world → IsGoing s begun total (suc left) so sm ro rm old → IsBlock s samples sm sn rm rn old new → IsGoing s begun total left so sn ro rn new
-goes_on s begun total left samples so sm sn ro rm rn old new are g b =
+same_blocks : (s : Settings) (p : Session) (r : Running) (out : List ℕ) (begun : List ℕ) → r.world ≡ p.world → r.waiting ≡ p.waiting → out ++ r.sound ≡ begun ++ pcm s p.samples
+    → out ++ (with_block s (at_boundary r)).sound ≡ begun ++ pcm s (play_block s r.block (boundary r.block p)).samples
+same_blocks s p r out begun world waiting so_far =
+    let samples = outputs s r.block (walk r.block (boundary r.block p).world) in
+    ap (λ t. out ++ (r.sound ++ pcm s (outputs s r.block (walk r.block t.world)))) (same_turn p r world waiting)
+    ∙ sym (append_assoc out r.sound (pcm s samples))
+    ∙ ap (λ (t : List ℕ). t ++ pcm s samples) so_far
+    ∙ append_assoc begun (pcm s p.samples) (pcm s samples)
+    ∙ ap (λ (t : List ℕ). begun ++ t) (sym (pcm-append s p.samples samples))
+
+pub goes_on : (s : Settings) (begun : Running) (total left : ℕ) (so sm sn ro rm rn : Option (List ℕ)) (old new : Running)
+    → IsGoing s begun total (suc left) so sm ro rm old → IsBlock s sm sn rm rn old new → IsGoing s begun total left so sn ro rn new
+goes_on s begun total left so sm sn ro rm rn old new g b =
     let p = g.session in
-    let next = walk s (boundary old.block p) in
-    let turn = same_turn p old g.world g.waiting in
-    let world : new.world ≡ next.world = b.world ∙ ap (λ t. t.world) turn in
+    let next = play_block s old.block (boundary old.block p) in
+    let world : new.world ≡ next.world = b.world ∙ ap (λ t. walk old.block t.world) (same_turn p old g.world g.waiting) in
     record {
       session = next;
       sound_out = g.sound_out ++ b.sound.piece;
@@ -88,11 +104,7 @@ goes_on s begun total left samples so sm sn ro rm rn old new are g b =
       sound =
           append_assoc g.sound_out b.sound.piece new.sound
           ∙ ap (λ (t : List ℕ). g.sound_out ++ t) (sym b.sound.parts)
-          ∙ sym (append_assoc g.sound_out old.sound (pcm s samples))
-          ∙ ap (λ (t : List ℕ). t ++ pcm s samples) g.sound
-          ∙ append_assoc begun.sound (pcm s p.samples) (pcm s samples)
-          ∙ ap (λ (t : List ℕ). begun.sound ++ t) (sym (pcm-append s p.samples samples))
-          ∙ ap (λ (t : List ℤ). begun.sound ++ pcm s (p.samples ++ t)) are;
+          ∙ same_blocks s p old g.sound_out begun.sound g.world g.waiting g.sound;
       replies =
           append_assoc g.replies_out b.replies.piece new.replies
           ∙ ap (λ (t : List ℕ). g.replies_out ++ t) (sym b.replies.parts)
@@ -107,8 +119,10 @@ goes_on s begun total left samples so sm sn ro rm rn old new are g b =
 samples_made : (s : Settings) (n b : ℕ) (p : Session) → length (blocks s n b p).samples ≡ length p.samples + n * (64 * s.channels)
 samples_made s zero b p = omega arith
 samples_made s (suc n) b p =
-    let more : length (p.samples ++ outputs s (boundary b p).world) ≡ length p.samples + 64 * s.channels = omega (arith, length-append p.samples (outputs s (boundary b p).world), length-replicate (64 * s.channels) (pos 0)) in
-    let rest : length (blocks s (suc n) b p).samples ≡ length (p.samples ++ outputs s (boundary b p).world) + n * (64 * s.channels) = samples_made s n (b + 1) (walk s (boundary b p)) in
+    let next = play_block s b (boundary b p) in
+    let made : length (outputs s b next.world) ≡ 64 * s.channels = frames_made s.channels b next.world 64 in
+    let more : length next.samples ≡ length p.samples + 64 * s.channels = omega (arith, length-append p.samples (outputs s b next.world), made) in
+    let rest : length (blocks s (suc n) b p).samples ≡ length next.samples + n * (64 * s.channels) = samples_made s n (b + 1) next in
     omega (arith, more, rest)
 
 width_cases : (b : ℕ) → IsTrue (is_width b) → (b ≡ 16) ⊎ (b ≡ 24)
@@ -118,6 +132,27 @@ width_cases b h = at (eqb b 16) refl (eqb b 24) refl h
     at true p y q h = inl (eqb-true b 16 p)
     at false p true q h = inr (eqb-true b 24 q)
     at false p false q h = absurd cc
+
+-- a sound that is not too long has few blocks
+times_some : (n c : ℕ) → 1 ≤ c → n ≤ n * c
+times_some n zero some = absurd (omega (arith, some))
+times_some n (suc c) some = rw (mul-suc n c) (omega arith)
+
+few_by : (n c b : ℕ) → 1 ≤ c → (b ≡ 16) ⊎ (b ≡ 24) → (4294967295 < 36 + n * 64 * c * b / 8 → ⊥) → n < 2 ^ 62
+few_by n c b some width short = elim (leb_tells (2 ^ 62) n) [
+  | inl p ↦ absurd (short (long width p.1))
+  | inr p ↦ p.1
+]
+  where
+    long : (b ≡ 16) ⊎ (b ≡ 24) → 2 ^ 62 ≤ n → 4294967295 < 36 + n * 64 * c * b / 8
+    long (inl e) many = rw e (omega (arith, many, times_some n c some))
+    long (inr e) many = rw e (omega (arith, many, times_some n c some))
+
+pub few_blocks : (s : Settings) (n : ℕ) → (IsTooLong s n → ⊥) → n < 2 ^ 62
+few_blocks s n short = few_by n s.channels s.bits (one_channel s.channels s.channels_are) (width_cases s.bits s.bits_are) short
+  where
+    one_channel : (c : ℕ) → IsTrue (is_within 1 8 c) → 1 ≤ c
+    one_channel c h = search rules
 
 -- a sample has whole bytes
 whole_bytes : (n c b k : ℕ) → (b ≡ 16) ⊎ (b ≡ 24) → k ≡ n * (64 * c) → k * (b / 8) ≡ n * 64 * c * b / 8
@@ -146,7 +181,7 @@ make world waiting samples replies = record { world = world; waiting = waiting; 
 
 -- an engine that opened and was offered all packets
 pub record IsOpened (s : Settings) (packets : List Shape) (r : Running) : Type 0 where
-  pub world : r.world ≡ opening
+  pub world : r.world ≡ opening s.rate s.memory
   pub waiting : r.waiting ≡ arrived s packets
   pub block : r.block ≡ 0
   pub sound : r.sound ≡ header_bytes s (data_len s (last_of s packets))

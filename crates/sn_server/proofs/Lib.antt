@@ -7,3 +7,4 @@ pub mod PutLemmas
 pub mod GoingLemmas
 pub mod ArrivingLemmas
 pub mod OutcomeLemmas
+mod HearingLemmas

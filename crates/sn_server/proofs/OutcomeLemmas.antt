@@ -7,13 +7,14 @@ use Rattle.sn_pcm.specs.declared.settings.Settings.{Settings}
 use Rattle.sn_pcm.specs.Sound.{data_len, header_bytes}
 use Rattle.sn_server.specs.declared.outcome.Outcome.{Outcome}
 use Rattle.sn_server.specs.declared.outcome.Outcome.TheVariants.{Done, NoMemory, BadWords, BadStream, LongStream, LongSound, ReadFault, SoundFault, ReplyFault}
-use Rattle.sn_server.specs.declared.stream.StreamFault.{StreamFault}
+use Rattle.sn_osc.specs.declared.fault.StreamFault.{StreamFault}
 use Rattle.sn_server.specs.Going.{IsEnded}
 use Rattle.sn_server.specs.Outcomes.{IsTooLong, HasAnswer, IsAnswer, Played}
-use Rattle.sn_server.specs.Play.{last_of, sound_of, replies_of, opening, arrived}
+use Rattle.sn_server.specs.Play.{last_of, sound_of, replies_of, arrived}
+use Rattle.sn_world.specs.Opening.{opening}
 use Rattle.sn_server.specs.Running.{Running}
-use Rattle.sn_server.specs.Stream.{Frames, StreamFaultAt}
-use Rattle.sn_server.proofs.StreamLemmas.{one_list, excluded, one_stream_fault}
+use Rattle.sn_osc.specs.Frames.{Frames, StreamFaultAt}
+use Rattle.sn_osc.proofs.Streams.{one_list, excluded, one_stream_fault}
 use Rattle.sn_server.proofs.GoingLemmas.{all_played}
 
 bad_alone : (bytes : List ℕ) (packets : List Shape) (number place : ℕ) (fault : StreamFault) → StreamFaultAt bytes number place fault → Frames packets bytes → ⊥
@@ -85,7 +86,7 @@ complete s stream ReplyFault answer bytes is some has read sound reply = absurd 
 
 -- an engine at which all packets arrived
 abbrev pub arrived_engine : Settings → List Shape → Running
-arrived_engine s packets = record { world = opening; waiting = arrived s packets; block = 0; sound = []; replies = [] }
+arrived_engine s packets = record { world = opening s.rate s.memory; waiting = arrived s packets; block = 0; sound = []; replies = [] }
 
 done_is : (m n : ℕ) → Done m ≡ Done n → m ≡ n
 done_is m n e = cc

@@ -31,12 +31,12 @@ pub record IsWritten (before after : List ℕ) (old new : Option (List ℕ)) : T
   pub parts : before ≡ piece ++ after
   pub taken : Appends old new piece
 
--- a boundary, a block with its samples, and some of the bytes written
-pub record IsBlock (s : Settings) (samples : List ℤ) (so sn ro rn : Option (List ℕ)) (old new : Running) : Type 0 where
-  pub world : new.world ≡ (at_boundary old).world
+-- a boundary, a block, and some of the bytes written
+pub record IsBlock (s : Settings) (so sn ro rn : Option (List ℕ)) (old new : Running) : Type 0 where
+  pub world : new.world ≡ (with_block s (at_boundary old)).world
   pub waiting : new.waiting ≡ (at_boundary old).waiting
   pub block : new.block ≡ old.block + 1
-  pub sound : IsWritten (old.sound ++ pcm s samples) new.sound so sn
+  pub sound : IsWritten (with_block s (at_boundary old)).sound new.sound so sn
   pub replies : IsWritten (at_boundary old).replies new.replies ro rn
 
 -- the boundary after the last block, and all bytes written

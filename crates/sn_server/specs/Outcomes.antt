@@ -6,7 +6,7 @@ use Rattle.sn_pcm.specs.declared.settings.Settings.{Settings}
 use Rattle.sn_pcm.specs.Sound.{data_len}
 use Rattle.sn_server.specs.declared.outcome.Outcome.{Outcome}
 use Rattle.sn_server.specs.declared.outcome.Outcome.TheVariants.{Done, NoMemory, BadWords, BadStream, LongStream, LongSound, ReadFault, SoundFault, ReplyFault}
-use Rattle.sn_server.specs.Stream.{Frames, StreamFaultAt}
+use Rattle.sn_osc.specs.Frames.{Frames, StreamFaultAt}
 use Rattle.sn_server.specs.Play.{last_of, sound_of, replies_of}
 
 -- the sound of so many blocks can't stand in a WAV header

@@ -1,12 +1,16 @@
 -- What a stream of packets gives: the sequential walk.
-use Rattle.std.specs.Prelude.{ℕ, zero, suc, ◌+◌, ◌*◌, ℤ, pos, Bool, not, List, [], ◌∷◌, ◌++◌, map, replicate, filter, Option, None, unwrap_or}
+use Rattle.std.specs.Prelude.{ℕ, zero, suc, ◌+◌, ◌*◌, ℤ, pos, Bool, not, List, [], ◌∷◌, ◌++◌, map, replicate, filter, Option, None, unwrap_or, slice_index_or}
+use Rattle.sn_mem.specs.Blocks.{table}
+use Rattle.sn_mem.specs.Buses.{heard, silent}
 use Rattle.sn_osc.specs.Shape.{MessageShape, Shape}
 use Rattle.sn_pcm.specs.declared.settings.Settings.{Settings}
 use Rattle.sn_pcm.specs.Pcm.{wav}
 use Rattle.sn_queue.specs.Waiting.{Waiting, WaitingList}
 use Rattle.sn_queue.specs.Steps.{put, is_due, last_due}
 use Rattle.sn_reply.specs.Frames.{frames_to}
-use Rattle.sn_world.specs.World.{World, Turn, ControlBus}
+use Rattle.sn_world.specs.World.{World, Turn}
+use Rattle.sn_world.specs.Walk.{walk}
+use Rattle.sn_world.specs.Opening.{opening}
 use Rattle.sn_world.specs.Commands.{command}
 use Rattle.sn_server.specs.Entries.{Timed, entries_of}
 
@@ -16,13 +20,6 @@ pub record Session : Type 0 where
   pub waiting : WaitingList
   pub samples : List ℤ
   pub replies : List ℕ
-
--- every control bus holds 0, and no synth wrote it
-abbrev pub silent_bus : ControlBus
-silent_bus = record { written = 0; value = pos 0 }
-
-unfoldable pub opening : World
-opening = record { control_buses = replicate 1024 silent_bus }
 
 -- ---- a boundary
 
@@ -57,19 +54,29 @@ boundary b s = record {
 
 -- ---- a block
 
--- No unit is built yet, so no synth runs and no audio bus is written: each output bus gives 64 times 0.
-abbrev pub outputs : Settings → World → List ℤ
-outputs s w = replicate (64 * s.channels) (pos 0)
+-- a frame of the sound of block b: the samples of the first audio buses, where a bus that was not written in this block gives 0
+abbrev pub frame_of : ℕ → ℕ → World → ℕ → List ℤ
+frame_of channels b w k = table (λ c. heard b (slice_index_or w.audio_buses c silent) k) channels
 
-abbrev pub walk : Settings → Session → Session
-walk s p = record p { samples = p.samples ++ outputs s p.world }
+-- the first frames
+unfoldable pub frames_of : ℕ → ℕ → World → ℕ → List ℤ
+frames_of channels b w zero = []
+frames_of channels b w (suc k) = frames_of channels b w k ++ frame_of channels b w k
+
+-- the 64 frames of block b
+abbrev pub outputs : Settings → ℕ → World → List ℤ
+outputs s b w = frames_of s.channels b w 64
+
+-- the walk of block b, and its sound
+abbrev pub play_block : Settings → ℕ → Session → Session
+play_block s b p = record p { world = walk b p.world; samples = p.samples ++ outputs s b (walk b p.world) }
 
 -- ---- a run
 
 -- n blocks from block b on, each after its boundary
 abbrev pub blocks : Settings → ℕ → ℕ → Session → Session
 blocks s zero b p = p
-blocks s (suc n) b p = blocks s n (b + 1) (walk s (boundary b p))
+blocks s (suc n) b p = blocks s n (b + 1) (play_block s b (boundary b p))
 
 -- Entries that arrive at a boundary, from client 0, are put in the order of their numbers.
 abbrev pub put_all : ℕ → List Timed → WaitingList → WaitingList
@@ -93,7 +100,7 @@ abbrev pub last_of : Settings → List Shape → ℕ
 last_of s packets = unwrap_or (last_due (arrived s packets)) 0
 
 abbrev pub begun : Settings → List Shape → Session
-begun s packets = record { world = opening; waiting = arrived s packets; samples = []; replies = [] }
+begun s packets = record { world = opening s.rate s.memory; waiting = arrived s packets; samples = []; replies = [] }
 
 -- all blocks, and the boundary after the last
 abbrev pub played : Settings → List Shape → Session

@@ -4,8 +4,9 @@ use Rattle.sn_pcm.specs.declared.settings.Settings.{Settings}
 use Rattle.sn_pcm.specs.Pcm.{pcm}
 use Rattle.sn_queue.specs.Waiting.{WaitingList}
 use Rattle.sn_world.specs.World.{World, Turn}
+use Rattle.sn_world.specs.Walk.{walk}
 use Rattle.sn_reply.specs.Frames.{frames_to}
-use Rattle.sn_server.specs.Play.{act_entries, due_at, later_than}
+use Rattle.sn_server.specs.Play.{act_entries, due_at, later_than, outputs}
 
 -- the world, what waits, the number of the next block, and the bytes that are still to be written
 pub record Running : Type 0 where
@@ -26,6 +27,6 @@ at_boundary r = record r {
   replies = r.replies ++ frames_to 0 (turn_due r).replies;
 }
 
--- the block, with its samples
-abbrev pub with_block : Settings → List ℤ → Running → Running
-with_block s samples r = record r { block = r.block + 1; sound = r.sound ++ pcm s samples }
+-- the next block, and its sound
+abbrev pub with_block : Settings → Running → Running
+with_block s r = record r { world = walk r.block r.world; block = r.block + 1; sound = r.sound ++ pcm s (outputs s r.block (walk r.block r.world)) }

@@ -5,28 +5,36 @@ ghost use Rattle.sn_ports.specs.Transfer.{TakesAll};
 ghost use Rattle.sn_queue.specs.Steps.{last_due};
 ghost use Rattle.sn_server.specs.Answerable.{AreAnswerable};
 ghost use Rattle.sn_server.specs.Entries.{entries_of};
-ghost use Rattle.sn_server.specs.Play.{nothing_waits, opening, put_all};
+ghost use Rattle.sn_server.specs.Play.{nothing_waits, put_all};
+ghost use Rattle.sn_world.specs.Opening.{opening};
 ghost use Rattle.sn_server.specs.Running.{Running, at_boundary, with_block};
 
 use crate::acting::act_due;
 use crate::entry::entries;
 use crate::offering::put_entries;
-use sn_mem::PlainPort;
+use crate::walking::{hear_block, run_nodes};
+use sn_mem::{PlainPort, Scratch};
 use sn_osc::Packet;
 use sn_pcm::{Settings, frames};
 use sn_ports::{Failed, NoMemory, Sink, Text, write_all};
 use sn_queue::Queue;
 use sn_reply::{Replies, put_frames};
+use sn_world::Stage;
 use std::alloc::Global;
 use std::marker::Model;
 
 /// How many words the buses take.
 const BUS_WORDS: u32 = 10368;
 
-/// What is played: the buses in words, the entries that wait, and the bytes that are still to be written.
+/// What is played: the nodes, the words of the buses and of the pool, the entries that wait, and the bytes that are still to be
+/// written.
 #[derive(Drop)]
 pub struct Engine {
+    stage: Stage,
     port: PlainPort,
+    scratch: Scratch,
+    // The samples of the last block, frame by frame.
+    samples: Vec<i32>,
     queue: Queue,
     block: u64,
     sound: Text,
@@ -34,25 +42,33 @@ pub struct Engine {
 }
 
 impl Model for Engine {
-    ghost use Rattle.std.specs.Prelude.{◌≡◌, length};
+    ghost use Rattle.std.specs.Coded.{codes};
+    ghost use Rattle.std.specs.FinMap as finite;
+    ghost use Rattle.sn_tree.specs.Model.{nodes_code};
     ghost use Rattle.sn_world.specs.World.{world_of};
+    ghost use Rattle.sn_world.specs.Pictures.{Pictures};
     ghost use Rattle.sn_server.specs.Running.{Running};
     ghost use Rattle.sn_server.specs.Answerable.{AllAnswerable};
 
     ghost Value = { Running };
 
-    ghost view = { λ e. record { world = world_of e.port.words.items; waiting = e.queue; block = e.block; sound = e.sound.bytes; replies = e.replies.bytes } };
+    ghost coded = { Prim.hlevel (codes, nodes_code, finite.code) };
 
-    ghost invariant = { λ e. (length e.port.words.items ≡ 10368) × AllAnswerable e.queue.waiting };
+    ghost view = { λ e. record { world = world_of e.stage e.port.words.items; waiting = e.queue; block = e.block; sound = e.sound.bytes; replies = e.replies.bytes } };
+
+    ghost invariant = { λ e. Pictures e.stage e.port.words.items × AllAnswerable e.queue.waiting };
 }
 
 impl Engine {
     /// The opening world, at the boundary before block 0, which begins at time 0.
     pub fn open(alloc: Global, settings: &Settings) -> Result<Self, NoMemory>
-        ensures { IfOk result (λ e. e ≡ record { world = opening; waiting = nothing_waits settings.now; block = 0; sound = []; replies = [] }) }
+        ensures { IfOk result (λ e. e ≡ record { world = opening settings.now.rate settings.now.memory; waiting = nothing_waits settings.now; block = 0; sound = []; replies = [] }) }
     {
         Ok(Engine {
-            port: PlainPort::new(alloc, BUS_WORDS)?,
+            stage: Stage::new(alloc, settings.rate, settings.memory)?,
+            port: PlainPort::new(alloc, BUS_WORDS + settings.memory)?,
+            scratch: Scratch::new(alloc)?,
+            samples: Vec::new(alloc),
             queue: Queue::new(alloc, 0, settings.rate, None),
             block: 0,
             sound: Text::new(alloc),
@@ -106,6 +122,7 @@ impl Engine {
         let mut said = Replies::new(alloc);
         act_due(
             alloc,
+            &mut self.stage,
             &mut self.port,
             &mut self.queue,
             self.block,
@@ -114,15 +131,22 @@ impl Engine {
         put_frames(alloc, &mut self.replies, 0, said)
     }
 
-    /// The next block, of which each output bus gives these samples, frame by frame.
-    pub fn block(&mut self, settings: &Settings, samples: &[i32]) -> Result<(), NoMemory>
+    /// The next block: the walk over the nodes, and its sound.
+    pub fn block(&mut self, settings: &Settings) -> Result<(), NoMemory>
         requires block { self.old.block < 2 ^ 62 }
-        requires few { length samples.now ≤ 512 }
-        ensures { OnOk result (self.new ≡ with_block settings.now samples.now self.old) }
+        ensures { OnOk result (self.new ≡ with_block settings.now self.old) }
     {
-        let bytes = samples.len() as u32 * (settings.bits / 8);
+        run_nodes(&mut self.port, &self.stage, self.block, &mut self.scratch);
+        hear_block(
+            &mut self.port,
+            &self.stage,
+            settings.channels,
+            self.block,
+            &mut self.samples,
+        )?;
+        let bytes = self.samples.len() as u32 * (settings.bits / 8);
         self.sound.reserve(bytes)?;
-        frames(settings, samples, &mut self.sound);
+        frames(settings, &self.samples, &mut self.sound);
         self.block += 1;
         Ok(())
     }

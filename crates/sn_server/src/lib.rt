@@ -9,7 +9,8 @@ mod outcome;
 mod rendering;
 mod running;
 mod stream;
+mod walking;
 
 pub use outcome::Outcome;
 pub use running::render;
-pub use stream::StreamFault;
+pub use sn_osc::StreamFault;

@@ -1,4 +1,4 @@
-use crate::stream::StreamFault;
+use sn_osc::StreamFault;
 
 /// How a run ended.
 #[derive(Clone, Copy, Debug, PartialEq, Eq)]

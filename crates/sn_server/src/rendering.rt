@@ -37,14 +37,6 @@ impl From<NoMemory> for Stop {
     }
 }
 
-/// A block of silence: 64 frames of each channel.
-pub fn silent_block(alloc: Global, channels: u32) -> Result<Vec<i32>, AllocError>
-    requires { channels ≤ 8 }
-    ensures { IfOk result (λ v. v.items ≡ replicate (64 * channels) (pos 0)) }
-{
-    vec![in alloc; 0; 64 * channels as usize]
-}
-
 /// Writes the sound that was gathered, where it has `least` bytes.
 fn write_sound<O: Sink>(
     alloc: Global,
@@ -95,21 +87,19 @@ fn write_replies<R: Sink>(
 fn render_block<O: Sink, R: Sink>(
     alloc: Global,
     settings: &Settings,
-    samples: &[i32],
     engine: &mut Engine,
     sound: &mut O,
     replies: &mut R,
 ) -> Result<(), Stop>
     requires block { engine.old.block < 2 ^ 62 }
-    requires few { length samples.now ≤ 512 }
-    ensures block { OnOk result (IsBlock settings.now samples.now (O.taken sound.old) (O.taken sound.new) (R.taken replies.old) (R.taken replies.new) engine.old engine.new) }
+    ensures block { OnOk result (IsBlock settings.now (O.taken sound.old) (O.taken sound.new) (R.taken replies.old) (R.taken replies.new) engine.old engine.new) }
     ensures sound { result ≡ Err Stop.SoundFault → Rose (O.faults sound.old) (O.faults sound.new) }
     ensures reply { result ≡ Err Stop.ReplyFault → Rose (R.faults replies.old) (R.faults replies.new) }
     ensures sound_later { O.faults sound.old ≤ O.faults sound.new }
     ensures reply_later { R.faults replies.old ≤ R.faults replies.new }
 {
     engine.boundary(alloc)?;
-    engine.block(settings, samples)?;
+    engine.block(settings)?;
     write_sound(alloc, engine, PIECE, sound)?;
     write_replies(alloc, engine, PIECE, replies)
 }
@@ -153,9 +143,8 @@ pub fn render_blocks<O: Sink, R: Sink>(
     ensures sound { result ≡ Err Stop.SoundFault → Rose (O.faults sound.old) (O.faults sound.new) }
     ensures reply { result ≡ Err Stop.ReplyFault → Rose (R.faults replies.old) (R.faults replies.new) }
 {
-    let samples = silent_block(alloc, settings.channels)?;
     for number in 0..blocks {
-        render_block(alloc, settings, &samples, &mut engine, sound, replies)?;
+        render_block(alloc, settings, &mut engine, sound, replies)?;
     }
     render_end(alloc, &mut engine, sound, replies)
 }

@@ -6,9 +6,10 @@ ghost use Rattle.sn_ports.specs.Causes.{Rose};
 ghost use Rattle.sn_server.specs.Arriving.{ArePut};
 ghost use Rattle.sn_server.specs.Going.{IsEnded};
 ghost use Rattle.sn_server.specs.Outcomes.{Played, IsTooLong, IsAnswer, HasAnswer, IsUntouched};
-ghost use Rattle.sn_server.specs.Play.{last_of, arrive, opening, nothing_waits, arrived};
+ghost use Rattle.sn_server.specs.Play.{last_of, arrive, nothing_waits, arrived};
+ghost use Rattle.sn_world.specs.Opening.{opening};
 ghost use Rattle.sn_server.specs.Running.{Running};
-ghost use Rattle.sn_server.specs.Stream.{Frames, StreamFaultAt};
+ghost use Rattle.sn_osc.specs.Frames.{Frames, StreamFaultAt};
 ghost use Rattle.sn_server.specs.declared.outcome.Outcome.{Outcome};
 
 use crate::engine::Engine;
@@ -39,7 +40,7 @@ fn offer_all(alloc: Global, engine: &mut Engine, packets: Elements) -> Result<()
 /// An engine at boundary 0, at which all packets have arrived.
 fn opened(alloc: Global, settings: &Settings, packets: Elements) -> Result<Engine, NoMemory>
     requires { ArePut (map shape packets.items) 0 }
-    ensures { IfOk result (λ e. e ≡ record { world = opening; waiting = arrived settings.now (map shape packets.items); block = 0; sound = []; replies = [] }) }
+    ensures { IfOk result (λ e. e ≡ record { world = opening settings.now.rate settings.now.memory; waiting = arrived settings.now (map shape packets.items); block = 0; sound = []; replies = [] }) }
 {
     let mut engine = Engine::open(alloc, settings)?;
     offer_all(alloc, &mut engine, packets)?;

@@ -1,31 +1,20 @@
-ghost use Rattle.std.specs.Prelude.{◌≡◌, ◌≤◌, ◌<◌, ◌+◌, ◌^◌, ◌++◌, List, ℕ, length, map, IfOk, IfErr, IfSome, OnOk, OnErr, MatchOption, IsTrue, ◌↔◌};
-ghost use Rattle.std.specs.Int.{w32, to_be_bytes};
+ghost use Rattle.std.specs.Prelude.{◌≡◌, ◌≤◌, ◌<◌, ◌+◌, ◌^◌, ◌++◌, List, ℕ, length, map, IfOk, IfSome, OnOk, OnErr, MatchOption, IsTrue};
 ghost use Rattle.std.specs.Io.KnownBytes.{IsAtEnd};
 ghost use Rattle.sn_ports.specs.Causes.{Rose};
 ghost use Rattle.sn_osc.specs.Shape.{Shape, shape};
 ghost use Rattle.sn_osc.specs.Grammar.{Spells};
-ghost use Rattle.sn_osc.specs.Reading.{size_in};
-ghost use Rattle.sn_server.specs.declared.stream.StreamFault.{StreamFault};
+ghost use Rattle.sn_osc.specs.Bytes.{frame_bytes};
+ghost use Rattle.sn_osc.specs.declared.fault.StreamFault.{StreamFault};
+ghost use Rattle.sn_osc.specs.Frames.{is_frame_size, Frames, first_frame, instead, FrameFault, StreamFaultAt};
 ghost use Rattle.sn_server.specs.declared.stream.Unframed.TheVariants as unframed;
-ghost use Rattle.sn_server.specs.Stream.{IsFrameSize, Frames, FrameFault, StreamFaultAt, IfBad, IsFound, IsRefused};
+ghost use Rattle.sn_server.specs.Stream.{IfBad, IsFound, IsRefused};
 
-use sn_osc::{Elements, Packet, PacketKind, Undecoded, decode};
+use sn_osc::{Elements, NoFrame, Packet, StreamFault, Undecoded, decode, first_frame};
 use sn_ports::{NoMemory, Source, fill};
 use std::alloc::{AllocError, AllocFailed, Global};
 
 /// The most bytes of a stream.
 const MOST_BYTES: usize = 16777216;
-
-/// What is wrong with a stream.
-#[derive(Clone, Copy, Debug, PartialEq, Eq)]
-pub enum StreamFault {
-    /// The bytes of a frame spell no packet.
-    Packet(PacketKind),
-    /// The size of a frame is below 4, above 65,536 or no multiple of 4.
-    FrameSize,
-    /// The stream ends inside a frame or its size.
-    FrameCut,
-}
 
 /// The first frame that is at fault.
 #[derive(Clone, Copy, Debug, PartialEq, Eq)]
@@ -92,38 +81,14 @@ pub fn read_stream<S: Source>(alloc: Global, source: &mut S) -> Result<Vec<u8>, 
     Ok(bytes)
 }
 
-/// The size that a frame says.
-fn size_of(bytes: &[u8]) -> u32
-    requires { 4 ≤ length bytes.now }
-    ensures { result ≡ size_in bytes.now }
+/// What is wrong where no whole frame stands.
+fn fault_of(none: NoFrame) -> StreamFault
+    ensures { (bytes : List ℕ) (at : ℕ) → 0 < length bytes → first_frame bytes ≡ instead none → FrameFault at bytes at result }
 {
-    u32::from_be_bytes([bytes[0], bytes[1], bytes[2], bytes[3]])
-}
-
-fn is_frame_size(size: u32) -> bool
-    ensures { IsTrue result ↔ IsFrameSize size }
-{
-    size >= 4 && size <= 65536 && size % 4 == 0
-}
-
-/// The bytes of the first frame's packet, and those behind it; or why there is no frame.
-fn first_frame(bytes: &[u8]) -> Result<(&[u8], &[u8]), StreamFault>
-    requires { 0 < length bytes.now }
-    ensures found { IfOk result (λ x. IsFrameSize (length x.0.now) × (bytes.now ≡ to_be_bytes w32 (length x.0.now) ++ x.0.now ++ x.1.now)) }
-    ensures fault { IfErr result (λ f. (at : ℕ) → FrameFault at bytes.now at f) }
-{
-    if bytes.len() < 4 {
-        return Err(StreamFault::FrameCut);
+    match none {
+        NoFrame::Cut => StreamFault::FrameCut,
+        NoFrame::BadSize(_) => StreamFault::FrameSize,
     }
-    let size = size_of(bytes);
-    if !is_frame_size(size) {
-        return Err(StreamFault::FrameSize);
-    }
-    let rest = &bytes[4..];
-    if rest.len() < size as usize {
-        return Err(StreamFault::FrameCut);
-    }
-    Ok(rest.split_at(size as usize))
 }
 
 /// The first packet, and the bytes behind its frame. The bytes begin at the place `at` of the stream.
@@ -135,16 +100,16 @@ fn first_packet(
 ) -> Result<(Packet, &[u8]), Unframed>
     requires some { 0 < length bytes.now }
     requires short { at + length bytes.now ≤ 16777216 }
-    ensures found { IfOk result (λ x. (front : List ℕ) × IsFrameSize (length front) × Spells (shape x.0) front × (bytes.now ≡ to_be_bytes w32 (length front) ++ front ++ x.1.now)) }
+    ensures found { IfOk result (λ x. (front : List ℕ) × IsTrue (is_frame_size (length front)) × Spells (shape x.0) front × (bytes.now ≡ frame_bytes front ++ x.1.now)) }
     ensures number { IfBad result (λ f. f.packet ≡ number) }
     ensures fault { IfBad result (λ f. FrameFault at bytes.now f.place f.fault) }
 {
     let (frame, rest) = match first_frame(bytes) {
         Ok(parts) => parts,
-        Err(fault) => return Err(Unframed::Bad(BadFrame {
+        Err(none) => return Err(Unframed::Bad(BadFrame {
             packet: number,
             place: at,
-            fault,
+            fault: fault_of(none),
         })),
     };
     match decode(alloc, frame) {

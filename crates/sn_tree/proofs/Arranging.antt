@@ -15,7 +15,7 @@ use Rattle.sn_tree.specs.declared.entry.Place.{Place}
 use Rattle.sn_tree.specs.declared.node.Action.{Action}
 use Rattle.sn_tree.specs.declared.node.TreeFault.{TreeFault}
 use Rattle.sn_tree.specs.declared.node.TreeFault.TheVariants.{NoNode, InUse, NotGroup, IsRoot, Inside, TooMany}
-use Rattle.sn_tree.specs.Trees.{Label, Nodes, none, node, holds, joined, put, subtree, without, label_of, count, changed, with_running}
+use Rattle.sn_tree.specs.Trees.{Label, Nodes, none, node, holds, joined, put, subtree, without, label_of, count, changed, with_running, without_first}
 use Rattle.sn_tree.specs.Faults.{first_fault, spot_fault, insert_fault, detach_fault, set_run_fault, is_missing, is_beside_root, is_in_synth}
 use Rattle.sn_tree.specs.Order.{Key, entry_of, flat, tree_of, IsFlat, adjusted, length-flat, take_at, drop_at, flat_is, tree_is, is_flat, tree_of-flat}
 use Rattle.sn_tree.specs.Places.{IsSmall, Found, Spotted, lifted, IsPlace, taken_out, IsSetRunning}
@@ -166,3 +166,30 @@ run_shows es n id on out fronts s r e =
     let t : Nodes Key = changed id (with_running on) (arranged es n).attached in
     let behind : drop n es ≡ reverse (flat d) = sym (reverse-reverse (drop n es)) ∙ ap reverse s.aside in
     shows_of out n t d (e ∙ (λ i. r.lists i ++ behind i)) (omega (arith, r.same, count_is es n s)) s.few
+
+-- the last entry taken off
+
+tail_of : {A : Type 0} → List A → List A
+tail_of [] = []
+tail_of (x ∷ xs) = xs
+
+snoc_same : {A : Type 0} (xs ys : List A) (x y : A) → xs ++ x ∷ [] ≡ ys ++ y ∷ [] → xs ≡ ys
+unfolding tail_of
+snoc_same xs ys x y h =
+    let back : x ∷ reverse xs ≡ y ∷ reverse ys = sym (reverse-append xs (x ∷ [])) ∙ (ap reverse h ∙ reverse-append ys (y ∷ [])) in
+    sym (reverse-reverse xs) ∙ (ap (λ l. reverse (tail_of l)) back ∙ reverse-reverse ys)
+
+last_off : (t d : Nodes Key) (out : List Entry) (e : Entry) → flat t ++ reverse (flat d) ≡ out ++ e ∷ [] → length (flat t) < length out + 1 → out ≡ flat t ++ reverse (flat (without_first d))
+last_off t none out e h l = absurd (omega (arith, ap length h, length-append (flat t) [], length-append out (e ∷ [])))
+last_off t (node label below after) out e h l =
+    let x : List Entry = flat below ++ flat after in
+    let first : Entry = entry_of label (count below) in
+    let whole : (flat t ++ reverse x) ++ first ∷ [] ≡ out ++ e ∷ [] =
+    append_assoc (flat t) (reverse x) (first ∷ []) ∙ (ap (λ l. flat t ++ l) (sym (reverse-append (first ∷ []) x)) ∙ h) in
+    sym (snoc_same (flat t ++ reverse x) out first e whole) ∙ ap (λ l. flat t ++ reverse l) (sym (flat-joined below after))
+
+pub free_shows : (es : List Entry) (n : ℕ) (out : List Entry) (e : Entry) → IsArranged es n → es ≡ out ++ e ∷ [] → n < length es → Shows out n (arranged es n).attached (without_first (arranged es n).detached)
+free_shows es n out e s h l =
+    let t : Nodes Key = (arranged es n).attached in
+    let d : Nodes Key = (arranged es n).detached in
+    shows_of out n t (without_first d) (last_off t d out e (sym (list_is es n s) ∙ h) (omega (arith, length-flat t, count_is es n s, ap length h, length-append out (e ∷ [])))) (count_is es n s) s.few

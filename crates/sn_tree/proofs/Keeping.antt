@@ -8,13 +8,12 @@ use Rattle.std.proofs.lemmas.Bool.Decides.{eqb_tells}
 use Rattle.sn_tree.specs.declared.node.NodeKind.{NodeKind}
 use Rattle.sn_tree.specs.declared.node.Action.{Action}
 use Rattle.sn_tree.specs.declared.node.Action.TheVariants.{Head, Tail, Before, After}
-use Rattle.sn_tree.specs.Trees.{Label, Nodes, none, node, holds, label_of, subtree, without, joined, beside, put, leaf, with_payloads, changed, with_running}
+use Rattle.sn_tree.specs.Trees.{Label, Nodes, none, node, holds, label_of, subtree, without, joined, beside, put, leaf, with_payloads, with_payloads_of, changed, with_running, has_top, last_top, without_last, without_first}
 use Rattle.sn_tree.specs.Order.{Key}
 use Rattle.sn_tree.specs.Arranged.{Arranged}
-use Rattle.sn_tree.specs.Model.{NodeTree}
-use Rattle.sn_tree.specs.Steps.{inserted, detached, running}
-use Rattle.sn_tree.specs.Kept.{same_key, uses, payload_of, filled, IsFilled, shown}
-use Rattle.sn_tree.proofs.PayloadLaws.{relabelled, put-payloads, without-payloads, subtree-payloads, joined-payloads, label-payloads, changed-payloads}
+use Rattle.sn_tree.specs.Steps.{inserting, detaching, attaching, moving, setting}
+use Rattle.sn_tree.specs.Kept.{same_key, uses, payload_of, filled, IsFilled}
+use Rattle.sn_tree.proofs.PayloadLaws.{relabelled, put-payloads, without-payloads, subtree-payloads, joined-payloads, label-payloads, changed-payloads, last_top-payloads, without_last-payloads}
 
 pub same_key-refl : (key : Key) → same_key key key ≡ true
 same_key-refl None = refl
@@ -52,7 +51,7 @@ uses-parts key id (node label below after) =
     (cases_Bool (holds id below)))
     (cases_Bool (int_eq label.id id))
 
-uses_here : (label : Label Key) (below after : Nodes Key) → 0 < uses label.payload (node label below after)
+pub uses_here : (label : Label Key) (below after : Nodes Key) → 0 < uses label.payload (node label below after)
 uses_here label below after = rw (same_key-refl label.payload) (omega arith)
 
 -- payloads that agree where they are used
@@ -61,61 +60,6 @@ agree f g none h = refl
 agree f g (node label below after) h =
     λ i. node (record { id = label.id; kind = label.kind; running = label.running; payload = h label.payload (uses_here label below after) i })
     (agree f g below (λ key u. h key (omega arith)) i) (agree f g after (λ key u. h key (omega arith)) i)
-
-module _ {P : Type 0} (root : P) (slots slots' : List (Option P)) (new : ℕ) (payload : P)
-    (vacant : slice_index_or slots new None ≡ None) (there : slice_index_or slots' new None ≡ Some payload)
-    (others : (other : ℕ) → other ≢ new → slice_index_or slots' other None ≡ slice_index_or slots other None) where
-  same_payload : (key : Key) → 1 ≤ filled slots key → payload_of root slots' key ≡ payload_of root slots key
-  same_payload None h = refl
-  same_payload (Some key) h =
-      ⊎_elim
-      (λ (e : ((key == new) ≡ true) × (key ≡ new)). let z : slice_index_or slots key None ≡ None = ap (λ n. slice_index_or slots n None) e.1 ∙ vacant in let bad : 1 ≤ 0 = rw z at h in absurd (omega arith))
-      (λ (e : ((key == new) ≡ false) × (key ≢ new)). ap (λ o. unwrap_or o root) (others key e.1))
-      (eqb_tells key new)
-
-  more_filled : (key : Key) → filled slots key + (if same_key (Some new) key then 1 else 0) ≤ filled slots' key
-  more_filled None = omega arith
-  more_filled (Some key) =
-      ⊎_elim
-      (λ (e : ((new == key) ≡ true) × (new ≡ key)).
-      let z : slice_index_or slots key None ≡ None = ap (λ n. slice_index_or slots n None) (sym e.1) ∙ vacant in
-      let y : slice_index_or slots' key None ≡ Some payload = ap (λ n. slice_index_or slots' n None) (sym e.1) ∙ there in
-      rw (e.0, z, y) (omega arith))
-      (λ (e : ((new == key) ≡ false) × (new ≢ key)). let o = others key (λ q. e.1 (sym q)) in rw (e.0, o) (omega arith))
-      (eqb_tells new key)
-
-  module _ (nodes : Arranged) (filled_now : IsFilled slots nodes) (id : ℤ) (kind : NodeKind) (action : Action) (target : ℤ) where
-    pub inserted_filled : IsFilled slots' (record { attached = put action target (leaf id kind (Some new)) nodes.attached; detached = nodes.detached })
-    inserted_filled = record { keys = λ key. omega (arith, uses-put key action target (leaf id kind (Some new)) nodes.attached, filled_now.keys key, more_filled key) }
-
-    kept_attached : with_payloads (payload_of root slots') nodes.attached ≡ with_payloads (payload_of root slots) nodes.attached
-    kept_attached = agree (payload_of root slots') (payload_of root slots) nodes.attached (λ key u. same_payload key (omega (arith, filled_now.keys key)))
-
-    kept_detached : with_payloads (payload_of root slots') nodes.detached ≡ with_payloads (payload_of root slots) nodes.detached
-    kept_detached = agree (payload_of root slots') (payload_of root slots) nodes.detached (λ key u. same_payload key (omega (arith, filled_now.keys key)))
-
-    kept_leaf : with_payloads (payload_of root slots') (leaf id kind (Some new)) ≡ leaf id kind payload
-    kept_leaf = ap (λ o. leaf id kind (unwrap_or o root)) there
-
-    pub inserted_shows : shown root slots' (record { attached = put action target (leaf id kind (Some new)) nodes.attached; detached = nodes.detached }) ≡ inserted id kind action target payload (shown root slots nodes)
-    inserted_shows = λ i. record {
-      attached = (sym (put-payloads (payload_of root slots') action target (leaf id kind (Some new)) nodes.attached) ∙ (λ j. put action target (kept_leaf j) (kept_attached j))) i;
-      detached = kept_detached i;
-      journal = None;
-    }
-
--- a subtree taken out
-
-pub detached_filled : {P : Type 0} (slots : List (Option P)) (nodes : Arranged) (id : ℤ) → IsFilled slots nodes → IsFilled slots (record { attached = without id nodes.attached; detached = joined nodes.detached (subtree id nodes.attached) })
-detached_filled slots nodes id h = record { keys = λ key. omega (arith, uses-parts key id nodes.attached, uses-joined key nodes.detached (subtree id nodes.attached), h.keys key) }
-
-pub detached_shows : {P : Type 0} (root : P) (slots : List (Option P)) (nodes : Arranged) (id : ℤ)
-    → shown root slots (record { attached = without id nodes.attached; detached = joined nodes.detached (subtree id nodes.attached) }) ≡ detached id (shown root slots nodes)
-detached_shows root slots nodes id = λ i. record {
-  attached = sym (without-payloads (payload_of root slots) id nodes.attached) i;
-  detached = (sym (joined-payloads (payload_of root slots) nodes.detached (subtree id nodes.attached)) ∙ ap (joined (with_payloads (payload_of root slots) nodes.detached)) (sym (subtree-payloads (payload_of root slots) id nodes.attached))) i;
-  journal = None;
-}
 
 -- the payload of a node
 
@@ -130,7 +74,7 @@ uses_label id (node first below after) label e =
     (cases_Bool (holds id below)))
     (cases_Bool (int_eq first.id id))
 
-option_label : {P : Type 0} (f : Key → P) (o : Option (Label Key)) → option_map (λ (l : Label P). l.payload) (option_map (relabelled f) o) ≡ option_map f (option_map (λ (l : Label Key). l.payload) o)
+pub option_label : {P : Type 0} (f : Key → P) (o : Option (Label Key)) → option_map (λ (l : Label P). l.payload) (option_map (relabelled f) o) ≡ option_map f (option_map (λ (l : Label Key). l.payload) o)
 option_label f None = refl
 option_label f (Some label) = refl
 
@@ -142,7 +86,7 @@ some_or : {P : Type 0} (root : P) (o : Option P) → 1 ≤ (if is_some o then 1 
 some_or root None h = absurd (omega arith)
 some_or root (Some p) h = refl
 
-labelled : (o : Option (Label Key)) (key : Key) → option_map (λ (l : Label Key). l.payload) o ≡ Some key → (label : Label Key) × (o ≡ Some label) × (label.payload ≡ key)
+pub labelled : (o : Option (Label Key)) (key : Key) → option_map (λ (l : Label Key). l.payload) o ≡ Some key → (label : Label Key) × (o ≡ Some label) × (label.payload ≡ key)
 labelled None key e = cc
 labelled (Some label) key e = (label, refl, cc)
 
@@ -153,17 +97,6 @@ slot_is root slots nodes id key h e =
     let used : 0 < uses (Some key) nodes.attached = subst (λ k. 0 < uses k nodes.attached) same (uses_label id nodes.attached label found) in
     some_or root (slice_index_or slots key None) (omega (arith, h.keys (Some key)))
     ∙ sym (payload_is (payload_of root slots) id nodes.attached ∙ ap (option_map (payload_of root slots)) e)
-
--- the root alone
-
-pub root_filled : {P : Type 0} (slots : List (Option P)) (id : ℤ) (kind : NodeKind) (nodes : Arranged) → nodes ≡ (record { attached = leaf id kind None; detached = none }) → IsFilled slots nodes
-root_filled slots id kind nodes e = subst (IsFilled slots) (sym e) (record { keys = alone })
-  where
-    alone : (key : Key) → uses key (leaf id kind None) + uses key none ≤ filled slots key
-    alone None = omega arith
-    alone (Some key) = omega arith
-
--- a run flag set
 
 pub uses-changed : (key : Key) (id : ℤ) (on : Bool) (t : Nodes Key) → uses key (changed id (with_running on) t) ≡ uses key t
 uses-changed key id on none = refl
@@ -176,13 +109,68 @@ uses-changed key id on (node label below after) =
     (cases_Bool (holds id below)))
     (cases_Bool (int_eq label.id id))
 
-pub running_filled : {P : Type 0} (slots : List (Option P)) (nodes : Arranged) (id : ℤ) (on : Bool) → IsFilled slots nodes → IsFilled slots (record { attached = changed id (with_running on) nodes.attached; detached = nodes.detached })
-running_filled slots nodes id on h = record { keys = λ key. omega (arith, uses-changed key id on nodes.attached, h.keys key) }
+-- the steps, with their payloads changed
 
-pub running_shows : {P : Type 0} (root : P) (slots : List (Option P)) (nodes : Arranged) (id : ℤ) (on : Bool)
-    → shown root slots (record { attached = changed id (with_running on) nodes.attached; detached = nodes.detached }) ≡ running id on (shown root slots nodes)
-running_shows root slots nodes id on = λ i. record {
-  attached = sym (changed-payloads (payload_of root slots) id (with_running on) (with_running on) (λ label. refl) nodes.attached) i;
-  detached = with_payloads (payload_of root slots) nodes.detached;
-  journal = None;
-}
+module _ {Q : Type 0} (h : Key → Q) (nodes : Arranged) where
+  pub inserting_map : (id : ℤ) (kind : NodeKind) (action : Action) (target : ℤ) (key : Key) (payload : Q) → h key ≡ payload
+      → with_payloads_of h (inserting id kind action target key nodes) ≡ inserting id kind action target payload (with_payloads_of h nodes)
+  inserting_map id kind action target key payload e = λ i. record {
+    attached = (sym (put-payloads h action target (leaf id kind key) nodes.attached) ∙ ap (λ q. put action target (leaf id kind q) (with_payloads h nodes.attached)) e) i;
+    detached = with_payloads h nodes.detached;
+  }
+
+  pub detaching_map : (id : ℤ) → with_payloads_of h (detaching id nodes) ≡ detaching id (with_payloads_of h nodes)
+  detaching_map id = λ i. record {
+    attached = sym (without-payloads h id nodes.attached) i;
+    detached = (sym (joined-payloads h nodes.detached (subtree id nodes.attached)) ∙ ap (joined (with_payloads h nodes.detached)) (sym (subtree-payloads h id nodes.attached))) i;
+  }
+
+  pub moving_map : (id : ℤ) (action : Action) (target : ℤ) → with_payloads_of h (moving id action target nodes) ≡ moving id action target (with_payloads_of h nodes)
+  moving_map id action target = λ i. record {
+    attached = (sym (put-payloads h action target (subtree id nodes.attached) (without id nodes.attached)) ∙ (λ j. put action target (sym (subtree-payloads h id nodes.attached) j) (sym (without-payloads h id nodes.attached) j))) i;
+    detached = with_payloads h nodes.detached;
+  }
+
+  pub attaching_map : (id : ℤ) (action : Action) (target : ℤ) → with_payloads_of h (attaching id action target nodes) ≡ attaching id action target (with_payloads_of h nodes)
+  attaching_map id action target = λ i. record {
+    attached = (sym (put-payloads h action target (last_top id nodes.detached) nodes.attached) ∙ ap (λ l. put action target l (with_payloads h nodes.attached)) (sym (last_top-payloads h id nodes.detached))) i;
+    detached = sym (without_last-payloads h id nodes.detached) i;
+  }
+
+  pub setting_map : (id : ℤ) (on : Bool) → with_payloads_of h (setting id on nodes) ≡ setting id on (with_payloads_of h nodes)
+  setting_map id on = λ i. record {
+    attached = sym (changed-payloads h id (with_running on) (with_running on) (λ label. refl) nodes.attached) i;
+    detached = with_payloads h nodes.detached;
+  }
+
+-- how often keys are used after a step
+
+abbrev pub used : Key → Arranged → ℕ
+used key nodes = uses key nodes.attached + uses key nodes.detached
+
+pub uses-last : (key : Key) (id : ℤ) (t : Nodes Key) → uses key (without_last id t) + uses key (last_top id t) ≡ uses key t
+uses-last key id none = refl
+uses-last key id (node label below after) =
+    ⊎_elim
+    (λ (n : has_top id after ≡ true). rw n (omega (arith, uses-last key id after)))
+    (λ (n : has_top id after ≡ false). ⊎_elim
+    (λ (i : int_eq label.id id ≡ true). rw (n, i) (omega arith))
+    (λ (i : int_eq label.id id ≡ false). rw (n, i) (omega arith))
+    (cases_Bool (int_eq label.id id)))
+    (cases_Bool (has_top id after))
+
+pub used_detaching : (key : Key) (id : ℤ) (nodes : Arranged) → used key (detaching id nodes) ≤ used key nodes
+used_detaching key id nodes = omega (arith, uses-parts key id nodes.attached, uses-joined key nodes.detached (subtree id nodes.attached))
+
+pub used_moving : (key : Key) (id : ℤ) (action : Action) (target : ℤ) (nodes : Arranged) → used key (moving id action target nodes) ≤ used key nodes
+used_moving key id action target nodes = omega (arith, uses-parts key id nodes.attached, uses-put key action target (subtree id nodes.attached) (without id nodes.attached))
+
+pub used_attaching : (key : Key) (id : ℤ) (action : Action) (target : ℤ) (nodes : Arranged) → used key (attaching id action target nodes) ≤ used key nodes
+used_attaching key id action target nodes = omega (arith, uses-last key id nodes.detached, uses-put key action target (last_top id nodes.detached) nodes.attached)
+
+pub used_setting : (key : Key) (id : ℤ) (on : Bool) (nodes : Arranged) → used key (setting id on nodes) ≤ used key nodes
+used_setting key id on nodes = omega (arith, uses-changed key id on nodes.attached)
+
+pub uses_first : (key : Key) (t : Nodes Key) → uses key (without_first t) ≤ uses key t
+uses_first key none = omega arith
+uses_first key (node label below after) = omega (arith, uses-joined key below after)

@@ -3,4 +3,10 @@ pub mod Spotting
 pub mod PayloadLaws
 pub mod Arranging
 pub mod Keeping
+pub mod Following
 pub mod Showing
+pub mod Walking
+pub mod Writing
+pub mod Journaling
+pub mod Moving
+pub mod Distinct

@@ -9,8 +9,8 @@ use Rattle.sn_tree.specs.declared.node.NodeKind.{NodeKind}
 use Rattle.sn_tree.specs.declared.node.NodeView.{NodeView}
 use Rattle.sn_tree.specs.declared.node.TreeFault.{TreeFault}
 use Rattle.sn_tree.specs.declared.node.TreeFault.TheVariants.{NoNode, InUse, NotGroup, IsRoot, Inside, TooMany}
-use Rattle.sn_tree.specs.Trees.{Label, Nodes, none, node, holds, label_of, children, count, ids, subtree, without, joined, beside, put, changed, first_id, last_id, first_of, view_from, view_of, with_payloads}
-use Rattle.sn_tree.specs.Faults.{labels_synth, is_synth, is_inside, is_missing, is_beside_root, is_in_synth, spot_fault, insert_fault, detach_fault, set_run_fault, first_fault}
+use Rattle.sn_tree.specs.Trees.{Label, Nodes, none, node, holds, label_of, children, count, ids, subtree, without, joined, beside, put, changed, first_id, last_id, first_of, view_from, view_of, with_payloads, has_top, last_top, without_last, shares, first_label, without_first}
+use Rattle.sn_tree.specs.Faults.{labels_synth, is_synth, is_inside, is_missing, is_beside_root, is_in_synth, spot_fault, insert_fault, detach_fault, set_run_fault, move_fault, attach_fault, first_fault}
 
 -- a label with its payload changed
 abbrev pub relabelled : {P Q : Type 0} → (P → Q) → Label P → Label Q
@@ -92,6 +92,35 @@ module _ {P Q : Type 0} (f : P → Q) where
       (ap (λ u. node (relabelled f label) u (with_payloads f after)) (changed-payloads id change change' same below))
       (ap (λ u. node (relabelled f label) (with_payloads f below) u) (changed-payloads id change change' same after)))
 
+  pub has_top-payloads : (id : ℤ) (t : Nodes P) → has_top id (with_payloads f t) ≡ has_top id t
+  has_top-payloads id none = refl
+  has_top-payloads id (node label below after) = λ i. int_eq label.id id || has_top-payloads id after i
+
+  pub last_top-payloads : (id : ℤ) (t : Nodes P) → last_top id (with_payloads f t) ≡ with_payloads f (last_top id t)
+  last_top-payloads id none = refl
+  last_top-payloads id (node label below after) =
+      both_at (with_payloads f) (has_top id (with_payloads f after)) (has_top id after) _ _ _ _ (has_top-payloads id after) (last_top-payloads id after)
+      (both (with_payloads f) (int_eq label.id id) _ _ _ _ refl refl)
+
+  pub without_last-payloads : (id : ℤ) (t : Nodes P) → without_last id (with_payloads f t) ≡ with_payloads f (without_last id t)
+  without_last-payloads id none = refl
+  without_last-payloads id (node label below after) =
+      both_at (with_payloads f) (has_top id (with_payloads f after)) (has_top id after) _ _ _ _ (has_top-payloads id after)
+      (ap (λ u. node (relabelled f label) (with_payloads f below) u) (without_last-payloads id after))
+      (both (with_payloads f) (int_eq label.id id) _ _ _ _ refl refl)
+
+  pub shares-payloads : (s : Nodes P) (t : Nodes P) → shares (with_payloads f s) (with_payloads f t) ≡ shares s t
+  shares-payloads none t = refl
+  shares-payloads (node label below after) t = λ i. holds-payloads label.id t i || (shares-payloads below t i || shares-payloads after t i)
+
+  pub first_label-payloads : (t : Nodes P) → first_label (with_payloads f t) ≡ option_map (relabelled f) (first_label t)
+  first_label-payloads none = refl
+  first_label-payloads (node label below after) = refl
+
+  pub without_first-payloads : (t : Nodes P) → without_first (with_payloads f t) ≡ with_payloads f (without_first t)
+  without_first-payloads none = refl
+  without_first-payloads (node label below after) = joined-payloads below after
+
   first_id-payloads : (t : Nodes P) → first_id (with_payloads f t) ≡ first_id t
   first_id-payloads none = refl
   first_id-payloads (node label below after) = refl
@@ -138,3 +167,32 @@ module _ {P Q : Type 0} (f : P → Q) where
 
   pub set_run_fault-payloads : (id : ℤ) (t : Nodes P) → set_run_fault id (with_payloads f t) ≡ set_run_fault id t
   set_run_fault-payloads id t = λ i. first_fault ((not (holds-payloads id t i), NoNode) ∷ [])
+
+  pub move_fault-payloads : (id : ℤ) (action : Action) (target : ℤ) (t : Nodes P) → move_fault id action target (with_payloads f t) ≡ move_fault id action target t
+  move_fault-payloads id action target t = λ i. first_fault (
+      (not (holds-payloads id t i), NoNode)
+      ∷ (not (holds-payloads target t i), NoNode)
+      ∷ (int_eq id (pos 0), IsRoot)
+      ∷ (is_beside_root action target, IsRoot)
+      ∷ (is_inside action && synth-payloads target t i, NotGroup)
+      ∷ (inside i, Inside)
+      ∷ [])
+    where
+      inside : holds target (subtree id (with_payloads f t)) ≡ holds target (subtree id t)
+      inside = ap (holds target) (subtree-payloads id t) ∙ holds-payloads target (subtree id t)
+
+  pub attach_fault-payloads : (id : ℤ) (action : Action) (target : ℤ) (t d : Nodes P) → attach_fault id action target (with_payloads f t) (with_payloads f d) ≡ attach_fault id action target t d
+  attach_fault-payloads id action target t d = λ i. first_fault (
+      (share i, InUse)
+      ∷ (not (has_top-payloads id d i), NoNode)
+      ∷ (not (holds-payloads target t i), NoNode)
+      ∷ (is_beside_root action target, IsRoot)
+      ∷ (is_inside action && synth-payloads target t i, NotGroup)
+      ∷ (nat_lt 4096 (count-payloads t i + size i), TooMany)
+      ∷ [])
+    where
+      share : shares (last_top id (with_payloads f d)) (with_payloads f t) ≡ shares (last_top id d) t
+      share = ap (λ l. shares l (with_payloads f t)) (last_top-payloads id d) ∙ shares-payloads (last_top id d) t
+
+      size : count (last_top id (with_payloads f d)) ≡ count (last_top id d)
+      size = ap count (last_top-payloads id d) ∙ count-payloads (last_top id d)

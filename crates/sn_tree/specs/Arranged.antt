@@ -2,14 +2,13 @@
 use Rattle.std.specs.Prelude.{◌≡◌, ℕ, ◌+◌, ◌≤◌, List, length, take, drop, reverse, refl}
 use Rattle.std.specs.Coded.{Coded, code_by, coded×, coded_ℕ, coded_option}
 use Rattle.sn_tree.specs.declared.entry.Entry.{Entry}
-use Rattle.sn_tree.specs.Trees.{Nodes}
+use Rattle.sn_tree.specs.Trees.{Nodes, Sides}
 use Rattle.sn_tree.specs.Order.{Key, IsFlat, tree_of}
 use Rattle.sn_tree.specs.Model.{nodes_code}
 
 -- nodes by the keys of their payloads; each detached subtree is one of the first level
-pub record Arranged : Type 0 where
-  pub attached : Nodes Key
-  pub detached : Nodes Key
+abbrev pub Arranged : Type 0
+Arranged = Sides Key
 
 abbrev pub arranged_code : Coded Arranged
 arranged_code = code_by (Nodes Key × Nodes Key) (coded× (nodes_code (coded_option coded_ℕ)) (nodes_code (coded_option coded_ℕ)))

@@ -9,7 +9,7 @@ use Rattle.sn_tree.specs.declared.node.TreeFault.{TreeFault}
 use Rattle.sn_tree.specs.declared.node.TreeFault.TheVariants.{NoNode, InUse, NotGroup, IsRoot, Inside, TooMany}
 use Rattle.sn_tree.specs.declared.node.Uninserted.{Uninserted}
 use Rattle.sn_tree.specs.declared.node.Uninserted.TheVariants.{NoMemory, Fault}
-use Rattle.sn_tree.specs.Trees.{Label, Nodes, holds, label_of, count, subtree}
+use Rattle.sn_tree.specs.Trees.{Label, Nodes, holds, label_of, count, subtree, has_top, last_top, shares}
 
 -- the first fault whose test holds
 abbrev pub first_fault : List (Bool × TreeFault) → Option TreeFault
@@ -70,6 +70,27 @@ module _ {P : Type 0} where
 
   abbrev pub set_run_fault : ℤ → Nodes P → Option TreeFault
   set_run_fault id nodes = first_fault ((is_missing id nodes, NoNode) ∷ [])
+
+  abbrev pub move_fault : ℤ → Action → ℤ → Nodes P → Option TreeFault
+  move_fault id action target nodes = first_fault (
+      (is_missing id nodes, NoNode)
+      ∷ (is_missing target nodes, NoNode)
+      ∷ (int_eq id (pos 0), IsRoot)
+      ∷ (is_beside_root action target, IsRoot)
+      ∷ (is_in_synth action target nodes, NotGroup)
+      ∷ (holds target (subtree id nodes), Inside)
+      ∷ [])
+
+  -- of the subtree with this top that was detached last
+  abbrev pub attach_fault : ℤ → Action → ℤ → Nodes P → Nodes P → Option TreeFault
+  attach_fault id action target attached detached = first_fault (
+      (shares (last_top id detached) attached, InUse)
+      ∷ (not (has_top id detached), NoNode)
+      ∷ (is_missing target attached, NoNode)
+      ∷ (is_beside_root action target, IsRoot)
+      ∷ (is_in_synth action target attached, NotGroup)
+      ∷ (nat_lt 4096 (count attached + count (last_top id detached)), TooMany)
+      ∷ [])
 
 -- the fault of an answer, if it is one
 abbrev pub fault_of : {A : Type 0} → Result A TreeFault → Option TreeFault

@@ -4,5 +4,8 @@ pub mod Order
 pub mod Places
 pub mod Model
 pub mod Arranged
+pub mod Saving
 pub mod Kept
 pub mod Steps
+pub mod Walking
+pub mod Lends

@@ -5,14 +5,21 @@ use Rattle.std.specs.Coded.{Coded, code_by, coded×, coded_ℕ, coded_ℤ, coded
 use Rattle.std.proofs.Common.{sym, ap, ◌∙◌, arith, length-append}
 use Rattle.sn_tree.specs.declared.node.NodeKind.{NodeKind}
 use Rattle.sn_tree.specs.declared.node.NodeKind.TheVariants.{Synth, Group, Parallel}
-use Rattle.sn_tree.specs.Trees.{Label, Nodes, none, node, count}
+use Rattle.sn_tree.specs.Trees.{Label, Nodes, Sides, none, node, count}
 use Rattle.sn_tree.specs.Order.{take_at, drop_at}
 
--- what a journal keeps: the nodes as they were when it was opened, and how many steps it has room for
+-- which present node is which saved one: a mark for each saved node, and for each present one the mark of the saved
+-- node that it is, or none where it was inserted since
+pub record Marks : Type 0 where
+  pub saved : Sides ℕ
+  pub present : Sides (Option ℕ)
+
+-- what a journal keeps: the nodes as undoing restores them, how many steps it has room for, and which node is which
 pub record Journal (P : Type 0) : Type 0 where
   pub attached : Nodes P
   pub detached : Nodes P
   pub room : ℕ
+  pub marks : Marks
 
 -- a tree: the attached nodes, which are the root and all below it; the detached subtrees in the order of their detaching;
 -- and the open journal, if there is one
@@ -77,10 +84,19 @@ module _ {P : Type 0} (code : Coded P) where
   abbrev pub nodes_code : Coded (Nodes P)
   nodes_code = code_by (List (Label P × ℕ)) (coded_list (coded× label_code coded_ℕ)) rows nodes_of nodes_of-rows
 
+  abbrev pub sides_code : Coded (Sides P)
+  sides_code = code_by (Nodes P × Nodes P) (coded× nodes_code nodes_code)
+      (λ s. (s.attached, s.detached)) (λ p. record { attached = p.0; detached = p.1 }) (λ _. refl)
+
+abbrev pub marks_code : Coded Marks
+marks_code = code_by (Sides ℕ × Sides (Option ℕ)) (coded× (sides_code coded_ℕ) (sides_code (coded_option coded_ℕ)))
+    (λ m. (m.saved, m.present)) (λ p. record { saved = p.0; present = p.1 }) (λ _. refl)
+
+module _ {P : Type 0} (code : Coded P) where
   abbrev pub journal_code : Coded (Journal P)
-  journal_code = code_by (Nodes P × (Nodes P × ℕ)) (coded× nodes_code (coded× nodes_code coded_ℕ))
-      (λ j. (j.attached, (j.detached, j.room))) (λ p. record { attached = p.0; detached = p.1.0; room = p.1.1 }) (λ _. refl)
+  journal_code = code_by (Nodes P × (Nodes P × (ℕ × Marks))) (coded× (nodes_code code) (coded× (nodes_code code) (coded× coded_ℕ marks_code)))
+      (λ j. (j.attached, (j.detached, (j.room, j.marks)))) (λ p. record { attached = p.0; detached = p.1.0; room = p.1.1.0; marks = p.1.1.1 }) (λ _. refl)
 
   abbrev pub tree_code : Coded (NodeTree P)
-  tree_code = code_by (Nodes P × (Nodes P × Option (Journal P))) (coded× nodes_code (coded× nodes_code (coded_option journal_code)))
+  tree_code = code_by (Nodes P × (Nodes P × Option (Journal P))) (coded× (nodes_code code) (coded× (nodes_code code) (coded_option journal_code)))
       (λ t. (t.attached, (t.detached, t.journal))) (λ p. record { attached = p.0; detached = p.1.0; journal = p.1.1 }) (λ _. refl)

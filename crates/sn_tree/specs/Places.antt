@@ -7,7 +7,7 @@ use Rattle.sn_tree.specs.declared.entry.Place.{Place}
 use Rattle.sn_tree.specs.declared.node.Action.{Action}
 use Rattle.sn_tree.specs.declared.node.Action.TheVariants.{Head, Tail, Before, After}
 use Rattle.sn_tree.specs.Trees.{Label, Nodes, none, node, put, count, holds, label_of, children, subtree, without, changed, with_running}
-use Rattle.sn_tree.specs.Faults.{detach_fault, set_run_fault}
+use Rattle.sn_tree.specs.Faults.{detach_fault, set_run_fault, move_fault}
 use Rattle.sn_tree.specs.Order.{Key, entry_of, flat, tree_of, adjusted}
 
 -- no node has many below it
@@ -93,3 +93,18 @@ pub record IsSetRunning (before after : List Entry) (id : ℤ) (on : Bool) : Typ
   pub allowed : set_run_fault id (tree_of before) ≡ None
   pub same : count (changed id (with_running on) (tree_of before)) ≡ count (tree_of before)
   pub lists : after ≡ flat (changed id (with_running on) (tree_of before))
+
+-- the entries of a subtree behind the rest
+abbrev pub moved_to_end : ℕ → ℕ → List Entry → List Entry
+moved_to_end position n es = adjusted (λ below. below - n) (take position es) ++ (drop n (drop position es) ++ take n (drop position es))
+
+-- the last entries put in at a place of the others, and counted above them
+abbrev pub put_back_list : Place → ℕ → List Entry → List Entry
+put_back_list place n es =
+    lifted place n (take place.at es ++ (drop (length es - n - place.at) (drop place.at es) ++ take (length es - n - place.at) (drop place.at es)))
+
+-- a subtree stands elsewhere
+pub record IsMoved (before after : List Entry) (id : ℤ) (action : Action) (target : ℤ) : Type 0 where
+  pub allowed : move_fault id action target (tree_of before) ≡ None
+  pub same : count (put action target (subtree id (tree_of before)) (without id (tree_of before))) ≡ count (tree_of before)
+  pub lists : after ≡ flat (put action target (subtree id (tree_of before)) (without id (tree_of before)))

@@ -19,6 +19,11 @@ pub data Nodes (P : Type 0) : Type 0 where
   none : Nodes P
   node : Label P → Nodes P → Nodes P → Nodes P
 
+-- the attached nodes, which are the root and all below it, and the detached subtrees in the order of their detaching
+pub record Sides (P : Type 0) : Type 0 where
+  pub attached : Nodes P
+  pub detached : Nodes P
+
 -- what comes after the first of these in a list
 abbrev pub next_after : ℤ → List ℤ → Option ℤ
 next_after id [] = None
@@ -76,6 +81,42 @@ module _ {P : Type 0} where
   joined none others = others
   joined (node label below after) others = node label below (joined after others)
 
+  -- whether one of these stands by itself, below none of the others
+  abbrev pub has_top : ℤ → Nodes P → Bool
+  has_top id none = false
+  has_top id (node label below after) = int_eq label.id id || has_top id after
+
+  -- the last of these with all below it
+  abbrev pub last_top : ℤ → Nodes P → Nodes P
+  last_top id none = none
+  last_top id (node label below after) =
+      if has_top id after then last_top id after
+      else if int_eq label.id id then node label below none
+      else none
+
+  -- what is left without the last of these and all below it
+  abbrev pub without_last : ℤ → Nodes P → Nodes P
+  without_last id none = none
+  without_last id (node label below after) =
+      if has_top id after then node label below (without_last id after)
+      else if int_eq label.id id then after
+      else node label below after
+
+  -- whether an id of the first nodes is one of the second ones
+  abbrev pub shares : Nodes P → Nodes P → Bool
+  shares none others = false
+  shares (node label below after) others = holds label.id others || (shares below others || shares after others)
+
+  -- the first node by itself
+  abbrev pub first_label : Nodes P → Option (Label P)
+  first_label none = None
+  first_label (node label below after) = Some label
+
+  -- what is left without the first node: those just below it stand by themselves then
+  abbrev pub without_first : Nodes P → Nodes P
+  without_first none = none
+  without_first (node label below after) = joined below after
+
   -- new nodes at the head or tail of a node's children, or just before or after the node
   abbrev pub beside : Action → Nodes P → Label P → Nodes P → Nodes P → Nodes P
   beside Head new label below after = node label (joined new below) after
@@ -98,6 +139,13 @@ module _ {P : Type 0} where
       if int_eq label.id id then node (change label) below after
       else if holds id below then node label (changed id change below) after
       else node label below (changed id change after)
+
+  -- the nodes that run, in the order of the walk: a paused node is left out with all below it
+  abbrev pub running_labels : Nodes P → List (Label P)
+  running_labels none = []
+  running_labels (node label below after) =
+      if label.running then label ∷ (running_labels below ++ running_labels after)
+      else running_labels after
 
   -- a new node, which runs
   abbrev pub leaf : ℤ → NodeKind → P → Nodes P
@@ -139,3 +187,7 @@ module _ {P : Type 0} where
 abbrev pub with_payloads : {P Q : Type 0} → (P → Q) → Nodes P → Nodes Q
 with_payloads f none = none
 with_payloads f (node label below after) = node (record { id = label.id; kind = label.kind; running = label.running; payload = f label.payload }) (with_payloads f below) (with_payloads f after)
+
+-- each payload changed, on both sides
+abbrev pub with_payloads_of : {P Q : Type 0} → (P → Q) → Sides P → Sides Q
+with_payloads_of f sides = record { attached = with_payloads f sides.attached; detached = with_payloads f sides.detached }

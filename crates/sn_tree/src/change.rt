@@ -1,13 +1,14 @@
 //! Changes of the list.
 ghost use Rattle.std.specs.Prelude.{◌≡◌, ◌≤◌, ◌<◌, ◌+◌, ◌-◌, ◌^◌, ◌++◌, List, length, take, drop, reverse, None, Some, MatchResult};
 ghost use Rattle.sn_tree.specs.declared.entry.Entry.{Entry};
-ghost use Rattle.sn_tree.specs.Faults.{detach_fault, set_run_fault};
+ghost use Rattle.sn_tree.specs.Faults.{detach_fault, move_fault, set_run_fault};
 ghost use Rattle.sn_tree.specs.Order.{IsFlat, tree_of, adjusted};
-ghost use Rattle.sn_tree.specs.Places.{lifted, taken_out, IsSmall, IsDetached, IsSetRunning};
+ghost use Rattle.sn_tree.specs.Places.{lifted, taken_out, moved_to_end, put_back_list, IsSmall, IsDetached, IsMoved, IsSetRunning};
 
 use crate::entry::{Entry, Place};
-use crate::node::TreeFault;
-use crate::search::{detachable, position_of};
+use crate::moves::movable;
+use crate::node::{Spot, TreeFault};
+use crate::search::{detachable, place_of, position_of};
 
 /// Counts new nodes at each node above them.
 fn raise(entries: &mut [Entry], by: u32)
@@ -77,6 +78,64 @@ pub fn take_out(entries: &mut [Entry], position: usize, count: u32)
     rotate_from(entries, position, count as usize);
     let rest = entries.len() - count as usize;
     reverse_from(entries, rest);
+}
+
+/// Moves a subtree behind the rest.
+fn move_to_end(entries: &mut [Entry], position: usize, count: u32)
+    requires within { position + count ≤ length entries.old }
+    ensures { entries.new ≡ moved_to_end position count entries.old }
+{
+    lower(&mut entries[..position], count);
+    rotate_from(entries, position, count as usize);
+}
+
+/// Puts the last entries in at a place of the others.
+pub fn put_back(entries: &mut [Entry], place: Place, count: u32)
+    requires at { place.at + count ≤ length entries.old }
+    requires target { place.target < length entries.old }
+    requires few { IsSmall entries.old }
+    requires by { count ≤ 4096 }
+    ensures { entries.new ≡ put_back_list place count entries.old }
+{
+    let between = entries.len() - count as usize - place.at;
+    rotate_from(entries, place.at, between);
+    lift(entries, place, count);
+}
+
+/// Moves a node and all below it to a spot.
+fn move_in(entries: &mut [Entry], id: i32, spot: Spot) -> Result<(), TreeFault>
+    requires flat { IsFlat entries.old }
+    requires few { length entries.old ≤ 4096 }
+    ensures { MatchResult result (λ _. IsMoved entries.old entries.new id spot.action spot.target) (λ fault. (entries.new ≡ entries.old) × (move_fault id spot.action spot.target (tree_of entries.old) ≡ Some fault)) }
+{
+    let position = match movable(entries, id, spot) {
+        Ok(position) => position,
+        Err(fault) => return Err(fault),
+    };
+    let count = entries[position].below + 1;
+    move_to_end(entries, position, count);
+    let rest = entries.len() - count as usize;
+    let place = match place_of(&entries[..rest], spot) {
+        Ok(place) => place,
+        Err(_) => unreachable!(),
+    };
+    put_back(entries, place, count);
+    Ok(())
+}
+
+/// The same among so many attached nodes, which the detached ones follow.
+pub fn move_from(
+    entries: &mut [Entry],
+    attached: usize,
+    id: i32,
+    spot: Spot,
+) -> Result<(), TreeFault>
+    requires cut { attached ≤ length entries.old }
+    requires flat { IsFlat (take attached entries.old) }
+    requires few { attached ≤ 4096 }
+    ensures { MatchResult result (λ _. (fronts : List Entry) × IsMoved (take attached entries.old) fronts id spot.action spot.target × (entries.new ≡ fronts ++ drop attached entries.old)) (λ fault. (entries.new ≡ entries.old) × (move_fault id spot.action spot.target (tree_of (take attached entries.old)) ≡ Some fault)) }
+{
+    move_in(&mut entries[..attached], id, spot)
 }
 
 /// Moves a node and all below it behind the rest, in reverse order, and tells how many these are.

@@ -3,12 +3,16 @@
 
 mod change;
 mod entry;
+mod moves;
 mod node;
 mod order;
+mod saved;
 mod search;
 #[cfg(test)]
 mod tests;
 mod tree;
+mod walk;
 
 pub use node::{Action, NodeKind, NodeView, Spot, TreeFault, Uninserted};
 pub use tree::Tree;
+pub use walk::{Visit, Walk};

@@ -1,15 +1,16 @@
 //! The nodes in one list: the attached ones in the order of the walk, and the detached ones behind them in reverse order.
-ghost use Rattle.std.specs.Prelude.{◌≡◌, ◌≤◌, ◌+◌, ◌<◌, None, Some, true, List, ◌++◌, length, take, drop, IfOk, OnOk, OnErr, MatchResult, ℤ, pos};
+ghost use Rattle.std.specs.Prelude.{◌≡◌, ◌≤◌, ◌+◌, ◌<◌, None, Some, true, List, ◌++◌, [], ◌∷◌, IfSome, IfNone, length, take, drop, IfOk, OnOk, OnErr, MatchResult, ℤ, pos};
 ghost use Rattle.std.specs.List.{insert};
 ghost use Rattle.std.specs.Option.{option_map};
 ghost use Rattle.sn_tree.specs.declared.entry.Entry.{Entry};
 ghost use Rattle.sn_tree.specs.declared.node.NodeKind.TheVariants.{Group};
-ghost use Rattle.sn_tree.specs.Trees.{none, holds, count, ids, next_after, first_of, children, label_of, put, leaf, without, subtree, joined, changed, with_running};
-ghost use Rattle.sn_tree.specs.Faults.{insert_fault, detach_fault, set_run_fault, fault_of};
+ghost use Rattle.sn_tree.specs.Trees.{none, holds, count, ids, next_after, first_of, children, label_of, put, leaf, without, subtree, joined, changed, with_running, first_label, without_first};
+ghost use Rattle.sn_tree.specs.Faults.{insert_fault, detach_fault, move_fault, set_run_fault, fault_of};
+ghost use Rattle.sn_tree.specs.Steps.{moving};
 ghost use Rattle.sn_tree.specs.Order.{IsFlat, flat, tree_of};
-ghost use Rattle.sn_tree.specs.Places.{IsPlace, IsSmall, IsDetached, IsSetRunning, lifted};
+ghost use Rattle.sn_tree.specs.Places.{IsPlace, IsSmall, IsDetached, IsMoved, IsSetRunning, lifted};
 
-use crate::change::{detach_from, lift, set_running_from};
+use crate::change::{detach_from, lift, move_from, set_running_from};
 use crate::entry::{Entry, Place};
 use crate::node::{NodeKind, Spot, TreeFault};
 use crate::search::{first_in, key_in, next_of, place_for_new};
@@ -57,6 +58,15 @@ fn detach_vec(entries: &mut Vec<Entry>, attached: usize, id: i32) -> Result<usiz
     detach_from(entries, attached, id)
 }
 
+fn move_vec(entries: &mut Vec<Entry>, attached: usize, id: i32, spot: Spot) -> Result<(), TreeFault>
+    requires cut { attached ≤ length entries.old.items }
+    requires flat { IsFlat (take attached entries.old.items) }
+    requires few { attached ≤ 4096 }
+    ensures { MatchResult result (λ _. (fronts : List Entry) × IsMoved (take attached entries.old.items) fronts id spot.action spot.target × (entries.new.items ≡ fronts ++ drop attached entries.old.items)) (λ fault. (entries.new.items ≡ entries.old.items) × (move_fault id spot.action spot.target (tree_of (take attached entries.old.items)) ≡ Some fault)) }
+{
+    move_from(entries, attached, id, spot)
+}
+
 fn set_running_vec(
     entries: &mut Vec<Entry>,
     attached: usize,
@@ -68,6 +78,15 @@ fn set_running_vec(
     ensures { MatchResult result (λ _. (fronts : List Entry) × IsSetRunning (take attached entries.old.items) fronts id on × (entries.new.items ≡ fronts ++ drop attached entries.old.items)) (λ fault. (entries.new.items ≡ entries.old.items) × (set_run_fault id (tree_of (take attached entries.old.items)) ≡ Some fault)) }
 {
     set_running_from(entries, attached, id, on)
+}
+
+/// Takes the last entry off, and gives its key.
+fn last_key(entries: &mut Vec<Entry>) -> Option<Option<usize>>
+    ensures taken { IfSome result (λ key. (e : Entry) × (entries.old.items ≡ entries.new.items ++ e ∷ []) × (e.key ≡ key)) }
+    ensures none { IfNone result (entries.old.items ≡ []) }
+{
+    let entry = entries.pop()?;
+    Some(entry.key)
 }
 
 impl Order {
@@ -86,6 +105,43 @@ impl Order {
             entries: Vec::from_slice(alloc, &[root])?,
             attached: 1,
         })
+    }
+
+    /// The same nodes once more.
+    pub fn copy(&self) -> Result<Order, NoMemory>
+        ensures { IfOk result (λ o. o ≡ self.now) }
+    {
+        let alloc = self.alloc();
+        let entries = Vec::from_slice(alloc, &self.entries)?;
+        Ok(Order {
+            entries,
+            attached: self.attached,
+        })
+    }
+
+    /// Where its memory is from.
+    pub fn alloc(&self) -> Global {
+        *self.entries.allocator()
+    }
+
+    /// Ends the first detached node, and tells under which key its payload is kept.
+    pub fn free(&mut self) -> Option<Option<usize>>
+        ensures value { result ≡ option_map (λ l. l.payload) (first_label self.old.detached) }
+        ensures rest { self.new ≡ record self.old { detached = without_first self.old.detached } }
+    {
+        if self.entries.len() <= self.attached {
+            return None;
+        }
+        let key = last_key(&mut self.entries)?;
+        Some(key)
+    }
+
+    /// The entries of the attached nodes.
+    pub fn attached_entries(&self) -> &[Entry]
+        ensures flat { IsFlat result.now }
+        ensures value { tree_of result.now ≡ self.now.attached }
+    {
+        &self.entries[..self.attached]
     }
 
     /// How many nodes are attached.
@@ -158,6 +214,19 @@ impl Order {
             Err(fault) => return Err(fault),
         };
         self.attached -= count;
+        Ok(())
+    }
+
+    /// Moves a subtree to a spot.
+    pub fn move_to(&mut self, id: i32, spot: Spot) -> Result<(), TreeFault>
+        ensures fault { fault_of result ≡ move_fault id spot.action spot.target self.old.attached }
+        ensures ok { OnOk result (self.new ≡ moving id spot.action spot.target self.old) }
+        ensures err { OnErr result (self.new ≡ self.old) }
+    {
+        match move_vec(&mut self.entries, self.attached, id, spot) {
+            Ok(()) => {}
+            Err(fault) => return Err(fault),
+        }
         Ok(())
     }
 

@@ -1,5 +1,5 @@
 //! Finding nodes, and places for them, in the list.
-ghost use Rattle.std.specs.Prelude.{◌≡◌, ◌≤◌, ◌+◌, None, Some, length, false, ◌&&◌, [], ◌∷◌, MatchResult, MatchOption, ℤ, pos};
+ghost use Rattle.std.specs.Prelude.{◌≡◌, ◌≤◌, ◌+◌, None, Some, length, drop, false, ◌&&◌, [], ◌∷◌, MatchResult, MatchOption, ℤ, pos};
 ghost use Rattle.std.specs.List.{position};
 ghost use Rattle.std.specs.Ordering.{int_eq};
 ghost use Rattle.sn_tree.specs.Trees.{holds, ids, next_after, first_of, children, label_of};
@@ -8,6 +8,7 @@ ghost use Rattle.sn_tree.specs.Faults.{first_fault, spot_fault, insert_fault, de
 ghost use Rattle.sn_tree.specs.declared.node.TreeFault.TheVariants.{IsRoot, NotGroup};
 ghost use Rattle.sn_tree.specs.Order.{IsFlat, tree_of};
 ghost use Rattle.sn_tree.specs.Places.{IsPlace, Spotted, place_for};
+ghost use Rattle.sn_tree.specs.Walking.{IsFromRunning};
 
 use crate::entry::{Entry, Place};
 use crate::node::{Action, NodeKind, Spot, TreeFault};
@@ -176,4 +177,27 @@ pub fn detachable(entries: &[Entry], id: i32) -> Result<usize, TreeFault>
         return Err(TreeFault::IsRoot);
     }
     Ok(position)
+}
+
+/// The entries past so many.
+fn past(entries: &[Entry], count: u32) -> &[Entry]
+    requires within { count ≤ length entries.now }
+    ensures { result.now ≡ drop count entries.now }
+{
+    &entries[count as usize..]
+}
+
+/// The entries from the first node on that the walk reaches and that runs: a paused node is passed with all below it.
+pub fn from_running(entries: &[Entry]) -> &[Entry]
+    requires flat { IsFlat entries.now }
+    ensures { IsFromRunning entries.now result.now }
+{
+    let mut rest = entries;
+    while let Some((entry, after)) = rest.split_first() {
+        if entry.running {
+            return rest;
+        }
+        rest = past(after, entry.below);
+    }
+    rest
 }

@@ -61,3 +61,100 @@ fn a_tree_has_4096_nodes_at_most(rt: HostRuntime) -> Result<(), Fail> {
     }
     Ok(())
 }
+
+#[test]
+fn a_walk_leaves_out_what_is_paused(rt: HostRuntime) -> Result<(), Fail> {
+    let mut tree = Tree::new(rt.alloc(), 10u32)?;
+    tree.insert(1, NodeKind::Group, spot(Action::Tail, 0), 11)?;
+    tree.insert(2, NodeKind::Synth, spot(Action::Tail, 1), 12)?;
+    tree.insert(3, NodeKind::Parallel, spot(Action::Tail, 0), 13)?;
+    tree.insert(4, NodeKind::Synth, spot(Action::Tail, 3), 14)?;
+    tree.insert(5, NodeKind::Synth, spot(Action::Tail, 3), 15)?;
+    assert_eq!(rt; tree.set_run(1, false), Ok(()));
+    assert_eq!(rt; tree.set_run(4, false), Ok(()));
+    if let Some(payload) = tree.payload_mut(5) {
+        *payload = 25;
+    }
+    let mut ids = Vec::new(rt.alloc());
+    let mut payloads = Vec::new(rt.alloc());
+    for visit in tree.walk() {
+        ids.push(visit.id)?;
+        payloads.push(*visit.payload)?;
+    }
+    assert_eq!(rt; ids.as_slice(), [0, 3, 5].as_slice());
+    assert_eq!(rt; payloads.as_slice(), [10, 13, 25].as_slice());
+    Ok(())
+}
+
+#[test]
+fn what_is_detached_first_ends_first(rt: HostRuntime) -> Result<(), Fail> {
+    let mut tree = Tree::new(rt.alloc(), 0u32)?;
+    tree.insert(1, NodeKind::Group, spot(Action::Tail, 0), 11)?;
+    tree.insert(2, NodeKind::Synth, spot(Action::Tail, 1), 12)?;
+    tree.insert(3, NodeKind::Synth, spot(Action::Tail, 1), 13)?;
+    tree.insert(4, NodeKind::Synth, spot(Action::Tail, 0), 14)?;
+    assert_eq!(rt; tree.free(), None);
+    assert_eq!(rt; tree.detach(4), Ok(()));
+    assert_eq!(rt; tree.detach(1), Ok(()));
+    assert_eq!(rt; tree.free(), Some(14));
+    assert_eq!(rt; tree.free(), Some(11));
+    assert_eq!(rt; tree.free(), Some(12));
+    assert_eq!(rt; tree.free(), Some(13));
+    assert_eq!(rt; tree.free(), None);
+    assert_eq!(rt; tree.len(), 1);
+    Ok(())
+}
+
+#[test]
+fn an_undone_journal_leaves_no_trace_but_written_payloads(rt: HostRuntime) -> Result<(), Fail> {
+    let mut tree = Tree::new(rt.alloc(), 10u32)?;
+    tree.insert(1, NodeKind::Group, spot(Action::Tail, 0), 11)?;
+    tree.begin(1)?;
+    if let Some(payload) = tree.payload_mut(1) {
+        *payload = 22;
+    }
+    assert_eq!(rt; tree.detach(1), Ok(()));
+    tree.undo();
+    assert_eq!(rt; tree.len(), 2);
+    assert_eq!(rt; tree.first(0), Some(1));
+    assert_eq!(rt; tree.payload(1).copied(), Some(22));
+    Ok(())
+}
+
+#[test]
+fn a_kept_journal_leaves_what_was_done(rt: HostRuntime) -> Result<(), Fail> {
+    let mut tree = Tree::new(rt.alloc(), 10u32)?;
+    tree.insert(2, NodeKind::Synth, spot(Action::Tail, 0), 12)?;
+    tree.begin(1)?;
+    assert_eq!(rt; tree.detach(2), Ok(()));
+    tree.commit();
+    assert_eq!(rt; tree.len(), 1);
+    assert_eq!(rt; tree.free(), Some(12));
+    Ok(())
+}
+
+#[test]
+fn groups_are_ordered_by_moves(rt: HostRuntime) -> Result<(), Fail> {
+    let mut tree = Tree::new(rt.alloc(), 0u32)?;
+    tree.insert(6, NodeKind::Group, spot(Action::Tail, 0), 0)?;
+    tree.insert(7, NodeKind::Group, spot(Action::Tail, 0), 0)?;
+    tree.insert(8, NodeKind::Group, spot(Action::Tail, 0), 0)?;
+    assert_eq!(rt; tree.move_to(8, spot(Action::Head, 0)), Ok(()));
+    assert_eq!(rt; tree.move_to(7, spot(Action::After, 8)), Ok(()));
+    assert_eq!(rt; tree.first(0), Some(8));
+    assert_eq!(rt; tree.next_in_walk(8), Some(7));
+    assert_eq!(rt; tree.next_in_walk(7), Some(6));
+    assert_eq!(rt; tree.next_in_walk(6), None);
+    Ok(())
+}
+
+#[test]
+fn a_group_does_not_go_into_itself(rt: HostRuntime) -> Result<(), Fail> {
+    let mut tree = Tree::new(rt.alloc(), 0u32)?;
+    tree.insert(4, NodeKind::Group, spot(Action::Tail, 0), 0)?;
+    tree.insert(5, NodeKind::Group, spot(Action::Tail, 4), 0)?;
+    let below = tree.move_to(4, spot(Action::Tail, 5));
+    assert_eq!(rt; below, Err(TreeFault::Inside));
+    assert_eq!(rt; tree.first(4), Some(5));
+    Ok(())
+}

@@ -1,13 +1,19 @@
 //! The tree of nodes.
-ghost use Rattle.std.specs.Prelude.{◌≡◌, ◌≤◌, None, Some, IfOk, IfErr, OnOk, OnErr, ℤ, pos};
-ghost use Rattle.std.specs.Option.{option_map, option_copied};
+ghost use Rattle.std.specs.Prelude.{◌≡◌, ◌≤◌, ℕ, reverse, None, Some, IfOk, IfErr, OnOk, OnErr, ℤ, pos};
+ghost use Rattle.std.specs.Option.{option_map, option_copied, option_copied_mut};
+ghost use Rattle.std.specs.Borrow.{sem};
 ghost use Rattle.sn_tree.specs.declared.node.NodeKind.TheVariants.{Group};
-ghost use Rattle.sn_tree.specs.Trees.{none, count, ids, next_after, first_of, children, label_of, leaf};
-ghost use Rattle.sn_tree.specs.Faults.{insert_fault, insert_fault_of, returned, detach_fault, set_run_fault, fault_of};
-ghost use Rattle.sn_tree.specs.Steps.{HasRoom, inserted, detached, running};
+ghost use Rattle.sn_tree.specs.Trees.{none, count, ids, next_after, first_of, children, label_of, leaf, running_labels, first_label};
+ghost use Rattle.sn_tree.specs.Faults.{insert_fault, insert_fault_of, returned, detach_fault, move_fault, set_run_fault, fault_of};
+ghost use Rattle.std.specs.Ordering.{int_eq};
+ghost use Rattle.sn_tree.specs.Steps.{AllDistinct, HasRoom, IsOpen, IsOpened, inserted, detached, moved, running, undone, committed, freed};
+ghost use Rattle.sn_tree.specs.Kept.{times};
+ghost use Rattle.slab.specs.Slab.{get};
 
 use crate::node::{NodeKind, Spot, TreeFault, Uninserted};
 use crate::order::Order;
+use crate::saved::{Saved, forget, note, spend};
+use crate::walk::{Walk, payload_at};
 use slab::Slab;
 use sn_ports::NoMemory;
 use std::alloc::Global;
@@ -19,6 +25,8 @@ pub struct Tree<P> {
     root: P,
     payloads: Slab<P>,
     order: Order,
+    // What the open journal keeps, if there is one.
+    saved: Option<Saved>,
 }
 
 impl<P> Model for Tree<P> {
@@ -28,14 +36,26 @@ impl<P> Model for Tree<P> {
 
     ghost coded = { tree_code P.code };
 
-    ghost use Rattle.sn_tree.specs.Kept.{shown, IsFilled};
+    ghost use Rattle.sn_tree.specs.Kept.{shown, IsKept};
 
-    ghost view = { λ t. shown t.root t.payloads.slots t.order };
+    ghost view = { λ t. shown t.root t.payloads.slots t.order t.saved };
 
-    ghost invariant = { λ t. IsFilled t.payloads.slots t.order };
+    ghost invariant = { λ t. IsKept t.payloads.slots t.order t.saved };
+}
+
+/// Drops the payloads under these keys.
+fn remove_all<P: Drop>(payloads: &mut Slab<P>, keys: Vec<usize>)
+    ensures { (key : ℕ) → times (Some key) (reverse keys.items) ≡ 0 → get payloads.new key ≡ get payloads.old key }
+{
+    let mut keys = keys;
+    while let Some(key) = keys.pop() {
+        payloads.try_remove(key);
+    }
 }
 
 impl<P: Drop> Tree<P> {
+    ghost use Rattle.sn_tree.specs.Lends.{lends_payload};
+
     /// The root alone, which runs.
     pub fn new(alloc: Global, root: P) -> Result<Tree<P>, NoMemory>
         ensures { IfOk result (λ t. t ≡ record { attached = leaf (pos 0) Group root; detached = none; journal = None }) }
@@ -46,7 +66,18 @@ impl<P: Drop> Tree<P> {
             root,
             payloads,
             order,
+            saved: None,
         })
+    }
+
+    /// Why a new node can't be put at a spot, or `None` where want of memory alone can refuse it.
+    pub fn refusal(&self, id: i32, spot: Spot) -> Option<TreeFault>
+        ensures { result ≡ insert_fault id spot.action spot.target self.now.attached }
+    {
+        match self.order.place_for_new(id, spot) {
+            Ok(_) => None,
+            Err(fault) => Some(fault),
+        }
     }
 
     /// Puts a new node at a spot, which runs. A refusal changes nothing and hands the payload back.
@@ -71,9 +102,16 @@ impl<P: Drop> Tree<P> {
             Err(_) => return Err(Uninserted::NoMemory(payload)),
         }
         let key = self.payloads.vacant_key();
-        match self.order.put_new(place, id, kind, key) {
+        match note(&mut self.saved, key) {
             Ok(()) => {}
             Err(_) => return Err(Uninserted::NoMemory(payload)),
+        }
+        match self.order.put_new(place, id, kind, key) {
+            Ok(()) => {}
+            Err(_) => {
+                forget(&mut self.saved);
+                return Err(Uninserted::NoMemory(payload));
+            }
         }
         let _ = self.payloads.insert_reserved(payload);
         Ok(())
@@ -87,7 +125,27 @@ impl<P: Drop> Tree<P> {
         ensures ok { OnOk result (self.new ≡ detached id self.old) }
         ensures refused { OnErr result (self.new ≡ self.old) }
     {
-        self.order.detach(id)
+        match self.order.detach(id) {
+            Ok(()) => {}
+            Err(fault) => return Err(fault),
+        }
+        spend(&mut self.saved);
+        Ok(())
+    }
+
+    /// Takes a node with all below it out and puts it in at a spot. It takes no memory. A refusal changes nothing.
+    pub fn move_to(&mut self, id: i32, spot: Spot) -> Result<(), TreeFault>
+        requires room { HasRoom self.old.journal }
+        ensures fault { fault_of result ≡ move_fault id spot.action spot.target self.old.attached }
+        ensures ok { OnOk result (self.new ≡ moved id spot.action spot.target self.old) }
+        ensures refused { OnErr result (self.new ≡ self.old) }
+    {
+        match self.order.move_to(id, spot) {
+            Ok(()) => {}
+            Err(fault) => return Err(fault),
+        }
+        spend(&mut self.saved);
+        Ok(())
     }
 
     /// Sets the run flag of an attached node. It takes no memory. A refusal changes nothing.
@@ -97,7 +155,63 @@ impl<P: Drop> Tree<P> {
         ensures ok { OnOk result (self.new ≡ running id on self.old) }
         ensures refused { OnErr result (self.new ≡ self.old) }
     {
-        self.order.set_run(id, on)
+        match self.order.set_run(id, on) {
+            Ok(()) => {}
+            Err(fault) => return Err(fault),
+        }
+        spend(&mut self.saved);
+        Ok(())
+    }
+
+    /// Opens a journal with room for so many calls of `detach`, `attach`, `move_to` and `set_run`. After want of memory the
+    /// tree is as it was.
+    pub fn begin(&mut self, steps: u32) -> Result<(), NoMemory>
+        requires closed { self.old.journal ≡ None }
+        ensures ok { OnOk result (IsOpened steps self.old self.new) }
+        ensures err { OnErr result (self.new ≡ self.old) }
+    {
+        let order = self.order.copy()?;
+        self.saved = Some(Saved::new(self.order.alloc(), order, steps));
+        Ok(())
+    }
+
+    /// Restores the nodes as they were when the open journal was opened, and drops the payloads that were put in since.
+    /// What was written through `payload_mut` stays. It takes no memory.
+    pub fn undo(&mut self)
+        requires open { IsOpen self.old.journal }
+        ensures { self.new ≡ undone self.old }
+    {
+        match self.saved.take() {
+            Some(saved) => {
+                let (order, made) = saved.into_parts();
+                self.order = order;
+                remove_all(&mut self.payloads, made);
+            }
+            None => {}
+        }
+    }
+
+    /// Closes the open journal, and keeps what was done.
+    pub fn commit(&mut self)
+        requires open { IsOpen self.old.journal }
+        ensures { self.new ≡ committed self.old }
+    {
+        self.saved = None;
+    }
+
+    /// Ends one detached node and gives its payload, in the order of detaching and then of the walk. Those just below it
+    /// stand by themselves then. Where nothing is detached it gives none. It takes no memory.
+    pub fn free(&mut self) -> Option<P>
+        requires closed { self.old.journal ≡ None }
+        ensures value { result ≡ option_map (λ l. l.payload) (first_label self.old.detached) }
+        ensures rest { self.new ≡ freed self.old }
+    {
+        match self.order.free() {
+            None => None,
+            // The root, which is never detached.
+            Some(None) => None,
+            Some(Some(key)) => self.payloads.try_remove(key),
+        }
     }
 
     /// The payload of an attached node.
@@ -108,6 +222,31 @@ impl<P: Drop> Tree<P> {
             None => None,
             Some(None) => Some(&self.root),
             Some(Some(key)) => self.payloads.get(key),
+        }
+    }
+
+    /// The payload of an attached node, for writing. What is written through it becomes that node's payload, and all
+    /// else stays as it was.
+    pub fn payload_mut(&mut self, id: i32) -> Option<&mut P>
+        ensures* writes_back { sem 𝓛 (lends_payload P.row self.entry id result) }
+        ensures value { option_copied_mut result ≡ option_map (λ l. l.payload) (label_of id self.old.attached) }
+    {
+        match self.order.key_of(id) {
+            None => None,
+            Some(None) => Some(&mut self.root),
+            Some(Some(key)) => self.payloads.get_mut(key),
+        }
+    }
+
+    /// The walk over the running nodes: a node comes before those below it, and these before those after it.
+    /// What is below a paused node is left out with it.
+    pub fn walk(&self) -> Walk<'_, P>
+        ensures { result ≡ running_labels self.now.attached }
+    {
+        Walk {
+            root: &self.root,
+            payloads: &self.payloads,
+            entries: self.order.attached_entries(),
         }
     }
 
@@ -123,6 +262,13 @@ impl<P: Drop> Tree<P> {
         ensures { result ≡ next_after id (ids self.now.attached) }
     {
         self.order.next_of(id)
+    }
+
+    /// A law: no two attached nodes have the same id.
+    pub fn ids_are_distinct(&self)
+        ensures { AllDistinct int_eq (ids self.now.attached) }
+    {
+        let _ = &self.order;
     }
 
     /// How many nodes are attached, the root among them: 1 to 4,096.

@@ -1,5 +1,5 @@
 -- The commands on control buses, and `/sync`.
-use Rattle.std.specs.Prelude.{ℕ, suc, zero, ◌+◌, ℤ, pos, negsuc, Bool, true, false, not, ◌&&◌, List, [], ◌∷◌, ◌++◌, Option, Some, None, Result, Ok, Err, if◌then◌else◌, nat_lt, nat_le, codes}
+use Rattle.std.specs.Prelude.{ℕ, suc, zero, ◌+◌, ℤ, pos, negsuc, Bool, true, false, not, ◌&&◌, List, [], ◌∷◌, ◌++◌, replicate, Option, Some, None, Result, Ok, Err, if◌then◌else◌, nat_lt, nat_le, codes}
 use Rattle.sn_osc.specs.Shape.{Argument, int, string, blob, arguments, MessageShape}
 use Rattle.sn_reply.specs.declared.reason.Reason.{Reason}
 use Rattle.sn_reply.specs.declared.reason.Reason.TheVariants.{Bus, Arguments}
@@ -7,7 +7,8 @@ use Rattle.sn_world.specs.declared.repetition.BusNumber.{BusNumber}
 use Rattle.sn_world.specs.declared.repetition.BusValue.{BusValue}
 use Rattle.sn_world.specs.declared.repetition.BusRun.{BusRun}
 use Rattle.sn_world.specs.declared.repetition.BusFill.{BusFill}
-use Rattle.sn_world.specs.World.{World, Turn, ControlBus, replied}
+use Rattle.sn_mem.specs.Buses.{ControlBus}
+use Rattle.sn_world.specs.World.{World, Turn, replied}
 use Rattle.sn_world.specs.Rows.{first_of, row, question, singles, pairs, triples, some_of}
 
 -- There are 1,024 control buses.
@@ -37,15 +38,24 @@ abbrev pub set_bus : ℤ → ℤ → List ControlBus → List ControlBus
 set_bus (pos n) v buses = with_value buses n v
 set_bus (negsuc n) v buses = buses
 
+-- the buses after values were set from a bus on, one after the other
+abbrev pub with_values : List ControlBus → ℕ → List ℤ → List ControlBus
+with_values buses n [] = buses
+with_values buses n (v ∷ vs) = with_values (with_value buses n v) (n + 1) vs
+
+abbrev pub set_run : ℤ → List ℤ → List ControlBus → List ControlBus
+set_run (pos n) vs buses = with_values buses n vs
+set_run (negsuc n) vs buses = buses
+
 -- the value of a bus
 abbrev pub value_at : List ControlBus → ℕ → ℤ
 value_at [] n = pos 0
 value_at (b ∷ bs) zero = b.value
 value_at (b ∷ bs) (suc n) = value_at bs n
 
-abbrev pub value_of : World → ℤ → ℤ
-value_of w (pos n) = value_at w.control_buses n
-value_of w (negsuc n) = pos 0
+abbrev pub value_of : List ControlBus → ℤ → ℤ
+value_of buses (pos n) = value_at buses n
+value_of buses (negsuc n) = pos 0
 
 -- ---- `/c_set` (bus value)..
 
@@ -76,16 +86,16 @@ abbrev pub judge_get : World → BusNumber → Option Reason
 judge_get w r = bus_refusal r.bus
 
 -- each bus and its value
-abbrev pub buses_and_values : World → List BusNumber → List Argument
-buses_and_values w [] = []
-buses_and_values w (r ∷ rs) = int r.bus ∷ int (value_of w r.bus) ∷ buses_and_values w rs
+abbrev pub buses_and_values : List ControlBus → List BusNumber → List Argument
+buses_and_values buses [] = []
+buses_and_values buses (r ∷ rs) = int r.bus ∷ int (value_of buses r.bus) ∷ buses_and_values buses rs
 
 -- `/c_set` (bus value)..
-abbrev pub answer_get : World → List BusNumber → MessageShape
-answer_get w rs = record { address = codes "/c_set"; body = arguments (buses_and_values w rs) }
+abbrev pub answer_get : List ControlBus → List BusNumber → MessageShape
+answer_get buses rs = record { address = codes "/c_set"; body = arguments (buses_and_values buses rs) }
 
 abbrev pub get_row : ℕ → List Argument → Turn → Result Turn Reason
-get_row from xs = question judge_get answer_get from (some_of (singles bus_number xs))
+get_row from xs = question judge_get (λ w. answer_get w.control_buses) from (some_of (singles bus_number xs))
 
 -- ---- `/sync` n
 
@@ -124,3 +134,14 @@ bus_fill (int bus) (string s) z = None
 bus_fill (int bus) (blob b) z = None
 bus_fill (string s) y z = None
 bus_fill (blob b) y z = None
+
+-- ---- `/c_fill` (bus count value)..
+
+abbrev pub judge_fill : World → BusFill → Option Reason
+judge_fill w r = run_refusal r.bus r.count
+
+abbrev pub act_fill : BusFill → Turn → Turn
+act_fill r t = record t { world = record t.world { control_buses = set_run r.bus (replicate r.count r.value) t.world.control_buses } }
+
+abbrev pub fill_row : ℕ → List Argument → Turn → Result Turn Reason
+fill_row from xs = row judge_fill act_fill (some_of (triples bus_fill xs))

@@ -1,5 +1,13 @@
+pub mod Definitions
+pub mod Nodes
 pub mod World
+pub mod Walk
+pub mod WalkWords
+pub mod Opening
+pub mod Pictures
 pub mod Rows
 pub mod Buses
+pub mod Recv
+pub mod NewSynth
 pub mod Commands
 pub mod Answers

@@ -1,14 +1,25 @@
 use sn_reply::Reason;
 
-/// A command on control buses, or `/sync`.
+/// A command on control buses or definitions, or `/sync`.
 #[derive(Clone, Copy, Debug, PartialEq, Eq)]
 pub enum BusCommand {
     /// `/c_set`
     Set,
+    /// `/c_fill`
+    Fill,
     /// `/c_get`
     Get,
     /// `/sync`
     Sync,
+    /// `/d_recv`
+    Receive,
+}
+
+/// A command on nodes.
+#[derive(Clone, Copy, Debug, PartialEq, Eq)]
+pub enum NodeCommand {
+    /// `/s_new`
+    New,
 }
 
 /// What a crate of commands did with a message.

@@ -3,8 +3,12 @@
 
 mod arguments;
 mod command;
+mod defs;
 mod repetition;
+mod stage;
 
 pub use arguments::{Pair, Single, Triple, pairs, singles, some_of, triples};
-pub use command::{BusCommand, Handled};
+pub use command::{BusCommand, Handled, NodeCommand};
+pub use defs::Defs;
 pub use repetition::{BusFill, BusNumber, BusRun, BusValue};
+pub use stage::{Held, Stage};

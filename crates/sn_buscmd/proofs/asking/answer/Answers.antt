@@ -1,7 +1,7 @@
 use Rattle.std.proofs.Common.{◌≡◌, map, subst, sym, rules}
 use Rattle.sn_osc.specs.Shape.{MessageShape, arguments, argument_of}
 use Rattle.sn_reply.specs.Sending.{IsSendable}
-use Rattle.sn_world.specs.World.{world_of}
+use Rattle.sn_mem.specs.Buses.{control_buses}
 use Rattle.sn_world.specs.Buses.{answer_get}
 use Rattle.sn_buscmd.proofs.AskingLemmas.{sendable-get}
 use Rattle.sn_buscmd.proofs.asking.answer.Goals as goal
@@ -10,5 +10,5 @@ pub returns-clause-sendable : goal.returns-clause-sendable
 returns-clause-sendable g c =
     let words = g.P.Port.words c.args.port.now in
     let found : MessageShape = record { address = c.in_ok-from_slice.field-0.bytes; body = arguments (map argument_of c.in_ok-arguments.arguments) } in
-    let same : found ≡ answer_get (world_of words) c.args.numbers.now = search rules in
+    let same : found ≡ answer_get (control_buses words) c.args.numbers.now = search rules in
     subst IsSendable (sym same) (sendable-get words c.args.numbers.now c.requires.all c.requires.few)

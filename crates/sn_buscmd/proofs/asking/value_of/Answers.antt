@@ -12,6 +12,7 @@ returns-clause-value g c =
     let words = g.P.Port.words c.args.port.now in
     let bus = c.args.number.now.bus in
     let bus_fits : FitsSigned w32 bus = search rules in
+    let place : c.value_place.result ≡ 8320 + 2 * nat_abs bus + 1 = c.value_place.ensures.place ∙ ap (λ b. 8320 + 2 * nat_abs b + 1) (to_z-of_z w32 bus bus_fits) in
     let fits : FitsSigned w32 c.sample_of.result = subst (FitsSigned w32) (sym c.sample_of.ensures) (read_sfits w32 (c.load.result % 4294967296)) in
     to_z-of_z w32 c.sample_of.result fits ∙ c.sample_of.ensures
-    ∙ ap sample_in (c.load.ensures.word ∙ ap (λ b. slice_index words (8321 + 2 * nat_abs b)) (to_z-of_z w32 bus bus_fits)) ∙ value-read words bus (allowed bus c.requires.bus)
+    ∙ ap sample_in (c.load.ensures.word ∙ ap (slice_index words) place) ∙ value-read words bus (allowed bus c.requires.bus)

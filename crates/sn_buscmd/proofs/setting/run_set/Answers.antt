@@ -3,17 +3,17 @@ use Rattle.sn_osc.specs.Shape.{argument_of}
 use Rattle.sn_world.specs.World.{turn_of}
 use Rattle.sn_world.specs.Rows.{pairs, some_of, first_refusal}
 use Rattle.sn_world.specs.Buses.{bus_value}
-use Rattle.sn_buscmd.specs.Setting.{value_refusal}
-use Rattle.sn_buscmd.proofs.SettingLemmas.{set-refused, set-done}
+use Rattle.sn_buscmd.specs.Setting.{set_pair, value_refusal}
+use Rattle.sn_buscmd.proofs.SettingLemmas.{refused, changed}
 use Rattle.sn_buscmd.proofs.setting.run_set.Goals as goal
 
 pub returns-in-Some-first_refusal-clause-row : goal.returns-in-Some-first_refusal-clause-row
-returns-in-Some-first_refusal-clause-row g c = λ from replies.
+returns-in-Some-first_refusal-clause-row g c = λ from stage replies pictures.
     let read : Some c.deref.result.now ≡ some_of (pairs bus_value (map argument_of c.args.arguments.now)) = ap Some c.deref.ensures.value ∙ c.in-Some.ensures ∙ ap some_of c.in_ok-pairs.ensures in
-    set-refused _ c.deref.result.now (turn_of (g.P.Port.words c.args.port.now) replies) c.in-Some-first_refusal.reason read (sym c.first_refusal.ensures ∙ c.in-Some-first_refusal.is)
+    refused value_refusal set_pair _ c.deref.result.now (turn_of stage (g.P.Port.words c.args.port.now) replies) c.in-Some-first_refusal.reason read (sym c.first_refusal.ensures ∙ c.in-Some-first_refusal.is)
 
 pub returns-clause-row : goal.returns-clause-row
-returns-clause-row g c = λ from replies.
+returns-clause-row g c = λ from stage replies pictures.
     let read : Some c.deref-2.result.now ≡ some_of (pairs bus_value (map argument_of c.args.arguments.now)) = ap Some c.deref-2.ensures.value ∙ c.in-Some.ensures ∙ ap some_of c.in_ok-pairs.ensures in
     let free : first_refusal value_refusal c.deref-2.result.now ≡ None = ap (first_refusal value_refusal) (c.deref-2.ensures.value ∙ sym c.deref.ensures.value) ∙ sym c.first_refusal.ensures ∙ c.in_default-first_refusal.is in
-    set-done _ c.deref-2.result.now (g.P.Port.words c.args.port.now) (g.P.Port.words c.set_buses.new.port) replies read free c.set_buses.ensures.buses
+    changed value_refusal set_pair _ c.deref-2.result.now stage (g.P.Port.words c.args.port.now) (g.P.Port.words c.set_buses.new.port) replies read free pictures c.set_buses.ensures.others c.set_buses.ensures.buses

@@ -4,7 +4,6 @@ use Rattle.std.proofs.lemmas.List.{drop-map, take_all}
 use Rattle.std.proofs.lemmas.Result.{err_from_is_err_and}
 use Rattle.sn_def.specs.declared.fault.DefFault.{DefFault}
 use Rattle.sn_def.specs.Definition.{Definition}
-use Rattle.sn_def.specs.Defs.{definition_of}
 use Rattle.sn_def.specs.Reading.{end_at, body_at}
 use Rattle.sn_def.specs.Answers.{Reads, texts}
 use Rattle.sn_def.proofs.Fielding.{Field, text_there, as_many}

@@ -1,5 +1,4 @@
 use Rattle.std.proofs.Common.{◌≡◌, List, ℕ, Ok, subst}
-use Rattle.sn_def.specs.Definition.{Definition}
 use Rattle.sn_def.specs.Reading.{pieces, title_at, text_at}
 use Rattle.sn_def.specs.Answers.{texts}
 use Rattle.sn_def.proofs.text.read.Goals as goal

@@ -1,10 +1,10 @@
-use Rattle.std.proofs.Common.{rules, refl, ◌≡◌, ◌<◌, ◌≤◌, ◌-◌, ◌++◌, ◌∷◌, [], ℕ, true, false, length, map, ap, sym, subst, ◌∙◌, arith}
+use Rattle.std.proofs.Common.{rules, refl, ◌≡◌, ◌<◌, ◌-◌, ◌++◌, ◌∷◌, [], true, false, length, map, ap, sym, subst, ◌∙◌, arith}
 use Rattle.std.proofs.lemmas.Result.{err_from_is_err_and}
 use Rattle.std.proofs.lemmas.List.{map_push, nil_from_length}
 use Rattle.sn_osc.specs.Shape.{shape}
 use Rattle.sn_osc.specs.Bytes.{begins_with}
-use Rattle.sn_osc.specs.Reading.{Gives, Fails, elements_in, packet_in, is_headed}
-use Rattle.sn_osc.proofs.ElementLoop.{with_front, no_front, goes_on, ends_at_element, ends_at_packet, is_done}
+use Rattle.sn_osc.specs.Reading.{Gives, Fails, packet_in, is_headed}
+use Rattle.sn_osc.proofs.ElementLoop.{goes_on, ends_at_element, ends_at_packet, is_done}
 use Rattle.sn_osc.proofs.PacketStart.{at_message, at_start, at_head, at_depth, at_bundle, message_fails}
 use Rattle.sn_osc.proofs.decoding.+decoding.Goals as goal
 

@@ -1,7 +1,7 @@
-use Rattle.std.proofs.Common.{◌≡◌, ◌<◌, ◌^◌, ◌∙◌, true, false, length, min, sym, arith}
+use Rattle.std.proofs.Common.{◌≡◌, ◌∙◌, true, false, sym, arith}
 use Rattle.std.proofs.lemmas.Bool.{ltb-true, lt-ltb}
 use Rattle.sn_osc.specs.Shape.{shape}
-use Rattle.sn_osc.specs.Bytes.{is_packet, packet_bytes}
+use Rattle.sn_osc.specs.Bytes.{is_packet}
 use Rattle.sn_osc.proofs.Encoded.{spellable_is, spellable_tests}
 use Rattle.sn_osc.proofs.spelling.spellable.Goals as goal
 

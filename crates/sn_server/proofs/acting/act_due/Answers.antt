@@ -27,10 +27,12 @@ loop-entry-preserved g c =
     let i = c.loop-entry.invariant in
     let t = taken c.args.now c.loop-entry.queue c.take_due.new.self c.in-Some.entry c.in-Some.ensures.taken c.in-Some.ensures.left in
     record {
-      acts = ap (act_entries (due_at c.args.now c.take_due.new.self)) (c.in_ok-act_messages.ensures.acts ∙ ap (λ ms. act_messages c.in-Some.entry.from (map message_of ms) (turn_of (g.P.Port.words c.loop-entry.port) c.loop-entry.replies)) c.as_slice.ensures) ∙ t.acts _ ∙ i.acts;
+      acts = ap (act_entries (due_at c.args.now c.take_due.new.self)) (c.in_ok-act_messages.ensures.acts ∙ ap (λ ms. act_messages c.in-Some.entry.from (map message_of ms) (turn_of c.loop-entry.stage (g.P.Port.words c.loop-entry.port) c.loop-entry.replies)) c.as_slice.ensures) ∙ t.acts _ ∙ i.acts;
       left = t.left ∙ i.left;
       waiting = t.others i.waiting;
-      len = c.act_messages.ensures.others ∙ i.len;
+      pictures = c.act_messages.ensures.pictures;
+      region = c.act_messages.ensures.region ∙ i.region;
+      len = c.act_messages.ensures.len ∙ i.len;
       foot = c.act_messages.ensures.foot ∙ i.foot;
       rest = c.act_messages.ensures.rest ∙ i.rest;
     }

@@ -21,7 +21,7 @@ loop-number-preserved g c =
     let left = c.args.blocks - (c.loop-number.number + 1) in
     let more : c.args.blocks - c.loop-number.number ≡ suc left = omega (arith, c.loop-number-test.true) in
     record {
-      going = goes_on s c.args.engine c.args.blocks left c.deref.result.now _ _ _ _ _ _ c.loop-number.engine c.render_block.new.engine (c.deref.ensures.value ∙ c.in_ok-samples.ensures)
+      going = goes_on s c.args.engine c.args.blocks left _ _ _ _ _ _ c.loop-number.engine c.render_block.new.engine
           (subst (λ n. IsGoing s c.args.engine c.args.blocks n (g.O.Sink.taken c.args.sound.now) (g.O.Sink.taken c.loop-number.sound) (g.R.Sink.taken c.args.replies.now) (g.R.Sink.taken c.loop-number.replies) c.loop-number.engine) more i.going)
           c.in_ok-render_block.ensures.block;
       sound_later = omega (arith, i.sound_later, c.render_block.ensures.sound_later);

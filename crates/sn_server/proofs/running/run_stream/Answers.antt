@@ -3,7 +3,7 @@ use Rattle.std.specs.Prelude.{unwrap_or}
 use Rattle.sn_osc.specs.Shape.{shape}
 use Rattle.sn_queue.specs.Steps.{last_due}
 use Rattle.sn_server.specs.Play.{last_of}
-use Rattle.sn_server.specs.Stream.{Frames}
+use Rattle.sn_osc.specs.Frames.{Frames}
 use Rattle.sn_server.proofs.ArrivingLemmas.{frames_put}
 use Rattle.sn_server.proofs.OutcomeLemmas.{done_played}
 use Rattle.sn_server.proofs.running.run_stream.Goals as goal

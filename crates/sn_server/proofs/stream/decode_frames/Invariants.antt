@@ -1,7 +1,7 @@
 -- The bytes read so far are the frames of the packets so far.
 use Rattle.std.proofs.Common.{◌≡◌, ◌≤◌, List, ℕ, ◌++◌, length, map}
 use Rattle.sn_osc.specs.Shape.{shape}
-use Rattle.sn_server.specs.Stream.{Frames}
+use Rattle.sn_osc.specs.Frames.{Frames}
 use Rattle.sn_server.proofs.stream.decode_frames.Given as goal
 
 abbrev pub invariant-loop-rest : goal.invariant-loop-rest

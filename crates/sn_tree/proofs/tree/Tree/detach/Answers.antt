@@ -1,23 +1,32 @@
-use Rattle.std.proofs.Common.{◌≡◌, ◌∙◌, Option, Some, None, sym, ap, w32, to_z, of_z, rules}
+use Rattle.std.proofs.Common.{◌≡◌, ◌∙◌, false, None, sym, ap, w32, to_z, of_z}
 use mir.Val.{SFits}
 use Rattle.std.proofs.lemmas.Int.{to_z-of_z}
-use Rattle.sn_tree.proofs.Showing.{detach_keeps, detach_gives, detach_fault_shown}
+use Rattle.sn_tree.specs.Faults.{detach_fault}
+use Rattle.sn_tree.proofs.Showing.{detach_fault_shown}
+use Rattle.sn_tree.proofs.Following.{detach_root, detach_keeps, detach_gives}
 use Rattle.sn_tree.proofs.tree.Tree.detach.Goals as goal
 
-pub invariant_of-self : goal.invariant_of-self
-invariant_of-self g c =
+pub returns-in-Err-clause-fault : goal.returns-in-Err-clause-fault
+returns-in-Err-clause-fault g c =
     let fit : SFits w32 c.args.id = c.ranges.id in
-    let ok = simp to_z-of_z at c.detach.ensures.ok in
-    detach_keeps c.self.inside.payloads.slots c.detach.result c.self.inside.order c.detach.new.self c.args.id ok c.detach.ensures.err c.self.invariant
+    let h = simp to_z-of_z at c.in-Err.ensures.fault in
+    h ∙ detach_fault_shown c.self.inside.root c.self.inside.payloads.slots c.self.inside.order c.self.inside.saved c.args.self.now c.self.view_is c.args.id
+
+pub invariant_of-self-2 : goal.invariant_of-self-2
+invariant_of-self-2 g c =
+    let fit : SFits w32 c.args.id = c.ranges.id in
+    let ok = simp to_z-of_z at c.in-Ok.ensures.ok in
+    let h = simp to_z-of_z at c.in-Ok.ensures.fault in
+    detach_keeps c.self.inside.root c.self.inside.payloads.slots c.self.inside.order c.detach.new.self c.self.inside.saved c.spend.new.saved c.args.self.now c.self.view_is c.self.invariant c.spend.ensures c.args.id ok (detach_root c.args.id c.self.inside.order.attached (sym h))
 
 pub returns-clause-fault : goal.returns-clause-fault
 returns-clause-fault g c =
     let fit : SFits w32 c.args.id = c.ranges.id in
-    let h = simp to_z-of_z at c.detach.ensures.fault in
-    h ∙ detach_fault_shown c.self.inside.root c.self.inside.payloads.slots c.self.inside.order c.args.self.now c.self.view_is c.args.id
+    let h = simp to_z-of_z at c.in-Ok.ensures.fault in
+    h ∙ detach_fault_shown c.self.inside.root c.self.inside.payloads.slots c.self.inside.order c.self.inside.saved c.args.self.now c.self.view_is c.args.id
 
 pub returns-clause-ok : goal.returns-clause-ok
 returns-clause-ok g c =
     let fit : SFits w32 c.args.id = c.ranges.id in
-    let ok = simp to_z-of_z at c.detach.ensures.ok in
-    detach_gives c.self.inside.root c.self.inside.payloads.slots c.detach.result c.self.inside.order c.detach.new.self c.args.id c.args.self.now c.self.view_is ok
+    let ok = simp to_z-of_z at c.in-Ok.ensures.ok in
+    detach_gives c.self.inside.root c.self.inside.payloads.slots c.self.inside.order c.detach.new.self c.self.inside.saved c.spend.new.saved c.args.self.now c.self.view_is c.self.invariant c.spend.ensures c.args.id ok

@@ -5,4 +5,4 @@ use Rattle.sn_tree.proofs.Showing.{first_shown}
 use Rattle.sn_tree.proofs.tree.Tree.first.Goals as goal
 
 pub returns : goal.returns
-returns g c = (let fit : SFits w32 c.args.group = c.ranges.group in simp to_z-of_z at c.first_in.ensures) ∙ first_shown c.self.inside.root c.self.inside.payloads.slots c.self.inside.order c.args.self.now c.self.view_is c.args.group
+returns g c = (let fit : SFits w32 c.args.group = c.ranges.group in simp to_z-of_z at c.first_in.ensures) ∙ first_shown c.self.inside.root c.self.inside.payloads.slots c.self.inside.order c.self.inside.saved c.args.self.now c.self.view_is c.args.group

@@ -1,0 +1,44 @@
+-- What the tests rest on: a message that was decoded can be answered, and words that are all 0 are a picture.
+use Rattle.std.proofs.Common.{◌≡◌, ◌≤◌, ◌<◌, ◌+◌, ℕ, List, true, false, length, refl, ap, arith}
+use Rattle.std.proofs.lemmas.Bool.{or_left}
+use Rattle.sn_osc.specs.Shape.{MessageShape, message}
+use Rattle.sn_osc.specs.Grammar.{Spells}
+use Rattle.sn_osc.proofs.Encoded.{packet_is}
+use Rattle.sn_mem.specs.Words.{covers, writes, everything}
+use Rattle.sn_mem.proofs.Meetings.{covered}
+use Rattle.sn_reply.specs.Sending.{IsAnswerable}
+use Rattle.sn_world.specs.declared.stage.Stage.{Stage}
+use Rattle.sn_world.specs.Opening.{IsOpening}
+use Rattle.sn_world.specs.Pictures.{Pictures, WritesWorld}
+
+pub decoded_answerable : (m : MessageShape) (bytes : List ℕ) → length bytes ≤ 65536 → Spells (message m) bytes → IsAnswerable m
+decoded_answerable m bytes few spelled =
+    let is = packet_is (message m) 8 1 bytes spelled in
+    record { valid = is.1; short = omega (arith, few, ap length is.0) }
+
+pub opening_pictured : (rate memory : ℕ) (stage : Stage) (words : List ℕ) → IsOpening rate memory stage → 0 < rate → rate ≤ 96000 → 10368 + memory < 4294967296 → 10368 + memory ≤ length words → Pictures stage words
+opening_pictured rate memory stage words o some small bounded fits = record {
+  rate = rw o.frames some;
+  rate_fits = rw o.frames small;
+  base = rw o.pool refl;
+  bounded = rw o.pool bounded;
+  fits = rw o.pool fits;
+  synths = rw o.tree (tt, (tt, tt));
+  live = λ x. rw (o.pool, o.tree) refl;
+  apart = λ x. rw o.tree (omega arith);
+  attached = rw o.tree refl;
+  settled = rw o.tree refl;
+  closed = rw o.pool refl;
+}
+
+writes_all : (n k : ℕ) → k < n → writes (everything n) k ≡ true
+writes_all n k lt = or_left (covers (record { at = 0; len = n }) k) false (covered (record { at = 0; len = n }) k (omega arith) (omega arith))
+
+pub opening_written : (rate memory : ℕ) (stage : Stage) (words : List ℕ) → IsOpening rate memory stage → 10368 + memory ≤ length words → WritesWorld (everything (length words)) stage.pool.region
+opening_written rate memory stage words o fits =
+    let at : stage.pool.region.at ≡ 10368 = rw o.pool refl in
+    let len : stage.pool.region.len ≡ memory = rw o.pool refl in
+    record {
+      buses = λ k lt. writes_all (length words) k (omega arith);
+      pool = λ k from to. writes_all (length words) k (omega arith);
+    }

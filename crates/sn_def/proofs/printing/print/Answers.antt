@@ -1,0 +1,26 @@
+use Rattle.std.proofs.Common.{◌≡◌, ◌∙◌, ap, length, sym, arith}
+use Rattle.std.proofs.lemmas.List.{length-map}
+use Rattle.sn_ports.specs.Octets.{Octets}
+use Rattle.sn_def.specs.Defs.{definition_of}
+use Rattle.sn_def.specs.Reading.{text_at}
+use Rattle.sn_def.specs.WellFormed.{outputs_of}
+use Rattle.sn_def.proofs.Forming.{formed}
+use Rattle.sn_def.proofs.Sets.{printed_back}
+use Rattle.sn_def.proofs.PrintLoop.{whole_print}
+use Rattle.sn_def.proofs.printing.print.Goals as goal
+
+pub print_units-requires : goal.print_units-requires
+print_units-requires c =
+    let d = definition_of c.args.def.now in
+    let ok = formed d c.args.def.now.written in
+    let many : length c.as_slice-3.result.now ≡ length d.wires = sym (length-map c.as_slice-3.result.now (λ (n : Octets). n.bytes)) ∙ ap length c.as_slice-3.ensures in
+    let sum : outputs_of c.as_slice-4.result.now ≡ length d.wires = ap outputs_of c.as_slice-4.ensures ∙ ok.outputs in
+    omega arith
+
+pub returns-clause-printed : goal.returns-clause-printed
+returns-clause-printed c =
+    whole_print (definition_of c.args.def.now) c.as_slice-2.result.now c.as_slice-3.result.now c.as_slice-4.result.now c.in_ok-text.text.bytes c.append.new.self.bytes c.append-2.new.self.bytes c.print_controls.new.text.bytes c.print_units.new.text.bytes c.append-3.new.self.bytes c.as_slice.result.now
+    c.as_slice-2.ensures c.as_slice-3.ensures c.as_slice-4.ensures c.as_slice.ensures c.in_ok-text.ensures c.in_ok-append.ensures.ok c.in_ok-append-2.ensures.ok c.in_ok-print_controls.ensures c.in_ok-print_units.ensures c.in_ok-append-3.ensures.ok
+
+pub returns-clause-read : goal.returns-clause-read
+returns-clause-read c = ap text_at (returns-clause-printed c) ∙ printed_back c.digits_read_back.ensures c.literal_bytes.ensures (definition_of c.args.def.now) c.args.def.now.written

@@ -1,0 +1,46 @@
+//! Laws about the definitions of this crate. Each function's contract is one law.
+ghost use Rattle.std.specs.Prelude.{◌≡◌, ◌++◌, ℕ, List, []};
+ghost use Rattle.sn_def.specs.Definition.{Definition};
+ghost use Rattle.sn_def.specs.Reading.{text_at, fault, IsWritten};
+ghost use Rattle.sn_def.specs.WellFormed.{IsWellFormed};
+ghost use Rattle.sn_def.specs.Grammar.{DefinitionText};
+ghost use Rattle.sn_def.specs.Faults.{DefinitionFault};
+ghost use Rattle.sn_def.specs.declared.fault.DefFault.{DefFault};
+ghost use Rattle.sn_def.specs.declared.fault.DefKind.{DefKind};
+
+use sn_fixed::literal_bytes;
+
+/// What some text defines is well formed.
+pub fn written_is_well_formed()
+    ensures { (d : Definition) → IsWritten d → IsWellFormed d }
+{}
+
+/// What is read of a text is what its lines say, and what they say is read.
+pub fn lines_are_read()
+    ensures sound { (text : List ℕ) (d : Definition) → text_at text ≡ Ok d → DefinitionText text d }
+    ensures complete { (text : List ℕ) (d : Definition) → DefinitionText text d → text_at text ≡ Ok d }
+{
+    literal_bytes();
+}
+
+/// One text has one definition.
+pub fn one_definition()
+    ensures { (text : List ℕ) (d e : Definition) → DefinitionText text d → DefinitionText text e → d ≡ e }
+{
+    literal_bytes();
+}
+
+/// No definition text is the beginning of another one.
+pub fn no_prefix()
+    ensures { (text more : List ℕ) (d e : Definition) → DefinitionText text d → DefinitionText (text ++ more) e → more ≡ [] }
+{
+    literal_bytes();
+}
+
+/// Reading gives a fault exactly where it is the first fault of the text.
+pub fn first_fault_is_read()
+    ensures sound { (text : List ℕ) (f : DefFault) → text_at text ≡ Err f → DefinitionFault text f.line f.kind }
+    ensures complete { (text : List ℕ) (number : ℕ) (kind : DefKind) → DefinitionFault text number kind → text_at text ≡ Err (fault number kind) }
+{
+    literal_bytes();
+}

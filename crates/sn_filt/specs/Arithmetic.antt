@@ -1,0 +1,92 @@
+-- Units without a state: the sample of a frame. 1.0 is 16777216.
+use Rattle.std.specs.Prelude.{ℕ, List, [], ◌∷◌, ℤ, pos, negsuc, neg_ℤ, ◌+ℤ◌, ◌-ℤ◌, ◌*ℤ◌, int_lt, unsigned_abs, cond, Bool, true, false}
+use Rattle.std.specs.Int.{int_max, int_min}
+use Rattle.sn_fixed.specs.Fixed.{floor, sat, mul as product}
+use Rattle.sn_mem.specs.Blocks.{sample, table}
+use Rattle.sn_def.specs.declared.kind.Kind.{Kind}
+use Rattle.sn_def.specs.declared.kind.Kind.TheVariants as kinds
+
+-- Add a b, Sub a b, Mul a b
+abbrev pub add : List (List ℤ) → ℕ → ℤ
+add inputs k = sat (sample inputs 0 k +ℤ sample inputs 1 k)
+
+abbrev pub sub : List (List ℤ) → ℕ → ℤ
+sub inputs k = sat (sample inputs 0 k -ℤ sample inputs 1 k)
+
+abbrev pub mul : List (List ℤ) → ℕ → ℤ
+mul inputs k = product (sample inputs 0 k) (sample inputs 1 k)
+
+-- MulAdd x m a
+abbrev pub mul_add : List (List ℤ) → ℕ → ℤ
+mul_add inputs k = sat (floor (sample inputs 0 k *ℤ sample inputs 1 k) 16777216 +ℤ sample inputs 2 k)
+
+-- Neg x, Abs x
+abbrev pub neg : List (List ℤ) → ℕ → ℤ
+neg inputs k = sat (neg_ℤ (sample inputs 0 k))
+
+abbrev pub abs : List (List ℤ) → ℕ → ℤ
+abs inputs k = sat (pos (unsigned_abs (sample inputs 0 k)))
+
+-- Min a b, Max a b
+abbrev pub min : List (List ℤ) → ℕ → ℤ
+min inputs k = int_min (sample inputs 0 k) (sample inputs 1 k)
+
+abbrev pub max : List (List ℤ) → ℕ → ℤ
+max inputs k = int_max (sample inputs 0 k) (sample inputs 1 k)
+
+-- Clip x lo hi
+abbrev pub clip : List (List ℤ) → ℕ → ℤ
+clip inputs k = int_min (int_max (sample inputs 0 k) (sample inputs 1 k)) (sample inputs 2 k)
+
+-- Gt a b, Lt a b
+abbrev pub gt : List (List ℤ) → ℕ → ℤ
+gt inputs k = cond (int_lt (sample inputs 1 k) (sample inputs 0 k)) (pos 16777216) (pos 0)
+
+abbrev pub lt : List (List ℤ) → ℕ → ℤ
+lt inputs k = cond (int_lt (sample inputs 0 k) (sample inputs 1 k)) (pos 16777216) (pos 0)
+
+-- the nearest number from -1.0 to 1.0
+abbrev pub clipped : ℤ → ℤ
+clipped x = int_max (negsuc 16777215) (int_min (pos 16777216) x)
+
+-- how far to the right a position is: 0 is left, and 1.0 right
+abbrev pub rightness : ℤ → ℤ
+rightness position = floor (clipped position +ℤ pos 16777216) 2
+
+-- Pan2 x pos level: the left output and the right one
+abbrev pub pan_left : List (List ℤ) → ℕ → ℤ
+pan_left inputs k = product (product (sample inputs 0 k) (sample inputs 2 k)) (pos 16777216 -ℤ rightness (sample inputs 1 k))
+
+abbrev pub pan_right : List (List ℤ) → ℕ → ℤ
+pan_right inputs k = product (product (sample inputs 0 k) (sample inputs 2 k)) (rightness (sample inputs 1 k))
+
+abbrev pub is_arithmetic : Kind → Bool
+is_arithmetic kinds.Add = true
+is_arithmetic kinds.Sub = true
+is_arithmetic kinds.Mul = true
+is_arithmetic kinds.MulAdd = true
+is_arithmetic kinds.Neg = true
+is_arithmetic kinds.Abs = true
+is_arithmetic kinds.Min = true
+is_arithmetic kinds.Max = true
+is_arithmetic kinds.Clip = true
+is_arithmetic kinds.Gt = true
+is_arithmetic kinds.Lt = true
+is_arithmetic kinds.Pan2 = true
+is_arithmetic _ = false
+
+-- the output blocks
+unfoldable pub arithmetic : Kind → List (List ℤ) → List (List ℤ)
+arithmetic kinds.Add inputs = table (add inputs) 64 ∷ []
+arithmetic kinds.Sub inputs = table (sub inputs) 64 ∷ []
+arithmetic kinds.Mul inputs = table (mul inputs) 64 ∷ []
+arithmetic kinds.MulAdd inputs = table (mul_add inputs) 64 ∷ []
+arithmetic kinds.Neg inputs = table (neg inputs) 64 ∷ []
+arithmetic kinds.Abs inputs = table (abs inputs) 64 ∷ []
+arithmetic kinds.Min inputs = table (min inputs) 64 ∷ []
+arithmetic kinds.Max inputs = table (max inputs) 64 ∷ []
+arithmetic kinds.Clip inputs = table (clip inputs) 64 ∷ []
+arithmetic kinds.Gt inputs = table (gt inputs) 64 ∷ []
+arithmetic kinds.Lt inputs = table (lt inputs) 64 ∷ []
+arithmetic kinds.Pan2 inputs = table (pan_left inputs) 64 ∷ table (pan_right inputs) 64 ∷ []
+arithmetic _ inputs = []

@@ -1,0 +1,5 @@
+pub mod Arithmetic
+pub mod Poles
+pub mod Sections
+pub mod Held
+pub mod Filters

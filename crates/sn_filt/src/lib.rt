@@ -1,0 +1,13 @@
+//! Arithmetic on signals, and filters.
+#![tactic(auto)]
+
+mod arithmetic;
+mod block;
+mod held;
+mod poles;
+mod sections;
+
+pub use block::run;
+
+#[cfg(test)]
+mod tests;

@@ -1,0 +1,151 @@
+//! Filters with one sample or two of memory.
+ghost use Rattle.std.specs.Prelude.{◌≡◌, ◌<◌, ◌≤ℤ◌, ◌-ℤ◌, pos, negsuc, unsigned_abs};
+ghost use Rattle.sn_filt.specs.Poles.{pole, nearer, lag_sample};
+
+use crate::arithmetic::clipped;
+use sn_fixed::{ONE, frames_of, line_at, mul_add, weighted};
+use sn_mem::{Blocks, Recurrence, Stored, sample_of, word_of};
+
+/// What `c` leaves of 1.0.
+fn rest(c: i32) -> i32
+    requires low { negsuc 16777215 ≤ℤ c }
+    requires high { c ≤ℤ pos 16777216 }
+    ensures { result ≡ pos 16777216 -ℤ pos (unsigned_abs c) }
+{
+    ONE - c.unsigned_abs() as i32
+}
+
+fn pole(last: i32, x: i32, c: i32) -> i32
+    requires low { negsuc 16777215 ≤ℤ c }
+    requires high { c ≤ℤ pos 16777216 }
+    ensures { result ≡ pole last x c }
+{
+    weighted(rest(c), x, c, last)
+}
+
+/// OnePole x c
+#[derive(Clone, Copy)]
+pub(crate) struct OnePole;
+
+impl Recurrence for OnePole {
+    ghost use Rattle.sn_filt.specs.Poles.{one_pole};
+
+    type State = i32;
+
+    ghost arity = { λ _. 2 };
+
+    ghost step = { λ _. one_pole };
+
+    fn next(&self, last: i32, inputs: &Blocks, frame: usize) -> (i32, i32) {
+        let y = pole(last, inputs.at(0, frame), clipped(inputs.at(1, frame)));
+        (y, y)
+    }
+}
+
+/// Integrator x c
+#[derive(Clone, Copy)]
+pub(crate) struct Integrator;
+
+impl Recurrence for Integrator {
+    ghost use Rattle.sn_filt.specs.Poles.{integrator};
+
+    type State = i32;
+
+    ghost arity = { λ _. 2 };
+
+    ghost step = { λ _. integrator };
+
+    fn next(&self, last: i32, inputs: &Blocks, frame: usize) -> (i32, i32) {
+        let y = mul_add(inputs.at(1, frame), last, inputs.at(0, frame));
+        (y, y)
+    }
+}
+
+/// Delay1 x
+#[derive(Clone, Copy)]
+pub(crate) struct Delay1;
+
+impl Recurrence for Delay1 {
+    ghost use Rattle.sn_filt.specs.Poles.{delay1};
+
+    type State = i32;
+
+    ghost arity = { λ _. 1 };
+
+    ghost step = { λ _. delay1 };
+
+    fn next(&self, last: i32, inputs: &Blocks, frame: usize) -> (i32, i32) {
+        (inputs.at(0, frame), last)
+    }
+}
+
+/// The state of a lag: whether it has begun, and the last output.
+#[derive(Clone, Copy)]
+pub(crate) struct Lagged {
+    pub begun: bool,
+    pub last: i32,
+}
+
+impl Stored for Lagged {
+    ghost use Rattle.sn_filt.specs.Poles.{lagged_in, lagged_words};
+
+    ghost size = { 2 };
+
+    ghost loaded = { lagged_in };
+
+    ghost stored = { lagged_words };
+
+    fn size() -> usize {
+        2
+    }
+
+    fn load(words: &[u64]) -> Lagged {
+        Lagged {
+            begun: words[0] != 0,
+            last: sample_of(words[1]),
+        }
+    }
+
+    fn store(self, words: &mut [u64]) {
+        words.copy_from_slice(&[if self.begun { 1 } else { 0 }, word_of(self.last)]);
+    }
+}
+
+/// The n-th part of the way from the last output to `x`.
+fn nearer(n: u32, last: i32, x: i32) -> i32
+    requires { 0 < n }
+    ensures { result ≡ nearer n last x }
+{
+    line_at(last, x, 1, n)
+}
+
+fn lag_sample(rate: u32, state: Lagged, x: i32, time: i32) -> i32
+    ensures { result ≡ lag_sample rate state x time }
+{
+    if state.begun {
+        nearer(frames_of(time, rate).max(1), state.last, x)
+    } else {
+        x
+    }
+}
+
+/// Lag x time
+#[derive(Clone, Copy)]
+pub(crate) struct Lag {
+    pub rate: u32,
+}
+
+impl Recurrence for Lag {
+    ghost use Rattle.sn_filt.specs.Poles.{lag};
+
+    type State = Lagged;
+
+    ghost arity = { λ _. 2 };
+
+    ghost step = { λ u. lag u.rate };
+
+    fn next(&self, state: Lagged, inputs: &Blocks, frame: usize) -> (Lagged, i32) {
+        let last = lag_sample(self.rate, state, inputs.at(0, frame), inputs.at(1, frame));
+        (Lagged { begun: true, last }, last)
+    }
+}

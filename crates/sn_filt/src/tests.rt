@@ -1,0 +1,235 @@
+ghost use Rattle.std.specs.Prelude.{◌≡◌, ◌≤◌, true, length, IfOk};
+ghost use Rattle.sn_def.specs.Units.{row_of};
+ghost use Rattle.sn_def.specs.declared.table.Words.TheVariants.{Fixed};
+ghost use Rattle.sn_filt.specs.Filters.{is_filter};
+
+use crate::run;
+use sn_def::{Kind, Now};
+use sn_mem::{Block, Blocks, Extent, PlainPort};
+use sn_ports::NoMemory;
+use std::alloc::Global;
+use std::process::Abort;
+use std::test::Fail;
+
+const ONE: i32 = 16_777_216;
+
+const HALF: i32 = 8_388_608;
+
+/// Two signals, and four that do not change.
+fn signals(
+    alloc: Global,
+    first: &Block,
+    second: &Block,
+    values: [i32; 4],
+) -> Result<Blocks, NoMemory>
+    ensures { IfOk result (λ bs. length bs ≡ 6) }
+{
+    let mut blocks = Blocks::new(alloc)?;
+    blocks.push(first);
+    blocks.push(second);
+    blocks.push_equal(values[0]);
+    blocks.push_equal(values[1]);
+    blocks.push_equal(values[2]);
+    blocks.push_equal(values[3]);
+    Ok(blocks)
+}
+
+/// The first output of two blocks with the same inputs, and then the last output.
+#[tactic(auto, using(sn_mem::proofs::Feet::plain_may_write))]
+fn two_blocks(alloc: Global, kind: Kind, words: u32, inputs: &Blocks) -> Result<Blocks, NoMemory>
+    requires kind { is_filter kind ≡ true }
+    requires inputs { length (row_of kind).inputs ≤ length inputs.now }
+    requires size { (row_of kind).words ≡ Fixed words }
+    requires few { words ≤ 8 }
+{
+    let now = Now {
+        rate: 48_000,
+        block: 0,
+        node: 1000,
+        unit: 0,
+    };
+    let mut port = PlainPort::new(alloc, 16)?;
+    let mut blocks = Blocks::new(alloc)?;
+    let mut outputs = Blocks::new(alloc)?;
+    let state = Extent { at: 3, len: words };
+    run(kind, &now, &mut port, state, inputs, &mut outputs);
+    if outputs.len() > 0 {
+        blocks.push(outputs.block(0));
+    }
+    run(kind, &now, &mut port, state, inputs, &mut outputs);
+    if outputs.len() > 0 {
+        blocks.push(outputs.block(0));
+        blocks.push(outputs.block(outputs.len() - 1));
+    }
+    Ok(blocks)
+}
+
+fn assert_samples(rt: &impl Abort, blocks: &Blocks, expected: &[(usize, i32)]) {
+    assert_eq!(rt; blocks.len(), 3);
+    for (frame, sample) in expected {
+        assert!(rt; *frame < 192);
+        assert_eq!(rt;
+            blocks.at(frame / 64, frame % 64),
+            *sample,
+            "at frame {frame}"
+        );
+    }
+}
+
+#[test]
+#[tactic(auto, unfolding(sn_def::specs::Units::row_of))]
+fn sums_and_products(rt: HostRuntime) -> Result<(), Fail> {
+    let alloc = rt.alloc();
+    let inputs = signals(alloc, &[i32::MAX; 64], &[1; 64], [0; 4])?;
+    let sum = two_blocks(alloc, Kind::Add, 0, &inputs)?;
+    assert_samples(&rt, &sum, &[(0, i32::MAX), (63, i32::MAX)]);
+    let inputs = signals(alloc, &[i32::MIN; 64], &[1; 64], [0; 4])?;
+    let difference = two_blocks(alloc, Kind::Sub, 0, &inputs)?;
+    assert_samples(&rt, &difference, &[(0, i32::MIN), (64, i32::MIN)]);
+    let negated = two_blocks(alloc, Kind::Neg, 0, &inputs)?;
+    assert_samples(&rt, &negated, &[(0, i32::MAX)]);
+    let distance = two_blocks(alloc, Kind::Abs, 0, &inputs)?;
+    assert_samples(&rt, &distance, &[(0, i32::MAX)]);
+    let inputs = signals(alloc, &[-1; 64], &[1; 64], [i32::MAX, 0, 0, 0])?;
+    let product = two_blocks(alloc, Kind::Mul, 0, &inputs)?;
+    assert_samples(&rt, &product, &[(0, -1)]);
+    let product = two_blocks(alloc, Kind::MulAdd, 0, &inputs)?;
+    assert_samples(&rt, &product, &[(0, i32::MAX - 1)]);
+    Ok(())
+}
+
+#[test]
+#[tactic(auto, unfolding(sn_def::specs::Units::row_of))]
+fn comparisons_and_places(rt: HostRuntime) -> Result<(), Fail> {
+    let alloc = rt.alloc();
+    let mut falling = [-4; 64];
+    falling[0] = 3;
+    falling[1] = 4;
+    let inputs = signals(alloc, &falling, &[3; 64], [ONE, 0, 0, 0])?;
+    let least = two_blocks(alloc, Kind::Min, 0, &inputs)?;
+    assert_samples(&rt, &least, &[(0, 3), (1, 3), (2, -4)]);
+    let greatest = two_blocks(alloc, Kind::Max, 0, &inputs)?;
+    assert_samples(&rt, &greatest, &[(0, 3), (1, 4), (2, 3)]);
+    let greater = two_blocks(alloc, Kind::Gt, 0, &inputs)?;
+    assert_samples(&rt, &greater, &[(0, 0), (1, ONE), (2, 0)]);
+    let less = two_blocks(alloc, Kind::Lt, 0, &inputs)?;
+    assert_samples(&rt, &less, &[(0, 0), (1, 0), (2, ONE)]);
+
+    let inputs = signals(alloc, &falling, &[-1; 64], [3, 0, 0, 0])?;
+    let clipped = two_blocks(alloc, Kind::Clip, 0, &inputs)?;
+    assert_samples(&rt, &clipped, &[(0, 3), (1, 3), (2, -1)]);
+
+    let mut position = [0; 64];
+    position[1] = -ONE;
+    position[2] = i32::MAX;
+    position[3] = -1;
+    let inputs = signals(alloc, &[ONE; 64], &position, [ONE, 0, 0, 0])?;
+    let panned = two_blocks(alloc, Kind::Pan2, 0, &inputs)?;
+    assert_samples(
+        &rt,
+        &panned,
+        &[
+            (0, HALF),
+            (1, ONE),
+            (2, 0),
+            (3, HALF + 1),
+            (128, HALF),
+            (129, 0),
+            (130, ONE),
+            (131, HALF - 1),
+        ],
+    );
+    Ok(())
+}
+
+#[test]
+#[tactic(auto, unfolding(sn_def::specs::Units::row_of))]
+fn short_memories(rt: HostRuntime) -> Result<(), Fail> {
+    let alloc = rt.alloc();
+    let inputs = signals(alloc, &[ONE; 64], &[HALF; 64], [0; 4])?;
+    let smoothed = two_blocks(alloc, Kind::OnePole, 1, &inputs)?;
+    assert_samples(
+        &rt,
+        &smoothed,
+        &[(0, HALF), (1, 12_582_912), (2, 14_680_064), (64, ONE - 1)],
+    );
+    let inputs = signals(alloc, &[-1; 64], &[HALF; 64], [0; 4])?;
+    let smoothed = two_blocks(alloc, Kind::OnePole, 1, &inputs)?;
+    assert_samples(&rt, &smoothed, &[(0, -1), (1, -1)]);
+    let sum = two_blocks(alloc, Kind::Integrator, 1, &inputs)?;
+    assert_samples(&rt, &sum, &[(0, -1), (1, -2), (2, -2)]);
+    let inputs = signals(alloc, &[1; 64], &[ONE; 64], [0; 4])?;
+    let sum = two_blocks(alloc, Kind::Integrator, 1, &inputs)?;
+    assert_samples(&rt, &sum, &[(0, 1), (63, 64), (64, 65)]);
+
+    let mut jump = [48_000; 64];
+    jump[0] = 0;
+    let inputs = signals(alloc, &jump, &[1; 64], [0; 4])?;
+    let lag = two_blocks(alloc, Kind::Lag, 2, &inputs)?;
+    assert_samples(&rt, &lag, &[(0, 0), (1, 1_000), (2, 1_979)]);
+    let late = two_blocks(alloc, Kind::Delay1, 1, &inputs)?;
+    assert_samples(
+        &rt,
+        &late,
+        &[(0, 0), (1, 0), (2, 48_000), (64, 48_000), (65, 0)],
+    );
+
+    let mut impulse = [0; 64];
+    impulse[0] = ONE;
+    let inputs = signals(alloc, &impulse, &[1; 64], [2, 3, 0, ONE])?;
+    let section = two_blocks(alloc, Kind::SOS, 4, &inputs)?;
+    assert_samples(
+        &rt,
+        &section,
+        &[(0, 1), (1, 2), (2, 4), (3, 2), (63, 2), (64, 5), (65, 4)],
+    );
+    Ok(())
+}
+
+#[test]
+#[tactic(auto, unfolding(sn_def::specs::Units::row_of))]
+fn held_values(rt: HostRuntime) -> Result<(), Fail> {
+    let alloc = rt.alloc();
+    let mut trigger = [0; 64];
+    trigger[0] = 1;
+    trigger[10] = 1;
+    trigger[11] = 1;
+    trigger[20] = ONE;
+    let mut signal = [7; 64];
+    signal[0] = 5;
+    signal[10] = 6;
+    let inputs = signals(alloc, &signal, &trigger, [0; 4])?;
+    let latched = two_blocks(alloc, Kind::Latch, 2, &inputs)?;
+    assert_samples(
+        &rt,
+        &latched,
+        &[(0, 5), (9, 5), (10, 6), (11, 6), (20, 7), (63, 7), (64, 5)],
+    );
+    let gated = two_blocks(alloc, Kind::Gate, 1, &inputs)?;
+    assert_samples(
+        &rt,
+        &gated,
+        &[(0, 5), (1, 5), (10, 6), (11, 7), (12, 7), (64, 5)],
+    );
+
+    let mut reset = [0; 64];
+    reset[20] = 1;
+    reset[21] = 1;
+    let inputs = signals(alloc, &trigger, &reset, [1, 5, 3, 4])?;
+    let count = two_blocks(alloc, Kind::PulseCount, 3, &inputs)?;
+    assert_samples(
+        &rt,
+        &count,
+        &[(0, 1), (9, 1), (10, 2), (11, 2), (20, 0), (63, 0), (64, 1)],
+    );
+    let steps = two_blocks(alloc, Kind::Stepper, 4, &inputs)?;
+    assert_samples(
+        &rt,
+        &steps,
+        &[(0, 2), (9, 2), (10, 5), (19, 5), (20, 4), (63, 4), (64, 2)],
+    );
+    let inputs = signals(alloc, &trigger, &[0; 64], [1, 0, 3, 4])?;
+    let steps = two_blocks(alloc, Kind::Stepper, 4, &inputs)?;
+    assert_samples(&rt, &steps, &[(0, 1), (63, 1)]);
+    Ok(())
+}

@@ -1,0 +1,177 @@
+//! Envelopes that a gate opens and releases.
+ghost use Rattle.std.specs.Prelude.{◌≡◌, ◌<◌, ◌≤◌, length};
+ghost use Rattle.sn_gen.specs.Linen.{stage_in, stage_word, gated, height, done_at, passed};
+
+use sn_fixed::{frames_of, line_at};
+use sn_mem::{Blocks, Recurrence, Stored, ended, sample_of, word_of};
+
+/// Where an envelope is.
+#[derive(Clone, Copy)]
+pub(crate) enum Stage {
+    Waiting,
+    Open,
+    Released,
+}
+
+fn stage_in(word: u64) -> Stage
+    ensures { result ≡ stage_in word }
+{
+    if word == 0 {
+        Stage::Waiting
+    } else if word == 1 {
+        Stage::Open
+    } else {
+        Stage::Released
+    }
+}
+
+fn stage_word(stage: Stage) -> u64
+    ensures { result ≡ stage_word stage }
+{
+    match stage {
+        Stage::Waiting => 0,
+        Stage::Open => 1,
+        Stage::Released => 2,
+    }
+}
+
+/// How far an envelope is.
+#[derive(Clone, Copy)]
+pub(crate) struct Envelope {
+    pub done: u64,
+    pub stage: Stage,
+    /// The stage's next frame, up to the number of its frames.
+    pub frame: u32,
+    pub frames: u32,
+    pub level: i32,
+    /// The output that the release falls from.
+    pub top: i32,
+    /// The last output.
+    pub last: i32,
+}
+
+impl Stored for Envelope {
+    ghost use Rattle.sn_gen.specs.Linen.{envelope_in, envelope_words};
+
+    ghost size = { 7 };
+
+    ghost loaded = { envelope_in };
+
+    ghost stored = { envelope_words };
+
+    fn size() -> usize {
+        7
+    }
+
+    fn load(words: &[u64]) -> Envelope {
+        Envelope {
+            done: words[0],
+            stage: stage_in(words[1]),
+            frame: (words[2] % 4_294_967_296) as u32,
+            frames: (words[3] % 4_294_967_296) as u32,
+            level: sample_of(words[4]),
+            top: sample_of(words[5]),
+            last: sample_of(words[6]),
+        }
+    }
+
+    fn store(self, words: &mut [u64]) {
+        words.copy_from_slice(&[
+            self.done,
+            stage_word(self.stage),
+            u64::from(self.frame),
+            u64::from(self.frames),
+            word_of(self.level),
+            word_of(self.top),
+            word_of(self.last),
+        ]);
+    }
+}
+
+/// Begins the attack or the release where the gate says so.
+fn gated(rate: u32, envelope: Envelope, inputs: &Blocks, frame: usize) -> Envelope
+    requires inputs { 4 ≤ length inputs.now }
+    requires frame { frame < 64 }
+    ensures { result ≡ gated rate envelope inputs.now frame }
+{
+    let is_open = inputs.at(0, frame) > 0;
+    match envelope.stage {
+        Stage::Waiting if is_open => Envelope {
+            stage: Stage::Open,
+            frame: 0,
+            frames: frames_of(inputs.at(1, frame), rate),
+            level: inputs.at(2, frame),
+            ..envelope
+        },
+        Stage::Open if !is_open => Envelope {
+            stage: Stage::Released,
+            frame: 0,
+            frames: frames_of(inputs.at(3, frame), rate),
+            top: envelope.last,
+            ..envelope
+        },
+        _ => envelope,
+    }
+}
+
+fn height(envelope: Envelope) -> i32
+    ensures { result ≡ height envelope }
+{
+    let frame = envelope.frame;
+    let frames = envelope.frames;
+    match envelope.stage {
+        Stage::Waiting => 0,
+        Stage::Open if frame < frames => line_at(0, envelope.level, frame, frames),
+        Stage::Open => envelope.level,
+        Stage::Released if frame < frames => line_at(0, envelope.top, frames - frame, frames),
+        Stage::Released => 0,
+    }
+}
+
+fn done_at(envelope: Envelope) -> u64
+    ensures { result ≡ done_at envelope.stage envelope }
+{
+    match envelope.stage {
+        Stage::Released if envelope.frame >= envelope.frames => ended(envelope.done),
+        _ => envelope.done,
+    }
+}
+
+/// The envelope after a frame with this output.
+fn passed(envelope: Envelope, sample: i32) -> Envelope
+    ensures { result ≡ passed envelope sample }
+{
+    let frame = if envelope.frame < envelope.frames {
+        envelope.frame + 1
+    } else {
+        envelope.frame
+    };
+    Envelope {
+        done: done_at(envelope),
+        frame,
+        last: sample,
+        ..envelope
+    }
+}
+
+/// Linen gate attack level release done!
+#[derive(Clone, Copy)]
+pub(crate) struct Linen {
+    pub rate: u32,
+}
+
+impl Recurrence for Linen {
+    ghost use Rattle.sn_gen.specs.Linen.{linen};
+
+    type State = Envelope;
+
+    ghost arity = { λ _. 5 };
+
+    ghost step = { λ u. linen u.rate };
+
+    fn next(&self, envelope: Envelope, inputs: &Blocks, frame: usize) -> (Envelope, i32) {
+        let envelope = gated(self.rate, envelope, inputs, frame);
+        let sample = height(envelope);
+        (passed(envelope, sample), sample)
+    }
+}

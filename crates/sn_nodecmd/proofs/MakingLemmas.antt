@@ -1,0 +1,176 @@
+-- `/s_new`: what a stage and its words stand for after it.
+use Rattle.std.proofs.Common.{◌≡◌, ◌≤◌, ◌<◌, ◌+◌, ◌||◌, ℕ, ℤ, Bool, true, false, List, [], ◌∷◌, length, get_or, replicate, Option, Some, None, Result, Ok, Err, refl, ap, sym, subst, ◌∙◌, arith, is_some, unwrap_or}
+use Rattle.std.specs.Prelude.{if◌then◌else◌, nat_eq}
+use Rattle.sn_mem.specs.declared.extents.Extent.{Extent}
+use Rattle.sn_mem.specs.Words.{has}
+use Rattle.sn_mem.specs.Blocks.{window}
+use Rattle.sn_def.specs.declared.control.Control.{Control}
+use Rattle.sn_def.specs.Definition.{Definition}
+use Rattle.sn_def.specs.StateWords.{state_words}
+use Rattle.sn_synth.specs.Conditions.{AreControlsOf}
+use Rattle.sn_pool.specs.Pools.{PoolState}
+use Rattle.sn_pool.specs.Regions.{least_place}
+use Rattle.sn_reply.specs.declared.reason.Reason.{Reason}
+use Rattle.sn_reply.specs.declared.reason.Reason.TheVariants as Reasons
+use Rattle.sn_reply.specs.Replies.{ReplyShape}
+use Rattle.sn_tree.specs.declared.node.NodeKind.TheVariants as kinds
+use Rattle.sn_tree.specs.declared.node.Spot.{Spot}
+use Rattle.sn_tree.specs.Trees.{Nodes, put, leaf}
+use Rattle.sn_tree.specs.declared.node.TreeFault.{TreeFault}
+use Rattle.sn_tree.specs.declared.node.TreeFault.TheVariants as faults
+use Rattle.sn_tree.specs.Faults.{insert_fault}
+use Rattle.sn_tree.proofs.PayloadLaws.{insert_fault-payloads}
+use Rattle.sn_world.specs.declared.stage.Held.{Held}
+use Rattle.sn_world.specs.declared.stage.Stage.{Stage}
+use Rattle.sn_world.specs.Nodes.{Content, synth, content_of, live_in}
+use Rattle.sn_world.specs.Pictures.{Pictures, held_extents, live_held, overlaps, IsHeld, IsSynthOf}
+use Rattle.sn_world.specs.World.{World, Turn, world_of, turn_of}
+use Rattle.sn_world.specs.Rows.{unless}
+use Rattle.sn_world.specs.NewSynth.{NewSynth, add_action, action_of, with_values, defaults, place_for, judge_new, made, with_synth, new_at, new_of, new_outcome, new_row}
+use Rattle.std.specs.FinMap as finite
+use Rattle.sn_world.specs.declared.command.NodeCommand.{NodeCommand}
+use Rattle.sn_world.specs.declared.command.NodeCommand.TheVariants.{New}
+use Rattle.sn_world.specs.Commands.{node_row}
+use Rattle.sn_world.proofs.Inserting.{IsPut, put_pictures, put_world, live_in-payloads, least_place-same}
+use Rattle.sn_nodecmd.specs.Judging.{reason_for}
+use Rattle.sn_nodecmd.specs.Placing.{place_in, taken, IsPlace, IsAdded, Adds, cleared}
+use Rattle.sn_nodecmd.proofs.Judged.{judged, spotted}
+use Rattle.sn_nodecmd.proofs.Clearing.{length-cleared, cleared_other, window-cleared, within_one, outside_one, has-taken, region-taken, journal-taken}
+
+-- what a synth holds
+pub record IsHeldSynth (h : Held) (d : Definition) (controls : List Control) (e : Extent) : Type 0 where
+  pub own : held_extents h ≡ e ∷ []
+  pub content : (us : List ℕ) → content_of us h ≡ synth (record { definition = d; controls = controls; state = window us e.at e.len; extent = e })
+  pub held : (rate : ℕ) (region : Extent) → IsSynthOf rate region d controls e → IsHeld rate region h
+
+-- a synth that was put into a stage, and its words cleared
+pub record IsMade (id : ℤ) (spot : Spot) (d : Definition) (controls : List Control) (held : Extent → Held) (old new : Stage) (ws us : List ℕ) (e : Extent) : Type 0 where
+  pub what : IsHeldSynth (held e) d controls e
+  pub each : AreControlsOf d controls
+  pub allowed : insert_fault id spot.action spot.target old.tree.attached ≡ None
+  pub added : IsAdded id spot held (state_words old.rate d) old new e
+  pub words : us ≡ cleared ws e.at e.len
+
+module _ (id : ℤ) (spot : Spot) (d : Definition) (controls : List Control) (held : Extent → Held) (old new : Stage) (ws us : List ℕ) (e : Extent) (is : IsMade id spot d controls held old new ws us e) (before : Pictures old ws) where
+  inside : e.at + e.len ≤ length ws
+  inside = omega (arith, is.added.place.size, is.added.place.free.to, before.base, before.fits)
+
+  in_own : (x : ℕ) → overlaps x (held_extents (held e)) ≡ overlaps x (e ∷ [])
+  in_own x = ap (overlaps x) is.what.own
+
+  other_words : (x : ℕ) → overlaps x (held_extents (held e)) ≡ 0 → get_or us x 0 ≡ get_or ws x 0
+  other_words x free = ap (λ (vs : List ℕ). get_or vs x 0) is.words ∙ cleared_other ws e.at e.len x (outside_one e x (sym (in_own x) ∙ free))
+
+  pool_is : new.pool ≡ taken e old.pool
+  pool_is = ap (λ (s : Stage). s.pool) is.added.stage
+
+  put_is : IsPut id kinds.Synth spot.action spot.target (held e) old ws new us
+  put_is = record {
+    there = spotted id spot.action spot.target old.tree.attached is.allowed;
+    held = is.what.held old.rate old.pool.region (record { each = is.each; size = is.added.place.size; within = (is.added.place.free.from, omega (arith, is.added.place.size, is.added.place.free.to)) });
+    free = λ x some. let w = within_one e x (omega (arith, in_own x, some)) in is.added.place.free.unused x w.0 (omega (arith, is.added.place.size, w.1));
+    tree = ap (λ (s : Stage). s.tree) is.added.stage;
+    live = λ x. ap (λ (p : PoolState). has p.live x) pool_is ∙ has-taken e old.pool x ∙ ap (λ (es : List Extent). has es x || has old.pool.live x) (sym is.what.own);
+    region = ap (λ (p : PoolState). p.region) pool_is ∙ region-taken e old.pool;
+    journal = ap (λ (p : PoolState). p.journal) pool_is ∙ journal-taken e old.pool ∙ before.closed;
+    rate = ap (λ (s : Stage). s.rate) is.added.stage;
+    defs = ap (λ (s : Stage). s.defs) is.added.stage;
+    length = ap length is.words ∙ length-cleared ws e.at e.len;
+    others = other_words;
+  }
+
+  pub made_pictures : Pictures new us
+  made_pictures = put_pictures id kinds.Synth spot.action spot.target (held e) old ws new us put_is before
+
+  pub made_region : new.pool.region ≡ old.pool.region
+  made_region = put_is.region
+
+  pub made_length : length us ≡ length ws
+  made_length = put_is.length
+
+  -- with its words all 0
+  content_is : content_of us (held e) ≡ synth (record { definition = d; controls = controls; state = replicate (state_words old.rate d) 0; extent = record { at = e.at; len = state_words old.rate d } })
+  content_is =
+      is.what.content us
+      ∙ ap (λ (s : List ℕ). synth (record { definition = d; controls = controls; state = s; extent = e })) (ap (λ (vs : List ℕ). window vs e.at e.len) is.words ∙ window-cleared ws e.at e.len inside)
+      ∙ ap (λ n. synth (record { definition = d; controls = controls; state = replicate n 0; extent = record { at = e.at; len = n } })) is.added.place.size
+
+  pub made_world : world_of new us ≡ record (world_of old ws) { nodes = put spot.action spot.target (leaf id kinds.Synth (synth (record { definition = d; controls = controls; state = replicate (state_words old.rate d) 0; extent = record { at = e.at; len = state_words old.rate d } }))) (world_of old ws).nodes }
+  made_world =
+      put_world id kinds.Synth spot.action spot.target (held e) old ws new us put_is before
+      ∙ ap (λ (c : Content). let w : World = record (world_of old ws) { nodes = put spot.action spot.target (leaf id kinds.Synth c) (world_of old ws).nodes } in w) content_is
+
+-- what the calls that make one told
+pub made_is : (id : ℤ) (spot : Spot) (d : Definition) (controls : List Control) (held : Extent → Held) (old new : Stage) (ws us : List ℕ) (e : Extent) → IsHeldSynth (held e) d controls e → AreControlsOf d controls
+    → insert_fault id spot.action spot.target old.tree.attached ≡ None → (o : Option Extent) → Adds id spot held (state_words old.rate d) old new (Ok o) → o ≡ Some e → us ≡ cleared ws e.at e.len → IsMade id spot d controls held old new ws us e
+made_is id spot d controls held old new ws us e what each allowed o adds is words = record {
+  what = what;
+  each = each;
+  allowed = allowed;
+  added = subst (λ (p : Option Extent). Adds id spot held (state_words old.rate d) old new (Ok p)) is adds;
+  words = words;
+}
+
+-- ---- the row
+
+-- a world with a synth more
+abbrev with_node : Stage → List ℕ → ℤ → Definition → ℕ → Spot → List Control → World
+with_node old ws id d at spot controls = record (world_of old ws) { nodes = put spot.action spot.target (leaf id kinds.Synth (synth (record { definition = d; controls = controls; state = replicate (state_words old.rate d) 0; extent = record { at = at; len = state_words old.rate d } }))) (world_of old ws).nodes }
+
+no_reason : (known : Bool) (o : Option TreeFault) → None ≡ reason_for known o → o ≡ None
+no_reason known None h = refl
+no_reason known (Some faults.InUse) h = absurd cc
+no_reason true (Some faults.NoNode) h = absurd cc
+no_reason false (Some faults.NoNode) h = absurd cc
+no_reason true (Some faults.NotGroup) h = absurd cc
+no_reason false (Some faults.NotGroup) h = absurd cc
+no_reason true (Some faults.IsRoot) h = absurd cc
+no_reason false (Some faults.IsRoot) h = absurd cc
+no_reason true (Some faults.Inside) h = absurd cc
+no_reason false (Some faults.Inside) h = absurd cc
+no_reason true (Some faults.TooMany) h = absurd cc
+no_reason false (Some faults.TooMany) h = absurd cc
+
+abbrev pub spot_for : NewSynth → Spot
+spot_for r = record { action = action_of r; target = r.target }
+
+module _ (old : Stage) (ws : List ℕ) (before : Pictures old ws) (r : NewSynth) (d : Definition) where
+  judges : judge_new (world_of old ws) r ≡ reason_for (is_some (add_action r.action)) (insert_fault r.id (action_of r) r.target old.tree.attached)
+  judges = sym (judged (world_of old ws) r) ∙ ap (reason_for (is_some (add_action r.action))) (insert_fault-payloads (content_of ws) r.id (action_of r) r.target old.tree.attached)
+
+  places : (n : ℕ) → place_for (world_of old ws) n ≡ place_in old.pool n
+  places n = ap (λ (o : Option ℕ). if nat_eq n 0 then Some old.pool.region.at else o)
+      (least_place-same old.pool.region (live_in (world_of old ws).nodes) old.pool.live n (λ x. ap (λ (es : List Extent). has es x) (live_in-payloads old.tree.attached ws) ∙ sym (before.live x)))
+
+  pub row_refused : (replies : List ReplyShape) (reason : Reason) → Some reason ≡ reason_for (is_some (add_action r.action)) (insert_fault r.id (action_of r) r.target old.tree.attached) → new_of r (Some d) (turn_of old ws replies) ≡ Err reason
+  row_refused replies reason why = ap (λ (o : Option Reason). unless o (new_at r d (place_for (world_of old ws) (state_words old.rate d)) (turn_of old ws replies))) (judges ∙ sym why)
+
+  row_judged : (replies : List ReplyShape) → None ≡ reason_for (is_some (add_action r.action)) (insert_fault r.id (action_of r) r.target old.tree.attached) → (o : Option ℕ) → place_in old.pool (state_words old.rate d) ≡ o
+      → new_of r (Some d) (turn_of old ws replies) ≡ new_at r d o (turn_of old ws replies)
+  row_judged replies allowed o place =
+      ap (λ (q : Option Reason). unless q (new_at r d (place_for (world_of old ws) (state_words old.rate d)) (turn_of old ws replies))) (judges ∙ sym allowed)
+      ∙ ap (λ (q : Option ℕ). new_at r d q (turn_of old ws replies)) (places (state_words old.rate d) ∙ place)
+
+  pub row_full : (replies : List ReplyShape) → None ≡ reason_for (is_some (add_action r.action)) (insert_fault r.id (action_of r) r.target old.tree.attached) → place_in old.pool (state_words old.rate d) ≡ None
+      → new_of r (Some d) (turn_of old ws replies) ≡ Err Reasons.PoolFull
+  row_full replies allowed place = row_judged replies allowed None place
+
+  pub row_done : (replies : List ReplyShape) → None ≡ reason_for (is_some (add_action r.action)) (insert_fault r.id (action_of r) r.target old.tree.attached)
+      → (new : Stage) (us : List ℕ) (spot : Spot) (controls : List Control) (held : Extent → Held) (e : Extent) → spot ≡ spot_for r → controls ≡ with_values d r.values (defaults d) → IsMade r.id spot d controls held old new ws us e
+      → new_of r (Some d) (turn_of old ws replies) ≡ Ok (turn_of new us replies)
+  row_done replies allowed new us spot controls held e at set is =
+      row_judged replies allowed (Some e.at) is.added.place.least
+      ∙ ap (λ (w : World). let t : Turn = record { world = w; replies = replies } in let o : Result Turn Reason = Ok t in o)
+      (sym (made_world r.id spot d controls held old new ws us e is before ∙ (λ i. with_node old ws r.id d e.at (at i) (set i))))
+
+  -- no reason: no fault
+  pub none_against : None ≡ reason_for (is_some (add_action r.action)) (insert_fault r.id (action_of r) r.target old.tree.attached) → insert_fault r.id (action_of r) r.target old.tree.attached ≡ None
+  none_against h = no_reason (is_some (add_action r.action)) (insert_fault r.id (action_of r) r.target old.tree.attached) h
+
+-- ---- what one message gives
+
+pub of_definition : (r : NewSynth) (o : Option NewSynth) (found : Option Definition) (d : Definition) (t : Turn) → Some r ≡ o → found ≡ finite.get t.world.definitions r.name → found ≡ Some d → new_outcome o t ≡ new_of r (Some d) t
+of_definition r o found d t asked named is = ap (λ (q : Option NewSynth). new_outcome q t) (sym asked) ∙ ap (λ (q : Option Definition). new_of r q t) (sym named ∙ is)
+
+pub only_new : (command : NodeCommand) → node_row command ≡ new_row
+only_new New = refl

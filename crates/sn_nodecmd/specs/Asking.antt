@@ -1,0 +1,21 @@
+-- The arguments of `/s_new` as they are read.
+use Rattle.std.specs.Prelude.{◌≡◌, List, [], map, is_some, unwrap_or, true}
+use Rattle.sn_osc.specs.declared.packet.Arg.{Arg}
+use Rattle.sn_osc.specs.Shape.{argument_of}
+use Rattle.sn_world.specs.Rows.{pairs}
+use Rattle.sn_world.specs.NewSynth.{NewSynth, control_value}
+use Rattle.sn_nodecmd.specs.declared.asked.Asked.{Asked}
+
+-- controls and their values in turns
+abbrev pub AreValues : List Arg → Type 0
+AreValues args = is_some (pairs control_value (map argument_of args)) ≡ true
+
+-- what they ask for
+abbrev pub request_of : Asked → NewSynth
+request_of a = record {
+  name = a.name.now;
+  id = a.id;
+  action = a.action;
+  target = a.target;
+  values = unwrap_or (pairs control_value (map argument_of a.values.now)) [];
+}

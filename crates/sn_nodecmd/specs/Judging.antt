@@ -1,0 +1,20 @@
+-- The reason against a new synth, by the tree's.
+use Rattle.std.specs.Prelude.{Bool, true, false, Option, Some, None}
+use Rattle.sn_reply.specs.declared.reason.Reason.{Reason}
+use Rattle.sn_reply.specs.declared.reason.Reason.TheVariants as Reasons
+use Rattle.sn_tree.specs.declared.node.TreeFault.{TreeFault}
+use Rattle.sn_tree.specs.declared.node.TreeFault.TheVariants as faults
+
+abbrev pub if_known : Bool → Option Reason → Option Reason
+if_known true reason = reason
+if_known false reason = Some Reasons.AddAction
+
+-- An add action that is none comes after an id that is in use, and before all others.
+abbrev pub reason_for : Bool → Option TreeFault → Option Reason
+reason_for known None = if_known known None
+reason_for known (Some faults.InUse) = Some Reasons.IdInUse
+reason_for known (Some faults.NoNode) = if_known known (Some Reasons.NoSuchNode)
+reason_for known (Some faults.NotGroup) = if_known known (Some Reasons.NotGroup)
+reason_for known (Some faults.IsRoot) = if_known known (Some Reasons.Root)
+reason_for known (Some faults.Inside) = if_known known (Some Reasons.InsideItself)
+reason_for known (Some faults.TooMany) = if_known known (Some Reasons.TooManyNodes)

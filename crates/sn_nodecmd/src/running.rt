@@ -1,0 +1,100 @@
+//! Messages that are run as commands.
+ghost use Rattle.std.specs.Prelude.{◌≡◌, List, length, map};
+ghost use Rattle.std.specs.Option.{option_map};
+ghost use Rattle.std.specs.Borrow.{Bor};
+ghost use Rattle.sn_osc.specs.declared.packet.Arg.{Arg};
+ghost use Rattle.sn_osc.specs.Shape.{argument_of, body_of, message_of};
+ghost use Rattle.sn_reply.specs.Sending.{IsAnswerable};
+ghost use Rattle.sn_world.specs.World.{turn_of};
+ghost use Rattle.sn_world.specs.Pictures.{Pictures, WritesWorld};
+ghost use Rattle.sn_world.specs.Commands.{node_command_of, node_row, run_node};
+ghost use Rattle.sn_world.specs.Answers.{Follows, UnlessFollowed, Handles, UnlessDone};
+ghost use Rattle.sn_nodecmd.specs.Given.{ArgumentsOf};
+
+use crate::making::run_new;
+use sn_mem::Port;
+use sn_osc::{Arg, Body, Message};
+use sn_ports::NoMemory;
+use sn_reply::{Reason, Replies};
+use sn_world::{Handled, NodeCommand, Stage};
+use std::alloc::Global;
+
+fn node_command_of(address: &[u8]) -> Option<NodeCommand>
+    ensures { result ≡ node_command_of address.now }
+{
+    if address == b"/s_new".as_slice() {
+        return Some(NodeCommand::New);
+    }
+    None
+}
+
+/// The arguments of a message, where they are read.
+fn arguments_of(message: &Message) -> Option<&[Arg]>
+    ensures { ArgumentsOf (body_of message.now.body) (option_map (λ (xs : Bor (List Arg)). map argument_of xs.now) result) }
+{
+    match &message.body {
+        Body::Bare => Some(&[]),
+        Body::Args(arguments) => Some(arguments.as_slice()),
+        Body::Foreign { .. } => None,
+    }
+}
+
+/// A command with its arguments, whole or not at all.
+fn run_row<P: Port>(
+    alloc: Global,
+    stage: &mut Stage,
+    port: &mut P,
+    command: NodeCommand,
+    arguments: &[Arg],
+    from: u32,
+    replies: &mut Replies,
+) -> Result<Option<Reason>, NoMemory>
+    requires pictures { Pictures stage.old (P.words port.old) }
+    requires foot { WritesWorld (P.foot port.old) stage.old.pool.region }
+    ensures row { Follows result (node_row command from (map argument_of arguments.now) (turn_of stage.old (P.words port.old) replies.old)) (turn_of stage.new (P.words port.new) replies.new) }
+    ensures unchanged { UnlessFollowed result (turn_of stage.new (P.words port.new) replies.new ≡ turn_of stage.old (P.words port.old) replies.old) }
+    ensures pictures { Pictures stage.new (P.words port.new) }
+    ensures region { stage.new.pool.region ≡ stage.old.pool.region }
+    ensures len { length (P.words port.new) ≡ length (P.words port.old) }
+    ensures foot { P.foot port.new ≡ P.foot port.old }
+    ensures rest { P.rest port.new ≡ P.rest port.old }
+{
+    match command {
+        NodeCommand::New => run_new(alloc, stage, port, arguments),
+    }
+}
+
+/// Runs a message from a client, where it is a command on nodes.
+///
+/// `Done` comes where the command was carried out, `Failed` with the first reason against it, and `NotMine` where the address is that of
+/// another command or of none. All but `Done` leave the world and the replies as they were.
+pub fn run_node_command<P: Port>(
+    alloc: Global,
+    stage: &mut Stage,
+    port: &mut P,
+    message: &Message,
+    from: u32,
+    replies: &mut Replies,
+) -> Result<Handled, NoMemory>
+    requires message { IsAnswerable (message_of message.now) }
+    requires pictures { Pictures stage.old (P.words port.old) }
+    requires foot { WritesWorld (P.foot port.old) stage.old.pool.region }
+    ensures row { Handles result (run_node from (message_of message.now) (turn_of stage.old (P.words port.old) replies.old)) (turn_of stage.new (P.words port.new) replies.new) }
+    ensures unchanged { UnlessDone result (turn_of stage.new (P.words port.new) replies.new ≡ turn_of stage.old (P.words port.old) replies.old) }
+    ensures pictures { Pictures stage.new (P.words port.new) }
+    ensures region { stage.new.pool.region ≡ stage.old.pool.region }
+    ensures len { length (P.words port.new) ≡ length (P.words port.old) }
+    ensures foot { P.foot port.new ≡ P.foot port.old }
+    ensures rest { P.rest port.new ≡ P.rest port.old }
+{
+    let Some(command) = node_command_of(message.address.as_slice()) else {
+        return Ok(Handled::NotMine);
+    };
+    let Some(arguments) = arguments_of(message) else {
+        return Ok(Handled::Failed(Reason::ArgumentType));
+    };
+    match run_row(alloc, stage, port, command, arguments, from, replies)? {
+        None => Ok(Handled::Done),
+        Some(reason) => Ok(Handled::Failed(reason)),
+    }
+}

@@ -1,0 +1,163 @@
+//! A stream that comes in pieces, cut into frames.
+ghost use Rattle.std.specs.Prelude.{◌≡◌, ◌≤◌, ◌<◌, ◌+◌, ◌-◌, ◌^◌, ◌++◌, ℕ, List, [], length, drop, vec_len, IfOk, OnOk, OnErr};
+ghost use Rattle.sn_osc.specs.Framing.{kept_place};
+ghost use Rattle.sn_osc.specs.Framed.{fed_with, Next, NextWhole, HasNoFrame, AreFirst, joined_pieces};
+
+use crate::frame::{Frame, NoFrame, Unframed, first_frame};
+use sn_ports::{NoMemory, Text};
+use std::alloc::Global;
+use std::marker::Model;
+
+/// Cuts a stream that is fed in pieces into frames.
+///
+/// A contract sees the bytes that are kept, and how many were fed. Feeding and taking cost the bytes that are moved.
+#[derive(Drop)]
+pub struct Framer {
+    alloc: Global,
+    /// The bytes that are kept, behind some that were given.
+    bytes: Vec<u8>,
+    /// How many of the bytes were given.
+    given: usize,
+    fed: u64,
+}
+
+impl Model for Framer {
+    ghost use Rattle.std.specs.Prelude.{◌≤◌, ◌<◌, ◌+◌, ◌^◌, length, drop};
+    ghost use Rattle.sn_osc.specs.Framing.{Framing};
+
+    ghost Value = { Framing };
+
+    ghost view = { λ f. record { kept = drop f.given f.bytes.items; fed = f.fed } };
+
+    ghost invariant = { λ f. (f.given ≤ length f.bytes.items) × (length f.bytes.items < f.given + 2 ^ 32) × (length f.bytes.items ≤ f.given + f.fed) };
+}
+
+/// Takes so many bytes from the front.
+fn remove_front(bytes: &mut Vec<u8>, count: usize)
+    requires { count ≤ vec_len bytes.old }
+    ensures { bytes.new.items ≡ drop count bytes.old.items }
+{
+    let len = bytes.len();
+    bytes.as_mut_slice().copy_within(count..len, 0);
+    bytes.truncate(len - count);
+}
+
+impl Framer {
+    pub fn new(alloc: Global) -> Self
+        ensures { result ≡ record { kept = []; fed = 0 } }
+    {
+        Framer {
+            alloc,
+            bytes: Vec::new(alloc),
+            given: 0,
+            fed: 0,
+        }
+    }
+
+    /// Moves what is kept to the front, where that is no more than what was given since it was moved last.
+    fn compact(&mut self)
+        ensures { self.new ≡ self.old }
+    {
+        if self.given >= self.bytes.len() - self.given {
+            remove_front(&mut self.bytes, self.given);
+            self.given = 0;
+        }
+    }
+
+    /// Puts a piece of the stream behind what is kept. After `NoMemory` all is as before.
+    pub fn feed(&mut self, piece: &[u8]) -> Result<(), NoMemory>
+        requires room { length self.old.kept + length piece.now < 2 ^ 32 }
+        requires count { self.old.fed < 2 ^ 62 }
+        ensures ok { OnOk result (self.new ≡ fed_with piece.now self.old) }
+        ensures err { OnErr result (self.new ≡ self.old) }
+    {
+        self.compact();
+        self.bytes.extend_from_slice(piece)?;
+        self.fed += piece.len() as u64;
+        Ok(())
+    }
+
+    /// The next whole frame, or `None` where what is kept has no whole frame and no bad size at its front.
+    ///
+    /// At a bad size this call and each later one answer `Bad`: what is kept stays, and what is fed comes behind it.
+    /// After `NoMemory` all is as before.
+    pub fn next(&mut self) -> Result<Option<Frame>, Unframed>
+        ensures { Next self.old self.new result }
+    {
+        let kept = self.bytes.len() - self.given;
+        let at = self.fed - kept as u64;
+        match first_frame(&self.bytes[self.given..]) {
+            Ok((packet, _)) => {
+                let bytes = Text::from_slice(self.alloc, packet)?;
+                self.given += 4 + packet.len();
+                Ok(Some(Frame {
+                    bytes,
+                    place: at + 4,
+                }))
+            }
+            Err(NoFrame::Cut) => Ok(None),
+            Err(NoFrame::BadSize(size)) => Err(Unframed::Bad { size, place: at }),
+        }
+    }
+
+    /// How many bytes are kept.
+    pub fn kept(&self) -> u32
+        ensures value { result ≡ length self.now.kept }
+        ensures inside { length self.now.kept ≤ self.now.fed }
+    {
+        (self.bytes.len() - self.given) as u32
+    }
+
+    /// How many bytes were fed.
+    pub fn fed(&self) -> u64
+        ensures { result ≡ self.now.fed }
+    {
+        self.fed
+    }
+
+    /// The next whole frame, if one is kept.
+    fn next_whole(&mut self) -> Result<Option<Frame>, NoMemory>
+        ensures { NextWhole self.old self.new result }
+    {
+        match self.next() {
+            Ok(frame) => Ok(frame),
+            Err(Unframed::Bad { .. }) => Ok(None),
+            Err(Unframed::NoMemory) => Err(NoMemory),
+        }
+    }
+
+    /// Takes every whole frame that is kept, behind the frames taken before.
+    fn take_frames(&mut self, frames: &mut Vec<Frame>) -> Result<(), NoMemory>
+        ensures { (stream : List ℕ) → AreFirst stream frames.old.items self.old → OnOk result (AreFirst stream frames.new.items self.new × HasNoFrame self.new.kept) }
+    {
+        while let Some(frame) = self.next_whole()? {
+            frames.push(frame)?;
+        }
+        Ok(())
+    }
+
+    /// Feeds a piece and takes every frame that is then whole, behind the frames taken before: they are the first
+    /// frames of the stream up to here, in order, and the rest is kept.
+    pub fn feed_and_take(&mut self, piece: &[u8], frames: &mut Vec<Frame>) -> Result<(), NoMemory>
+        requires room { length self.old.kept + length piece.now < 2 ^ 32 }
+        requires count { self.old.fed < 2 ^ 62 }
+        ensures { (stream : List ℕ) → AreFirst stream frames.old.items self.old → OnOk result (AreFirst (stream ++ piece.now) frames.new.items self.new × HasNoFrame self.new.kept) }
+    {
+        self.feed(piece)?;
+        self.take_frames(frames)
+    }
+}
+
+/// The frames of a stream that comes in pieces, and the framer that keeps the rest: whatever the pieces are, those are
+/// the first frames of all of them joined, in order.
+pub fn frames_of(alloc: Global, pieces: &[Text]) -> Result<(Vec<Frame>, Framer), NoMemory>
+    requires { length (joined_pieces pieces.now) < 2 ^ 32 }
+    ensures { IfOk result (λ x. AreFirst (joined_pieces pieces.now) x.0.items x.1 × HasNoFrame x.1.kept) }
+{
+    let mut framer = Framer::new(alloc);
+    let mut frames = Vec::new(alloc);
+    for piece in pieces {
+        framer.feed_and_take(piece.as_slice(), &mut frames)?;
+    }
+    Ok((frames, framer))
+}

@@ -1,0 +1,75 @@
+-- The index of Out.ar is the same whatever the wires and the control buses hold.
+use Rattle.std.proofs.Common.{◌≡◌, ◌≤◌, ◌<◌, ℕ, zero, suc, ◌+◌, ◌==◌, List, [], ◌∷◌, ℤ, pos, ◌+ℤ◌, Bool, true, false, length, get_or, refl, ap, sym, subst, ◌∙◌, arith, All, lit<, None}
+use Rattle.std.specs.Prelude.{zip}
+use Rattle.std.specs.List.{list_any}
+use Rattle.std.proofs.lemmas.Bool.{eq-eqb, or_left, or_right}
+use Rattle.std.proofs.lemmas.List.{get_or-replicate, get_or-map}
+use Rattle.sn_def.specs.declared.kind.Kind.{Kind}
+use Rattle.sn_def.specs.declared.kind.Kind.TheVariants as kinds
+use Rattle.sn_def.specs.declared.control.Control.{Control as SynthControl}
+use Rattle.sn_def.specs.declared.unit.Input.{Input}
+use Rattle.sn_def.specs.declared.unit.Input.TheVariants.{Literal, Control, Wire}
+use Rattle.sn_def.specs.declared.unit.Unit.{Unit as UnitLine}
+use Rattle.sn_def.specs.Units.{row_of}
+use Rattle.sn_def.specs.Definition.{Definition}
+use Rattle.sn_def.specs.Asked.{is_index_input, has_index, is_index}
+use Rattle.sn_def.specs.WellFormed.{AreAllowed, UnitFits, UnitsFit}
+use Rattle.sn_mem.specs.declared.extents.Foot.{Foot}
+use Rattle.sn_mem.specs.Blocks.{sample}
+use Rattle.sn_mem.specs.Buses.{ControlBus, audio_number}
+use Rattle.sn_synth.specs.UnitBlocks.{is_out}
+use Rattle.sn_synth.specs.Synths.{followed, control_value, control_values, input_blocks}
+use Rattle.sn_synth.specs.Conditions.{AreControlsOf, no_control, index_value, index_of, MayWriteBus, MayPlayAll, MayOutput}
+
+any_at : {A : Type 0} (p : A → Bool) (xs : List A) (k : ℕ) (d : A) → k < length xs → p (get_or xs k d) ≡ true → list_any p xs ≡ true
+any_at p [] k d lt h = absurd (omega arith)
+any_at p (x ∷ xs) zero d lt h = or_left (p x) (list_any p xs) h
+any_at p (x ∷ xs) (suc k) d lt h = or_right (p x) (list_any p xs) (any_at p xs k d (omega arith) h)
+
+pub fit_at : (c w : ℕ) (us : List UnitLine) (k : ℕ) (d : UnitLine) → UnitsFit c w us → k < length us → (w' : ℕ) × UnitFits c w' (get_or us k d)
+fit_at c w [] k d h lt = absurd (omega arith)
+fit_at c w (u ∷ us) zero d h lt = (w, h.0)
+fit_at c w (u ∷ us) (suc k) d h lt = fit_at c (w + u.outputs) us k d h.1 (omega arith)
+
+out_is : (k : Kind) → is_out k ≡ true → k ≡ kinds.Outar
+out_is kinds.Outar h = refl
+out_is _ h = absurd cc
+
+-- a control with a bus of its own stands at its value
+own_value : (buses : List ControlBus) (controls : List SynthControl) (k : ℕ) → k < length controls → (get_or controls k no_control).bus ≡ None → get_or (control_values buses controls) k (pos 0) ≡ (get_or controls k no_control).value
+own_value buses controls k lt e = get_or-map (control_value buses) controls k no_control (pos 0) lt ∙ ap (followed buses (get_or controls k no_control).value) e
+
+out_index : (d : Definition) (controls : List SynthControl) (buses : List ControlBus) (wires : List (List ℤ)) (w : ℕ) (xs : List Input) → AreControlsOf d controls → AreAllowed (row_of kinds.Outar).inputs (length d.controls) w 0 xs → 1 ≤ length xs
+    → ((k : ℕ) → list_any (λ p. is_index_input k p.0 p.1) (zip (row_of kinds.Outar).inputs xs) ≡ true → is_index d k ≡ true)
+    → sample (input_blocks (control_values buses controls) wires xs) 0 0 ≡ index_value controls (get_or xs 0 (Literal (pos 0)))
+unfolding row_of
+out_index d controls buses wires w [] are a long h = absurd (omega arith)
+out_index d controls buses wires w (Literal v ∷ xs) are a long h = get_or-replicate 64 0 v (pos 0) (lit< tt)
+out_index d controls buses wires w (Control k ∷ xs) are a long h =
+    let low : k < length controls = let e = are.one_each in let l : k < length d.controls = a.0 in omega arith in
+    get_or-replicate 64 0 (get_or (control_values buses controls) k (pos 0)) (pos 0) (lit< tt)
+    ∙ own_value buses controls k low (are.indices k (h k (or_left (k == k) false (eq-eqb k k refl))))
+out_index d controls buses wires w (Wire k ∷ xs) are a long h = absurd a.0
+
+has_index_of : (u : UnitLine) (k : ℕ) → u.kind ≡ kinds.Outar → list_any (λ p. is_index_input k p.0 p.1) (zip (row_of kinds.Outar).inputs u.inputs) ≡ true → has_index k u ≡ true
+unfolding has_index
+has_index_of u k e h = let P : Kind → Type 0 = λ (kind : Kind). list_any (λ p. is_index_input k p.0 p.1) (zip (row_of kind).inputs u.inputs) ≡ true in subst P (sym e) h
+
+pub index_is : (d : Definition) (controls : List SynthControl) (buses : List ControlBus) (wires : List (List ℤ)) (k : ℕ) (e : UnitLine) → AreControlsOf d controls → UnitsFit (length d.controls) 0 d.units → k < length d.units → is_out (get_or d.units k e).kind ≡ true → 1 ≤ length (get_or d.units k e).inputs
+    → sample (input_blocks (control_values buses controls) wires (get_or d.units k e).inputs) 0 0 ≡ index_of controls (get_or d.units k e)
+index_is d controls buses wires k e are fit lt out long =
+    let u : UnitLine = get_or d.units k e in
+    let is : u.kind ≡ kinds.Outar = out_is u.kind out in
+    let (w, fits) = fit_at (length d.controls) 0 d.units k e fit lt in
+    let P : Kind → Type 0 = λ (kind : Kind). AreAllowed (row_of kind).inputs (length d.controls) w 0 u.inputs in
+    out_index d controls buses wires w u.inputs are (subst P is fits.inputs) long (λ n h. any_at (has_index n) d.units k e lt (has_index_of u n is h))
+
+pub may_output : (f f' : Foot) (d : Definition) (controls : List SynthControl) (buses : List ControlBus) (values : List ℤ) (us : List UnitLine) → AreControlsOf d controls → UnitsFit (length d.controls) 0 d.units → MayPlayAll f controls d → f' ≡ f → values ≡ control_values buses controls → us ≡ d.units → All (MayOutput f' values) us
+may_output f f' d controls buses values us are fit may e v s =
+    let F : Foot → Type 0 = λ (f : Foot). All (MayOutput f values) us in
+    let V : List ℤ → Type 0 = λ (values : List ℤ). All (MayOutput f values) us in
+    let U : List UnitLine → Type 0 = λ (us : List UnitLine). All (MayOutput f (control_values buses controls)) us in
+    subst F (sym e) (subst V (sym v) (subst U (sym s)
+    (λ k d' lt out wires i low.
+    let Z : ℤ → Type 0 = λ (z : ℤ). MayWriteBus f (audio_number (z +ℤ pos i)) in
+    subst Z (sym (index_is d controls buses wires k d' are fit lt out (omega (arith, low)))) (may k d' lt out i low))))

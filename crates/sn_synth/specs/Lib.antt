@@ -1,0 +1,5 @@
+pub mod OutAr
+pub mod UnitBlocks
+pub mod Synths
+pub mod Conditions
+pub mod Words

@@ -1,0 +1,42 @@
+//! The values of a synth's controls in a block.
+ghost use Rattle.std.specs.Prelude.{◌≡◌, ◌≤◌, length};
+ghost use Rattle.std.specs.List.{All};
+ghost use Rattle.sn_mem.specs.Buses.{control_buses};
+ghost use Rattle.sn_synth.specs.Synths.{control_value, control_values};
+ghost use Rattle.sn_synth.specs.Conditions.{IsFollowed, MayReadBus, MayFollow};
+
+use sn_def::Control;
+use sn_mem::{Places, Port, Values, sample_of};
+
+/// The value of a control: that of the control bus that it follows, or its own.
+fn value_of<P: Port>(port: &mut P, control: Control) -> i32
+    requires bus { IsFollowed control.bus }
+    requires reads { MayReadBus (P.foot port.old) control.bus }
+    ensures value { result ≡ control_value (control_buses (P.words port.old)) control }
+    ensures words { P.words port.new ≡ P.words port.old }
+    ensures foot { P.foot port.new ≡ P.foot port.old }
+    ensures rest { P.rest port.new ≡ P.rest port.old }
+{
+    let Some(bus) = control.bus else {
+        return control.value;
+    };
+    let place = Places::control(bus);
+    let word = port.load(place.at + 1);
+    sample_of(word)
+}
+
+/// Reads each control once.
+pub(crate) fn read_controls<P: Port>(port: &mut P, controls: &[Control], values: &mut Values)
+    requires few { length controls.now ≤ 512 }
+    requires buses { All (λ c. IsFollowed c.bus) controls.now }
+    requires reads { MayFollow (P.foot port.old) controls.now }
+    ensures values { values.new ≡ control_values (control_buses (P.words port.old)) controls.now }
+    ensures words { P.words port.new ≡ P.words port.old }
+    ensures foot { P.foot port.new ≡ P.foot port.old }
+    ensures rest { P.rest port.new ≡ P.rest port.old }
+{
+    values.clear();
+    for control in controls {
+        values.push(value_of(port, *control));
+    }
+}

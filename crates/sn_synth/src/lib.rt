@@ -1,0 +1,13 @@
+//! One synth's block: its units in order.
+#![tactic(auto)]
+
+mod controls;
+mod inputs;
+mod out;
+mod synth;
+mod units;
+
+pub use synth::run_synth;
+
+#[cfg(test)]
+mod tests;

@@ -1,0 +1,31 @@
+use Rattle.std.proofs.Common.{◌≡◌, ◌∙◌, sym, ap, Some, None}
+use Rattle.std.specs.Option.{option_map}
+use Rattle.sn_tree.specs.Trees.{Label, first_label}
+use Rattle.sn_tree.specs.Order.{Key}
+use Rattle.sn_tree.proofs.Journaling.{free_keeps, free_gives, free_payload, not_detached_root}
+use Rattle.sn_tree.proofs.tree.Tree.free.Goals as goal
+
+pub invariant_of-self-in-Some-None : goal.invariant_of-self-in-Some-None
+invariant_of-self-in-Some-None g c = let e = rw c.in-Some-None.field-0-is at c.in-Some-None.ensures.value in absurd (not_detached_root c.self.inside.payloads.slots c.self.inside.order c.self.inside.saved c.self.invariant e)
+
+pub returns-in-Some-None-clause-value : goal.returns-in-Some-None-clause-value
+returns-in-Some-None-clause-value g c = let e = rw c.in-Some-None.field-0-is at c.in-Some-None.ensures.value in absurd (not_detached_root c.self.inside.payloads.slots c.self.inside.order c.self.inside.saved c.self.invariant e)
+
+pub returns-in-Some-None-clause-rest : goal.returns-in-Some-None-clause-rest
+returns-in-Some-None-clause-rest g c = let e = rw c.in-Some-None.field-0-is at c.in-Some-None.ensures.value in absurd (not_detached_root c.self.inside.payloads.slots c.self.inside.order c.self.inside.saved c.self.invariant e)
+
+pub invariant_of-self-in-Some-Some : goal.invariant_of-self-in-Some-Some
+invariant_of-self-in-Some-Some g c =
+    let e = rw c.in-Some-Some.field-0-is at c.in-Some-Some.ensures.value in
+    free_keeps c.self.inside.root c.self.inside.payloads c.try_remove.new.self c.self.inside.order c.free.new.self c.self.inside.saved c.args.self.now c.in-Some-Some.key c.self.invariant c.self.view_is c.requires.closed e c.in-Some-Some.ensures.rest c.try_remove.ensures.updates
+
+pub returns-in-Some-Some-clause-value : goal.returns-in-Some-Some-clause-value
+returns-in-Some-Some-clause-value g c =
+    let e = rw c.in-Some-Some.field-0-is at c.in-Some-Some.ensures.value in
+    c.try_remove.ensures.value
+    ∙ free_payload c.self.inside.root c.self.inside.payloads c.try_remove.new.self c.self.inside.order c.free.new.self c.self.inside.saved c.args.self.now c.in-Some-Some.key c.self.invariant c.self.view_is c.requires.closed e c.in-Some-Some.ensures.rest c.try_remove.ensures.updates
+
+pub returns-in-Some-Some-clause-rest : goal.returns-in-Some-Some-clause-rest
+returns-in-Some-Some-clause-rest g c =
+    let e = rw c.in-Some-Some.field-0-is at c.in-Some-Some.ensures.value in
+    free_gives c.self.inside.root c.self.inside.payloads c.try_remove.new.self c.self.inside.order c.free.new.self c.self.inside.saved c.args.self.now c.in-Some-Some.key c.self.invariant c.self.view_is c.requires.closed e c.in-Some-Some.ensures.rest c.try_remove.ensures.updates

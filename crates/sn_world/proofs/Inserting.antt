@@ -1,0 +1,236 @@
+-- A node that is put into the tree: what the stage, its words and the world are after it.
+use Rattle.std.proofs.Common.{◌≡◌, ◌≤◌, ◌<◌, ◌+◌, ◌||◌, ◌&&◌, ℕ, zero, suc, ℤ, Bool, true, false, not, nat_lt, ltb, Option, Some, None, List, [], ◌∷◌, ◌++◌, length, get_or, refl, ap, sym, subst, ◌∙◌, arith}
+use Rattle.std.specs.Prelude.{if◌then◌else◌}
+use Rattle.std.specs.Ordering.{int_eq}
+use Rattle.std.proofs.lemmas.Bool.{cond_both, lt-ltb, ltb-true}
+use Rattle.sn_mem.specs.declared.extents.Extent.{Extent}
+use Rattle.sn_mem.specs.Words.{covers, has}
+use Rattle.sn_mem.specs.Buses.{AudioBus, ControlBus, audio_buses, control_buses}
+use Rattle.sn_mem.proofs.BusLaws.{audio_same, control_same}
+use Rattle.sn_pool.specs.Pools.{with_extent}
+use Rattle.sn_pool.specs.Regions.{are_free, first_free, least_place}
+use Rattle.sn_tree.specs.declared.node.NodeKind.{NodeKind}
+use Rattle.sn_tree.specs.declared.node.Action.{Action}
+use Rattle.sn_tree.specs.declared.node.Action.TheVariants.{Head, Tail, Before, After}
+use Rattle.sn_tree.specs.Trees.{Label, Nodes, none, node, holds, joined, beside, put, leaf, with_payloads}
+use Rattle.sn_tree.specs.Model.{NodeTree}
+use Rattle.sn_tree.specs.Steps.{inserted, inserting, followed}
+use Rattle.sn_tree.proofs.PayloadLaws.{put-payloads}
+use Rattle.sn_world.specs.declared.stage.Held.{Held}
+use Rattle.sn_world.specs.declared.stage.Held.TheVariants as held
+use Rattle.sn_world.specs.declared.stage.Stage.{Stage}
+use Rattle.sn_world.specs.Definitions.{Definitions, definitions_of}
+use Rattle.sn_world.specs.Nodes.{Content, content_of, extents_of, live_in}
+use Rattle.sn_world.specs.Pictures.{held_extents, live_held, overlaps, IsHeld, AreHeld, Pictures}
+use Rattle.sn_world.specs.World.{World, world_of}
+use Rattle.sn_world.proofs.Walking.{parts_of, same_nodes, held_from, AgreesOn}
+
+-- ---- words in extents
+
+pub has-overlaps : (es : List Extent) (x : ℕ) → has es x ≡ nat_lt 0 (overlaps x es)
+has-overlaps [] x = refl
+has-overlaps (e ∷ es) x = at (covers e x) (has-overlaps es x)
+  where
+    at : (b : Bool) → has es x ≡ nat_lt 0 (overlaps x es) → (b || has es x) ≡ nat_lt 0 ((if b then 1 else 0) + overlaps x es)
+    at true rest = sym (lt-ltb 0 (1 + overlaps x es) (omega arith))
+    at false rest = rest ∙ ap (nat_lt 0) (omega arith)
+
+or_swap : (a b c : Bool) → (a || (b || c)) ≡ (b || (a || c))
+or_swap true true c = refl
+or_swap true false c = refl
+or_swap false true c = refl
+or_swap false false c = refl
+
+pub has-with_extent : (e : Extent) (es : List Extent) (x : ℕ) → has (with_extent e es) x ≡ (covers e x || has es x)
+has-with_extent e [] x = refl
+has-with_extent e (y ∷ ys) x =
+    cond_both (nat_lt e.at y.at) (e ∷ y ∷ ys) (y ∷ with_extent e ys) (λ zs. has zs x ≡ (covers e x || (covers y x || has ys x)))
+    (λ _. refl)
+    (λ _. ap (λ b. covers y x || b) (has-with_extent e ys x) ∙ or_swap (covers y x) (covers e x) (has ys x))
+
+-- the least place rests on which words are live
+are_free-same : (es fs : List Extent) → ((x : ℕ) → has es x ≡ has fs x) → (p n : ℕ) → are_free es p n ≡ are_free fs p n
+unfolding are_free
+are_free-same es fs same p zero = refl
+are_free-same es fs same p (suc n) = λ i. not (same p i) && are_free-same es fs same (p + 1) n i
+
+first_free-same : (es fs : List Extent) → ((x : ℕ) → has es x ≡ has fs x) → (n p places : ℕ) → first_free es n p places ≡ first_free fs n p places
+unfolding first_free
+first_free-same es fs same n p zero = refl
+first_free-same es fs same n p (suc places) = λ i. if are_free-same es fs same p n i then Some p else first_free-same es fs same n (p + 1) places i
+
+pub least_place-same : (region : Extent) (es fs : List Extent) (n : ℕ) → ((x : ℕ) → has es x ≡ has fs x) → least_place region es n ≡ least_place region fs n
+least_place-same region es fs n same = first_free-same es fs same n _ _
+
+-- ---- the extents of nodes
+
+own_extents : (h : Held) (ws : List ℕ) → extents_of (content_of ws h) ≡ held_extents h
+own_extents held.Group ws = refl
+own_extents (held.Synth def controls state) ws = refl
+
+pub live_in-payloads : (t : Nodes Held) (ws : List ℕ) → live_in (with_payloads (content_of ws) t) ≡ live_held t
+live_in-payloads none ws = refl
+live_in-payloads (node l below after) ws = λ i. own_extents l.payload ws i ++ (live_in-payloads below ws i ++ live_in-payloads after ws i)
+
+overlaps-joined : (s t : Nodes Held) (x : ℕ) → overlaps x (live_held (joined s t)) ≡ overlaps x (live_held s) + overlaps x (live_held t)
+overlaps-joined none t x = omega arith
+overlaps-joined (node l below after) t x = omega (arith, parts_of l below (joined after t) x, overlaps-joined after t x, parts_of l below after x)
+
+overlaps-beside : (action : Action) (new : Nodes Held) (l : Label Held) (below after : Nodes Held) (x : ℕ) → overlaps x (live_held (beside action new l below after)) ≡ overlaps x (live_held new) + overlaps x (live_held (node l below after))
+overlaps-beside Head new l below after x = omega (arith, parts_of l (joined new below) after x, overlaps-joined new below x, parts_of l below after x)
+overlaps-beside Tail new l below after x = omega (arith, parts_of l (joined below new) after x, overlaps-joined below new x, parts_of l below after x)
+overlaps-beside Before new l below after x = overlaps-joined new (node l below after) x
+overlaps-beside After new l below after x = omega (arith, parts_of l below (joined new after) x, overlaps-joined new after x, parts_of l below after x)
+
+third : (p q r : Bool) → (p || (q || r)) ≡ true → p ≡ false → q ≡ false → r ≡ true
+third false false r h e f = h
+third false true r h e f = absurd cc
+third true q r h e f = absurd cc
+
+pub overlaps-put : (action : Action) (target : ℤ) (new t : Nodes Held) (x : ℕ) → holds target t ≡ true → overlaps x (live_held (put action target new t)) ≡ overlaps x (live_held new) + overlaps x (live_held t)
+overlaps-put action target new none x there = absurd cc
+overlaps-put action target new (node l below after) x there =
+    let parts = parts_of l below after x in
+    cond_both (int_eq l.id target) (beside action new l below after) (if holds target below then node l (put action target new below) after else node l below (put action target new after))
+    (λ (s : Nodes Held). overlaps x (live_held s) ≡ overlaps x (live_held new) + overlaps x (live_held (node l below after)))
+    (λ _. overlaps-beside action new l below after x)
+    (λ other. cond_both (holds target below) (node l (put action target new below) after) (node l below (put action target new after))
+    (λ (s : Nodes Held). overlaps x (live_held s) ≡ overlaps x (live_held new) + overlaps x (live_held (node l below after)))
+    (λ inner. omega (arith, parts, parts_of l (put action target new below) after x, overlaps-put action target new below x inner))
+    (λ outer. omega (arith, parts, parts_of l below (put action target new after) x, overlaps-put action target new after x (third (int_eq l.id target) (holds target below) (holds target after) there other outer))))
+
+module _ (rate : ℕ) (region : Extent) where
+  held-joined : (s t : Nodes Held) → AreHeld rate region s → AreHeld rate region t → AreHeld rate region (joined s t)
+  held-joined none t hs ht = ht
+  held-joined (node l below after) t hs ht = (hs.0, (hs.1.0, held-joined after t hs.1.1 ht))
+
+  held-beside : (action : Action) (new : Nodes Held) (l : Label Held) (below after : Nodes Held) → AreHeld rate region new → AreHeld rate region (node l below after) → AreHeld rate region (beside action new l below after)
+  held-beside Head new l below after hn h = (h.0, (held-joined new below hn h.1.0, h.1.1))
+  held-beside Tail new l below after hn h = (h.0, (held-joined below new h.1.0 hn, h.1.1))
+  held-beside Before new l below after hn h = held-joined new (node l below after) hn h
+  held-beside After new l below after hn h = (h.0, (h.1.0, held-joined new after hn h.1.1))
+
+  pub held-put : (action : Action) (target : ℤ) (new t : Nodes Held) → AreHeld rate region new → AreHeld rate region t → AreHeld rate region (put action target new t)
+  held-put action target new none hn h = h
+  held-put action target new (node l below after) hn h =
+      cond_both (int_eq l.id target) (beside action new l below after) (if holds target below then node l (put action target new below) after else node l below (put action target new after)) (AreHeld rate region)
+      (λ _. held-beside action new l below after hn h)
+      (λ _. cond_both (holds target below) (node l (put action target new below) after) (node l below (put action target new after)) (AreHeld rate region)
+      (λ _. (h.0, (held-put action target new below hn h.1.0, h.1.1)))
+      (λ _. (h.0, (h.1.0, held-put action target new after hn h.1.1))))
+
+-- ---- a stage and its words after a node was put
+
+-- The node's words were free, no other word has changed, and its words are live.
+pub record IsPut (id : ℤ) (kind : NodeKind) (action : Action) (target : ℤ) (h : Held) (old : Stage) (ws : List ℕ) (new : Stage) (us : List ℕ) : Type 0 where
+  pub there : holds target old.tree.attached ≡ true
+  pub held : IsHeld old.rate old.pool.region h
+  pub free : (x : ℕ) → 0 < overlaps x (held_extents h) → has old.pool.live x ≡ false
+  pub tree : new.tree ≡ inserted id kind action target h old.tree
+  pub live : (x : ℕ) → has new.pool.live x ≡ (has (held_extents h) x || has old.pool.live x)
+  pub region : new.pool.region ≡ old.pool.region
+  pub journal : new.pool.journal ≡ None
+  pub rate : new.rate ≡ old.rate
+  pub defs : new.defs ≡ old.defs
+  pub length : length us ≡ length ws
+  pub others : (x : ℕ) → overlaps x (held_extents h) ≡ 0 → get_or us x 0 ≡ get_or ws x 0
+
+-- no word is twice in a node's own
+own_once : (h : Held) (x : ℕ) → overlaps x (held_extents h) ≤ 1
+own_once held.Group x = omega arith
+own_once (held.Synth def controls state) x = at (covers state x)
+  where
+    at : (b : Bool) → (if b then 1 else 0) + 0 ≤ 1
+    at true = omega arith
+    at false = omega arith
+
+own_of_leaf : (id : ℤ) (kind : NodeKind) (h : Held) (x : ℕ) → overlaps x (live_held (leaf id kind h)) ≡ overlaps x (held_extents h)
+own_of_leaf id kind h x = omega (arith, parts_of (record { id = id; kind = kind; running = true; payload = h }) none none x)
+
+moved : (r r' : ℕ) (g g' : Extent) (t t' : Nodes Held) → r' ≡ r → g' ≡ g → t' ≡ t → AreHeld r g t → AreHeld r' g' t'
+moved r r' g g' t t' p q s h = subst (λ n. AreHeld n g' t') (sym p) (subst (λ e. AreHeld r e t') (sym q) (subst (AreHeld r g) (sym s) h))
+
+module _ (id : ℤ) (kind : NodeKind) (action : Action) (target : ℤ) (h : Held) (old : Stage) (ws : List ℕ) (new : Stage) (us : List ℕ) (is : IsPut id kind action target h old ws new us) (before : Pictures old ws) where
+  attached : new.tree.attached ≡ put action target (leaf id kind h) old.tree.attached
+  attached = ap (λ (t : NodeTree Held). t.attached) is.tree
+
+  now_live : (x : ℕ) → overlaps x (live_held new.tree.attached) ≡ overlaps x (held_extents h) + overlaps x (live_held old.tree.attached)
+  now_live x =
+      ap (λ (t : Nodes Held). overlaps x (live_held t)) attached
+      ∙ overlaps-put action target (leaf id kind h) old.tree.attached x is.there
+      ∙ ap (λ n. n + overlaps x (live_held old.tree.attached)) (own_of_leaf id kind h x)
+
+  -- no word of the node is that of another
+  pub put_apart : (x : ℕ) → 0 < overlaps x (held_extents h) → overlaps x (live_held old.tree.attached) ≡ 0
+  put_apart x some = at (overlaps x (live_held old.tree.attached)) (sym (has-overlaps (live_held old.tree.attached) x) ∙ sym (before.live x) ∙ is.free x some)
+    where
+      at : (n : ℕ) → nat_lt 0 n ≡ false → n ≡ 0
+      at zero e = refl
+      at (suc n) e = let more : nat_lt 0 (suc n) ≡ true = lt-ltb 0 (suc n) (omega arith) in absurd cc
+
+  put_once : (x : ℕ) → overlaps x (live_held new.tree.attached) ≤ 1
+  put_once x = at (overlaps x (held_extents h)) refl
+    where
+      at : (n : ℕ) → overlaps x (held_extents h) ≡ n → overlaps x (live_held new.tree.attached) ≤ 1
+      at zero e = omega (arith, now_live x, before.apart x, e)
+      at (suc n) e = omega (arith, now_live x, put_apart x (omega (arith, e)), own_once h x)
+
+  put_has : (x : ℕ) → has new.pool.live x ≡ has (live_held new.tree.attached) x
+  put_has x =
+      is.live x
+      ∙ ap (λ b. has (held_extents h) x || b) (before.live x)
+      ∙ (λ i. has-overlaps (held_extents h) x i || has-overlaps (live_held old.tree.attached) x i)
+      ∙ either_sum (overlaps x (held_extents h)) (overlaps x (live_held old.tree.attached))
+      ∙ ap (nat_lt 0) (sym (now_live x))
+      ∙ sym (has-overlaps (live_held new.tree.attached) x)
+    where
+      either_sum : (n m : ℕ) → (nat_lt 0 n || nat_lt 0 m) ≡ nat_lt 0 (n + m)
+      either_sum zero m = ap (nat_lt 0) (omega arith)
+      either_sum (suc n) m = ap (λ b. b || nat_lt 0 m) (lt-ltb 0 (suc n) (omega arith)) ∙ sym (lt-ltb 0 (suc n + m) (omega arith))
+
+  -- the pictures stay
+  pub put_pictures : Pictures new us
+  put_pictures = record {
+    rate = omega (arith, is.rate, before.rate);
+    rate_fits = omega (arith, is.rate, before.rate_fits);
+    base = ap (λ (e : Extent). e.at) is.region ∙ before.base;
+    bounded = omega (arith, ap (λ (e : Extent). e.len) is.region, before.bounded);
+    fits = omega (arith, ap (λ (e : Extent). e.len) is.region, before.fits, is.length);
+    synths = moved old.rate new.rate old.pool.region new.pool.region _ _ is.rate is.region attached (held-put old.rate old.pool.region action target (leaf id kind h) old.tree.attached (is.held, (tt, tt)) before.synths);
+    live = put_has;
+    apart = put_once;
+    attached = ap (λ (t : NodeTree Held). t.detached) is.tree ∙ before.attached;
+    settled = ap (λ (t : NodeTree Held). t.journal) is.tree ∙ ap (followed 0 (inserting id kind action target None)) before.settled;
+    closed = is.journal;
+  }
+
+  behind : (x : ℕ) → x < 10368 → overlaps x (held_extents h) ≡ 0
+  behind x low = at (overlaps x (held_extents h)) refl
+    where
+      at : (n : ℕ) → overlaps x (held_extents h) ≡ n → n ≡ 0
+      at zero e = refl
+      at (suc n) e = absurd (omega (arith, low, before.base, held_from old.rate old.pool.region (leaf id kind h) x (is.held, (tt, tt)) (omega (arith, own_of_leaf id kind h x, e))))
+
+  put_agrees : AgreesOn (live_held old.tree.attached) us ws
+  unfolding AgreesOn
+  put_agrees = λ x more. is.others x (at x more (overlaps x (held_extents h)) refl)
+    where
+      at : (x : ℕ) → 0 < overlaps x (live_held old.tree.attached) → (n : ℕ) → overlaps x (held_extents h) ≡ n → overlaps x (held_extents h) ≡ 0
+      at x more zero e = e
+      at x more (suc n) e = absurd (omega (arith, more, put_apart x (omega (arith, e))))
+
+  put_nodes : with_payloads (content_of us) new.tree.attached ≡ put action target (leaf id kind (content_of us h)) (with_payloads (content_of ws) old.tree.attached)
+  put_nodes =
+      ap (with_payloads (content_of us)) attached
+      ∙ sym (put-payloads (content_of us) action target (leaf id kind h) old.tree.attached)
+      ∙ ap (put action target (leaf id kind (content_of us h))) (same_nodes old.tree.attached us ws put_agrees)
+
+  abbrev world_with : Nodes Content → Definitions → List AudioBus → List ControlBus → ℕ → Extent → World
+  world_with nodes definitions audio control rate region = record { nodes = nodes; definitions = definitions; audio_buses = audio; control_buses = control; rate = rate; region = region }
+
+  -- the world with the node
+  pub put_world : world_of new us ≡ record (world_of old ws) { nodes = put action target (leaf id kind (content_of us h)) (world_of old ws).nodes }
+  put_world = λ i. world_with (put_nodes i) (definitions_of (is.defs i))
+      (audio_same us ws (λ j low. is.others j (behind j (omega arith))) i)
+      (control_same us ws (λ j from low. is.others j (behind j low)) i)
+      (is.rate i) (is.region i)

@@ -1,0 +1,157 @@
+-- `/s_new`: a synth is made.
+use Rattle.std.specs.Prelude.{◌≡◌, ℕ, ◌+◌, ℤ, pos, negsuc, Bool, true, false, not, if◌then◌else◌, nat_lt, nat_eq, List, [], ◌∷◌, map, length, replicate, slice_set, Option, Some, None, is_some, unwrap_or, Result, Ok, Err}
+use Rattle.std.specs.Ordering.{int_eq}
+use Rattle.std.specs.FinMap as finite
+use Rattle.sn_osc.specs.Shape.{Argument, int, string, blob}
+use Rattle.sn_mem.specs.declared.extents.Extent.{Extent}
+use Rattle.sn_def.specs.declared.control.Control.{Control}
+use Rattle.sn_def.specs.Definition.{Definition, Parameter}
+use Rattle.sn_def.specs.Asked.{control_named}
+use Rattle.sn_def.specs.StateWords.{state_words}
+use Rattle.sn_pool.specs.Regions.{least_place}
+use Rattle.sn_reply.specs.declared.reason.Reason.{Reason}
+use Rattle.sn_reply.specs.declared.reason.Reason.TheVariants as Reasons
+use Rattle.sn_tree.specs.declared.node.NodeKind.TheVariants as kinds
+use Rattle.sn_tree.specs.declared.node.Action.{Action}
+use Rattle.sn_tree.specs.declared.node.Action.TheVariants.{Head, Tail, Before, After}
+use Rattle.sn_tree.specs.Trees.{Nodes, put, leaf, holds, count}
+use Rattle.sn_tree.specs.Faults.{is_missing, is_in_synth, is_beside_root}
+use Rattle.sn_world.specs.Nodes.{Content, group, synth, live_in}
+use Rattle.sn_world.specs.World.{World, Turn}
+use Rattle.sn_world.specs.Rows.{first_of, unless, pairs}
+
+-- a control of a definition, by its number or by its name
+pub data ControlName : Type 0 where
+  numbered : ℤ → ControlName
+  named : List ℕ → ControlName
+
+pub record ControlValue : Type 0 where
+  pub control : ControlName
+  pub value : ℤ
+
+-- what `/s_new` asks for
+pub record NewSynth : Type 0 where
+  pub name : List ℕ
+  pub id : ℤ
+  pub action : ℤ
+  pub target : ℤ
+  pub values : List ControlValue
+
+-- ---- its arguments: name id action target (control value)..
+
+abbrev pub control_name : Argument → Option ControlName
+control_name (int k) = Some (numbered k)
+control_name (string n) = Some (named n)
+control_name (blob b) = None
+
+abbrev pub value_for : Option ControlName → Argument → Option ControlValue
+value_for (Some c) (int v) = Some (record { control = c; value = v })
+value_for (Some c) (string s) = None
+value_for (Some c) (blob b) = None
+value_for None y = None
+
+abbrev pub control_value : Argument → Argument → Option ControlValue
+control_value x y = value_for (control_name x) y
+
+-- An id is 0 or more, and the action is none that replaces its target: no ids are chosen and no node is replaced yet.
+abbrev pub is_asked : ℤ → ℤ → Bool
+is_asked (pos id) action = not (int_eq action (pos 4))
+is_asked (negsuc n) action = false
+
+abbrev pub text_of : Argument → Option (List ℕ)
+text_of (string s) = Some s
+text_of (int n) = None
+text_of (blob b) = None
+
+abbrev pub int_of : Argument → Option ℤ
+int_of (int n) = Some n
+int_of (string s) = None
+int_of (blob b) = None
+
+abbrev pub asked_with : Option (List ℕ) → Option ℤ → Option ℤ → Option ℤ → Option (List ControlValue) → Option NewSynth
+asked_with (Some name) (Some id) (Some action) (Some target) (Some values) =
+    if is_asked id action then Some (record { name = name; id = id; action = action; target = target; values = values }) else None
+asked_with _ _ _ _ _ = None
+
+abbrev pub new_synth : List Argument → Option NewSynth
+new_synth (name ∷ id ∷ action ∷ target ∷ rest) = asked_with (text_of name) (int_of id) (int_of action) (int_of target) (pairs control_value rest)
+new_synth _ = None
+
+-- ---- its controls
+
+abbrev pub control_of : Definition → ControlName → Option ℕ
+control_of d (numbered (pos k)) = if nat_lt k (length d.controls) then Some k else None
+control_of d (numbered (negsuc k)) = None
+control_of d (named name) = control_named d name
+
+-- A value that is set is followed; a control that is none of the definition's is ignored.
+abbrev pub with_value : Option ℕ → ℤ → List Control → List Control
+with_value None v controls = controls
+with_value (Some k) v controls = slice_set controls k (record { value = v; bus = None })
+
+abbrev pub with_values : Definition → List ControlValue → List Control → List Control
+with_values d [] controls = controls
+with_values d (v ∷ vs) controls = with_values d vs (with_value (control_of d v.control) v.value controls)
+
+-- the defaults, and no control follows a bus
+abbrev pub defaults : Definition → List Control
+defaults d = map (λ p. record { value = p.default; bus = None }) d.controls
+
+-- ---- its place in the tree
+
+abbrev pub add_action : ℤ → Option Action
+add_action n =
+    if int_eq n (pos 0) then Some Head
+    else if int_eq n (pos 1) then Some Tail
+    else if int_eq n (pos 2) then Some Before
+    else if int_eq n (pos 3) then Some After
+    else None
+
+abbrev pub action_of : NewSynth → Action
+action_of r = unwrap_or (add_action r.action) Head
+
+-- ---- its words
+
+-- the least place of the pool for so many words, where there is one; no words stand at the region's begin
+abbrev pub place_for : World → ℕ → Option ℕ
+place_for w n = if nat_eq n 0 then Some w.region.at else least_place w.region (live_in w.nodes) n
+
+-- ---- what is against it, and what it does
+
+abbrev pub judge_new : World → NewSynth → Option Reason
+judge_new w r = first_of (
+    (holds r.id w.nodes, Reasons.IdInUse)
+    ∷ (not (is_some (add_action r.action)), Reasons.AddAction)
+    ∷ (is_missing r.target w.nodes, Reasons.NoSuchNode)
+    ∷ (is_in_synth (action_of r) r.target w.nodes, Reasons.NotGroup)
+    ∷ (is_beside_root (action_of r) r.target, Reasons.Root)
+    ∷ (nat_lt 4096 (count w.nodes + 1), Reasons.TooManyNodes)
+    ∷ [])
+
+-- the synth of a definition, its state words all 0 and at a place of the pool
+abbrev pub made : World → NewSynth → Definition → ℕ → Content
+made w r d at = synth (record {
+  definition = d;
+  controls = with_values d r.values (defaults d);
+  state = replicate (state_words w.rate d) 0;
+  extent = record { at = at; len = state_words w.rate d };
+})
+
+abbrev pub with_synth : NewSynth → Definition → ℕ → World → World
+with_synth r d at w = record w { nodes = put (action_of r) r.target (leaf r.id kinds.Synth (made w r d at)) w.nodes }
+
+abbrev pub new_at : NewSynth → Definition → Option ℕ → Turn → Result Turn Reason
+new_at r d None t = Err Reasons.PoolFull
+new_at r d (Some at) t = Ok (record t { world = with_synth r d at t.world })
+
+abbrev pub new_of : NewSynth → Option Definition → Turn → Result Turn Reason
+new_of r None t = Err Reasons.NoSuchDefinition
+new_of r (Some d) t = unless (judge_new t.world r) (new_at r d (place_for t.world (state_words t.world.rate d)) t)
+
+abbrev pub new_outcome : Option NewSynth → Turn → Result Turn Reason
+new_outcome None t = Err Reasons.Arguments
+new_outcome (Some r) t = new_of r (finite.get t.world.definitions r.name) t
+
+-- `/s_new` name id action target (control value)..
+abbrev pub new_row : ℕ → List Argument → Turn → Result Turn Reason
+new_row from xs t = new_outcome (new_synth xs) t

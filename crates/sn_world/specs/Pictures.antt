@@ -1,0 +1,66 @@
+-- When a stage and its words stand for a world.
+use Rattle.std.specs.Prelude.{◌≡◌, ◌≤◌, ◌<◌, ◌+◌, ℕ, ℤ, true, ◌++◌, List, [], ◌∷◌, length, Option, None, if◌then◌else◌}
+use Rattle.sn_mem.specs.declared.extents.Extent.{Extent}
+use Rattle.sn_mem.specs.declared.extents.Foot.{Foot}
+use Rattle.sn_mem.specs.Words.{covers, has, writes}
+use Rattle.sn_def.specs.declared.control.Control.{Control}
+use Rattle.sn_def.specs.Defs.{definition_of}
+use Rattle.sn_def.specs.Definition.{Definition}
+use Rattle.sn_def.specs.StateWords.{state_words}
+use Rattle.sn_pool.specs.Pools.{LiesIn}
+use Rattle.sn_synth.specs.Conditions.{AreControlsOf}
+use Rattle.sn_tree.specs.Trees.{Nodes, none, node}
+use Rattle.sn_world.specs.declared.stage.Held.{Held}
+use Rattle.sn_world.specs.declared.stage.Held.TheVariants as held
+use Rattle.sn_world.specs.declared.stage.Stage.{Stage}
+
+-- where the pool keeps the words of what a node holds, and of all nodes in the order of the walk
+abbrev pub held_extents : Held → List Extent
+held_extents held.Group = []
+held_extents (held.Synth def controls state) = state ∷ []
+
+abbrev pub live_held : Nodes Held → List Extent
+live_held none = []
+live_held (node label below after) = held_extents label.payload ++ (live_held below ++ live_held after)
+
+-- how many of the extents a word lies in
+abbrev pub overlaps : ℕ → List Extent → ℕ
+overlaps x [] = 0
+overlaps x (e ∷ es) = (if covers e x then 1 else 0) + overlaps x es
+
+-- a synth has its definition's controls, and its words lie in the region
+pub record IsSynthOf (rate : ℕ) (region : Extent) (d : Definition) (controls : List Control) (state : Extent) : Type 0 where
+  pub each : AreControlsOf d controls
+  pub size : state.len ≡ state_words rate d
+  pub within : LiesIn region state
+
+abbrev pub IsHeld : ℕ → Extent → Held → Type 0
+IsHeld rate region held.Group = Unit {0}
+IsHeld rate region (held.Synth def controls state) = IsSynthOf rate region (definition_of def.value) controls state
+
+abbrev pub AreHeld : ℕ → Extent → Nodes Held → Type 0
+AreHeld rate region none = Unit {0}
+AreHeld rate region (node label below after) = IsHeld rate region label.payload × (AreHeld rate region below × AreHeld rate region after)
+
+-- The pool gives from the words behind the buses; what is live in it are the words of the synths, and no word is that of two.
+pub record Pictures (stage : Stage) (words : List ℕ) : Type 0 where
+  pub rate : 0 < stage.rate
+  pub rate_fits : stage.rate ≤ 96000
+  pub base : stage.pool.region.at ≡ 10368
+  pub bounded : 10368 + stage.pool.region.len < 4294967296
+  pub fits : 10368 + stage.pool.region.len ≤ length words
+  pub synths : AreHeld stage.rate stage.pool.region stage.tree.attached
+  pub live : (x : ℕ) → has stage.pool.live x ≡ has (live_held stage.tree.attached) x
+  pub apart : (x : ℕ) → overlaps x (live_held stage.tree.attached) ≤ 1
+  pub attached : stage.tree.detached ≡ none
+  pub settled : stage.tree.journal ≡ None
+  pub closed : stage.pool.journal ≡ None
+
+-- the words of the buses may be written
+abbrev pub WritesBuses : Foot → Type 0
+WritesBuses foot = (k : ℕ) → k < 10368 → writes foot k ≡ true
+
+-- the words of the buses and of the pool's region may be written
+pub record WritesWorld (foot : Foot) (region : Extent) : Type 0 where
+  pub buses : WritesBuses foot
+  pub pool : (k : ℕ) → region.at ≤ k → k < region.at + region.len → writes foot k ≡ true

@@ -1,0 +1,49 @@
+//! What the server holds besides its words: the nodes, the definitions, and the pool.
+ghost use Rattle.std.specs.Prelude.{◌≤◌, IfOk};
+ghost use Rattle.sn_world.specs.Opening.{IsOpening};
+
+use crate::defs::Defs;
+use sn_def::{Controls, Def};
+use sn_mem::Extent;
+use sn_pool::{POOL_BASE, Pool};
+use sn_ports::NoMemory;
+use sn_tree::Tree;
+use std::alloc::Global;
+use std::sync::Arc;
+
+/// What a node holds.
+#[derive(Drop)]
+pub enum Held {
+    Group,
+    /// A synth, and where the words of its units' states are, none where its definition has none.
+    Synth {
+        def: Arc<Def, Global>,
+        controls: Controls,
+        state: Extent,
+    },
+}
+
+/// The nodes, the definitions, and the pool from which the synths' states come.
+#[derive(Drop)]
+pub struct Stage {
+    pub tree: Tree<Held>,
+    pub defs: Defs,
+    pub pool: Pool,
+    /// Frames a second: 44,100, 48,000 or 96,000.
+    pub rate: u32,
+}
+
+impl Stage {
+    /// The root group alone, no definitions, and a pool of `memory` words behind those of the buses.
+    pub fn new(alloc: Global, rate: u32, memory: u32) -> Result<Stage, NoMemory>
+        requires memory { memory ≤ 16777216 }
+        ensures { IfOk result (IsOpening rate memory) }
+    {
+        Ok(Stage {
+            tree: Tree::new(alloc, Held::Group)?,
+            defs: Defs::new(alloc),
+            pool: Pool::new(alloc, POOL_BASE, memory)?,
+            rate,
+        })
+    }
+}

@@ -2,4 +2,8 @@ pub mod BusLemmas
 pub mod SettingLemmas
 pub mod FillingLemmas
 pub mod AskingLemmas
+pub mod RunLemmas
+pub mod RunningLemmas
+pub mod FreeingLemmas
+pub mod StatusLemmas
 pub mod TestLemmas

@@ -16,7 +16,7 @@ decoded_answerable m bytes few spelled =
     let is = packet_is (message m) 8 1 bytes spelled in
     record { valid = is.1; short = omega (arith, few, ap length is.0) }
 
-pub opening_pictured : (rate memory : ℕ) (stage : Stage) (words : List ℕ) → IsOpening rate memory stage → 0 < rate → rate ≤ 96000 → 10368 + memory < 4294967296 → 10368 + memory ≤ length words → Pictures stage words
+pub opening_pictured : (rate memory : ℕ) (stage : Stage) (words : List ℕ) → IsOpening rate memory 1 stage → 0 < rate → rate ≤ 96000 → 10368 + memory < 4294967296 → 10368 + memory ≤ length words → Pictures stage words
 opening_pictured rate memory stage words o some small bounded fits = record {
   rate = rw o.frames some;
   rate_fits = rw o.frames small;
@@ -24,7 +24,7 @@ opening_pictured rate memory stage words o some small bounded fits = record {
   bounded = rw o.pool bounded;
   fits = rw o.pool fits;
   synths = rw o.tree (tt, (tt, tt));
-  live = λ x. rw (o.pool, o.tree) refl;
+  live = λ e some. rw (o.pool, o.tree) refl;
   apart = λ x. rw o.tree (omega arith);
   attached = rw o.tree refl;
   settled = rw o.tree refl;
@@ -34,7 +34,7 @@ opening_pictured rate memory stage words o some small bounded fits = record {
 writes_all : (n k : ℕ) → k < n → writes (everything n) k ≡ true
 writes_all n k lt = or_left (covers (record { at = 0; len = n }) k) false (covered (record { at = 0; len = n }) k (omega arith) (omega arith))
 
-pub opening_written : (rate memory : ℕ) (stage : Stage) (words : List ℕ) → IsOpening rate memory stage → 10368 + memory ≤ length words → WritesWorld (everything (length words)) stage.pool.region
+pub opening_written : (rate memory : ℕ) (stage : Stage) (words : List ℕ) → IsOpening rate memory 1 stage → 10368 + memory ≤ length words → WritesWorld (everything (length words)) stage.pool.region
 opening_written rate memory stage words o fits =
     let at : stage.pool.region.at ≡ 10368 = rw o.pool refl in
     let len : stage.pool.region.len ≡ memory = rw o.pool refl in

@@ -7,7 +7,7 @@ ghost use Rattle.sn_world.specs.declared.stage.Stage.{Stage};
 ghost use Rattle.sn_world.specs.World.{turn_of};
 ghost use Rattle.sn_world.specs.Pictures.{WritesBuses};
 ghost use Rattle.sn_world.specs.Rows.{first_refusal};
-ghost use Rattle.sn_world.specs.Buses.{bus_refusal, value_of, buses_and_values, answer_get, get_row};
+ghost use Rattle.sn_world.specs.Buses.{bus_refusal, value_at, value_of, buses_and_values, answer_get, get_row};
 ghost use Rattle.sn_world.specs.Answers.{Follows, UnlessFollowed};
 ghost use Rattle.sn_buscmd.specs.Setting.{number_refusal};
 
@@ -29,6 +29,19 @@ fn value_of<P: Port>(port: &mut P, number: &BusNumber) -> i32
     ensures rest { P.rest port.new ≡ P.rest port.old }
 {
     sample_of(port.load(value_place(number.bus)))
+}
+
+/// The value of the control bus with a number.
+pub fn value_at<P: Port>(port: &mut P, number: u32) -> i32
+    requires bus { number < 1024 }
+    requires foot { WritesBuses (P.foot port.old) }
+    ensures value { result ≡ value_at (control_buses (P.words port.old)) number }
+    ensures words { P.words port.new ≡ P.words port.old }
+    ensures foot { P.foot port.new ≡ P.foot port.old }
+    ensures rest { P.rest port.new ≡ P.rest port.old }
+{
+    let number = BusNumber { bus: number as i32 };
+    value_of(port, &number)
 }
 
 /// Control buses, each with its value.

@@ -5,7 +5,7 @@ ghost use Rattle.sn_world.specs.Buses.{is_bus, is_run, bus_refusal, run_refusal}
 
 use sn_mem::Places;
 use sn_reply::Reason;
-use sn_world::{BusFill, BusNumber, BusValue};
+use sn_world::{BusFill, BusNumber, BusValue, Run, ValueRun};
 
 /// What a message repeats, where no repetition changes what is against another.
 pub trait Judged {
@@ -43,17 +43,17 @@ pub fn value_place(bus: i32) -> u32
     Places::control(bus as u32).at + 1
 }
 
-fn is_run(bus: i32, count: u32) -> bool
+fn is_run(bus: i32, count: u64) -> bool
     ensures { result ≡ is_run bus count }
 {
     if bus < 0 {
         return false;
     }
     let first = bus as u64;
-    first < 1024 && first + u64::from(count) <= 1024
+    first < 1024 && count <= 1024 - first
 }
 
-fn run_refusal(bus: i32, count: u32) -> Option<Reason>
+fn run_refusal(bus: i32, count: u64) -> Option<Reason>
     ensures { result ≡ run_refusal bus count }
 {
     if !is_run(bus, count) {
@@ -82,7 +82,25 @@ impl Judged for BusFill {
     ghost judge = { λ r. run_refusal r.bus r.count };
 
     fn refusal(&self) -> Option<Reason> {
-        run_refusal(self.bus, self.count)
+        run_refusal(self.bus, u64::from(self.count))
+    }
+}
+
+impl Judged for Run {
+    ghost judge = { λ r. run_refusal r.first r.count };
+
+    fn refusal(&self) -> Option<Reason> {
+        run_refusal(self.first, u64::from(self.count))
+    }
+}
+
+impl Judged for ValueRun {
+    ghost use Rattle.std.specs.Prelude.{length};
+
+    ghost judge = { λ r. run_refusal r.first (length r.values) };
+
+    fn refusal(&self) -> Option<Reason> {
+        run_refusal(self.first(), self.values().len() as u64)
     }
 }
 

@@ -1,12 +1,17 @@
-//! The commands on control buses and definitions, and `/sync`.
+//! The commands on control buses, on definitions and on the server itself.
 #![tactic(auto)]
 
 mod asking;
+mod asking_runs;
+mod ending;
 mod filling;
+mod freeing;
 mod judging;
 mod receiving;
 mod running;
 mod setting;
+mod setting_runs;
+mod status;
 mod syncing;
 
 pub use running::run_bus_command;

@@ -6,15 +6,20 @@ ghost use Rattle.sn_osc.specs.declared.packet.Arg.{Arg};
 ghost use Rattle.sn_osc.specs.Shape.{argument_of, body_of, message_of};
 ghost use Rattle.sn_reply.specs.Sending.{IsAnswerable};
 ghost use Rattle.sn_world.specs.World.{turn_of};
-ghost use Rattle.sn_world.specs.Pictures.{Pictures, WritesBuses, WritesWorld};
-ghost use Rattle.sn_world.specs.Commands.{bus_command_of, bus_row, run_bus};
-ghost use Rattle.sn_world.specs.Answers.{Follows, UnlessFollowed, Handles, UnlessDone};
+ghost use Rattle.sn_world.specs.Pictures.{Pictures, WritesBuses, WritesWorld, KeepsOutside};
+ghost use Rattle.sn_world.specs.Commands.{bus_command_of, bus_row, run_bus, next_of, done_with};
+ghost use Rattle.sn_world.specs.Answers.{Follows, UnlessFollowed, Handles, UnlessDone, IsNext};
 ghost use Rattle.sn_buscmd.specs.Given.{ArgumentsOf};
 
 use crate::asking::run_get;
+use crate::asking_runs::run_get_runs;
+use crate::ending::{run_clear, run_quit};
 use crate::filling::run_fill;
+use crate::freeing::run_free;
 use crate::receiving::run_receive;
 use crate::setting::run_set;
+use crate::setting_runs::run_set_runs;
+use crate::status::run_status;
 use crate::syncing::run_sync;
 use sn_mem::Port;
 use sn_osc::{Arg, Body, Message};
@@ -29,17 +34,35 @@ fn bus_command_of(address: &[u8]) -> Option<BusCommand>
     if address == b"/c_set".as_slice() {
         return Some(BusCommand::Set);
     }
+    if address == b"/c_setn".as_slice() {
+        return Some(BusCommand::SetRuns);
+    }
     if address == b"/c_fill".as_slice() {
         return Some(BusCommand::Fill);
     }
     if address == b"/c_get".as_slice() {
         return Some(BusCommand::Get);
     }
+    if address == b"/c_getn".as_slice() {
+        return Some(BusCommand::GetRuns);
+    }
     if address == b"/sync".as_slice() {
         return Some(BusCommand::Sync);
     }
     if address == b"/d_recv".as_slice() {
         return Some(BusCommand::Receive);
+    }
+    if address == b"/d_free".as_slice() {
+        return Some(BusCommand::Free);
+    }
+    if address == b"/status".as_slice() {
+        return Some(BusCommand::Status);
+    }
+    if address == b"/clearSched".as_slice() {
+        return Some(BusCommand::ClearSched);
+    }
+    if address == b"/quit".as_slice() {
+        return Some(BusCommand::Quit);
     }
     None
 }
@@ -74,23 +97,42 @@ fn run_row<P: Port>(
     ensures unchanged { UnlessFollowed result (turn_of stage.new (P.words port.new) replies.new ≡ turn_of stage.old (P.words port.old) replies.old) }
     ensures pictures { Pictures stage.new (P.words port.new) }
     ensures region { stage.new.pool.region ≡ stage.old.pool.region }
+    ensures others { KeepsOutside stage.old.pool.region (P.words port.old) (P.words port.new) }
     ensures len { length (P.words port.new) ≡ length (P.words port.old) }
     ensures foot { P.foot port.new ≡ P.foot port.old }
     ensures rest { P.rest port.new ≡ P.rest port.old }
 {
     match command {
         BusCommand::Set => run_set(alloc, port, arguments),
+        BusCommand::SetRuns => run_set_runs(alloc, port, arguments),
         BusCommand::Fill => run_fill(alloc, port, arguments),
         BusCommand::Get => run_get(alloc, port, arguments, from, replies),
+        BusCommand::GetRuns => run_get_runs(alloc, port, arguments, from, replies),
         BusCommand::Sync => run_sync(alloc, arguments, from, replies),
         BusCommand::Receive => run_receive(alloc, stage, arguments, from, replies),
+        BusCommand::Free => run_free(alloc, stage, arguments),
+        BusCommand::Status => run_status(alloc, stage, arguments, from, replies),
+        BusCommand::ClearSched => run_clear(arguments),
+        BusCommand::Quit => run_quit(alloc, arguments, from, replies),
     }
 }
 
-/// Runs a message from a client, where it is a command on control buses or definitions, or `/sync`.
+/// How it is told that a command was carried out.
+fn done_with(command: BusCommand) -> Handled
+    ensures { result ≡ done_with command }
+{
+    match command {
+        BusCommand::ClearSched => Handled::ClearSched,
+        BusCommand::Quit => Handled::Quit,
+        _ => Handled::Done,
+    }
+}
+
+/// Runs a message from a client, where it is a command on control buses, on definitions or on the server itself.
 ///
-/// `Done` comes where the command was carried out, `Failed` with the first reason against it, and `NotMine` where the address is that of
-/// another command or of none. All but `Done` leave the world and the replies as they were.
+/// `Done` comes where the command was carried out, `Quit` and `ClearSched` where it was the command of that name, `Failed` with the first reason against it, and `NotMine` where the address is that of
+/// another command or of none. `Failed` and `NotMine` leave the world and the
+/// replies as they were.
 pub fn run_bus_command<P: Port>(
     alloc: Global,
     stage: &mut Stage,
@@ -103,9 +145,11 @@ pub fn run_bus_command<P: Port>(
     requires pictures { Pictures stage.old (P.words port.old) }
     requires foot { WritesWorld (P.foot port.old) stage.old.pool.region }
     ensures row { Handles result (run_bus from (message_of message.now) (turn_of stage.old (P.words port.old) replies.old)) (turn_of stage.new (P.words port.new) replies.new) }
+    ensures next { IsNext result (next_of (bus_command_of (message_of message.now).address)) }
     ensures unchanged { UnlessDone result (turn_of stage.new (P.words port.new) replies.new ≡ turn_of stage.old (P.words port.old) replies.old) }
     ensures pictures { Pictures stage.new (P.words port.new) }
     ensures region { stage.new.pool.region ≡ stage.old.pool.region }
+    ensures others { KeepsOutside stage.old.pool.region (P.words port.old) (P.words port.new) }
     ensures len { length (P.words port.new) ≡ length (P.words port.old) }
     ensures foot { P.foot port.new ≡ P.foot port.old }
     ensures rest { P.rest port.new ≡ P.rest port.old }
@@ -117,7 +161,7 @@ pub fn run_bus_command<P: Port>(
         return Ok(Handled::Failed(Reason::ArgumentType));
     };
     match run_row(alloc, stage, port, command, arguments, from, replies)? {
-        None => Ok(Handled::Done),
+        None => Ok(done_with(command)),
         Some(reason) => Ok(Handled::Failed(reason)),
     }
 }

@@ -30,7 +30,7 @@ fn opened(alloc: Global, memory: u32) -> Result<(Stage, PlainPort), NoMemory>
     ensures pictures { IfOk result (λ r. Pictures r.0 r.1.words.items) }
     ensures foot { IfOk result (λ r. WritesWorld (everything (length r.1.words.items)) r.0.pool.region) }
 {
-    let stage = Stage::new(alloc, 48_000, memory)?;
+    let stage = Stage::new(alloc, 48_000, memory, 1)?;
     let port = PlainPort::new(alloc, 10_368 + memory)?;
     Ok((stage, port))
 }
@@ -146,6 +146,31 @@ fn a_run_of_buses_is_filled(rt: HostRuntime) -> Result<(), Fail> {
 }
 
 #[test]
+fn a_run_of_buses_is_set_and_asked(rt: HostRuntime) -> Result<(), Fail> {
+    let alloc = rt.alloc();
+    let (mut stage, mut port) = opened(alloc, 1024)?;
+    let (handled, _) = told(
+        alloc,
+        &mut stage,
+        &mut port,
+        b"/c_setn\0,iiii\0\0\0\0\0\x03\xfe\0\0\0\x02\0\0\0\x05\xff\xff\xff\xff",
+    )?;
+    assert_eq!(rt; handled, Handled::Done);
+    let (handled, frames) = told(
+        alloc,
+        &mut stage,
+        &mut port,
+        b"/c_getn\0,ii\0\0\0\x03\xfd\0\0\0\x03",
+    )?;
+    assert_eq!(rt; handled, Handled::Done);
+    assert_eq!(rt;
+        frames.as_slice(),
+        b"\0\0\0\x24/c_setn\0,iiiii\0\0\0\0\x03\xfd\0\0\0\x03\0\0\0\0\0\0\0\x05\xff\xff\xff\xff".as_slice()
+    );
+    Ok(())
+}
+
+#[test]
 fn a_client_waits_for_an_answer(rt: HostRuntime) -> Result<(), Fail> {
     let alloc = rt.alloc();
     let (mut stage, mut port) = opened(alloc, 1024)?;
@@ -171,5 +196,25 @@ fn a_definition_is_received(rt: HostRuntime) -> Result<(), Fail> {
     assert_eq!(rt; handled, Handled::Failed(Reason::DefinitionLine(5)));
     assert_eq!(rt; frames.as_slice(), b"".as_slice());
     assert!(rt; stage.defs.named(b"tone").is_some());
+    Ok(())
+}
+
+#[test]
+fn definitions_are_counted_and_forgotten(rt: HostRuntime) -> Result<(), Fail> {
+    let alloc = rt.alloc();
+    let (mut stage, mut port) = opened(alloc, 1024)?;
+    let (handled, _) = told(alloc, &mut stage, &mut port, TONE)?;
+    assert_eq!(rt; handled, Handled::Done);
+    let (handled, frames) = told(alloc, &mut stage, &mut port, b"/status\0,\0\0\0")?;
+    assert_eq!(rt; handled, Handled::Done);
+    assert_eq!(rt;
+        frames.as_slice(),
+        b"\0\0\0\x2c/status.reply\0\0\0,iiiii\0\0\0\0\0\x01\0\0\0\0\0\0\0\0\0\0\0\x01\0\0\0\x01".as_slice()
+    );
+    let (handled, frames) = told(alloc, &mut stage, &mut port, b"/d_free\0,s\0\0tone\0\0\0\0")?;
+    assert_eq!(rt; handled, Handled::Done);
+    assert_eq!(rt; frames.as_slice(), b"".as_slice());
+    let (handled, _) = told(alloc, &mut stage, &mut port, b"/d_free\0,s\0\0tone\0\0\0\0")?;
+    assert_eq!(rt; handled, Handled::Failed(Reason::NoSuchDefinition));
     Ok(())
 }

@@ -14,6 +14,7 @@ use Rattle.sn_def.proofs.Whole.{in_grammar, no_names, Title, def_read}
 use Rattle.sn_def.proofs.Complete.{Bytes, is_read, end_back}
 use Rattle.std.proofs.lemmas.Grind.{flat_map-append}
 use Rattle.sn_def.proofs.Prefix.{some_pieces, no_pieces, long, same_title}
+use Rattle.sn_def.proofs.Judging.{def_judged, line_judged}
 use Rattle.sn_def.proofs.Halting.{same_fault, How, is_cut, is_wrong, is_behind, Halts, halts, two_ways, AllFree, pieces_free, free_front, free_cut}
 
 -- a shortest text
@@ -99,7 +100,7 @@ second_line bytes text second more f read are line kind other = record {
   lines = are;
   number_is = line;
   begins = begins_title;
-  whole = λ some. (begin_none bytes (codes "snova 1" ∷ second ∷ []) (fault 2 f.kind) (free_front (codes "snova 1" ∷ second ∷ []) more (subst AllFree are (pieces_free text))) (λ ms l. def_fault second ms (fault 2 f.kind) l (other some)), other some);
+  whole = λ some. (begin_none bytes (codes "snova 1" ∷ second ∷ []) (fault 2 f.kind) (free_front (codes "snova 1" ∷ second ∷ []) more (subst AllFree are (pieces_free text))) (λ ms l. def_fault second ms (fault 2 f.kind) l (other some)), (def_judged (pieces 32 second) f.kind).0 (other some));
   cut = kind;
 }
 
@@ -171,7 +172,7 @@ bad_line bytes text second before line later draft f a k some is h feq =
       begins = begun text second before line later draft f a;
       whole = λ t. (
         begin_none bytes ls (fault (line_number draft) k) free (λ ms l. ap title_at (append_assoc earlier (line ∷ []) ms) ∙ a.goes_on (line ∷ ms) (omega arith) ∙ wrong_line draft line ms k l is h),
-        inl (draft, (defined text second before line later draft f a, h ∙ ap error (sym kind))),
+        inl (draft, (defined text second before line later draft f a, (line_judged draft (pieces 32 line) f.kind).0 (h ∙ ap error (sym kind)))),
       );
       cut = λ z. absurd (omega arith);
     }

@@ -21,5 +21,6 @@ mod Sets
 mod PrintLoop
 mod Prefix
 mod Halting
+pub mod Judging
 mod Faulting
 mod Unique

@@ -1,12 +1,12 @@
 -- A text has one fault at most, and reading gives it.
-use Rattle.std.proofs.Common.{◌≡◌, ℕ, ◌+◌, ◌<◌, List, [], ◌∷◌, ◌++◌, length, Result, Ok, Err, ◌⊎◌, inl, inr, refl, sym, ap, subst, ◌∙◌, arith, codes, append_assoc, length-append}
+use Rattle.std.proofs.Common.{◌≡◌, ℕ, ◌+◌, ◌<◌, List, [], ◌∷◌, ◌++◌, length, Option, Some, Result, Ok, Err, ◌⊎◌, inl, inr, refl, sym, ap, subst, ◌∙◌, arith, codes, append_assoc, length-append}
 use Rattle.std.proofs.lemmas.Grind.{flat_map-append}
 use Rattle.sn_def.specs.declared.fault.DefKind.{DefKind}
 use Rattle.sn_def.specs.declared.fault.DefFault.{DefFault}
 use Rattle.sn_def.specs.Definition.{Definition}
-use Rattle.sn_def.specs.Reading.{pieces, line_at, fault, text_at}
+use Rattle.sn_def.specs.Reading.{pieces, fault, text_at}
 use Rattle.sn_def.specs.Grammar.{DefinitionText}
-use Rattle.sn_def.specs.Faults.{lines_text, Begins, IsWrong, KindOf, DefinitionFault}
+use Rattle.sn_def.specs.Faults.{lines_text, Begins, first_kind, line_kinds, IsWrong, KindOf, DefinitionFault}
 use Rattle.sn_def.proofs.Forming.{same_ok}
 use Rattle.sn_def.proofs.Whole.{in_grammar}
 use Rattle.sn_def.proofs.Complete.{Bytes, is_read}
@@ -45,11 +45,8 @@ not_before text m n j k f g mid is rest =
     let begun : Begins ((f.earlier ++ f.line ∷ []) ++ mid) = subst Begins (is ∙ sym (append_assoc f.earlier (f.line ∷ []) mid)) g.begins in
     (f.whole some).0 (fewer (f.earlier ++ f.line ∷ []) mid begun)
 
-same_err : {X : Type 0} (j k : DefKind) → ◌≡◌ {A = Result X DefKind} (Err j) (Err k) → j ≡ k
-same_err j k h = cc
-
-same_second : (j k : DefKind) → ◌≡◌ {A = Result Definition DefFault} (Err (fault 2 j)) (Err (fault 2 k)) → j ≡ k
-same_second j k h = let e : fault 2 j ≡ fault 2 k = cc in ap (λ (f : DefFault). f.kind) e
+same_kind : (j k : DefKind) → ◌≡◌ {A = Option DefKind} (Some j) (Some k) → j ≡ k
+same_kind j k h = cc
 
 not_both : Bytes → (ls : Lines) (d e : Definition) → DefinitionText (lines_text (ls ++ codes "end" ∷ [])) d → DefinitionText (lines_text ls) e → ⊥
 not_both bytes ls d e a b =
@@ -61,14 +58,14 @@ one_wrong : Bytes → (ls : Lines) (line : List ℕ) (j k : DefKind) → IsWrong
 one_wrong bytes ls line j k (inl a) (inl b) =
     let text : List ℕ = lines_text (ls ++ codes "end" ∷ []) in
     let same : a.0 ≡ b.0 = same_ok {E = DefFault} a.0 b.0 (sym (is_read bytes text a.0 a.1.0) ∙ is_read bytes text b.0 b.1.0) in
-    same_err {X = Definition} j k (sym a.1.1 ∙ ap (λ (d : Definition). line_at d (pieces 32 line)) same ∙ b.1.1)
+    same_kind j k (sym a.1.1 ∙ ap (λ (d : Definition). first_kind (line_kinds d (pieces 32 line))) same ∙ b.1.1)
 one_wrong bytes ls line j k (inl a) (inr b) = absurd (not_both bytes ls a.0 b.0.0 a.1.0 b.0.1)
 one_wrong bytes ls line j k (inr a) (inl b) = absurd (not_both bytes ls b.0 a.0.0 b.1.0 a.0.1)
 one_wrong bytes ls line j k (inr a) (inr b) = a.1 ∙ sym b.1
 
 one_kind : Bytes → (ls : Lines) (line : List ℕ) (j k : DefKind) → KindOf ls line j → KindOf ls line k → j ≡ k
 one_kind bytes [] line j k a b = a ∙ sym b
-one_kind bytes (t ∷ []) line j k a b = same_second j k (sym a ∙ b)
+one_kind bytes (t ∷ []) line j k a b = same_kind j k (sym a ∙ b)
 one_kind bytes (t ∷ n ∷ ls) line j k a b = one_wrong bytes (t ∷ n ∷ ls) line j k a b
 
 by_later : Bytes → (text : List ℕ) (m n : ℕ) (j k : DefKind) (f : DefinitionFault text m j) (g : DefinitionFault text n k) (later : Lines) → f.later ≡ later → f.earlier ≡ g.earlier → f.line ≡ g.line → f.later ≡ g.later → j ≡ k

@@ -1,4 +1,4 @@
-ghost use Rattle.std.specs.Prelude.{◌≡◌, List};
+ghost use Rattle.std.specs.Prelude.{◌≡◌, List, slice_set};
 
 use std::marker::Model;
 
@@ -48,5 +48,16 @@ impl Controls {
         ensures { result.now ≡ self.now }
     {
         &self.items
+    }
+
+    /// Sets the control with a number, where there is one.
+    #[tactic(auto, using(std::proofs::lemmas::List::set_past))]
+    pub fn set(&mut self, number: usize, control: Control)
+        ensures { self.new ≡ slice_set self.old number control }
+    {
+        if number >= self.items.len() {
+            return;
+        }
+        self.items[number] = control;
     }
 }

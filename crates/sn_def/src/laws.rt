@@ -1,10 +1,10 @@
 //! Laws about the definitions of this crate. Each function's contract is one law.
-ghost use Rattle.std.specs.Prelude.{◌≡◌, ◌++◌, ℕ, List, []};
+ghost use Rattle.std.specs.Prelude.{◌≡◌, ◌↔◌, ◌++◌, ℕ, List, []};
 ghost use Rattle.sn_def.specs.Definition.{Definition};
-ghost use Rattle.sn_def.specs.Reading.{text_at, fault, IsWritten};
+ghost use Rattle.sn_def.specs.Reading.{text_at, line_at, def_at, fault, IsWritten};
 ghost use Rattle.sn_def.specs.WellFormed.{IsWellFormed};
 ghost use Rattle.sn_def.specs.Grammar.{DefinitionText};
-ghost use Rattle.sn_def.specs.Faults.{DefinitionFault};
+ghost use Rattle.sn_def.specs.Faults.{first_kind, def_kinds, line_kinds, DefinitionFault};
 ghost use Rattle.sn_def.specs.declared.fault.DefFault.{DefFault};
 ghost use Rattle.sn_def.specs.declared.fault.DefKind.{DefKind};
 
@@ -36,6 +36,12 @@ pub fn no_prefix()
 {
     literal_bytes();
 }
+
+/// A line is judged by the table of kinds: its kind is that of the first test that holds.
+pub fn lines_are_judged()
+    ensures named { (fields : List (List ℕ)) (kind : DefKind) → (def_at fields ≡ Err (fault 2 kind)) ↔ (first_kind (def_kinds fields) ≡ Some kind) }
+    ensures lines { (d : Definition) (fields : List (List ℕ)) (kind : DefKind) → (line_at d fields ≡ Err kind) ↔ (first_kind (line_kinds d fields) ≡ Some kind) }
+{}
 
 /// Reading gives a fault exactly where it is the first fault of the text.
 pub fn first_fault_is_read()

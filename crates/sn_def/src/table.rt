@@ -45,7 +45,7 @@ pub struct Row {
 }
 
 /// The kinds that are built. A unit of another kind is unknown to `read`.
-pub const BUILT: [Kind; 10] = [
+pub const BUILT: [Kind; 42] = [
     Kind::SinOsc,
     Kind::LFSaw,
     Kind::LFPulse,
@@ -55,7 +55,39 @@ pub const BUILT: [Kind; 10] = [
     Kind::Phasor,
     Kind::Line,
     Kind::Linen,
+    Kind::Add,
+    Kind::Sub,
+    Kind::Mul,
+    Kind::MulAdd,
+    Kind::Neg,
+    Kind::Abs,
+    Kind::Min,
+    Kind::Max,
+    Kind::Clip,
+    Kind::Gt,
+    Kind::Lt,
+    Kind::Pan2,
+    Kind::OnePole,
+    Kind::Lag,
+    Kind::Integrator,
+    Kind::Delay1,
+    Kind::DelayN,
+    Kind::CombN,
+    Kind::SOS,
+    Kind::Latch,
+    Kind::Gate,
+    Kind::PulseCount,
+    Kind::Stepper,
+    Kind::Inar,
+    Kind::InFeedback,
+    Kind::Inkr,
     Kind::Outar,
+    Kind::ReplaceOut,
+    Kind::Outkr,
+    Kind::SendTrig,
+    Kind::DetectSilence,
+    Kind::FreeSelf,
+    Kind::PauseSelf,
 ];
 
 const S: Mark = Mark::Signal;

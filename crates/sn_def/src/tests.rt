@@ -114,6 +114,8 @@ fn the_first_fault_is_named(rt: HostRuntime) -> Result<(), Fail> {
     assert_eq!(rt; fault(alloc, text.as_slice()), Some((5, DefKind::Unit)));
     let text = tone_with(alloc, b"a = SinOsc freq b\nOut.ar out a\nend\n")?;
     assert_eq!(rt; fault(alloc, text.as_slice()), Some((5, DefKind::Input)));
+    let text = tone_with(alloc, b"a = DelayN freq 60001 0\nOut.ar out a\nend\n")?;
+    assert_eq!(rt; fault(alloc, text.as_slice()), Some((5, DefKind::Constant)));
     let text = tone_with(alloc, b"a = SinOsc freq 0\nOut.ar a a\nend\n")?;
     assert_eq!(rt; fault(alloc, text.as_slice()), Some((6, DefKind::Index)));
     let text = tone_with(alloc, b"a = SinOsc freq 0\nOut.ar out a\n")?;
@@ -142,7 +144,7 @@ fn the_greatest_definition_is_read(rt: HostRuntime) -> Result<(), Fail> {
         text.append(line.as_bytes())?;
     }
     for number in 0..256 {
-        let line = format!(in alloc; "w{number} = SinOsc c127 8388608\n")?;
+        let line = format!(in alloc; "l{number} r{number} = Pan2 c127 8388608 c0\n")?;
         text.append(line.as_bytes())?;
     }
     text.append(b"end\n")?;
@@ -150,6 +152,6 @@ fn the_greatest_definition_is_read(rt: HostRuntime) -> Result<(), Fail> {
     assert_eq!(rt; print(alloc, &great)?.as_slice(), text.as_slice());
     assert_eq!(rt; great.controls.as_slice().len(), 128);
     assert_eq!(rt; great.units.as_slice().len(), 256);
-    assert_eq!(rt; great.wires.as_slice().len(), 256);
+    assert_eq!(rt; great.wires.as_slice().len(), 512);
     Ok(())
 }

@@ -7,6 +7,7 @@ use Rattle.sn_mem.specs.Blocks.{recurrence}
 use Rattle.sn_filt.specs.Arithmetic.{is_arithmetic, arithmetic}
 use Rattle.sn_filt.specs.Poles.{sample_of_words, sample_words, one_pole, integrator, delay1, lagged_in, lagged_words, lag}
 use Rattle.sn_filt.specs.Sections.{section_in, section_words, sos}
+use Rattle.sn_filt.specs.Rings.{delay_n, comb_n}
 use Rattle.sn_filt.specs.Held.{latched_in, latched_words, latch, gate, count_in, count_words, pulse_count, steps_in, steps_words, stepper}
 
 abbrev pub is_filter : Kind → Bool
@@ -14,6 +15,8 @@ is_filter kinds.OnePole = true
 is_filter kinds.Lag = true
 is_filter kinds.Integrator = true
 is_filter kinds.Delay1 = true
+is_filter kinds.DelayN = true
+is_filter kinds.CombN = true
 is_filter kinds.SOS = true
 is_filter kinds.Latch = true
 is_filter kinds.Gate = true
@@ -33,6 +36,8 @@ filter kinds.OnePole now state inputs = of_sample one_pole state inputs
 filter kinds.Lag now state inputs = one_output (recurrence lagged_in lagged_words (lag now.rate) state inputs)
 filter kinds.Integrator now state inputs = of_sample integrator state inputs
 filter kinds.Delay1 now state inputs = of_sample delay1 state inputs
+filter kinds.DelayN now state inputs = one_output (delay_n now.rate state inputs)
+filter kinds.CombN now state inputs = one_output (comb_n now.rate state inputs)
 filter kinds.SOS now state inputs = one_output (recurrence section_in section_words sos state inputs)
 filter kinds.Latch now state inputs = one_output (recurrence latched_in latched_words latch state inputs)
 filter kinds.Gate now state inputs = of_sample gate state inputs

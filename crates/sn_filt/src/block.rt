@@ -1,14 +1,16 @@
 //! One unit's block.
 ghost use Rattle.std.specs.Prelude.{◌≡◌, ◌<◌, ◌≤◌, true, length};
 ghost use Rattle.sn_def.specs.Units.{row_of};
-ghost use Rattle.sn_def.specs.declared.table.Words.TheVariants.{Fixed};
+ghost use Rattle.sn_def.specs.StateWords.{words_of};
 ghost use Rattle.sn_mem.specs.Words.{MayWrite};
 ghost use Rattle.sn_mem.specs.Blocks.{window, put};
 ghost use Rattle.sn_filt.specs.Filters.{is_filter, filter};
+ghost use Rattle.sn_filt.specs.Rings.{most_frames};
 
 use crate::arithmetic::run_arithmetic;
 use crate::held::{Gate, Latch, PulseCount, Stepper};
 use crate::poles::{Delay1, Integrator, Lag, OnePole};
+use crate::rings::{run_comb_n, run_delay_n};
 use crate::sections::SOS;
 use sn_def::{Kind, Now};
 use sn_mem::{Blocks, Extent, Port, run_recurrence};
@@ -30,7 +32,7 @@ pub fn run<P: Port>(
     requires kind { is_filter kind ≡ true }
     requires rate { 0 < now.now.rate }
     requires inputs { length (row_of kind).inputs ≤ length inputs.now }
-    requires size { (row_of kind).words ≡ Fixed state.len }
+    requires size { words_of (row_of kind).words (most_frames now.now.rate inputs.now) ≡ state.len }
     requires state { MayWrite (P.foot port.old) state.at state.len }
     ensures words { P.words port.new ≡ put (P.words port.old) state.at (filter kind now.now (window (P.words port.old) state.at state.len) inputs.now).0 }
     ensures outputs { outputs.new ≡ (filter kind now.now (window (P.words port.old) state.at state.len) inputs.now).1 }
@@ -44,6 +46,8 @@ pub fn run<P: Port>(
         Kind::Lag => run_recurrence(&Lag { rate }, port, at, inputs, outputs),
         Kind::Integrator => run_recurrence(&Integrator, port, at, inputs, outputs),
         Kind::Delay1 => run_recurrence(&Delay1, port, at, inputs, outputs),
+        Kind::DelayN => run_delay_n(rate, port, state, inputs, outputs),
+        Kind::CombN => run_comb_n(rate, port, state, inputs, outputs),
         Kind::SOS => run_recurrence(&SOS, port, at, inputs, outputs),
         Kind::Latch => run_recurrence(&Latch, port, at, inputs, outputs),
         Kind::Gate => run_recurrence(&Gate, port, at, inputs, outputs),

@@ -5,6 +5,7 @@ mod arithmetic;
 mod block;
 mod held;
 mod poles;
+mod rings;
 mod sections;
 
 pub use block::run;

@@ -1,10 +1,12 @@
 ghost use Rattle.std.specs.Prelude.{◌≡◌, ◌≤◌, true, length, IfOk};
 ghost use Rattle.sn_def.specs.Units.{row_of};
-ghost use Rattle.sn_def.specs.declared.table.Words.TheVariants.{Fixed};
+ghost use Rattle.sn_def.specs.StateWords.{words_of};
 ghost use Rattle.sn_filt.specs.Filters.{is_filter};
+ghost use Rattle.sn_filt.specs.Rings.{most_frames};
 
 use crate::run;
 use sn_def::{Kind, Now};
+use sn_fixed::frames_of;
 use sn_mem::{Block, Blocks, Extent, PlainPort};
 use sn_ports::NoMemory;
 use std::alloc::Global;
@@ -39,8 +41,8 @@ fn signals(
 fn two_blocks(alloc: Global, kind: Kind, words: u32, inputs: &Blocks) -> Result<Blocks, NoMemory>
     requires kind { is_filter kind ≡ true }
     requires inputs { length (row_of kind).inputs ≤ length inputs.now }
-    requires size { (row_of kind).words ≡ Fixed words }
-    requires few { words ≤ 8 }
+    requires size { words_of (row_of kind).words (most_frames 48000 inputs.now) ≡ words }
+    requires few { words ≤ 100 }
 {
     let now = Now {
         rate: 48_000,
@@ -48,7 +50,7 @@ fn two_blocks(alloc: Global, kind: Kind, words: u32, inputs: &Blocks) -> Result<
         node: 1000,
         unit: 0,
     };
-    let mut port = PlainPort::new(alloc, 16)?;
+    let mut port = PlainPort::new(alloc, 128)?;
     let mut blocks = Blocks::new(alloc)?;
     let mut outputs = Blocks::new(alloc)?;
     let state = Extent { at: 3, len: words };
@@ -62,6 +64,17 @@ fn two_blocks(alloc: Global, kind: Kind, words: u32, inputs: &Blocks) -> Result<
         blocks.push(outputs.block(outputs.len() - 1));
     }
     Ok(blocks)
+}
+
+/// The frames of a delay line's longest delay.
+fn longest(rt: &impl Abort, inputs: &Blocks) -> u32
+    requires { 2 ≤ length inputs.now }
+    ensures value { result ≡ most_frames 48000 inputs.now }
+    ensures few { result ≤ 90 }
+{
+    let frames = frames_of(inputs.at(1, 0), 48_000);
+    assert!(rt; frames <= 90);
+    frames
 }
 
 fn assert_samples(rt: &impl Abort, blocks: &Blocks, expected: &[(usize, i32)]) {
@@ -231,5 +244,46 @@ fn held_values(rt: HostRuntime) -> Result<(), Fail> {
     let inputs = signals(alloc, &trigger, &[0; 64], [1, 0, 3, 4])?;
     let steps = two_blocks(alloc, Kind::Stepper, 4, &inputs)?;
     assert_samples(&rt, &steps, &[(0, 1), (63, 1)]);
+    Ok(())
+}
+
+#[test]
+#[tactic(auto, unfolding(sn_def::specs::Units::row_of))]
+fn delay_lines(rt: HostRuntime) -> Result<(), Fail> {
+    let alloc = rt.alloc();
+    let mut signal = [0; 64];
+    signal[0] = ONE;
+    signal[20] = -1;
+    let inputs = signals(alloc, &signal, &[1; 64], [2, HALF, 0, 0])?;
+    let frames = longest(&rt, &inputs);
+    let late = two_blocks(alloc, Kind::DelayN, frames + 2, &inputs)?;
+    assert_samples(
+        &rt,
+        &late,
+        &[(0, 0), (20, 0), (48, ONE), (68, -1), (111, 0), (112, ONE)],
+    );
+    let echoes = two_blocks(alloc, Kind::CombN, frames.max(1) + 2, &inputs)?;
+    assert_samples(
+        &rt,
+        &echoes,
+        &[
+            (0, 0),
+            (48, ONE),
+            (68, -1),
+            (96, HALF),
+            (112, ONE),
+            (116, -1),
+        ],
+    );
+    let inputs = signals(alloc, &signal, &[0; 64], [-3, HALF, 0, 0])?;
+    let frames = longest(&rt, &inputs);
+    let same = two_blocks(alloc, Kind::DelayN, frames + 2, &inputs)?;
+    assert_samples(&rt, &same, &[(0, ONE), (1, 0), (20, -1), (64, ONE)]);
+    let echoes = two_blocks(alloc, Kind::CombN, frames.max(1) + 2, &inputs)?;
+    assert_samples(
+        &rt,
+        &echoes,
+        &[(0, 0), (1, ONE), (2, HALF), (20, 32), (21, 15), (22, 7)],
+    );
     Ok(())
 }

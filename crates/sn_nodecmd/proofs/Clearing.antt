@@ -10,7 +10,8 @@ use Rattle.sn_mem.specs.Blocks.{window}
 use Rattle.sn_mem.proofs.Steps.{length-window}
 use Rattle.sn_mem.proofs.Windows.{window_at}
 use Rattle.sn_mem.proofs.Meetings.{covered}
-use Rattle.sn_pool.specs.Pools.{PoolState, with_extent}
+use Rattle.sn_pool.specs.Pools.{PoolState, with_extent, same_extent, times}
+use Rattle.sn_pool.proofs.Counts.{same_is, times_with}
 use Rattle.sn_world.specs.Pictures.{overlaps}
 use Rattle.sn_world.proofs.Inserting.{has-with_extent}
 use Rattle.sn_nodecmd.specs.Placing.{taken, cleared}
@@ -77,22 +78,22 @@ outside_one e x free = elim (leb_tells e.at x) [
 
 -- ---- a pool after words were taken
 
-or_false : (a b : Bool) → (a || b) ≡ ((a || false) || b)
-or_false true b = refl
-or_false false b = refl
-
-nothing_in : (e : Extent) (x : ℕ) → e.len ≡ 0 → covers e x ≡ false
-nothing_in e x empty = at (covers e x) refl
+nothing_of : (e x : Extent) → e.len ≡ 0 → 1 ≤ x.len → same_extent x e ≡ false
+nothing_of e x empty some = at (same_extent x e) refl
   where
-    at : (b : Bool) → covers e x ≡ b → b ≡ false
-    at true is = let p = and_parts (nat_le e.at x) (nat_lt x (e.at + e.len)) is in absurd (omega (arith, empty, leb-true e.at x p.0, ltb-true x (e.at + e.len) p.1))
+    at : (b : Bool) → same_extent x e ≡ b → b ≡ false
+    at true is = absurd (omega (arith, empty, some, ap (λ (y : Extent). y.len) (same_is x e is)))
     at false is = refl
 
-pub has-taken : (e : Extent) (pool : PoolState) (x : ℕ) → has (taken e pool).live x ≡ (has (e ∷ []) x || has pool.live x)
-has-taken e pool x =
-    cond_both (nat_eq e.len 0) pool (record pool { live = with_extent e pool.live }) (λ (p : PoolState). has p.live x ≡ (has (e ∷ []) x || has pool.live x))
-    (λ is. let empty : e.len ≡ 0 = eqb-true e.len 0 is in ap (λ b. b || has pool.live x) (sym (nothing_in e x empty)) ∙ or_false (covers e x) (has pool.live x))
-    (λ _. has-with_extent e pool.live x ∙ or_false (covers e x) (has pool.live x))
+pub times-taken : (e : Extent) (pool : PoolState) (x : Extent) → 1 ≤ x.len → times x (taken e pool).live ≡ times x (e ∷ []) + times x pool.live
+unfolding times
+times-taken e pool x some =
+    cond_both (nat_eq e.len 0) pool (record pool { live = with_extent e pool.live }) (λ (p : PoolState). times x p.live ≡ times x (e ∷ []) + times x pool.live)
+    (λ is. omega (arith, not_counted (same_extent x e) (nothing_of e x (eqb-true e.len 0 is) some)))
+    (λ _. omega (arith, times_with x e pool.live))
+  where
+    not_counted : (b : Bool) → b ≡ false → ◌≡◌ {A = ℕ} (if b then 1 else 0) 0
+    not_counted b e = ap (λ (c : Bool). let n : ℕ = if c then 1 else 0 in n) e
 
 pub region-taken : (e : Extent) (pool : PoolState) → (taken e pool).region ≡ pool.region
 region-taken e pool = cond_both (nat_eq e.len 0) pool (record pool { live = with_extent e pool.live }) (λ (p : PoolState). p.region ≡ pool.region) (λ _. refl) (λ _. refl)

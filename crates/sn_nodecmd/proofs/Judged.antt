@@ -12,7 +12,8 @@ use Rattle.sn_tree.specs.Faults.{first_fault, insert_fault, is_inside, labels_sy
 use Rattle.sn_tree.proofs.PayloadLaws.{insert_fault-payloads}
 use Rattle.sn_world.specs.Rows.{first_of}
 use Rattle.sn_world.specs.World.{World}
-use Rattle.sn_world.specs.NewSynth.{NewSynth, add_action, action_of, judge_new}
+use Rattle.sn_world.specs.NewNodes.{add_action, action_for, node_refusal}
+use Rattle.sn_world.specs.NewSynth.{NewSynth, action_of, judge_new}
 use Rattle.sn_nodecmd.specs.Judging.{reason_for}
 
 -- a node is not both inside a synth and beside the root
@@ -46,3 +47,7 @@ spotted id action target t h = at (holds id t) (holds target t) (is_beside_root 
     at true there root synth many h = absurd cc
     at false true root synth many h = refl
     at false false root synth many h = absurd cc
+
+-- the same of a node with an id
+pub judged_node : {P : Type 0} (id action target : ℤ) (t : Nodes P) → reason_for (is_some (add_action action)) (insert_fault id (action_for action) target t) ≡ node_refusal (Some id) action target t
+judged_node id action target t = by_tests (is_some (add_action action)) (holds id t) (is_missing target t) (is_inside (action_for action)) (labels_synth (label_of target t)) (int_eq target (pos 0)) (nat_lt 4096 (count t + 1))

@@ -4,3 +4,12 @@ pub mod Judged
 pub mod Clearing
 pub mod MakingLemmas
 pub mod Opened
+pub mod RunLemmas
+pub mod TurningLemmas
+pub mod ReworkLemmas
+pub mod Ending
+pub mod Underway
+pub mod Repeating
+pub mod Stepping
+pub mod ToldLemmas
+pub mod QueryLemmas

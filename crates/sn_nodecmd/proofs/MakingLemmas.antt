@@ -1,5 +1,5 @@
 -- `/s_new`: what a stage and its words stand for after it.
-use Rattle.std.proofs.Common.{◌≡◌, ◌≤◌, ◌<◌, ◌+◌, ◌||◌, ℕ, ℤ, Bool, true, false, List, [], ◌∷◌, length, get_or, replicate, Option, Some, None, Result, Ok, Err, refl, ap, sym, subst, ◌∙◌, arith, is_some, unwrap_or}
+use Rattle.std.proofs.Common.{◌≡◌, ◌≤◌, ◌<◌, ◌+◌, ◌||◌, ℕ, ℤ, Bool, true, false, List, [], ◌∷◌, length, get_or, replicate, Option, Some, None, Result, Ok, Err, refl, ap, sym, subst, ◌∙◌, inr, arith, is_some, unwrap_or}
 use Rattle.std.specs.Prelude.{if◌then◌else◌, nat_eq}
 use Rattle.sn_mem.specs.declared.extents.Extent.{Extent}
 use Rattle.sn_mem.specs.Words.{has}
@@ -8,7 +8,7 @@ use Rattle.sn_def.specs.declared.control.Control.{Control}
 use Rattle.sn_def.specs.Definition.{Definition}
 use Rattle.sn_def.specs.StateWords.{state_words}
 use Rattle.sn_synth.specs.Conditions.{AreControlsOf}
-use Rattle.sn_pool.specs.Pools.{PoolState}
+use Rattle.sn_pool.specs.Pools.{PoolState, times}
 use Rattle.sn_pool.specs.Regions.{least_place}
 use Rattle.sn_reply.specs.declared.reason.Reason.{Reason}
 use Rattle.sn_reply.specs.declared.reason.Reason.TheVariants as Reasons
@@ -23,19 +23,18 @@ use Rattle.sn_tree.proofs.PayloadLaws.{insert_fault-payloads}
 use Rattle.sn_world.specs.declared.stage.Held.{Held}
 use Rattle.sn_world.specs.declared.stage.Stage.{Stage}
 use Rattle.sn_world.specs.Nodes.{Content, synth, content_of, live_in}
-use Rattle.sn_world.specs.Pictures.{Pictures, held_extents, live_held, overlaps, IsHeld, IsSynthOf}
+use Rattle.sn_world.specs.Pictures.{Pictures, KeepsOutside, held_extents, live_held, overlaps, IsHeld, IsSynthOf}
 use Rattle.sn_world.specs.World.{World, Turn, world_of, turn_of}
 use Rattle.sn_world.specs.Rows.{unless}
-use Rattle.sn_world.specs.NewSynth.{NewSynth, add_action, action_of, with_values, defaults, place_for, judge_new, made, with_synth, new_at, new_of, new_outcome, new_row}
+use Rattle.sn_world.specs.NewNodes.{add_action}
+use Rattle.sn_world.specs.NewSynth.{NewSynth, action_of, with_values, defaults, place_for, judge_new, made, with_synth, new_at, new_of, new_outcome, new_row}
 use Rattle.std.specs.FinMap as finite
-use Rattle.sn_world.specs.declared.command.NodeCommand.{NodeCommand}
-use Rattle.sn_world.specs.declared.command.NodeCommand.TheVariants.{New}
-use Rattle.sn_world.specs.Commands.{node_row}
+use Rattle.sn_world.proofs.Counting.{live_words}
 use Rattle.sn_world.proofs.Inserting.{IsPut, put_pictures, put_world, live_in-payloads, least_place-same}
 use Rattle.sn_nodecmd.specs.Judging.{reason_for}
 use Rattle.sn_nodecmd.specs.Placing.{place_in, taken, IsPlace, IsAdded, Adds, cleared}
 use Rattle.sn_nodecmd.proofs.Judged.{judged, spotted}
-use Rattle.sn_nodecmd.proofs.Clearing.{length-cleared, cleared_other, window-cleared, within_one, outside_one, has-taken, region-taken, journal-taken}
+use Rattle.sn_nodecmd.proofs.Clearing.{length-cleared, cleared_other, window-cleared, within_one, outside_one, times-taken, region-taken, journal-taken}
 
 -- what a synth holds
 pub record IsHeldSynth (h : Held) (d : Definition) (controls : List Control) (e : Extent) : Type 0 where
@@ -70,11 +69,13 @@ module _ (id : ℤ) (spot : Spot) (d : Definition) (controls : List Control) (he
     held = is.what.held old.rate old.pool.region (record { each = is.each; size = is.added.place.size; within = (is.added.place.free.from, omega (arith, is.added.place.size, is.added.place.free.to)) });
     free = λ x some. let w = within_one e x (omega (arith, in_own x, some)) in is.added.place.free.unused x w.0 (omega (arith, is.added.place.size, w.1));
     tree = ap (λ (s : Stage). s.tree) is.added.stage;
-    live = λ x. ap (λ (p : PoolState). has p.live x) pool_is ∙ has-taken e old.pool x ∙ ap (λ (es : List Extent). has es x || has old.pool.live x) (sym is.what.own);
+    live = λ x some. ap (λ (p : PoolState). times x p.live) pool_is ∙ times-taken e old.pool x some ∙ ap (λ (es : List Extent). times x es + times x old.pool.live) (sym is.what.own);
     region = ap (λ (p : PoolState). p.region) pool_is ∙ region-taken e old.pool;
     journal = ap (λ (p : PoolState). p.journal) pool_is ∙ journal-taken e old.pool ∙ before.closed;
     rate = ap (λ (s : Stage). s.rate) is.added.stage;
     defs = ap (λ (s : Stage). s.defs) is.added.stage;
+    notify = ap (λ (s : Stage). s.notify) is.added.stage;
+    next = ap (λ (s : Stage). s.next_id) is.added.stage;
     length = ap length is.words ∙ length-cleared ws e.at e.len;
     others = other_words;
   }
@@ -87,6 +88,9 @@ module _ (id : ℤ) (spot : Spot) (d : Definition) (controls : List Control) (he
 
   pub made_length : length us ≡ length ws
   made_length = put_is.length
+
+  pub made_outside : KeepsOutside old.pool.region ws us
+  made_outside = λ k low high. ap (λ (vs : List ℕ). get_or vs k 0) is.words ∙ cleared_other ws e.at e.len k (inr (omega (arith, high, is.added.place.size, is.added.place.free.to)))
 
   -- with its words all 0
   content_is : content_of us (held e) ≡ synth (record { definition = d; controls = controls; state = replicate (state_words old.rate d) 0; extent = record { at = e.at; len = state_words old.rate d } })
@@ -140,7 +144,7 @@ module _ (old : Stage) (ws : List ℕ) (before : Pictures old ws) (r : NewSynth)
 
   places : (n : ℕ) → place_for (world_of old ws) n ≡ place_in old.pool n
   places n = ap (λ (o : Option ℕ). if nat_eq n 0 then Some old.pool.region.at else o)
-      (least_place-same old.pool.region (live_in (world_of old ws).nodes) old.pool.live n (λ x. ap (λ (es : List Extent). has es x) (live_in-payloads old.tree.attached ws) ∙ sym (before.live x)))
+      (least_place-same old.pool.region (live_in (world_of old ws).nodes) old.pool.live n (λ x. ap (λ (es : List Extent). has es x) (live_in-payloads old.tree.attached ws) ∙ sym (live_words old ws before x)))
 
   pub row_refused : (replies : List ReplyShape) (reason : Reason) → Some reason ≡ reason_for (is_some (add_action r.action)) (insert_fault r.id (action_of r) r.target old.tree.attached) → new_of r (Some d) (turn_of old ws replies) ≡ Err reason
   row_refused replies reason why = ap (λ (o : Option Reason). unless o (new_at r d (place_for (world_of old ws) (state_words old.rate d)) (turn_of old ws replies))) (judges ∙ sym why)
@@ -171,6 +175,3 @@ module _ (old : Stage) (ws : List ℕ) (before : Pictures old ws) (r : NewSynth)
 
 pub of_definition : (r : NewSynth) (o : Option NewSynth) (found : Option Definition) (d : Definition) (t : Turn) → Some r ≡ o → found ≡ finite.get t.world.definitions r.name → found ≡ Some d → new_outcome o t ≡ new_of r (Some d) t
 of_definition r o found d t asked named is = ap (λ (q : Option NewSynth). new_outcome q t) (sym asked) ∙ ap (λ (q : Option Definition). new_of r q t) (sym named ∙ is)
-
-pub only_new : (command : NodeCommand) → node_row command ≡ new_row
-only_new New = refl

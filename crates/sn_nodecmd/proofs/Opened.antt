@@ -7,7 +7,7 @@ use Rattle.sn_mem.proofs.Meetings.{covered}
 use Rattle.std.specs.Prelude.{codes}
 use Rattle.sn_osc.specs.Shape.{MessageShape, arguments, int, string}
 use Rattle.sn_reply.specs.Sending.{IsAnswerable}
-use Rattle.sn_pool.specs.Pools.{PoolState}
+use Rattle.sn_pool.specs.Pools.{PoolState, times}
 use Rattle.sn_tree.specs.declared.node.NodeKind.TheVariants as kinds
 use Rattle.sn_tree.specs.Trees.{none, leaf}
 use Rattle.sn_tree.specs.Model.{NodeTree}
@@ -31,7 +31,7 @@ module _ (rate memory : ℕ) (stage : Stage) (words : List ℕ)
     bounded = omega (arith, ap (λ (p : PoolState). p.region.len) pool, small);
     fits = omega (arith, ap (λ (p : PoolState). p.region.len) pool, long);
     synths = subst (λ (t : NodeTree Held). AreHeld stage.rate stage.pool.region t.attached) (sym tree) (tt, (tt, tt));
-    live = λ x. ap (λ (p : PoolState). has p.live x) pool ∙ sym (ap (λ (t : NodeTree Held). has (live_held t.attached) x) tree);
+    live = λ e _. ap (λ (p : PoolState). times e p.live) pool ∙ sym (ap (λ (t : NodeTree Held). times e (live_held t.attached)) tree);
     apart = λ x. omega (arith, none_live x);
     attached = ap (λ (t : NodeTree Held). t.detached) tree;
     settled = ap (λ (t : NodeTree Held). t.journal) tree;

@@ -3,3 +3,7 @@ pub mod Setting
 pub mod Judging
 pub mod Placing
 pub mod Given
+pub mod Runs
+pub mod Stepping
+pub mod Reworks
+pub mod Folding

@@ -13,7 +13,7 @@ use sn_osc::Arg;
 use sn_ports::NoMemory;
 use std::alloc::Global;
 
-fn numbered(def: &Def, number: i32) -> Option<u32>
+pub fn numbered(def: &Def, number: i32) -> Option<u32>
     ensures { result ≡ control_of (definition_of def.now) (numbered number) }
 {
     if number >= 0 && (number as usize) < def.controls.as_slice().len() {

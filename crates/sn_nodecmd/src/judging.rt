@@ -2,7 +2,7 @@
 ghost use Rattle.std.specs.Prelude.{◌≡◌, is_some, unwrap_or};
 ghost use Rattle.sn_tree.specs.declared.node.Action.TheVariants.{Head};
 ghost use Rattle.sn_tree.specs.Faults.{insert_fault};
-ghost use Rattle.sn_world.specs.NewSynth.{add_action};
+ghost use Rattle.sn_world.specs.NewNodes.{add_action};
 ghost use Rattle.sn_nodecmd.specs.Judging.{reason_for};
 
 use crate::asked::Asked;
@@ -33,7 +33,7 @@ pub fn spot_of(asked: &Asked<'_>) -> Spot
 }
 
 /// The reason by the tree's, and by whether an add action has the number.
-fn reason_for(known: bool, fault: Option<TreeFault>) -> Option<Reason>
+pub fn reason_for(known: bool, fault: Option<TreeFault>) -> Option<Reason>
     ensures { result ≡ reason_for known fault }
 {
     match fault {

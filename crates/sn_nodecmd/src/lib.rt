@@ -3,9 +3,19 @@
 
 mod asked;
 mod controls;
+mod folding;
+mod freeing;
+mod groups;
 mod judging;
 mod making;
+mod names;
+mod notifying;
 mod placing;
+mod querying;
 mod running;
+mod runs;
+mod settings;
+mod telling;
+mod turning;
 
 pub use running::run_node_command;

@@ -4,7 +4,7 @@ ghost use Rattle.sn_osc.specs.Shape.{argument_of};
 ghost use Rattle.sn_def.specs.Defs.{definition_of};
 ghost use Rattle.sn_reply.specs.Replies.{ReplyShape};
 ghost use Rattle.sn_world.specs.World.{turn_of};
-ghost use Rattle.sn_world.specs.Pictures.{Pictures, WritesWorld};
+ghost use Rattle.sn_world.specs.Pictures.{Pictures, WritesWorld, KeepsOutside};
 ghost use Rattle.sn_world.specs.NewSynth.{new_of, new_row};
 ghost use Rattle.sn_world.specs.Answers.{Follows, UnlessFollowed};
 ghost use Rattle.sn_nodecmd.specs.Asking.{request_of, AreValues};
@@ -37,7 +37,9 @@ fn make<P: Port>(
     ensures unchanged { UnlessFollowed result (stage.new ≡ stage.old) }
     ensures untouched { UnlessFollowed result (P.words port.new ≡ P.words port.old) }
     ensures pictures { Pictures stage.new (P.words port.new) }
+    ensures clients { stage.new.notify ≡ stage.old.notify }
     ensures region { stage.new.pool.region ≡ stage.old.pool.region }
+    ensures others { KeepsOutside stage.old.pool.region (P.words port.old) (P.words port.new) }
     ensures len { length (P.words port.new) ≡ length (P.words port.old) }
     ensures foot { P.foot port.new ≡ P.foot port.old }
     ensures rest { P.rest port.new ≡ P.rest port.old }
@@ -66,7 +68,9 @@ pub fn run_new<P: Port>(
     ensures unchanged { UnlessFollowed result (stage.new ≡ stage.old) }
     ensures untouched { UnlessFollowed result (P.words port.new ≡ P.words port.old) }
     ensures pictures { Pictures stage.new (P.words port.new) }
+    ensures clients { stage.new.notify ≡ stage.old.notify }
     ensures region { stage.new.pool.region ≡ stage.old.pool.region }
+    ensures others { KeepsOutside stage.old.pool.region (P.words port.old) (P.words port.new) }
     ensures len { length (P.words port.new) ≡ length (P.words port.old) }
     ensures foot { P.foot port.new ≡ P.foot port.old }
     ensures rest { P.rest port.new ≡ P.rest port.old }

@@ -1,17 +1,24 @@
 //! Messages that are run as commands.
-ghost use Rattle.std.specs.Prelude.{◌≡◌, List, length, map};
+ghost use Rattle.std.specs.Prelude.{◌≡◌, ◌+◌, ◌*◌, ◌^◌, ◌<◌, List, length, map, IfSome};
 ghost use Rattle.std.specs.Option.{option_map};
 ghost use Rattle.std.specs.Borrow.{Bor};
 ghost use Rattle.sn_osc.specs.declared.packet.Arg.{Arg};
 ghost use Rattle.sn_osc.specs.Shape.{argument_of, body_of, message_of};
 ghost use Rattle.sn_reply.specs.Sending.{IsAnswerable};
 ghost use Rattle.sn_world.specs.World.{turn_of};
-ghost use Rattle.sn_world.specs.Pictures.{Pictures, WritesWorld};
+ghost use Rattle.sn_world.specs.Pictures.{Pictures, WritesWorld, KeepsOutside};
 ghost use Rattle.sn_world.specs.Commands.{node_command_of, node_row, run_node};
 ghost use Rattle.sn_world.specs.Answers.{Follows, UnlessFollowed, Handles, UnlessDone};
 ghost use Rattle.sn_nodecmd.specs.Given.{ArgumentsOf};
 
+use crate::freeing::run_free;
+use crate::groups::run_new_groups;
 use crate::making::run_new;
+use crate::notifying::run_notify;
+use crate::querying::run_query;
+use crate::runs::RunForm;
+use crate::settings::run_set;
+use crate::turning::run_flags;
 use sn_mem::Port;
 use sn_osc::{Arg, Body, Message};
 use sn_ports::NoMemory;
@@ -25,12 +32,38 @@ fn node_command_of(address: &[u8]) -> Option<NodeCommand>
     if address == b"/s_new".as_slice() {
         return Some(NodeCommand::New);
     }
+    if address == b"/notify".as_slice() {
+        return Some(NodeCommand::Notify);
+    }
+    if address == b"/n_run".as_slice() {
+        return Some(NodeCommand::TurnNodes);
+    }
+    if address == b"/n_set".as_slice() {
+        return Some(NodeCommand::SetControls);
+    }
+    if address == b"/n_setn".as_slice() {
+        return Some(NodeCommand::SetRuns);
+    }
+    if address == b"/n_fill".as_slice() {
+        return Some(NodeCommand::FillRuns);
+    }
+    if address == b"/g_new".as_slice() {
+        return Some(NodeCommand::NewGroup);
+    }
+    if address == b"/n_free".as_slice() {
+        return Some(NodeCommand::Free);
+    }
+    if address == b"/n_query".as_slice() {
+        return Some(NodeCommand::Query);
+    }
     None
 }
 
 /// The arguments of a message, where they are read.
 fn arguments_of(message: &Message) -> Option<&[Arg]>
-    ensures { ArgumentsOf (body_of message.now.body) (option_map (λ (xs : Bor (List Arg)). map argument_of xs.now) result) }
+    requires { IsAnswerable (message_of message.now) }
+    ensures arguments { ArgumentsOf (body_of message.now.body) (option_map (λ (xs : Bor (List Arg)). map argument_of xs.now) result) }
+    ensures few { IfSome result (λ xs. 16 * length xs.now + 2 ^ 20 < 2 ^ 31) }
 {
     match &message.body {
         Body::Bare => Some(&[]),
@@ -49,18 +82,28 @@ fn run_row<P: Port>(
     from: u32,
     replies: &mut Replies,
 ) -> Result<Option<Reason>, NoMemory>
+    requires few { 16 * length arguments.now + 2 ^ 20 < 2 ^ 31 }
     requires pictures { Pictures stage.old (P.words port.old) }
     requires foot { WritesWorld (P.foot port.old) stage.old.pool.region }
     ensures row { Follows result (node_row command from (map argument_of arguments.now) (turn_of stage.old (P.words port.old) replies.old)) (turn_of stage.new (P.words port.new) replies.new) }
     ensures unchanged { UnlessFollowed result (turn_of stage.new (P.words port.new) replies.new ≡ turn_of stage.old (P.words port.old) replies.old) }
     ensures pictures { Pictures stage.new (P.words port.new) }
     ensures region { stage.new.pool.region ≡ stage.old.pool.region }
+    ensures others { KeepsOutside stage.old.pool.region (P.words port.old) (P.words port.new) }
     ensures len { length (P.words port.new) ≡ length (P.words port.old) }
     ensures foot { P.foot port.new ≡ P.foot port.old }
     ensures rest { P.rest port.new ≡ P.rest port.old }
 {
     match command {
         NodeCommand::New => run_new(alloc, stage, port, arguments),
+        NodeCommand::Notify => run_notify(alloc, stage, arguments, from, replies),
+        NodeCommand::TurnNodes => run_flags(alloc, stage, arguments, replies),
+        NodeCommand::SetControls => run_set(alloc, stage, RunForm::Value, arguments),
+        NodeCommand::SetRuns => run_set(alloc, stage, RunForm::Values, arguments),
+        NodeCommand::FillRuns => run_set(alloc, stage, RunForm::Fill, arguments),
+        NodeCommand::NewGroup => run_new_groups(alloc, stage, arguments, replies),
+        NodeCommand::Free => run_free(alloc, stage, arguments, replies),
+        NodeCommand::Query => run_query(alloc, stage, arguments, from, replies),
     }
 }
 
@@ -83,6 +126,7 @@ pub fn run_node_command<P: Port>(
     ensures unchanged { UnlessDone result (turn_of stage.new (P.words port.new) replies.new ≡ turn_of stage.old (P.words port.old) replies.old) }
     ensures pictures { Pictures stage.new (P.words port.new) }
     ensures region { stage.new.pool.region ≡ stage.old.pool.region }
+    ensures others { KeepsOutside stage.old.pool.region (P.words port.old) (P.words port.new) }
     ensures len { length (P.words port.new) ≡ length (P.words port.old) }
     ensures foot { P.foot port.new ≡ P.foot port.old }
     ensures rest { P.rest port.new ≡ P.rest port.old }

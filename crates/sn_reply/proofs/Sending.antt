@@ -1,5 +1,5 @@
 -- Lengths of messages, and replies that can be sent.
-use Rattle.std.proofs.Common.{◌≡◌, ◌≤◌, ◌<◌, ℕ, zero, suc, ◌+◌, ◌-◌, ◌*◌, ◌^◌, ◌%◌, Bool, true, false, not, ◌&&◌, List, [], ◌∷◌, ◌++◌, length, map, take, replicate, refl, ap, sym, subst, ◌∙◌, arith, length-append}
+use Rattle.std.proofs.Common.{◌≡◌, ◌≤◌, ◌<◌, ℤ, ℕ, zero, suc, ◌+◌, ◌-◌, ◌*◌, ◌^◌, ◌%◌, Bool, true, false, not, ◌&&◌, List, [], ◌∷◌, ◌++◌, length, map, take, replicate, refl, ap, sym, subst, ◌∙◌, arith, length-append}
 use Rattle.std.specs.Prelude.{IsTrue, codes, ◌==◌}
 use Rattle.std.specs.List.{list_all, AllByRecursion}
 use Rattle.std.specs.Fmt.{decimal}
@@ -10,12 +10,13 @@ use Rattle.std.proofs.lemmas.List.{length-map, length-replicate}
 use Rattle.std.proofs.lemmas.Grind.{common_steps}
 use Rattle.std.proofs.lemmas.List.Folds.{list_all-append}
 use Rattle.sn_osc.specs.Shape.{Argument, int, string, blob, BodyShape, arguments, MessageShape}
-use Rattle.sn_osc.specs.Bytes.{begins_with, is_body, body_bytes, string_bytes, blob_bytes, argument_bytes, arguments_bytes, tags_bytes, tag_of, message_bytes, is_message, has_no_null, is_argument}
+use Rattle.sn_osc.specs.Bytes.{begins_with, is_body, body_bytes, string_bytes, blob_bytes, argument_bytes, arguments_bytes, tags_bytes, tag_of, message_bytes, is_message, has_no_null, is_argument, fits_int}
 use Rattle.sn_reply.specs.declared.reason.Reason.{Reason}
 use Rattle.sn_reply.specs.declared.reason.Reason.TheVariants as Reasons
 use Rattle.sn_reply.specs.Replies.{ReplyShape}
 use Rattle.sn_reply.specs.Failing.{reason_text, definition_line, fail_message}
 use Rattle.sn_reply.specs.Sending.{IsSendable, IsAnswerable, AllSendable, IsShortText}
+use Rattle.sn_reply.specs.Answering.{IsShort, AreShort, IsAddress}
 
 -- ---- tests
 
@@ -119,3 +120,38 @@ answerable-address m a =
 
 pub few-arguments_of : (m : MessageShape) (xs : List Argument) → m.body ≡ arguments xs → IsAnswerable m → 16 * length xs + 2 ^ 20 < 2 ^ 31
 few-arguments_of m xs is a = few-arguments m.address xs (subst (λ (b : BodyShape). IsAnswerable (record { address = m.address; body = b })) is a)
+
+-- ---- replies of numbers and short names
+
+pub short-int : (n : ℤ) → fits_int n ≡ true → IsShort (int n)
+short-int n fits = record { valid = fits; short = omega arith }
+
+pub short-string : (s : List ℕ) → has_no_null s ≡ true → length s < 60 → IsShort (string s)
+short-string s clean few = record { valid = clean; short = omega (arith, few, length-string_bytes s) }
+
+pub short-push : (xs : List Argument) (x : Argument) → AreShort xs → IsShort x → AreShort (xs ++ x ∷ [])
+short-push [] x all one = (one, tt)
+short-push (y ∷ ys) x all one = (all.0, short-push ys x all.1 one)
+
+all-valid : (xs : List Argument) → AreShort xs → list_all is_argument xs ≡ true
+all-valid [] all = refl
+all-valid (x ∷ xs) all = both (is_argument x) (list_all is_argument xs) all.0.valid (all-valid xs all.1)
+
+few-bytes : (xs : List Argument) → AreShort xs → length (arguments_bytes xs) ≤ 64 * length xs
+few-bytes [] all = omega arith
+few-bytes (x ∷ xs) all = omega (arith, length-append (argument_bytes x) (arguments_bytes xs), all.0.short, few-bytes xs all.1)
+
+pub sendable_answer : (address : List ℕ) (xs : List Argument) → IsAddress address → AreShort xs → length xs < 2 ^ 24 → IsSendable (record { address = address; body = arguments xs })
+sendable_answer address xs is all few = record {
+  valid = both (begins_with 47 address && has_no_null address) (list_all is_argument xs) (both (begins_with 47 address) (has_no_null address) is.begins is.clean) (all-valid xs all);
+  short =
+      let tags = 44 ∷ map tag_of xs in
+      let whole = length-append (string_bytes address) (string_bytes tags ++ arguments_bytes xs) in
+      let body = length-append (string_bytes tags) (arguments_bytes xs) in
+      let front = length-string_bytes address in
+      let padded = length-string_bytes tags in
+      let names : length (map tag_of xs) ≡ length xs = length-map xs tag_of in
+      let bytes = few-bytes xs all in
+      let short = is.short in
+      omega arith;
+}

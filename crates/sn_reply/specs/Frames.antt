@@ -3,12 +3,11 @@ use Rattle.std.specs.Prelude.{ℕ, Bool, true, false, ◌==◌, if◌then◌else
 use Rattle.sn_osc.specs.Bytes.{message_bytes, frame_bytes}
 use Rattle.sn_reply.specs.Replies.{ReplyShape}
 use Rattle.sn_reply.specs.declared.replies.To.{To}
-use Rattle.sn_reply.specs.declared.replies.To.TheVariants.{Client, Notified, All}
+use Rattle.sn_reply.specs.declared.replies.To.TheVariants.{Client, All}
 
--- whether a client is among those that a reply goes to; no command turns a notify flag on yet
+-- whether a client is among those that a reply goes to
 abbrev pub goes_to : ℕ → To → Bool
 goes_to client (Client c) = c == client
-goes_to client Notified = false
 goes_to client All = true
 
 -- the size and the spelling of a reply's message

@@ -1,4 +1,5 @@
 pub mod Replies
 pub mod Failing
 pub mod Sending
+pub mod Answering
 pub mod Frames

@@ -9,13 +9,12 @@ use sn_osc::{Packet, encode};
 use sn_ports::{NoMemory, Text};
 use std::alloc::Global;
 
-/// Whether a client is among those that a reply goes to. No command turns a notify flag on yet.
+/// Whether a client is among those that a reply goes to.
 fn goes_to(client: u32, to: To) -> bool
     ensures { result ≡ goes_to client to }
 {
     match to {
         To::Client(number) => number == client,
-        To::Notified => false,
         To::All => true,
     }
 }

@@ -14,8 +14,6 @@ use std::marker::Model;
 pub enum To {
     /// The client with this number.
     Client(u32),
-    /// Each client whose notify flag is on.
-    Notified,
     /// Every client.
     All,
 }

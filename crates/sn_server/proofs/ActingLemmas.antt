@@ -1,22 +1,30 @@
 -- Entries that act while they are taken from the queue.
-use Rattle.std.proofs.Common.{◌≡◌, ℕ, ◌<◌, suc, List, [], ◌∷◌, length, map, filter, Option, Some, None, refl, sym, ap, subst, ◌∙◌, arith}
-use Rattle.std.specs.Prelude.{not}
+use Rattle.std.proofs.Common.{◌≡◌, ℕ, ◌<◌, suc, Bool, true, false, cond, ◌||◌, List, [], ◌∷◌, length, map, filter, Option, Some, None, refl, sym, ap, subst, ◌∙◌, arith}
+use Rattle.std.specs.Prelude.{not, if◌then◌else◌, Result, Ok, Err}
+use Rattle.sn_ports.specs.declared.failed.NoMemory.{NoMemory}
+use Rattle.sn_reply.specs.declared.reason.Reason.{Reason}
+use Rattle.sn_world.specs.declared.command.Handled.{Handled}
+use Rattle.sn_world.specs.declared.command.Handled.TheVariants.{Done, Quit, ClearSched, Failed, NotMine}
+use Rattle.sn_world.specs.Ending.{Next}
+use Rattle.sn_world.specs.Answers.{Handles, IsNext, TellsClear}
+use Rattle.sn_world.specs.Commands.{clear_in}
 use Rattle.std.specs.Option.{option_map}
 use Rattle.std.specs.List.{AllByRecursion}
 use Rattle.sn_osc.specs.Shape.{MessageShape, message_of}
 use Rattle.sn_queue.specs.declared.entry.Entry.{Entry}
 use Rattle.sn_queue.specs.Waiting.{Waiting, WaitingList}
 use Rattle.sn_queue.specs.Meaning.{waiting_of}
-use Rattle.sn_queue.specs.Steps.{is_due, first_due, without_first_due}
+use Rattle.sn_queue.specs.Steps.{is_due, first_due, without_first_due, clear_after}
 use Rattle.sn_reply.specs.Sending.{IsAnswerable}
 use Rattle.sn_world.specs.World.{Turn}
 use Rattle.sn_server.specs.Answerable.{AllAnswerable}
-use Rattle.sn_server.specs.Play.{act_messages, act_entries, due_at, later_than}
+use Rattle.sn_server.specs.Play.{act_messages, act_entries, messages_clear, entries_clear, due_at, later_than, left_at}
 use Rattle.sn_server.proofs.DueLemmas.{first_of_filtered, none_filtered, others_stay, all_others, unchanged, first_has, others_have, first_among}
 
 -- One entry was taken: it is the first that acts, and the others that are due, and those that are not, stay.
 pub record IsTaken (now : ℕ) (old new : WaitingList) (w : Waiting) : Type 0 where
   pub acts : (t : Turn) → act_entries (due_at now new) (act_messages w.from w.messages t) ≡ act_entries (due_at now old) t
+  pub clears : (t : Turn) → (messages_clear w.from w.messages t || entries_clear (due_at now new) (act_messages w.from w.messages t)) ≡ entries_clear (due_at now old) t
   pub left : record new { waiting = later_than now new } ≡ record old { waiting = later_than now old }
   pub answerable : AllAnswerable old.waiting → AllByRecursion IsAnswerable w.messages
   pub others : AllAnswerable old.waiting → AllAnswerable new.waiting
@@ -25,6 +33,7 @@ pub record IsTaken (now : ℕ) (old new : WaitingList) (w : Waiting) : Type 0 wh
 taken_first : (now : ℕ) (q : WaitingList) (w : Waiting) → first_due q now ≡ Some w → IsTaken now q (without_first_due q now) w
 taken_first now q w e = record {
   acts = λ t. ap (λ ws. act_entries ws t) (sym (first_of_filtered (is_due q now) q.waiting w e));
+  clears = λ t. ap (λ ws. entries_clear ws t) (sym (first_of_filtered (is_due q now) q.waiting w e));
   left = ap (λ ws. record q { waiting = ws }) (others_stay (is_due q now) q.waiting);
   answerable = first_has (λ v. AllByRecursion IsAnswerable v.messages) (is_due q now) q.waiting w e;
   others = others_have (λ v. AllByRecursion IsAnswerable v.messages) (is_due q now) q.waiting;
@@ -37,12 +46,14 @@ taken now old new entry first is = subst (λ q. IsTaken now old q (waiting_of en
 -- where none is due, none acts, and all stay
 pub record IsDone (now : ℕ) (old new : WaitingList) : Type 0 where
   pub acts : (t : Turn) → act_entries (due_at now old) t ≡ t
+  pub clears : (t : Turn) → entries_clear (due_at now old) t ≡ false
   pub left : new ≡ record old { waiting = later_than now old }
   pub others : AllAnswerable old.waiting → AllAnswerable new.waiting
 
 done_first : (now : ℕ) (q : WaitingList) → first_due q now ≡ None → IsDone now q (without_first_due q now)
 done_first now q e = record {
   acts = λ t. ap (λ ws. act_entries ws t) (none_filtered (is_due q now) q.waiting e);
+  clears = λ t. ap (λ ws. entries_clear ws t) (none_filtered (is_due q now) q.waiting e);
   left = ap (λ ws. record q { waiting = ws }) (unchanged (is_due q now) q.waiting e ∙ sym (all_others (is_due q now) q.waiting e));
   others = others_have (λ v. AllByRecursion IsAnswerable v.messages) (is_due q now) q.waiting;
 }
@@ -53,3 +64,54 @@ done now old new none is = subst (IsDone now old) (sym is) (done_first now old (
 -- what was said of each message holds of those behind the first
 pub each_answerable : (m : MessageShape) (ms : List MessageShape) → AllByRecursion IsAnswerable (m ∷ ms) → IsAnswerable m
 each_answerable m ms all = all.0
+
+-- ---- whether what waits is cleared
+
+pub or-assoc : (a b c : Bool) → ((a || b) || c) ≡ (a || (b || c))
+or-assoc true b c = refl
+or-assoc false b c = refl
+
+pub or-none : (a b : Bool) → b ≡ false → (a || b) ≡ a
+or-none true b h = refl
+or-none false b h = h
+
+-- what the commands on buses and definitions, and on the server, say of it
+pub clears-after : (result : Result Handled NoMemory) (by_node by_bus : Option (Result Turn Reason)) (after : Turn) (n : Next)
+    → by_node ≡ None → Handles result by_bus after → IsNext result n → TellsClear result (clear_in by_node by_bus n)
+clears-after (Ok Done) by_node by_bus after n none is next = λ i. clear_in (none i) (is i) (next i)
+clears-after (Ok Quit) by_node by_bus after n none is next = λ i. clear_in (none i) (is i) (next i)
+clears-after (Ok ClearSched) by_node by_bus after n none is next = λ i. clear_in (none i) (is i) (next i)
+clears-after (Ok (Failed reason)) by_node by_bus after n none is next = λ i. clear_in (none i) (is i) n
+clears-after (Ok NotMine) by_node by_bus after n none is next = λ i. clear_in (none i) (is i) n
+clears-after (Err e) by_node by_bus after n none is next = tt
+
+pub clears-not : (by_node by_bus : Option (Result Turn Reason)) (r : Result Turn Reason) (n : Next) → by_node ≡ Some r → clear_in by_node by_bus n ≡ false
+clears-not by_node by_bus r n is = ap (λ o. clear_in o by_bus n) is
+
+-- none of those that are not due is due
+none_due : {X : Type 0} (test : X → Bool) (xs : List X) → filter test (filter (λ x. not (test x)) xs) ≡ []
+none_due test [] = refl
+none_due test (x ∷ xs) = at (test x) refl (none_due test xs)
+  where
+    at : (b : Bool) → test x ≡ b → filter test (filter (λ y. not (test y)) xs) ≡ [] → filter test (cond (not b) (x ∷ filter (λ y. not (test y)) xs) (filter (λ y. not (test y)) xs)) ≡ []
+    at true is ih = ih
+    at false is ih = ap (λ b. cond b (x ∷ filter test (filter (λ y. not (test y)) xs)) (filter test (filter (λ y. not (test y)) xs))) is ∙ ih
+
+pub cleared-left : (now : ℕ) (q mid new : WaitingList) (t : Turn) → mid ≡ record q { waiting = later_than now q } → new ≡ clear_after mid now → entries_clear (due_at now q) t ≡ true → new ≡ record q { waiting = left_at now q t }
+cleared-left now q mid new t is after clears =
+    after ∙ ap (λ m. clear_after m now) is
+    ∙ ap (λ ws. record q { waiting = ws }) (none_due (is_due q now) q.waiting ∙ sym (ap (λ b. if b then [] else later_than now q) clears))
+
+pub kept-left : (now : ℕ) (q new : WaitingList) (t : Turn) → new ≡ record q { waiting = later_than now q } → entries_clear (due_at now q) t ≡ false → new ≡ record q { waiting = left_at now q t }
+kept-left now q new t is clears = is ∙ ap (λ ws. record q { waiting = ws }) (sym (ap (λ b. if b then [] else later_than now q) clears))
+
+pub cleared-answerable : (now : ℕ) (mid new : WaitingList) → new ≡ clear_after mid now → AllAnswerable mid.waiting → AllAnswerable new.waiting
+cleared-answerable now mid new is all = subst (λ (q : WaitingList). AllAnswerable q.waiting) (sym is) (kept (is_due mid now) mid.waiting all)
+  where
+    kept : (test : Waiting → Bool) (ws : List Waiting) → AllAnswerable ws → AllAnswerable (filter test ws)
+    kept test [] all = tt
+    kept test (w ∷ ws) all = at (test w) (kept test ws all.1)
+      where
+        at : (b : Bool) → AllAnswerable (filter test ws) → AllAnswerable (cond b (w ∷ filter test ws) (filter test ws))
+        at true rest = (all.0, rest)
+        at false rest = rest

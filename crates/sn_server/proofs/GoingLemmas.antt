@@ -35,8 +35,8 @@ pcm-append s (x ∷ a) b = ap (λ (t : List ℕ). sample_bytes s x ++ t) (pcm-ap
 same_turn : (p : Session) (r : Running) → r.world ≡ p.world → r.waiting ≡ p.waiting → turn_due r ≡ turn_at r.block p
 same_turn p r world waiting = ap (λ (w : World). turn_due (record r { world = w })) world ∙ ap (λ (q : WaitingList). turn_due (record r { world = p.world; waiting = q })) waiting
 
-boundary_waiting : (p : Session) (r : Running) → r.waiting ≡ p.waiting → (at_boundary r).waiting ≡ (boundary r.block p).waiting
-boundary_waiting p r waiting = ap (λ (q : WaitingList). (at_boundary (record r { waiting = q })).waiting) waiting
+boundary_waiting : (p : Session) (r : Running) → r.world ≡ p.world → r.waiting ≡ p.waiting → (at_boundary r).waiting ≡ (boundary r.block p).waiting
+boundary_waiting p r world waiting = ap (λ (w : World). (at_boundary (record r { world = w })).waiting) world ∙ ap (λ (q : WaitingList). (at_boundary (record r { world = p.world; waiting = q })).waiting) waiting
 
 boundary_replies : (p : Session) (r : Running) (out : List ℕ) → r.world ≡ p.world → r.waiting ≡ p.waiting → out ++ r.replies ≡ p.replies → out ++ (at_boundary r).replies ≡ (boundary r.block p).replies
 boundary_replies p r out world waiting so_far =
@@ -100,7 +100,7 @@ goes_on s begun total left so sm sn ro rm rn old new g b =
       plays = ap (λ (n : ℕ). blocks s left n next) b.block ∙ g.plays;
       count = omega (arith, g.count, b.block);
       world = world;
-      waiting = b.waiting ∙ boundary_waiting p old g.waiting;
+      waiting = b.waiting ∙ boundary_waiting p old g.world g.waiting;
       sound =
           append_assoc g.sound_out b.sound.piece new.sound
           ∙ ap (λ (t : List ℕ). g.sound_out ++ t) (sym b.sound.parts)
@@ -181,7 +181,7 @@ make world waiting samples replies = record { world = world; waiting = waiting; 
 
 -- an engine that opened and was offered all packets
 pub record IsOpened (s : Settings) (packets : List Shape) (r : Running) : Type 0 where
-  pub world : r.world ≡ opening s.rate s.memory
+  pub world : r.world ≡ opening s.rate s.memory 1
   pub waiting : r.waiting ≡ arrived s packets
   pub block : r.block ≡ 0
   pub sound : r.sound ≡ header_bytes s (data_len s (last_of s packets))

@@ -86,7 +86,7 @@ complete s stream ReplyFault answer bytes is some has read sound reply = absurd 
 
 -- an engine at which all packets arrived
 abbrev pub arrived_engine : Settings → List Shape → Running
-arrived_engine s packets = record { world = opening s.rate s.memory; waiting = arrived s packets; block = 0; sound = []; replies = [] }
+arrived_engine s packets = record { world = opening s.rate s.memory 1; waiting = arrived s packets; block = 0; sound = []; replies = [] }
 
 done_is : (m n : ℕ) → Done m ≡ Done n → m ≡ n
 done_is m n e = cc
@@ -100,3 +100,9 @@ done_played s (Some stream) so sn ro rn bytes packets blocks n e are frames last
     let begun = subst (λ (r : Running). IsEnded s (record r { sound = header_bytes s (data_len s (last_of s packets)) }) (last_of s packets) so sn ro rn) is ended_last in
     let bytes_out = all_played s packets (record (arrived_engine s packets) { sound = header_bytes s (data_len s (last_of s packets)) }) so sn ro rn (record { world = refl; waiting = refl; block = refl; sound = refl; replies = refl }) begun in
     (packets, subst (Frames packets) are frames, sym (done_is blocks n same) ∙ last, bytes_out.0, bytes_out.1)
+
+-- the answer of a stream whose sound is too long
+pub long_answer : (s : Settings) (stream : Option (List ℕ)) (bytes : List ℕ) (packets : List Shape) (blocks : ℕ) → IfSome stream (λ xs. bytes ≡ xs) → length bytes ≤ 16777216 → Frames packets bytes
+    → blocks ≡ last_of s packets → IsTooLong s blocks → IfSome stream (λ xs. HasAnswer s xs (LongSound blocks))
+long_answer s None bytes packets blocks are size frames last long = tt
+long_answer s (Some xs) bytes packets blocks are size frames last long = (subst (λ ys. length ys ≤ 16777216) are size, (packets, subst (Frames packets) are frames, last, long))

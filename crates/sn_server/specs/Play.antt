@@ -1,5 +1,5 @@
 -- What a stream of packets gives: the sequential walk.
-use Rattle.std.specs.Prelude.{ℕ, zero, suc, ◌+◌, ◌*◌, ℤ, pos, Bool, not, List, [], ◌∷◌, ◌++◌, map, replicate, filter, Option, None, unwrap_or, slice_index_or}
+use Rattle.std.specs.Prelude.{ℕ, zero, suc, ◌+◌, ◌*◌, ℤ, pos, Bool, false, not, ◌||◌, if◌then◌else◌, List, [], ◌∷◌, ◌++◌, map, replicate, filter, Option, None, unwrap_or, slice_index_or}
 use Rattle.sn_mem.specs.Blocks.{table}
 use Rattle.sn_mem.specs.Buses.{heard, silent}
 use Rattle.sn_osc.specs.Shape.{MessageShape, Shape}
@@ -11,7 +11,7 @@ use Rattle.sn_reply.specs.Frames.{frames_to}
 use Rattle.sn_world.specs.World.{World, Turn}
 use Rattle.sn_world.specs.Walk.{walk}
 use Rattle.sn_world.specs.Opening.{opening}
-use Rattle.sn_world.specs.Commands.{command}
+use Rattle.sn_world.specs.Commands.{command, clears}
 use Rattle.sn_server.specs.Entries.{Timed, entries_of}
 
 -- what is played: the world, what waits, the samples of the sound so far, frame by frame, and the bytes of the replies so far
@@ -40,6 +40,19 @@ due_at b q = filter (is_due q b) q.waiting
 abbrev pub later_than : ℕ → WaitingList → List Waiting
 later_than b q = filter (λ w. not (is_due q b w)) q.waiting
 
+-- whether one of a client's messages is an accepted `/clearSched`
+abbrev pub messages_clear : ℕ → List MessageShape → Turn → Bool
+messages_clear from [] t = false
+messages_clear from (m ∷ ms) t = clears from m t || messages_clear from ms (command from m t)
+
+abbrev pub entries_clear : List Waiting → Turn → Bool
+entries_clear [] t = false
+entries_clear (w ∷ ws) t = messages_clear w.from w.messages t || entries_clear ws (act_messages w.from w.messages t)
+
+-- the entries that still wait after a boundary: those that are not due, and none where one that is due clears them
+abbrev pub left_at : ℕ → WaitingList → Turn → List Waiting
+left_at b q t = if entries_clear (due_at b q) t then [] else later_than b q
+
 -- At boundary b the entries that are due act in their order.
 abbrev pub turn_at : ℕ → Session → Turn
 turn_at b s = act_entries (due_at b s.waiting) (record { world = s.world; replies = [] })
@@ -47,7 +60,7 @@ turn_at b s = act_entries (due_at b s.waiting) (record { world = s.world; replie
 abbrev pub boundary : ℕ → Session → Session
 boundary b s = record {
   world = (turn_at b s).world;
-  waiting = record s.waiting { waiting = later_than b s.waiting };
+  waiting = record s.waiting { waiting = left_at b s.waiting (record { world = s.world; replies = [] }) };
   samples = s.samples;
   replies = s.replies ++ frames_to 0 (turn_at b s).replies;
 }
@@ -100,7 +113,7 @@ abbrev pub last_of : Settings → List Shape → ℕ
 last_of s packets = unwrap_or (last_due (arrived s packets)) 0
 
 abbrev pub begun : Settings → List Shape → Session
-begun s packets = record { world = opening s.rate s.memory; waiting = arrived s packets; samples = []; replies = [] }
+begun s packets = record { world = opening s.rate s.memory 1; waiting = arrived s packets; samples = []; replies = [] }
 
 -- all blocks, and the boundary after the last
 abbrev pub played : Settings → List Shape → Session

@@ -6,7 +6,7 @@ use Rattle.sn_queue.specs.Waiting.{WaitingList}
 use Rattle.sn_world.specs.World.{World, Turn}
 use Rattle.sn_world.specs.Walk.{walk}
 use Rattle.sn_reply.specs.Frames.{frames_to}
-use Rattle.sn_server.specs.Play.{act_entries, due_at, later_than, outputs}
+use Rattle.sn_server.specs.Play.{act_entries, due_at, left_at, outputs}
 
 -- the world, what waits, the number of the next block, and the bytes that are still to be written
 pub record Running : Type 0 where
@@ -23,7 +23,7 @@ turn_due r = act_entries (due_at r.block r.waiting) (record { world = r.world; r
 abbrev pub at_boundary : Running → Running
 at_boundary r = record r {
   world = (turn_due r).world;
-  waiting = record r.waiting { waiting = later_than r.block r.waiting };
+  waiting = record r.waiting { waiting = left_at r.block r.waiting (record { world = r.world; replies = [] }) };
   replies = r.replies ++ frames_to 0 (turn_due r).replies;
 }
 

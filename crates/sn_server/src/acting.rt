@@ -1,4 +1,4 @@
-ghost use Rattle.std.specs.Prelude.{◌≡◌, ◌≤◌, map, length, OnOk, OnErr};
+ghost use Rattle.std.specs.Prelude.{◌≡◌, ◌≤◌, ◌||◌, map, length, IfOk, OnOk, OnErr};
 ghost use Rattle.std.specs.List.{AllByRecursion};
 ghost use Rattle.sn_osc.specs.Shape.{message_of};
 ghost use Rattle.sn_reply.specs.Sending.{IsAnswerable};
@@ -6,9 +6,9 @@ ghost use Rattle.sn_queue.specs.Waiting.{WaitingList};
 ghost use Rattle.sn_queue.specs.Steps.{due_of};
 ghost use Rattle.sn_world.specs.World.{turn_of};
 ghost use Rattle.sn_world.specs.Pictures.{Pictures, WritesWorld};
-ghost use Rattle.sn_world.specs.Commands.{run_node, run_bus, either, command};
-ghost use Rattle.sn_world.specs.Answers.{Handles, UnlessDone};
-ghost use Rattle.sn_server.specs.Play.{act_messages, act_entries, due_at, later_than};
+ghost use Rattle.sn_world.specs.Commands.{run_node, run_bus, either as first_there, command, clears};
+ghost use Rattle.sn_world.specs.Answers.{Handles, UnlessDone, TellsClear};
+ghost use Rattle.sn_server.specs.Play.{act_messages, act_entries, messages_clear, entries_clear, due_at, later_than, left_at};
 ghost use Rattle.sn_server.specs.Answerable.{AllAnswerable};
 
 use sn_buscmd::run_bus_command;
@@ -33,7 +33,8 @@ fn run_known<P: Port>(
     requires message { IsAnswerable (message_of message.now) }
     requires pictures { Pictures stage.old (P.words port.old) }
     requires foot { WritesWorld (P.foot port.old) stage.old.pool.region }
-    ensures row { Handles result (either (run_node from (message_of message.now) (turn_of stage.old (P.words port.old) replies.old)) (run_bus from (message_of message.now) (turn_of stage.old (P.words port.old) replies.old))) (turn_of stage.new (P.words port.new) replies.new) }
+    ensures row { Handles result (first_there (run_node from (message_of message.now) (turn_of stage.old (P.words port.old) replies.old)) (run_bus from (message_of message.now) (turn_of stage.old (P.words port.old) replies.old))) (turn_of stage.new (P.words port.new) replies.new) }
+    ensures clears { TellsClear result (clears from (message_of message.now) (turn_of stage.old (P.words port.old) replies.old)) }
     ensures unchanged { UnlessDone result (turn_of stage.new (P.words port.new) replies.new ≡ turn_of stage.old (P.words port.old) replies.old) }
     ensures pictures { Pictures stage.new (P.words port.new) }
     ensures region { stage.new.pool.region ≡ stage.old.pool.region }
@@ -43,12 +44,13 @@ fn run_known<P: Port>(
 {
     match run_node_command(alloc, stage, port, message, from, replies)? {
         Handled::NotMine => run_bus_command(alloc, stage, port, message, from, replies),
-        Handled::Done => Ok(Handled::Done),
         Handled::Failed(reason) => Ok(Handled::Failed(reason)),
+        Handled::Done | Handled::Quit | Handled::ClearSched => Ok(Handled::Done),
     }
 }
 
-/// Runs a message from a client, whichever command it is, and answers `/fail` where it is refused.
+/// Runs a message from a client, whichever command it is, and answers `/fail` where it is refused. The answer says whether it clears
+/// what waits.
 fn run_command<P: Port>(
     alloc: Global,
     stage: &mut Stage,
@@ -56,11 +58,12 @@ fn run_command<P: Port>(
     message: &Message,
     from: u32,
     replies: &mut Replies,
-) -> Result<(), NoMemory>
+) -> Result<bool, NoMemory>
     requires message { IsAnswerable (message_of message.now) }
     requires pictures { Pictures stage.old (P.words port.old) }
     requires foot { WritesWorld (P.foot port.old) stage.old.pool.region }
     ensures command { OnOk result (turn_of stage.new (P.words port.new) replies.new ≡ command from (message_of message.now) (turn_of stage.old (P.words port.old) replies.old)) }
+    ensures clears { IfOk result (λ c. c ≡ clears from (message_of message.now) (turn_of stage.old (P.words port.old) replies.old)) }
     ensures pictures { Pictures stage.new (P.words port.new) }
     ensures region { stage.new.pool.region ≡ stage.old.pool.region }
     ensures len { length (P.words port.new) ≡ length (P.words port.old) }
@@ -68,15 +71,23 @@ fn run_command<P: Port>(
     ensures rest { P.rest port.new ≡ P.rest port.old }
 {
     let reason = match run_known(alloc, stage, port, message, from, replies)? {
-        Handled::Done => return Ok(()),
+        Handled::Done | Handled::Quit => return Ok(false),
+        Handled::ClearSched => return Ok(true),
         Handled::Failed(reason) => reason,
         Handled::NotMine => Reason::UnknownCommand,
     };
     let refusal = fail(alloc, &message.address, reason)?;
-    replies.push(To::Client(from), refusal)
+    replies.push(To::Client(from), refusal)?;
+    Ok(false)
 }
 
-/// Runs messages of a client, one after another.
+fn either(a: bool, b: bool) -> bool
+    ensures { result ≡ (a || b) }
+{
+    a || b
+}
+
+/// Runs messages of a client, one after another. The answer says whether one of them clears what waits.
 fn act_messages<P: Port>(
     alloc: Global,
     stage: &mut Stage,
@@ -84,24 +95,66 @@ fn act_messages<P: Port>(
     messages: &[Message],
     from: u32,
     replies: &mut Replies,
-) -> Result<(), NoMemory>
+) -> Result<bool, NoMemory>
     requires messages { AllByRecursion IsAnswerable (map message_of messages.now) }
     requires pictures { Pictures stage.old (P.words port.old) }
     requires foot { WritesWorld (P.foot port.old) stage.old.pool.region }
     ensures acts { OnOk result (turn_of stage.new (P.words port.new) replies.new ≡ act_messages from (map message_of messages.now) (turn_of stage.old (P.words port.old) replies.old)) }
+    ensures clears { IfOk result (λ c. c ≡ messages_clear from (map message_of messages.now) (turn_of stage.old (P.words port.old) replies.old)) }
     ensures pictures { Pictures stage.new (P.words port.new) }
     ensures region { stage.new.pool.region ≡ stage.old.pool.region }
     ensures len { length (P.words port.new) ≡ length (P.words port.old) }
     ensures foot { P.foot port.new ≡ P.foot port.old }
     ensures rest { P.rest port.new ≡ P.rest port.old }
 {
+    let mut cleared = false;
     for message in messages {
-        run_command(alloc, stage, port, message, from, replies)?;
+        let clears = run_command(alloc, stage, port, message, from, replies)?;
+        cleared = either(cleared, clears);
     }
-    Ok(())
+    Ok(cleared)
 }
 
-/// Takes the entries that are due at boundary `now`, in their order, and runs their messages.
+/// Takes the entries that are due at boundary `now`, in their order, and runs their messages. The answer says whether one of them clears
+/// what waits.
+fn act_taken<P: Port>(
+    alloc: Global,
+    stage: &mut Stage,
+    port: &mut P,
+    queue: &mut Queue,
+    now: u64,
+    replies: &mut Replies,
+) -> Result<bool, NoMemory>
+    requires waiting { AllAnswerable queue.old.waiting }
+    requires pictures { Pictures stage.old (P.words port.old) }
+    requires foot { WritesWorld (P.foot port.old) stage.old.pool.region }
+    ensures acts { OnOk result (turn_of stage.new (P.words port.new) replies.new ≡ act_entries (due_at now queue.old) (turn_of stage.old (P.words port.old) replies.old)) }
+    ensures clears { IfOk result (λ c. c ≡ entries_clear (due_at now queue.old) (turn_of stage.old (P.words port.old) replies.old)) }
+    ensures left { OnOk result (queue.new ≡ record queue.old { waiting = later_than now queue.old }) }
+    ensures waiting { AllAnswerable queue.new.waiting }
+    ensures pictures { Pictures stage.new (P.words port.new) }
+    ensures region { stage.new.pool.region ≡ stage.old.pool.region }
+    ensures len { length (P.words port.new) ≡ length (P.words port.old) }
+    ensures foot { P.foot port.new ≡ P.foot port.old }
+    ensures rest { P.rest port.new ≡ P.rest port.old }
+{
+    let mut cleared = false;
+    while let Some(entry) = queue.take_due(now) {
+        let clears = act_messages(
+            alloc,
+            stage,
+            port,
+            entry.messages.as_slice(),
+            entry.from,
+            replies,
+        )?;
+        cleared = either(cleared, clears);
+    }
+    Ok(cleared)
+}
+
+/// Runs the messages of the entries that are due at boundary `now`, in their order. Where one of them clears what waits, the entries that
+/// are due later are dropped.
 pub fn act_due<P: Port>(
     alloc: Global,
     stage: &mut Stage,
@@ -114,7 +167,7 @@ pub fn act_due<P: Port>(
     requires pictures { Pictures stage.old (P.words port.old) }
     requires foot { WritesWorld (P.foot port.old) stage.old.pool.region }
     ensures acts { OnOk result (turn_of stage.new (P.words port.new) replies.new ≡ act_entries (due_at now queue.old) (turn_of stage.old (P.words port.old) replies.old)) }
-    ensures left { OnOk result (queue.new ≡ record queue.old { waiting = later_than now queue.old }) }
+    ensures left { OnOk result (queue.new ≡ record queue.old { waiting = left_at now queue.old (turn_of stage.old (P.words port.old) replies.old) }) }
     ensures waiting { AllAnswerable queue.new.waiting }
     ensures pictures { Pictures stage.new (P.words port.new) }
     ensures region { stage.new.pool.region ≡ stage.old.pool.region }
@@ -122,15 +175,10 @@ pub fn act_due<P: Port>(
     ensures foot { P.foot port.new ≡ P.foot port.old }
     ensures rest { P.rest port.new ≡ P.rest port.old }
 {
-    while let Some(entry) = queue.take_due(now) {
-        act_messages(
-            alloc,
-            stage,
-            port,
-            entry.messages.as_slice(),
-            entry.from,
-            replies,
-        )?;
+    let cleared = act_taken(alloc, stage, port, queue, now, replies)?;
+    if !cleared {
+        return Ok(());
     }
+    queue.clear_after(now);
     Ok(())
 }

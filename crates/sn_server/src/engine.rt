@@ -62,10 +62,10 @@ impl Model for Engine {
 impl Engine {
     /// The opening world, at the boundary before block 0, which begins at time 0.
     pub fn open(alloc: Global, settings: &Settings) -> Result<Self, NoMemory>
-        ensures { IfOk result (λ e. e ≡ record { world = opening settings.now.rate settings.now.memory; waiting = nothing_waits settings.now; block = 0; sound = []; replies = [] }) }
+        ensures { IfOk result (λ e. e ≡ record { world = opening settings.now.rate settings.now.memory 1; waiting = nothing_waits settings.now; block = 0; sound = []; replies = [] }) }
     {
         Ok(Engine {
-            stage: Stage::new(alloc, settings.rate, settings.memory)?,
+            stage: Stage::new(alloc, settings.rate, settings.memory, 1)?,
             port: PlainPort::new(alloc, BUS_WORDS + settings.memory)?,
             scratch: Scratch::new(alloc)?,
             samples: Vec::new(alloc),

@@ -40,7 +40,7 @@ fn offer_all(alloc: Global, engine: &mut Engine, packets: Elements) -> Result<()
 /// An engine at boundary 0, at which all packets have arrived.
 fn opened(alloc: Global, settings: &Settings, packets: Elements) -> Result<Engine, NoMemory>
     requires { ArePut (map shape packets.items) 0 }
-    ensures { IfOk result (λ e. e ≡ record { world = opening settings.now.rate settings.now.memory; waiting = arrived settings.now (map shape packets.items); block = 0; sound = []; replies = [] }) }
+    ensures { IfOk result (λ e. e ≡ record { world = opening settings.now.rate settings.now.memory 1; waiting = arrived settings.now (map shape packets.items); block = 0; sound = []; replies = [] }) }
 {
     let mut engine = Engine::open(alloc, settings)?;
     offer_all(alloc, &mut engine, packets)?;

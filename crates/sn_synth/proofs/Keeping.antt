@@ -1,8 +1,6 @@
 -- A synth changes no word but those that may be written.
-use Rattle.std.proofs.Common.{◌≡◌, ◌≤◌, ◌<◌, ◌⊎◌, ℕ, zero, suc, ◌+◌, ◌-◌, ◌*◌, Bool, true, false, List, [], ◌∷◌, ℤ, Option, Some, None, length, get_or, refl, ap, sym, subst, ◌∙◌, ⊎_elim, inl, inr, arith, true≢false, All}
+use Rattle.std.proofs.Common.{◌≡◌, ◌≤◌, ◌<◌, ℕ, ◌+◌, Bool, true, false, List, [], ◌∷◌, ℤ, length, get_or, refl, ap, sym, subst, ◌∙◌, ⊎_elim, inl, inr, arith, All}
 use Rattle.std.specs.Prelude.{if◌then◌else◌}
-use Rattle.std.proofs.lemmas.Bool.{cases_lt}
-use Rattle.std.proofs.lemmas.List.{length-map}
 use Rattle.std.proofs.lemmas.List.Elements.{All-head, All-tail}
 use Rattle.sn_fixed.specs.Fixed.{frames_of}
 use Rattle.sn_def.specs.declared.kind.Kind.{Kind}
@@ -13,59 +11,44 @@ use Rattle.sn_def.specs.StateWords.{unit_words, units_words, state_words, words_
 use Rattle.sn_def.specs.WellFormed.{UnitsFit}
 use Rattle.sn_def.specs.Definition.{Definition}
 use Rattle.sn_def.specs.declared.control.Control.{Control as SynthControl}
-use Rattle.sn_gen.specs.Generators.{generator}
 use Rattle.sn_mem.specs.declared.extents.Foot.{Foot}
 use Rattle.sn_mem.specs.Words.{MayWrite, writes}
-use Rattle.sn_mem.specs.Blocks.{block, window, put}
+use Rattle.sn_mem.specs.Blocks.{window, put}
 use Rattle.sn_mem.specs.Buses.{control_buses}
 use Rattle.sn_mem.proofs.Steps.{length-window}
-use Rattle.sn_mem.proofs.Feet.{may_write, part_at}
+use Rattle.sn_mem.proofs.Feet.{part_at}
 use Rattle.sn_mem.proofs.Windows.{apart_put}
-use Rattle.sn_synth.specs.OutAr.{bus_of_channel}
-use Rattle.sn_synth.specs.UnitBlocks.{is_out}
-use Rattle.sn_synth.specs.Synths.{now_of, input_block, input_blocks, control_values}
-use Rattle.sn_synth.specs.Words.{onto_bus, channels_onto, unit_after, Going, after_unit, after_units, begun, synth_words}
-use Rattle.sn_synth.specs.Conditions.{AreControlsOf, MayWriteBus, MayPlayAll, MayOutput}
+use Rattle.sn_io.specs.BusUnits.{is_bus_unit}
+use Rattle.sn_io.specs.OverWords.{bus_unit_over}
+use Rattle.sn_io.specs.Conditions.{MayReach}
+use Rattle.sn_io.proofs.Keeping.{off_run, bus_unit_keeps}
+use Rattle.sn_synth.specs.UnitBlocks.{inner}
+use Rattle.sn_synth.specs.Synths.{now_of, input_blocks, control_values}
+use Rattle.sn_synth.specs.Words.{unit_after, Going, after_unit, after_units, begun, synth_words}
+use Rattle.sn_synth.specs.Conditions.{AreControlsOf, MayPlayAll, MayOutput}
 use Rattle.sn_synth.proofs.BuiltRows.{state_long}
 use Rattle.sn_synth.proofs.Indices.{may_output}
-use Rattle.sn_synth.proofs.Mixing.{onto_apart}
 use Rattle.sn_synth.proofs.Picturing.{further}
-
-off_run : (f : Foot) (at n j : ℕ) → MayWrite f at n → writes f j ≡ false → (j < at) ⊎ (at + n ≤ j)
-off_run f at n j may off = ⊎_elim (λ (l : j < at). inl l)
-    (λ (r : at ≤ j). ⊎_elim (λ (k : j < at + n). absurd (true≢false (sym (may_write f f at n j may refl r k) ∙ off))) (λ (k : at + n ≤ j). inr k) (cases_lt j (at + n)))
-    (cases_lt j at)
-
-bus_keeps : (f : Foot) (b : ℕ) (ws : List ℕ) (o : Option ℕ) (xs : List ℤ) (j : ℕ) → MayWriteBus f o → writes f j ≡ false → get_or (onto_bus b ws o xs) j 0 ≡ get_or ws j 0
-bus_keeps f b ws None xs j may off = refl
-bus_keeps f b ws (Some n) xs j may off = onto_apart b ws (65 * n) xs j (off_run f (65 * n) 65 j may off)
-
-channels_keep : (f : Foot) (b : ℕ) (inputs : List (List ℤ)) (m : ℕ) (ws : List ℕ) (j : ℕ) → ((i : ℕ) → i < m → MayWriteBus f (bus_of_channel inputs i)) → writes f j ≡ false → get_or (channels_onto b inputs m ws) j 0 ≡ get_or ws j 0
-unfolding channels_onto
-channels_keep f b inputs zero ws j may off = refl
-channels_keep f b inputs (suc i) ws j may off = bus_keeps f b (channels_onto b inputs i ws) (bus_of_channel inputs i) (block inputs (suc i)) j (may i (omega arith)) off ∙ channels_keep f b inputs i ws j (λ k lt. may k (omega arith)) off
 
 either : (t : Bool) (a b : List ℕ × List (List ℤ)) (ws : List ℕ) (j : ℕ) → (t ≡ true → get_or a.0 j 0 ≡ get_or ws j 0) → (t ≡ false → get_or b.0 j 0 ≡ get_or ws j 0) → (let w : List ℕ × List (List ℤ) = if t then a else b in get_or w.0 j 0 ≡ get_or ws j 0)
 either true a b ws j h k = h refl
 either false a b ws j h k = k refl
 
-unit_keeps : (k : Kind) (now : Now) (f : Foot) (ws : List ℕ) (at n frames : ℕ) (inputs : List (List ℤ)) (j : ℕ) → MayWrite f at n → n ≡ words_of (row_of k).words frames
-    → (is_out k ≡ true → (i : ℕ) → i < length inputs - 1 → MayWriteBus f (bus_of_channel inputs i)) → writes f j ≡ false → get_or (unit_after k now ws at n inputs).0 j 0 ≡ get_or ws j 0
-unit_keeps k now f ws at n frames inputs j state size may off =
-    let r : List ℕ × List (List ℤ) = generator k now (window ws at n) inputs in
+unit_keeps : (k : Kind) (now : Now) (f : Foot) (c : ℕ) (ws : List ℕ) (at n frames : ℕ) (inputs : List (List ℤ)) (j : ℕ) → MayWrite f at n → n ≡ words_of (row_of k).words frames → MayReach k f c inputs → writes f j ≡ false → get_or (unit_after k now c ws at n inputs).0 j 0 ≡ get_or ws j 0
+unit_keeps k now f c ws at n frames inputs j state size may off =
+    let r : List ℕ × List (List ℤ) = inner k now (window ws at n) inputs in
     let wide : length (window ws at n) ≡ n = length-window ws at n in
     let long : length r.0 ≡ n = state_long k now (window ws at n) inputs frames (wide ∙ size) ∙ wide in
-    either (is_out k) (channels_onto now.block inputs (length inputs - 1) ws, []) (put ws at r.0, r.1) ws j
-    (λ out. channels_keep f now.block inputs (length inputs - 1) ws j (may out) off)
-    (λ not_out. apart_put ws at j r.0 (⊎_elim (λ (l : j < at). inl l) (λ (h : at + n ≤ j). inr (omega (arith, long, h))) (off_run f at n j state off)))
+    either (is_bus_unit k) (bus_unit_over k now c ws at n inputs) (put ws at r.0, r.1) ws j
+    (λ is_bus. bus_unit_keeps k now f c ws at n frames inputs j state size may off)
+    (λ not_bus. apart_put ws at j r.0 (⊎_elim (λ (l : j < at). inl l) (λ (h : at + n ≤ j). inr (omega (arith, long, h))) (off_run f at n j state off)))
 
 step_keeps : (rate b : ℕ) (node : ℤ) (values : List ℤ) (f : Foot) (g : Going) (u : UnitLine) (j : ℕ) → MayWrite f g.at (unit_words rate u) → MayOutput f values u → writes f j ≡ false → get_or (after_unit rate b node values g u).words j 0 ≡ get_or g.words j 0
 unfolding after_unit unit_words
 step_keeps rate b node values f g u j state may off =
     let ins : List (List ℤ) = input_blocks values g.wires u.inputs in
     let frames : ℕ = frames_of (longest (row_of u.kind).inputs u.inputs) rate in
-    let long : length ins ≡ length u.inputs = length-map u.inputs (input_block values g.wires) in
-    unit_keeps u.kind (now_of rate b node g.number) f g.words g.at (words_of (row_of u.kind).words frames) frames ins j state refl (λ out i lt. may out g.wires i (omega (arith, long, lt))) off
+    unit_keeps u.kind (now_of rate b node g.number) f u.outputs g.words g.at (words_of (row_of u.kind).words frames) frames ins j state refl (may g.wires) off
 
 pub units_keep : (rate b : ℕ) (node : ℤ) (values : List ℤ) (f : Foot) (us : List UnitLine) (g : Going) (j : ℕ) → MayWrite f g.at (units_words rate us) → All (MayOutput f values) us → writes f j ≡ false → get_or (after_units rate b node values us g).words j 0 ≡ get_or g.words j 0
 units_keep rate b node values f [] g j state may off = refl

@@ -1,10 +1,7 @@
-pub mod Samples
 pub mod Following
-pub mod Channels
 pub mod BuiltRows
 pub mod Stepping
 pub mod Indices
-pub mod Mixing
 pub mod Picturing
 pub mod Plain
 pub mod Keeping

@@ -1,12 +1,11 @@
 -- The words after a synth's block hold the buses and the state words after it.
-use Rattle.std.proofs.Common.{◌≡◌, ◌≤◌, ◌<◌, ◌⊎◌, ℕ, zero, suc, ◌+◌, ◌-◌, ◌*◌, Bool, true, false, List, [], ◌∷◌, ◌++◌, ℤ, Option, Some, None, length, get_or, refl, ap, sym, subst, ◌∙◌, ⊎_elim, inl, inr, arith, All}
+use Rattle.std.proofs.Common.{◌≡◌, ◌≤◌, ◌<◌, ◌⊎◌, ℕ, zero, suc, ◌+◌, ◌-◌, Bool, true, false, List, [], ◌∷◌, ◌++◌, ℤ, length, get_or, refl, ap, sym, subst, ◌∙◌, ⊎_elim, inl, inr, arith, All}
 use Rattle.std.specs.Prelude.{if◌then◌else◌}
 use Rattle.std.proofs.lemmas.Bool.{cases_lt}
-use Rattle.std.proofs.lemmas.List.{length-map}
+use Rattle.std.proofs.lemmas.List.{ext_get_or}
 use Rattle.std.proofs.lemmas.List.Elements.{All-head, All-tail}
 use Rattle.sn_fixed.specs.Fixed.{frames_of}
 use Rattle.sn_def.specs.declared.kind.Kind.{Kind}
-use Rattle.sn_def.specs.declared.kind.Kind.TheVariants as kinds
 use Rattle.sn_def.specs.declared.control.Now.{Now}
 use Rattle.sn_def.specs.declared.unit.Unit.{Unit as UnitLine}
 use Rattle.sn_def.specs.Units.{row_of}
@@ -14,23 +13,26 @@ use Rattle.sn_def.specs.StateWords.{unit_words, units_words, state_words, words_
 use Rattle.sn_def.specs.WellFormed.{UnitsFit}
 use Rattle.sn_def.specs.Definition.{Definition}
 use Rattle.sn_def.specs.declared.control.Control.{Control as SynthControl}
-use Rattle.sn_gen.specs.Generators.{generator}
 use Rattle.sn_mem.specs.declared.extents.Foot.{Foot}
 use Rattle.sn_mem.specs.Words.{MayWrite, touches}
 use Rattle.sn_mem.specs.Blocks.{window, put}
-use Rattle.sn_mem.specs.Buses.{Buses, audio_buses, control_buses, buses_of}
+use Rattle.sn_mem.specs.Buses.{Buses, control_buses, buses_of}
 use Rattle.sn_mem.proofs.Steps.{length-window, length-put}
 use Rattle.sn_mem.proofs.Feet.{may_touch}
-use Rattle.sn_mem.proofs.Windows.{window_same, window_window, window_put, apart_put}
-use Rattle.sn_mem.proofs.BusLaws.{same_buses, control_same, buses_same}
-use Rattle.sn_synth.specs.OutAr.{bus_of_channel, channels_out}
-use Rattle.sn_synth.specs.UnitBlocks.{UnitBlock, is_out, out_block, generator_block, unit_block}
-use Rattle.sn_synth.specs.Synths.{Playing, now_of, input_block, input_blocks, control_values, play_unit, play_units, before_units, synth_block}
-use Rattle.sn_synth.specs.Words.{channels_onto, unit_after, Going, after_unit, after_units, begun, synth_words}
-use Rattle.sn_synth.specs.Conditions.{AreControlsOf, MayWriteBus, MayPlayAll, MayOutput}
+use Rattle.sn_mem.proofs.Puts.{in_put}
+use Rattle.sn_mem.proofs.Windows.{window_at, window_window, window_put, apart_put}
+use Rattle.sn_mem.proofs.BusLaws.{buses_same}
+use Rattle.sn_io.specs.Channels.{audio_channel, control_channel}
+use Rattle.sn_io.specs.BusUnits.{UnitBlock, is_bus_unit, bus_unit}
+use Rattle.sn_io.specs.OverWords.{bus_unit_over}
+use Rattle.sn_io.specs.Conditions.{MayReach}
+use Rattle.sn_io.proofs.Meaning.{UnitMeans as BusMeans, unit_means as bus_unit_means, audio_inside, control_inside}
+use Rattle.sn_synth.specs.UnitBlocks.{inner, inner_block, unit_block}
+use Rattle.sn_synth.specs.Synths.{Playing, now_of, input_blocks, control_values, play_unit, play_units, before_units, synth_block}
+use Rattle.sn_synth.specs.Words.{unit_after, Going, after_unit, after_units, begun, synth_words}
+use Rattle.sn_synth.specs.Conditions.{AreControlsOf, MayPlayAll, MayOutput}
 use Rattle.sn_synth.proofs.BuiltRows.{state_long}
 use Rattle.sn_synth.proofs.Indices.{may_output}
-use Rattle.sn_synth.proofs.Mixing.{IsInside, channels_mix}
 
 -- Where the state lies: it has none of the buses' words, it is inside the words, and so is each word of the foot.
 pub record Lies (f : Foot) (at len words : ℕ) : Type 0 where
@@ -57,59 +59,82 @@ unfolding put
 put_inside ws at len p [] le inside = refl
 put_inside ws at len p (x ∷ xs) le inside = window_put ws at len p (x ∷ xs) le (inside (omega (arith, le)))
 
-gen_means : (k : Kind) (now : Now) (f : Foot) (ws : List ℕ) (at len p n frames : ℕ) (inputs : List (List ℤ)) → Lies f at len (length ws) → p + n ≤ len → n ≡ words_of (row_of k).words frames
-    → UnitMeans at len p ws (put ws (at + p) (generator k now (window ws (at + p) n) inputs).0) (generator k now (window ws (at + p) n) inputs).1 (generator_block k now (window (window ws at len) p n) inputs (buses_of ws))
-gen_means k now f ws at len p n frames inputs lies le size =
+inner_means : (k : Kind) (now : Now) (f : Foot) (ws : List ℕ) (at len p n frames : ℕ) (inputs : List (List ℤ)) → Lies f at len (length ws) → p + n ≤ len → n ≡ words_of (row_of k).words frames
+    → UnitMeans at len p ws (put ws (at + p) (inner k now (window ws (at + p) n) inputs).0) (inner k now (window ws (at + p) n) inputs).1 (inner_block k now (window (window ws at len) p n) inputs (buses_of ws))
+inner_means k now f ws at len p n frames inputs lies le size =
     let st : List ℕ = window ws (at + p) n in
-    let xs : List ℕ = (generator k now st inputs).0 in
+    let xs : List ℕ = (inner k now st inputs).0 in
     let there : window (window ws at len) p n ≡ st = window_window ws at len p n le in
     let wide : length st ≡ n = length-window ws (at + p) n in
     let long : length xs ≡ n = state_long k now st inputs frames (wide ∙ size) ∙ wide in
     record {
       buses = buses_same (put ws (at + p) xs) ws (λ j low. apart_put ws (at + p) j xs (⊎_elim (λ (l : j < at + p). inl l) (λ (r : at + p + n ≤ j). inr (omega (arith, long, r))) (no_bus at len p n j lies.apart le low)));
-      state = put_inside ws at len p xs (omega (arith, long, le)) lies.inside ∙ ap (λ (st : List ℕ). put (window ws at len) p (generator k now st inputs).0) (sym there);
-      gives = ap (λ (st : List ℕ). (generator k now st inputs).1) (sym there);
+      state = put_inside ws at len p xs (omega (arith, long, le)) lies.inside ∙ ap (λ (st : List ℕ). put (window ws at len) p (inner k now st inputs).0) (sym there);
+      gives = ap (λ (st : List ℕ). (inner k now st inputs).1) (sym there);
       long = length-put ws (at + p) xs;
       others = λ j high apart. apart_put ws (at + p) j xs (⊎_elim (λ (l : j < at). inl (omega (arith, l))) (λ (r : at + len ≤ j). inr (omega (arith, long, le, r))) apart);
     }
 
-put_nothing : (ws vs : List ℕ) (p n : ℕ) → n ≡ 0 → put vs p (window ws p n) ≡ vs
-unfolding put window
-put_nothing ws vs p n e = ap (λ n. put vs p (window ws p n)) e
+-- a part of a window is changed, and the rest stays
+spliced : (us ws : List ℕ) (at len p n : ℕ) → (0 < len → 10368 ≤ at) → p + n ≤ len → ((j : ℕ) → 10368 ≤ j → (j < at + p) ⊎ (at + p + n ≤ j) → get_or us j 0 ≡ get_or ws j 0) → window us at len ≡ put (window ws at len) p (window us (at + p) n)
+spliced us ws at len p n apart le off =
+    let xs : List ℕ = window us (at + p) n in
+    let wide : length (window ws at len) ≡ len = length-window ws at len in
+    let long : length xs ≡ n = length-window us (at + p) n in
+    ext_get_or 0 (window us at len) (put (window ws at len) p xs) (length-window us at len ∙ sym (length-put (window ws at len) p xs ∙ wide))
+    (λ k lt.
+    let l : k < len = omega (arith, lt, length-window us at len) in
+    let high : 10368 ≤ at + k = let from : 10368 ≤ at = apart (omega (arith, l)) in omega arith in
+    let outside : (k < p) ⊎ (p + n ≤ k) → get_or us (at + k) 0 ≡ get_or (put (window ws at len) p xs) k 0 = λ o.
+    off (at + k) high (⊎_elim (λ (a : k < p). inl (omega (arith, a))) (λ (b : p + n ≤ k). inr (omega (arith, b))) o)
+    ∙ (sym (window_at ws at len k l) ∙ sym (apart_put (window ws at len) p k xs (⊎_elim (λ (a : k < p). inl a) (λ (b : p + n ≤ k). inr (omega (arith, b, long))) o))) in
+    window_at us at len k l ∙ ⊎_elim
+    (λ (a : k < p). outside (inl a))
+    (λ (a : p ≤ k). ⊎_elim
+    (λ (b : k < p + n).
+    let j : ℕ = k - p in
+    let there : p + j ≡ k = omega (arith, a) in
+    ap (λ m. get_or us m 0) (omega (arith, a))
+    ∙ (sym (window_at us (at + p) n j (omega (arith, a, b)))
+    ∙ (sym (in_put (window ws at len) p j xs (omega (arith, a, b, long)) (omega (arith, wide, long, le)))
+    ∙ ap (λ m. get_or (put (window ws at len) p xs) m 0) there)))
+    (λ (b : p + n ≤ k). outside (inr b))
+    (cases_lt k (p + n)))
+    (cases_lt k p))
 
-out_means : (now : Now) (f : Foot) (ws : List ℕ) (at len p n : ℕ) (inputs : List (List ℤ)) → Lies f at len (length ws) → n ≡ 0 → ((i : ℕ) → i < length inputs - 1 → IsInside (length ws) (bus_of_channel inputs i))
-    → UnitMeans at len p ws (channels_onto now.block inputs (length inputs - 1) ws) [] (out_block now (window (window ws at len) p n) inputs (buses_of ws))
-out_means now f ws at len p n inputs lies none inside =
-    let us : List ℕ = channels_onto now.block inputs (length inputs - 1) ws in
-    let mixes = channels_mix now.block inputs (length inputs - 1) ws inside in
-    record {
-      buses = same_buses (audio_buses us) (channels_out now.block inputs (length inputs - 1) (audio_buses ws)) (control_buses us) (control_buses ws) mixes.audio (control_same us ws (λ j low high. mixes.others j low));
-      state = window_same us ws at len (λ k lt. mixes.others (at + k) (let a : 10368 ≤ at = lies.apart (omega (arith, lt)) in omega arith)) ∙ sym (put_nothing (window ws at len) (window ws at len) p n none);
-      gives = refl;
-      long = mixes.long;
-      others = λ j high apart. mixes.others j (omega (arith, high));
-    }
+bus_means : (k : Kind) (now : Now) (f : Foot) (c : ℕ) (ws : List ℕ) (at len p n frames : ℕ) (inputs : List (List ℤ)) → Lies f at len (length ws) → p + n ≤ len → n ≡ words_of (row_of k).words frames → MayReach k f c inputs
+    → UnitMeans at len p ws (bus_unit_over k now c ws (at + p) n inputs).0 (bus_unit_over k now c ws (at + p) n inputs).1 (bus_unit k now c (window (window ws at len) p n) inputs (buses_of ws))
+bus_means k now f c ws at len p n frames inputs lies le size may =
+    let w : List ℕ × List (List ℤ) = bus_unit_over k now c ws (at + p) n inputs in
+    let m : BusMeans (at + p) n ws w.0 w.1 (bus_unit k now c (window ws (at + p) n) inputs (buses_of ws)) = bus_unit_means k now c (at + p) n frames ws inputs size (record {
+      apart = λ some. let from : 10368 ≤ at = lies.apart (omega (arith, some, le)) in omega arith;
+      inside = λ some. let fits : at + len ≤ length ws = lies.inside (omega (arith, some, le)) in omega (arith, fits, le);
+      audio = λ is i lt. audio_inside f (length ws) (audio_channel inputs i) lies.foot (may.writes is i (omega (arith, lt)));
+      control = λ is i lt. control_inside f (length ws) (control_channel inputs i) lies.foot (may.sets is i (omega (arith, lt)));
+    }) in
+    let P : List ℕ → Type 0 = λ (st : List ℕ). UnitMeans at len p ws w.0 w.1 (bus_unit k now c st inputs (buses_of ws)) in
+    subst P (sym (window_window ws at len p n le)) (record {
+      buses = m.buses;
+      state = spliced w.0 ws at len p n lies.apart le m.others ∙ ap (λ (st : List ℕ). put (window ws at len) p st) m.state;
+      gives = m.gives;
+      long = m.long;
+      others = λ j high apart. m.others j high (⊎_elim (λ (l : j < at). inl (omega (arith, l))) (λ (r : at + len ≤ j). inr (omega (arith, le, r))) apart);
+    })
 
 either : (t : Bool) (at len p : ℕ) (ws : List ℕ) (a b : List ℕ × List (List ℤ)) (r s : UnitBlock) → (t ≡ true → UnitMeans at len p ws a.0 a.1 r) → (t ≡ false → UnitMeans at len p ws b.0 b.1 s)
     → (let w : List ℕ × List (List ℤ) = if t then a else b in UnitMeans at len p ws w.0 w.1 (if t then r else s))
 either true at len p ws a b r s h k = h refl
 either false at len p ws a b r s h k = k refl
 
-out_words : (k : Kind) (frames : ℕ) → is_out k ≡ true → words_of (row_of k).words frames ≡ 0
-unfolding row_of
-out_words kinds.Outar frames h = refl
-out_words _ frames h = absurd cc
-
-unit_means : (k : Kind) (now : Now) (f : Foot) (ws : List ℕ) (at len p a n frames : ℕ) (inputs : List (List ℤ)) → Lies f at len (length ws) → at + p ≡ a → p + n ≤ len → n ≡ words_of (row_of k).words frames
-    → (is_out k ≡ true → (i : ℕ) → i < length inputs - 1 → IsInside (length ws) (bus_of_channel inputs i))
-    → UnitMeans at len p ws (unit_after k now ws a n inputs).0 (unit_after k now ws a n inputs).1 (unit_block k now (window (window ws at len) p n) inputs (buses_of ws))
-unit_means k now f ws at len p a n frames inputs lies e le size inside =
-    let P : ℕ → Type 0 = λ a. UnitMeans at len p ws (unit_after k now ws a n inputs).0 (unit_after k now ws a n inputs).1 (unit_block k now (window (window ws at len) p n) inputs (buses_of ws)) in
-    let r : List ℕ × List (List ℤ) = generator k now (window ws (at + p) n) inputs in
-    subst P e (either (is_out k) at len p ws (channels_onto now.block inputs (length inputs - 1) ws, []) (put ws (at + p) r.0, r.1)
-    (out_block now (window (window ws at len) p n) inputs (buses_of ws)) (generator_block k now (window (window ws at len) p n) inputs (buses_of ws))
-    (λ out. out_means now f ws at len p n inputs lies (size ∙ out_words k frames out) (inside out))
-    (λ not_out. gen_means k now f ws at len p n frames inputs lies le size))
+unit_means : (k : Kind) (now : Now) (f : Foot) (c : ℕ) (ws : List ℕ) (at len p a n frames : ℕ) (inputs : List (List ℤ)) → Lies f at len (length ws) → at + p ≡ a → p + n ≤ len → n ≡ words_of (row_of k).words frames → MayReach k f c inputs
+    → UnitMeans at len p ws (unit_after k now c ws a n inputs).0 (unit_after k now c ws a n inputs).1 (unit_block k now c (window (window ws at len) p n) inputs (buses_of ws))
+unit_means k now f c ws at len p a n frames inputs lies e le size may =
+    let P : ℕ → Type 0 = λ a. UnitMeans at len p ws (unit_after k now c ws a n inputs).0 (unit_after k now c ws a n inputs).1 (unit_block k now c (window (window ws at len) p n) inputs (buses_of ws)) in
+    let r : List ℕ × List (List ℤ) = inner k now (window ws (at + p) n) inputs in
+    subst P e (either (is_bus_unit k) at len p ws (bus_unit_over k now c ws (at + p) n inputs) (put ws (at + p) r.0, r.1)
+    (bus_unit k now c (window (window ws at len) p n) inputs (buses_of ws)) (inner_block k now (window (window ws at len) p n) inputs (buses_of ws))
+    (λ is_bus. bus_means k now f c ws at len p n frames inputs lies le size may)
+    (λ not_bus. inner_means k now f ws at len p n frames inputs lies le size))
 
 -- ---- one unit after the other
 
@@ -119,10 +144,6 @@ picture at len g = record { buses = buses_of g.words; state = window g.words at 
 
 same_playing : (b b' : Buses) (s s' : List ℕ) (w w' : List (List ℤ)) (p p' n : ℕ) → b ≡ b' → s ≡ s' → w ≡ w' → p ≡ p' → ◌≡◌ {A = Playing} (record { buses = b; state = s; wires = w; place = p; number = n }) (record { buses = b'; state = s'; wires = w'; place = p'; number = n })
 same_playing b b' s s' w w' p p' n e f h i = cc
-
-bus_inside : (f : Foot) (words : ℕ) (o : Option ℕ) → ((x : ℕ) → touches f x ≡ true → x < words) → MayWriteBus f o → IsInside words o
-bus_inside f words None inside may = tt
-bus_inside f words (Some n) inside may = let last : 65 * n + 64 < words = inside (65 * n + 64) (may_touch f f (65 * n) 65 (65 * n + 64) may refl (omega arith) (omega arith)) in omega arith
 
 -- what stays through a unit or more
 pub record Stays (at len : ℕ) (ws us : List ℕ) : Type 0 where
@@ -138,11 +159,9 @@ step rate b node values f at len g u lies may low le =
     let n : ℕ = words_of (row_of u.kind).words frames in
     let p : ℕ = g.at - at in
     let now : Now = now_of rate b node g.number in
-    let long : length ins ≡ length u.inputs = length-map u.inputs (input_block values g.wires) in
-    let w : List ℕ × List (List ℤ) = unit_after u.kind now g.words g.at n ins in
-    let r : UnitBlock = unit_block u.kind now (window (window g.words at len) p n) ins (buses_of g.words) in
-    let means : UnitMeans at len p g.words w.0 w.1 r = unit_means u.kind now f g.words at len p g.at n frames ins lies (omega arith) le refl
-    (λ out i lt. bus_inside f (length g.words) (bus_of_channel ins i) lies.foot (may out g.wires i (omega (arith, long, lt)))) in (
+    let w : List ℕ × List (List ℤ) = unit_after u.kind now u.outputs g.words g.at n ins in
+    let r : UnitBlock = unit_block u.kind now u.outputs (window (window g.words at len) p n) ins (buses_of g.words) in
+    let means : UnitMeans at len p g.words w.0 w.1 r = unit_means u.kind now f u.outputs g.words at len p g.at n frames ins lies (omega arith) le refl (may g.wires) in (
       same_playing r.buses (buses_of w.0) (put (window g.words at len) p r.state) (window w.0 at len) (g.wires ++ r.outputs) (g.wires ++ w.1) (p + n) (g.at + n - at) (g.number + 1)
           (sym means.buses) (sym means.state) (ap (λ (o : List (List ℤ)). g.wires ++ o) (sym means.gives)) (omega arith),
       record { long = means.long; others = means.others },

@@ -1,29 +1,28 @@
 -- One more unit.
-use Rattle.std.proofs.Common.{◌≡◌, ◌≤◌, ◌<◌, ℕ, ◌+◌, ◌||◌, List, [], ◌∷◌, ◌++◌, ℤ, length, get_or, take, drop, true, refl, ap, sym, subst, ◌∙◌, arith, All}
+use Rattle.std.proofs.Common.{◌≡◌, ◌≤◌, ◌<◌, ℕ, ◌+◌, List, [], ◌∷◌, ◌++◌, ℤ, length, get_or, take, drop, true, refl, ap, sym, subst, ◌∙◌, arith, All}
 use Rattle.std.proofs.lemmas.List.{drop_more, length-map}
 use Rattle.std.proofs.lemmas.List.Sums.{fold_more}
 use Rattle.std.proofs.lemmas.List.Elements.{All-nil, All-cons}
 use Rattle.sn_def.specs.declared.control.Now.{Now}
 use Rattle.sn_def.specs.declared.table.Mark.{Mark}
 use Rattle.sn_def.specs.declared.table.Mark.TheVariants.{Signal, Index, Constant, Longest}
-use Rattle.sn_def.specs.declared.table.Words.TheVariants.{Fixed}
 use Rattle.sn_def.specs.declared.unit.Input.{Input}
 use Rattle.sn_def.specs.declared.unit.Input.TheVariants.{Literal, Control, Wire}
 use Rattle.sn_def.specs.declared.unit.Unit.{Unit as UnitLine}
 use Rattle.sn_def.specs.Units.{row_of}
 use Rattle.sn_def.specs.Reading.{mark_at}
-use Rattle.sn_def.specs.StateWords.{unit_words, units_words, longest}
-use Rattle.sn_fixed.specs.Fixed.{frames_of}
+use Rattle.sn_def.specs.StateWords.{unit_words, units_words, words_of}
+use Rattle.sn_filt.specs.Rings.{most_frames}
 use Rattle.sn_def.specs.WellFormed.{IsAllowed, AreAllowed, UnitFits, UnitsFit, outputs_of}
-use Rattle.sn_gen.specs.Generators.{is_generator}
 use Rattle.sn_mem.specs.declared.extents.Foot.{Foot}
 use Rattle.sn_mem.specs.Words.{MayWrite}
 use Rattle.sn_mem.proofs.Feet.{part_at}
-use Rattle.sn_synth.specs.UnitBlocks.{is_out}
+use Rattle.sn_io.specs.Conditions.{MayReach}
+use Rattle.sn_synth.specs.UnitBlocks.{is_played}
 use Rattle.sn_synth.specs.Synths.{input_block, input_blocks, now_of}
 use Rattle.sn_synth.specs.Words.{unit_after, Going, after_unit, after_units}
 use Rattle.sn_synth.specs.Conditions.{IsKnown, AreKnown, MayOutput, CanRun}
-use Rattle.sn_synth.proofs.BuiltRows.{built_kind, inputs_few, words_fixed, outputs_long}
+use Rattle.sn_synth.proofs.BuiltRows.{built_kind, inputs_few, same_words, outputs_long}
 
 -- ---- what a unit line that fits allows
 
@@ -53,26 +52,29 @@ inputs_at_most c w u fits = let few = inputs_few u.kind (built_kind u.kind fits.
 long_blocks : (values : List ℤ) (wires : List (List ℤ)) (xs : List Input) → length (input_blocks values wires xs) ≡ length xs
 long_blocks values wires xs = length-map xs (input_block values wires)
 
-size_is : (rate : ℕ) (u : UnitLine) → (is_out u.kind || is_generator u.kind) ≡ true → (row_of u.kind).words ≡ Fixed (unit_words rate u)
+size_is : (rate c w : ℕ) (values : List ℤ) (wires : List (List ℤ)) (u : UnitLine) → UnitFits c w u → words_of (row_of u.kind).words (most_frames rate (input_blocks values wires u.inputs)) ≡ unit_words rate u
 unfolding unit_words
-size_is rate u built = words_fixed u.kind (frames_of (longest (row_of u.kind).inputs u.inputs) rate) built
+size_is rate c w values wires u fits = let least = fits.fewest_inputs in same_words u.kind rate c w values wires u.inputs (built_kind u.kind fits.built) fits.inputs (omega arith)
 
-pub can_run : (rate : ℕ) (f : Foot) (at c w len : ℕ) (values : List ℤ) (wires : List (List ℤ)) (u : UnitLine) → UnitFits c w u → MayOutput f values u → len ≡ unit_words rate u → MayWrite f at len → CanRun u.kind f at len (input_blocks values wires u.inputs)
-can_run rate f at c w len values wires u fits may size state =
+pub can_run : (rate : ℕ) (f : Foot) (at c w n len : ℕ) (values : List ℤ) (wires : List (List ℤ)) (u : UnitLine) → UnitFits c w u → MayOutput f values u → n ≡ u.outputs → len ≡ unit_words rate u → (0 < len → 10368 ≤ at) → MayWrite f at len → CanRun u.kind rate f n at len (input_blocks values wires u.inputs)
+can_run rate f at c w n len values wires u fits may many size apart state =
     let long = long_blocks values wires u.inputs in
-    let built : (is_out u.kind || is_generator u.kind) ≡ true = built_kind u.kind fits.built in
-    let few = inputs_few u.kind built in let most = fits.most_inputs in let least = fits.fewest_inputs in
+    let built : is_played u.kind ≡ true = built_kind u.kind fits.built in
+    let least = fits.fewest_inputs in
+    let P : ℕ → Type 0 = λ n. MayReach u.kind f n (input_blocks values wires u.inputs) in
     record {
       built = built;
       enough = omega arith;
-      few = omega arith;
-      size = size_is rate u built ∙ ap Fixed (sym size);
+      size = size_is rate c w values wires u fits ∙ sym size;
+      apart = apart;
       state = state;
-      buses = λ out i lt. may out wires i (omega (arith, long, lt));
+      buses = subst P (sym many) (may wires);
     }
 
-pub outputs_are : (c w : ℕ) (u : UnitLine) (now : Now) (ws : List ℕ) (at len : ℕ) (inputs : List (List ℤ)) → UnitFits c w u → length (unit_after u.kind now ws at len inputs).1 ≡ u.outputs
-outputs_are c w u now ws at len inputs fits = outputs_long u.kind now ws at len inputs u.outputs (built_kind u.kind fits.built) fits.fewest_outputs fits.most_outputs
+pub outputs_are : (c w n : ℕ) (u : UnitLine) (now : Now) (ws : List ℕ) (at len : ℕ) (inputs : List (List ℤ)) → UnitFits c w u → n ≡ u.outputs → length (unit_after u.kind now n ws at len inputs).1 ≡ u.outputs
+outputs_are c w n u now ws at len inputs fits many =
+    let P : ℕ → Type 0 = λ n. length (unit_after u.kind now n ws at len inputs).1 ≡ u.outputs in
+    subst P (sym many) (outputs_long u.kind now ws at len inputs u.outputs (built_kind u.kind fits.built) fits.fewest_outputs fits.most_outputs)
 
 -- ---- the units to come
 
@@ -110,25 +112,26 @@ ahead_at rate c w p w' p' end us e e' a =
 
 -- ---- the fold
 
-one : (rate b : ℕ) (node : ℤ) (values : List ℤ) (g : Going) (u : UnitLine) (now : Now) (ws : List ℕ) (ins outs wires : List (List ℤ)) (len : ℕ)
-    → ins ≡ input_blocks values g.wires u.inputs → now ≡ now_of rate b node g.number → len ≡ unit_words rate u
-    → ws ≡ (unit_after u.kind now g.words g.at len ins).0 → outs ≡ (unit_after u.kind now g.words g.at len ins).1 → wires ≡ g.wires ++ outs
+one : (rate b : ℕ) (node : ℤ) (values : List ℤ) (g : Going) (u : UnitLine) (now : Now) (ws : List ℕ) (ins outs wires : List (List ℤ)) (many len : ℕ)
+    → ins ≡ input_blocks values g.wires u.inputs → now ≡ now_of rate b node g.number → many ≡ u.outputs → len ≡ unit_words rate u
+    → ws ≡ (unit_after u.kind now many g.words g.at len ins).0 → outs ≡ (unit_after u.kind now many g.words g.at len ins).1 → wires ≡ g.wires ++ outs
     → ◌≡◌ {A = Going} (record { words = ws; wires = wires; at = g.at + len; number = g.number + 1 }) (after_unit rate b node values g u)
 unfolding after_unit
-one rate b node values g u now ws ins outs wires len i n s w o a =
-    let F : Now → ℕ → List (List ℤ) → Going = λ (now : Now) (len : ℕ) (ins : List (List ℤ)). record { words = (unit_after u.kind now g.words g.at len ins).0; wires = g.wires ++ (unit_after u.kind now g.words g.at len ins).1; at = g.at + len; number = g.number + 1 } in
-    let e : ◌≡◌ {A = Going} (record { words = ws; wires = wires; at = g.at + len; number = g.number + 1 }) (F now len ins) =
+one rate b node values g u now ws ins outs wires many len i n m s w o a =
+    let F : Now → ℕ → ℕ → List (List ℤ) → Going = λ (now : Now) (many len : ℕ) (ins : List (List ℤ)). record { words = (unit_after u.kind now many g.words g.at len ins).0; wires = g.wires ++ (unit_after u.kind now many g.words g.at len ins).1; at = g.at + len; number = g.number + 1 } in
+    let e : ◌≡◌ {A = Going} (record { words = ws; wires = wires; at = g.at + len; number = g.number + 1 }) (F now many len ins) =
     ap (λ (ws : List ℕ). record { words = ws; wires = wires; at = g.at + len; number = g.number + 1 }) w
-    ∙ ap (λ (wires : List (List ℤ)). record { words = (unit_after u.kind now g.words g.at len ins).0; wires = wires; at = g.at + len; number = g.number + 1 }) (a ∙ ap (λ (o : List (List ℤ)). g.wires ++ o) o) in
-    e ∙ (ap (λ (now : Now). F now len ins) n ∙ (ap (λ (len : ℕ). F (now_of rate b node g.number) len ins) s ∙ ap (λ (ins : List (List ℤ)). F (now_of rate b node g.number) (unit_words rate u) ins) i))
+    ∙ ap (λ (wires : List (List ℤ)). record { words = (unit_after u.kind now many g.words g.at len ins).0; wires = wires; at = g.at + len; number = g.number + 1 }) (a ∙ ap (λ (o : List (List ℤ)). g.wires ++ o) o) in
+    e ∙ (ap (λ (now : Now). F now many len ins) n ∙ (ap (λ (many : ℕ). F (now_of rate b node g.number) many len ins) m ∙ (ap (λ (len : ℕ). F (now_of rate b node g.number) u.outputs len ins) s
+    ∙ ap (λ (ins : List (List ℤ)). F (now_of rate b node g.number) u.outputs (unit_words rate u) ins) i)))
 
-pub unit_more : (rate b : ℕ) (node : ℤ) (values : List ℤ) (us : List UnitLine) (start g : Going) (k : ℕ) (u : UnitLine) (now : Now) (ws : List ℕ) (ins outs wires : List (List ℤ)) (len : ℕ)
+pub unit_more : (rate b : ℕ) (node : ℤ) (values : List ℤ) (us : List UnitLine) (start g : Going) (k : ℕ) (u : UnitLine) (now : Now) (ws : List ℕ) (ins outs wires : List (List ℤ)) (many len : ℕ)
     → k < length us → u ≡ get_or us k u → g ≡ after_units rate b node values (take k us) start
-    → ins ≡ input_blocks values g.wires u.inputs → now ≡ now_of rate b node g.number → len ≡ unit_words rate u
-    → ws ≡ (unit_after u.kind now g.words g.at len ins).0 → outs ≡ (unit_after u.kind now g.words g.at len ins).1 → wires ≡ g.wires ++ outs
+    → ins ≡ input_blocks values g.wires u.inputs → now ≡ now_of rate b node g.number → many ≡ u.outputs → len ≡ unit_words rate u
+    → ws ≡ (unit_after u.kind now many g.words g.at len ins).0 → outs ≡ (unit_after u.kind now many g.words g.at len ins).1 → wires ≡ g.wires ++ outs
     → ◌≡◌ {A = Going} (record { words = ws; wires = wires; at = g.at + len; number = g.number + 1 }) (after_units rate b node values (take (k + 1) us) start)
-unit_more rate b node values us start g k u now ws ins outs wires len lt is e i n s w o a =
-    one rate b node values g u now ws ins outs wires len i n s w o a
+unit_more rate b node values us start g k u now ws ins outs wires many len lt is e i n m s w o a =
+    one rate b node values g u now ws ins outs wires many len i n m s w o a
     ∙ (ap (λ (g : Going). after_unit rate b node values g u) e
     ∙ (ap (after_unit rate b node values (after_units rate b node values (take k us) start)) is
     ∙ sym (fold_more (after_unit rate b node values) start us k u lt)))
@@ -141,10 +144,12 @@ known_at c w c' w' u xs e p q fits = let P : List Input → Type 0 = λ (xs : Li
 pub gathered : (values values' : List ℤ) (wires ins : List (List ℤ)) (u : UnitLine) (xs : List Input) → ins ≡ input_blocks values' wires xs → xs ≡ u.inputs → values' ≡ values → ins ≡ input_blocks values wires u.inputs
 gathered values values' wires ins u xs e p q = e ∙ (ap (input_blocks values' wires) p ∙ ap (λ (vs : List ℤ). input_blocks vs wires u.inputs) q)
 
-pub can_at : (rate : ℕ) (f f' : Foot) (at total place c w len : ℕ) (values : List ℤ) (wires ins : List (List ℤ)) (us : List UnitLine) (k : ℕ) (u : UnitLine)
-    → k < length us → u ≡ get_or us k u → UnitFits c w u → All (MayOutput f values) us → len ≡ unit_words rate u → MayWrite f at total → f' ≡ f → at ≤ place → place + unit_words rate u ≤ at + total → ins ≡ input_blocks values wires u.inputs → CanRun u.kind f' place len ins
-can_at rate f f' at total place c w len values wires ins us k u lt is fits may size state e low high gather =
+pub can_at : (rate rate' : ℕ) (f f' : Foot) (at total place c w n len : ℕ) (values : List ℤ) (wires ins : List (List ℤ)) (us : List UnitLine) (k : ℕ) (u : UnitLine)
+    → k < length us → u ≡ get_or us k u → UnitFits c w u → All (MayOutput f values) us → n ≡ u.outputs → len ≡ unit_words rate u → (0 < total → 10368 ≤ at) → MayWrite f at total → f' ≡ f → at ≤ place → place + unit_words rate u ≤ at + total → ins ≡ input_blocks values wires u.inputs → rate' ≡ rate → CanRun u.kind rate' f' n place len ins
+can_at rate rate' f f' at total place c w n len values wires ins us k u lt is fits may many size apart state e low high gather same =
     let P : UnitLine → Type 0 = λ (v : UnitLine). MayOutput f values v in
-    let F : Foot → Type 0 = λ (f : Foot). CanRun u.kind f place len ins in
-    let I : List (List ℤ) → Type 0 = λ (ins : List (List ℤ)). CanRun u.kind f place len ins in
-    subst F (sym e) (subst I (sym gather) (can_run rate f place c w len values wires u fits (subst P (sym is) (may k u lt)) size (part_at f f at total place len state refl low (omega arith))))
+    let F : Foot → Type 0 = λ (f : Foot). CanRun u.kind rate f n place len ins in
+    let I : List (List ℤ) → Type 0 = λ (ins : List (List ℤ)). CanRun u.kind rate f n place len ins in
+    let R : ℕ → Type 0 = λ rate. CanRun u.kind rate f' n place len ins in
+    let behind : 0 < len → 10368 ≤ place = λ some. let from : 10368 ≤ at = apart (omega (arith, some)) in omega arith in
+    subst R (sym same) (subst F (sym e) (subst I (sym gather) (can_run rate f place c w n len values wires u fits (subst P (sym is) (may k u lt)) many size behind (part_at f f at total place len state refl low (omega arith)))))

@@ -1,5 +1,5 @@
 -- What a synth needs.
-use Rattle.std.specs.Prelude.{◌≡◌, ◌<◌, ◌≤◌, ◌+◌, ◌||◌, ℕ, List, ℤ, pos, ◌+ℤ◌, Option, Some, None, true, length, slice_index_or}
+use Rattle.std.specs.Prelude.{◌≡◌, ◌<◌, ◌≤◌, ◌+◌, ℕ, List, ℤ, pos, ◌+ℤ◌, Option, Some, None, true, length, slice_index_or}
 use Rattle.std.specs.List.{All}
 use Rattle.sn_def.specs.declared.control.Control.{Control as SynthControl}
 use Rattle.sn_def.specs.declared.unit.Input.{Input}
@@ -9,14 +9,15 @@ use Rattle.sn_def.specs.Definition.{Definition}
 use Rattle.sn_def.specs.Asked.{is_index}
 use Rattle.sn_def.specs.Units.{row_of}
 use Rattle.sn_def.specs.declared.kind.Kind.{Kind}
-use Rattle.sn_def.specs.declared.table.Words.TheVariants.{Fixed}
-use Rattle.sn_gen.specs.Generators.{is_generator}
+use Rattle.sn_def.specs.StateWords.{words_of}
+use Rattle.sn_filt.specs.Rings.{most_frames}
 use Rattle.sn_mem.specs.declared.extents.Foot.{Foot}
-use Rattle.sn_mem.specs.Words.{MayWrite, MayRead}
-use Rattle.sn_mem.specs.Layout.{audio_place, control_place}
+use Rattle.sn_mem.specs.Words.{MayWrite}
 use Rattle.sn_mem.specs.Buses.{audio_number}
-use Rattle.sn_synth.specs.OutAr.{bus_of_channel}
-use Rattle.sn_synth.specs.UnitBlocks.{is_out}
+use Rattle.sn_io.specs.Channels.{control_number}
+use Rattle.sn_io.specs.BusUnits.{reads_audio, reads_control, writes_audio, writes_control}
+use Rattle.sn_io.specs.Conditions.{MayReadAudio, MayReadControl, MayWriteAudio, MayWriteControl, MayReach}
+use Rattle.sn_synth.specs.UnitBlocks.{is_played}
 use Rattle.sn_synth.specs.Synths.{input_blocks}
 
 -- what is read where no such control is
@@ -33,19 +34,9 @@ pub record AreControlsOf (d : Definition) (controls : List SynthControl) : Type 
   pub followed : All (λ c. IsFollowed c.bus) controls
   pub indices : (k : ℕ) → is_index d k ≡ true → (slice_index_or controls k no_control).bus ≡ None
 
--- the words of an audio bus may be written, where there is one
-abbrev pub MayWriteBus : Foot → Option ℕ → Type 0
-MayWriteBus f None = Unit {0}
-MayWriteBus f (Some n) = MayWrite f (audio_place n).at (audio_place n).len
-
--- those of a control bus may be read
-abbrev pub MayReadBus : Foot → Option ℕ → Type 0
-MayReadBus f None = Unit {0}
-MayReadBus f (Some n) = MayRead f (control_place n).at (control_place n).len
-
 -- the controls that follow a control bus may be read from it
 abbrev pub MayFollow : Foot → List SynthControl → Type 0
-MayFollow f controls = All (λ c. MayReadBus f c.bus) controls
+MayFollow f controls = All (λ c. MayReadControl f c.bus) controls
 
 -- the value of an index input
 abbrev pub index_value : List SynthControl → Input → ℤ
@@ -56,9 +47,12 @@ index_value controls (Wire k) = pos 0
 abbrev pub index_of : List SynthControl → UnitLine → ℤ
 index_of controls u = index_value controls (slice_index_or u.inputs 0 (Literal (pos 0)))
 
--- the buses of a unit's channels may be written, where it is Out.ar
-abbrev pub MayPlay : Foot → List SynthControl → UnitLine → Type 0
-MayPlay f controls u = is_out u.kind ≡ true → (i : ℕ) → i + 1 < length u.inputs → MayWriteBus f (audio_number (index_of controls u +ℤ pos i))
+-- the buses of a unit's channels may be read or written, as its kind does
+pub record MayPlay (f : Foot) (controls : List SynthControl) (u : UnitLine) : Type 0 where
+  pub hears : reads_audio u.kind ≡ true → (i : ℕ) → i < u.outputs → MayReadAudio f (audio_number (index_of controls u +ℤ pos i))
+  pub reads : reads_control u.kind ≡ true → (i : ℕ) → i < u.outputs → MayReadControl f (control_number (index_of controls u +ℤ pos i))
+  pub writes : writes_audio u.kind ≡ true → (i : ℕ) → i + 1 < length u.inputs → MayWriteAudio f (audio_number (index_of controls u +ℤ pos i))
+  pub sets : writes_control u.kind ≡ true → (i : ℕ) → i + 1 < length u.inputs → MayWriteControl f (control_number (index_of controls u +ℤ pos i))
 
 -- those of all units
 abbrev pub MayPlayAll : Foot → List SynthControl → Definition → Type 0
@@ -66,7 +60,7 @@ MayPlayAll f controls d = All (MayPlay f controls) d.units
 
 -- the same by the values of the controls and the blocks of the inputs
 abbrev pub MayOutput : Foot → List ℤ → UnitLine → Type 0
-MayOutput f values u = is_out u.kind ≡ true → (wires : List (List ℤ)) (i : ℕ) → i + 1 < length u.inputs → MayWriteBus f (bus_of_channel (input_blocks values wires u.inputs) i)
+MayOutput f values u = (wires : List (List ℤ)) → MayReach u.kind f u.outputs (input_blocks values wires u.inputs)
 
 -- an input that is there, after so many wires
 abbrev pub IsKnown : ℕ → ℕ → Input → Type 0
@@ -77,11 +71,11 @@ IsKnown controls wires (Wire k) = k < wires
 abbrev pub AreKnown : ℕ → ℕ → List Input → Type 0
 AreKnown controls wires inputs = All (IsKnown controls wires) inputs
 
--- a unit of a kind on the blocks of its inputs, with its state in so many words from a place on
-pub record CanRun (kind : Kind) (f : Foot) (at len : ℕ) (inputs : List (List ℤ)) : Type 0 where
-  pub built : (is_out kind || is_generator kind) ≡ true
+-- a unit of a kind with so many outputs, at a rate, on the blocks of its inputs, with its state in so many words from a place on
+pub record CanRun (kind : Kind) (rate : ℕ) (f : Foot) (n at len : ℕ) (inputs : List (List ℤ)) : Type 0 where
+  pub built : is_played kind ≡ true
   pub enough : length (row_of kind).inputs ≤ length inputs
-  pub few : length inputs ≤ 9
-  pub size : (row_of kind).words ≡ Fixed len
+  pub size : words_of (row_of kind).words (most_frames rate inputs) ≡ len
+  pub apart : 0 < len → 10368 ≤ at
   pub state : MayWrite f at len
-  pub buses : is_out kind ≡ true → (i : ℕ) → i + 1 < length inputs → MayWriteBus f (bus_of_channel inputs i)
+  pub buses : MayReach kind f n inputs

@@ -1,4 +1,3 @@
-pub mod OutAr
 pub mod UnitBlocks
 pub mod Synths
 pub mod Conditions

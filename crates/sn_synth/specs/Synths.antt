@@ -54,7 +54,7 @@ now_of rate b node number = record { rate = rate; block = b; node = node; unit =
 unfoldable pub play_unit : ℕ → ℕ → ℤ → List ℤ → Playing → UnitLine → Playing
 play_unit rate b node values p u =
     let words = unit_words rate u in
-    let r = unit_block u.kind (now_of rate b node p.number) (window p.state p.place words) (input_blocks values p.wires u.inputs) p.buses in
+    let r = unit_block u.kind (now_of rate b node p.number) u.outputs (window p.state p.place words) (input_blocks values p.wires u.inputs) p.buses in
     record { buses = r.buses; state = put p.state p.place r.state; wires = p.wires ++ r.outputs; place = p.place + words; number = p.number + 1 }
 
 abbrev pub play_units : ℕ → ℕ → ℤ → List ℤ → List UnitLine → Playing → Playing

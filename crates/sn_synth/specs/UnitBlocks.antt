@@ -1,33 +1,26 @@
 -- What one unit makes of a block.
-use Rattle.std.specs.Prelude.{ℕ, ◌-◌, Bool, true, false, List, [], ℤ, length, if◌then◌else◌}
+use Rattle.std.specs.Prelude.{ℕ, Bool, ◌||◌, List, ℤ, if◌then◌else◌}
 use Rattle.sn_def.specs.declared.kind.Kind.{Kind}
-use Rattle.sn_def.specs.declared.kind.Kind.TheVariants as kinds
 use Rattle.sn_def.specs.declared.control.Now.{Now}
 use Rattle.sn_mem.specs.Buses.{Buses}
-use Rattle.sn_gen.specs.Generators.{generator}
-use Rattle.sn_synth.specs.OutAr.{channels_out}
+use Rattle.sn_gen.specs.Generators.{is_generator, generator}
+use Rattle.sn_filt.specs.Filters.{is_filter, filter}
+use Rattle.sn_io.specs.BusUnits.{UnitBlock, giving, is_bus_unit, bus_unit}
 
--- after a unit's block: its state words, the blocks that it gives, and the buses
-pub record UnitBlock : Type 0 where
-  pub state : List ℕ
-  pub outputs : List (List ℤ)
-  pub buses : Buses
+-- a generator, a unit of arithmetic or a filter hears and writes no bus
+abbrev pub is_inner : Kind → Bool
+is_inner kind = is_generator kind || is_filter kind
 
-abbrev pub is_out : Kind → Bool
-is_out kinds.Outar = true
-is_out _ = false
+unfoldable pub inner : Kind → Now → List ℕ → List (List ℤ) → List ℕ × List (List ℤ)
+inner kind now state inputs = if is_generator kind then generator kind now state inputs else filter kind now state inputs
 
--- all channels of Out.ar: each input but the first
-abbrev pub out_ar : ℕ → List (List ℤ) → Buses → Buses
-out_ar b inputs buses = record buses { audio = channels_out b inputs (length inputs - 1) buses.audio }
+abbrev pub inner_block : Kind → Now → List ℕ → List (List ℤ) → Buses → UnitBlock
+inner_block kind now state inputs buses = let r = inner kind now state inputs in giving r.0 r.1 buses
 
-abbrev pub out_block : Now → List ℕ → List (List ℤ) → Buses → UnitBlock
-out_block now state inputs buses = record { state = state; outputs = []; buses = out_ar now.block inputs buses }
+-- a kind of unit that a synth can run
+abbrev pub is_played : Kind → Bool
+is_played kind = is_bus_unit kind || is_inner kind
 
--- a generator hears and writes no bus
-abbrev pub generator_block : Kind → Now → List ℕ → List (List ℤ) → Buses → UnitBlock
-generator_block kind now state inputs buses = let r = generator kind now state inputs in record { state = r.0; outputs = r.1; buses = buses }
-
--- a unit of a kind, from its state words, its inputs' blocks and the buses
-abbrev pub unit_block : Kind → Now → List ℕ → List (List ℤ) → Buses → UnitBlock
-unit_block kind now state inputs buses = if is_out kind then out_block now state inputs buses else generator_block kind now state inputs buses
+-- a unit of a kind with so many outputs, from its state words, its inputs' blocks and the buses
+abbrev pub unit_block : Kind → Now → ℕ → List ℕ → List (List ℤ) → Buses → UnitBlock
+unit_block kind now n state inputs buses = if is_bus_unit kind then bus_unit kind now n state inputs buses else inner_block kind now state inputs buses

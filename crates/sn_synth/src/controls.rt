@@ -3,7 +3,8 @@ ghost use Rattle.std.specs.Prelude.{◌≡◌, ◌≤◌, length};
 ghost use Rattle.std.specs.List.{All};
 ghost use Rattle.sn_mem.specs.Buses.{control_buses};
 ghost use Rattle.sn_synth.specs.Synths.{control_value, control_values};
-ghost use Rattle.sn_synth.specs.Conditions.{IsFollowed, MayReadBus, MayFollow};
+ghost use Rattle.sn_io.specs.Conditions.{MayReadControl};
+ghost use Rattle.sn_synth.specs.Conditions.{IsFollowed, MayFollow};
 
 use sn_def::Control;
 use sn_mem::{Places, Port, Values, sample_of};
@@ -11,7 +12,7 @@ use sn_mem::{Places, Port, Values, sample_of};
 /// The value of a control: that of the control bus that it follows, or its own.
 fn value_of<P: Port>(port: &mut P, control: Control) -> i32
     requires bus { IsFollowed control.bus }
-    requires reads { MayReadBus (P.foot port.old) control.bus }
+    requires reads { MayReadControl (P.foot port.old) control.bus }
     ensures value { result ≡ control_value (control_buses (P.words port.old)) control }
     ensures words { P.words port.new ≡ P.words port.old }
     ensures foot { P.foot port.new ≡ P.foot port.old }

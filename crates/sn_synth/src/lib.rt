@@ -3,7 +3,6 @@
 
 mod controls;
 mod inputs;
-mod out;
 mod synth;
 mod units;
 

@@ -15,6 +15,16 @@ const TONE: &[u8] =
 
 const DC: &[u8] = b"snova 1\ndef dc\ncontrol out 16\ncontrol amp 0\nOut.ar out amp amp\nend\n";
 
+const FIRST: &[u8] = b"snova 1\ndef first\nx = InFeedback 1\ny = Add x 1\nOut.ar 0 y\nend\n";
+
+const SECOND: &[u8] = b"snova 1\ndef second\nx = InFeedback 0\ny = Add x 10\nOut.ar 1 y\nend\n";
+
+const LINK: &[u8] =
+    b"snova 1\ndef link\ncontrol bus 5\nOut.kr bus 7 -2\na b = In.kr bus\nOut.ar 8 a b\nend\n";
+
+const PAN: &[u8] =
+    b"snova 1\ndef pan\ncontrol out 4\nx = Add 0.25 0.25\nl r = Pan2 x 0.5 1.0\nOut.ar out r l\nend\n";
+
 fn own(value: i32) -> Control
     ensures { result.bus ≡ None }
 {
@@ -200,5 +210,48 @@ fn a_control_follows_its_bus(rt: HostRuntime) -> Result<(), Fail> {
     };
     desk.play(alloc, &dc, &[own(20), amp], 0)?;
     assert_eq!(rt; desk.sample(20, 0), -9);
+    Ok(())
+}
+
+#[test]
+fn a_unit_with_two_outputs_gives_two_wires(rt: HostRuntime) -> Result<(), Fail> {
+    let alloc = rt.alloc();
+    let pan = read(alloc, PAN)?;
+    let mut desk = Desk::new(alloc)?;
+    desk.play(alloc, &pan, &[own(4)], 0)?;
+    assert_eq!(rt; desk.sample(4, 0), 6_291_456);
+    assert_eq!(rt; desk.sample(4, 63), 6_291_456);
+    assert_eq!(rt; desk.sample(5, 0), 2_097_152);
+    assert_eq!(rt; desk.sample(6, 0), 0);
+    Ok(())
+}
+
+#[test]
+fn two_synths_feed_each_other(rt: HostRuntime) -> Result<(), Fail> {
+    let alloc = rt.alloc();
+    let first = read(alloc, FIRST)?;
+    let second = read(alloc, SECOND)?;
+    let mut desk = Desk::new(alloc)?;
+    for (block, on_first, on_second) in [(0u32, 1, 11), (1, 12, 22), (2, 23, 33)] {
+        desk.play(alloc, &first, &[], u64::from(block))?;
+        desk.play(alloc, &second, &[], u64::from(block))?;
+        assert_eq!(rt; desk.sample(0, 0), on_first);
+        assert_eq!(rt; desk.sample(1, 63), on_second);
+    }
+    desk.play(alloc, &second, &[], 4)?;
+    assert_eq!(rt; desk.sample(1, 63), 10);
+    Ok(())
+}
+
+#[test]
+fn a_control_bus_links_units(rt: HostRuntime) -> Result<(), Fail> {
+    let alloc = rt.alloc();
+    let link = read(alloc, LINK)?;
+    let mut desk = Desk::new(alloc)?;
+    desk.play(alloc, &link, &[own(5)], 0)?;
+    assert_eq!(rt; desk.word(8330), 1);
+    assert_eq!(rt; desk.word(8331), 7);
+    assert_eq!(rt; desk.sample(8, 63), 7);
+    assert_eq!(rt; desk.sample(9, 0), -2);
     Ok(())
 }

@@ -2,26 +2,55 @@
 ghost use Rattle.std.specs.Prelude.{◌≡◌, ◌<◌, ◌≤◌, ◌+◌, ◌-◌, ◌^◌, ◌++◌, ◌||◌, ℕ, length, true, if◌then◌else◌};
 ghost use Rattle.std.specs.List.{All};
 ghost use Rattle.sn_def.specs.WellFormed.{UnitFits, UnitsFit, outputs_of};
-ghost use Rattle.sn_def.specs.StateWords.{unit_words, units_words};
+ghost use Rattle.sn_def.specs.StateWords.{words_of, unit_words, units_words};
 ghost use Rattle.sn_def.specs.Units.{row_of};
-ghost use Rattle.sn_def.specs.declared.table.Words.TheVariants.{Fixed};
+ghost use Rattle.sn_filt.specs.Rings.{most_frames};
 ghost use Rattle.sn_mem.specs.Words.{MayWrite};
 ghost use Rattle.sn_gen.specs.Generators.{is_generator};
-ghost use Rattle.sn_synth.specs.OutAr.{bus_of_channel};
-ghost use Rattle.sn_synth.specs.UnitBlocks.{is_out};
+ghost use Rattle.sn_mem.specs.Blocks.{window, put};
+ghost use Rattle.sn_io.specs.BusUnits.{is_bus_unit};
+ghost use Rattle.sn_synth.specs.UnitBlocks.{is_inner, inner};
 ghost use Rattle.sn_synth.specs.Synths.{input_blocks, now_of};
 ghost use Rattle.sn_synth.specs.Words.{unit_after, after_units, begun};
-ghost use Rattle.sn_synth.specs.Conditions.{MayOutput, MayWriteBus, CanRun};
+ghost use Rattle.sn_synth.specs.Conditions.{MayOutput, CanRun};
 
 use crate::inputs::gather;
-use crate::out::run_out;
 use sn_def::{Kind, Now, Unit};
-use sn_mem::{Blocks, Extent, Port, Scratch};
+use sn_mem::{Blocks, Extent, Places, Port, Scratch};
 
-fn is_out(kind: Kind) -> bool
-    ensures { result ≡ is_out kind }
+fn is_bus_unit(kind: Kind) -> bool
+    ensures { result ≡ is_bus_unit kind }
 {
-    matches!(kind, Kind::Outar)
+    matches!(
+        kind,
+        Kind::Inar
+            | Kind::InFeedback
+            | Kind::Inkr
+            | Kind::Outar
+            | Kind::ReplaceOut
+            | Kind::Outkr
+            | Kind::SendTrig
+            | Kind::DetectSilence
+            | Kind::FreeSelf
+            | Kind::PauseSelf
+    )
+}
+
+fn is_generator(kind: Kind) -> bool
+    ensures { result ≡ is_generator kind }
+{
+    matches!(
+        kind,
+        Kind::SinOsc
+            | Kind::LFSaw
+            | Kind::LFPulse
+            | Kind::LFTri
+            | Kind::Impulse
+            | Kind::WhiteNoise
+            | Kind::Phasor
+            | Kind::Line
+            | Kind::Linen
+    )
 }
 
 /// What the unit of a number is told.
@@ -34,7 +63,35 @@ fn numbered(now: &Now, number: u32) -> Now
     }
 }
 
-/// Runs a unit of a kind on the blocks of its inputs.
+/// Runs a unit that hears and writes no bus on the blocks of its inputs.
+#[tactic(auto, unfolding(crate::specs::UnitBlocks::inner))]
+fn run_inner<P: Port>(
+    kind: Kind,
+    now: &Now,
+    port: &mut P,
+    state: Extent,
+    inputs: &Blocks,
+    outputs: &mut Blocks,
+)
+    requires kind { is_inner kind ≡ true }
+    requires rate { 0 < now.now.rate }
+    requires inputs { length (row_of kind).inputs ≤ length inputs.now }
+    requires size { words_of (row_of kind).words (most_frames now.now.rate inputs.now) ≡ state.len }
+    requires state { MayWrite (P.foot port.old) state.at state.len }
+    ensures words { P.words port.new ≡ put (P.words port.old) state.at (inner kind now.now (window (P.words port.old) state.at state.len) inputs.now).0 }
+    ensures outputs { outputs.new ≡ (inner kind now.now (window (P.words port.old) state.at state.len) inputs.now).1 }
+    ensures foot { P.foot port.new ≡ P.foot port.old }
+    ensures rest { P.rest port.new ≡ P.rest port.old }
+{
+    if is_generator(kind) {
+        sn_gen::run(kind, now, port, state, inputs, outputs);
+    } else {
+        sn_filt::run(kind, now, port, state, inputs, outputs);
+    }
+}
+
+/// Runs a unit of a kind on the blocks of its inputs. `outputs` comes with as many blocks as the
+/// unit has outputs.
 fn run_kind<P: Port>(
     kind: Kind,
     now: &Now,
@@ -45,17 +102,16 @@ fn run_kind<P: Port>(
 )
     requires rate { 0 < now.now.rate }
     requires block { now.now.block < 2 ^ 63 }
-    requires can { CanRun kind (P.foot port.old) state.at state.len inputs.now }
-    ensures words { P.words port.new ≡ (unit_after kind now.now (P.words port.old) state.at state.len inputs.now).0 }
-    ensures outputs { outputs.new ≡ (unit_after kind now.now (P.words port.old) state.at state.len inputs.now).1 }
+    requires can { CanRun kind now.now.rate (P.foot port.old) (length outputs.old) state.at state.len inputs.now }
+    ensures words { P.words port.new ≡ (unit_after kind now.now (length outputs.old) (P.words port.old) state.at state.len inputs.now).0 }
+    ensures outputs { outputs.new ≡ (unit_after kind now.now (length outputs.old) (P.words port.old) state.at state.len inputs.now).1 }
     ensures foot { P.foot port.new ≡ P.foot port.old }
     ensures rest { P.rest port.new ≡ P.rest port.old }
 {
-    if is_out(kind) {
-        outputs.clear();
-        run_out(port, now.block, inputs);
+    if is_bus_unit(kind) {
+        sn_io::run(kind, now, &Places, port, state, inputs, outputs);
     } else {
-        sn_gen::run(kind, now, port, state, inputs, outputs);
+        run_inner(kind, now, port, state, inputs, outputs);
     }
 }
 
@@ -72,6 +128,7 @@ pub(crate) fn run_units<P: Port>(
     requires fit { UnitsFit (length scratch.old.values) 0 units.now }
     requires wires { outputs_of units.now ≤ 512 }
     requires few { length units.now ≤ 256 }
+    requires apart { 0 < units_words now.now.rate units.now → 10368 ≤ at }
     requires state { MayWrite (P.foot port.old) at (units_words now.now.rate units.now) }
     requires outputs { All (MayOutput (P.foot port.old) scratch.old.values) units.now }
     ensures words { P.words port.new ≡ (after_units now.now.rate now.now.block now.now.node scratch.old.values units.now (begun (P.words port.old) at)).words }
@@ -90,6 +147,7 @@ pub(crate) fn run_units<P: Port>(
             &scratch.wires,
             &mut scratch.inputs,
         );
+        scratch.outputs.resize(unit.outputs as usize);
         run_kind(
             unit.kind,
             &numbered(now, number),

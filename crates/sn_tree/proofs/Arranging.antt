@@ -1,27 +1,25 @@
 -- What a change of the list makes of the attached and the detached nodes.
-use Rattle.std.proofs.Common.{◌≡◌, ◌⊎◌, ℕ, zero, suc, ◌+◌, ◌-◌, ◌<◌, ◌≤◌, ℤ, pos, Bool, true, false, not, ◌||◌, ◌&&◌, nat_lt, List, [], ◌∷◌, ◌++◌, length, take, drop, get_or, length-take, length-drop, reverse, Option, Some, None, sym, refl, ap, ◌∙◌, subst, ⊎_elim, arith, append_assoc, length-append}
+use Rattle.std.proofs.Common.{◌≡◌, ℕ, ◌+◌, ◌-◌, ◌<◌, ◌≤◌, ℤ, pos, Bool, true, false, ◌||◌, nat_lt, List, [], ◌∷◌, ◌++◌, length, take, drop, get_or, length-take, length-drop, reverse, Option, Some, None, sym, refl, ap, ◌∙◌, subst, arith, append_assoc, length-append}
 use Rattle.std.specs.Prelude.{if◌then◌else◌}
-use Rattle.std.specs.List.{All}
 use Rattle.std.specs.Ordering.{int_eq}
-use Rattle.std.specs.Option.{option_map}
 use Rattle.std.proofs.Math.ListN.{set}
 use Rattle.std.proofs.Math.Seq.{set-append_seam}
 use Rattle.std.proofs.lemmas.Bool.{lt-ltb, le-ltb, false_from_ne_true, or_parts}
 use Rattle.std.proofs.lemmas.Bool.Decides.{Decides-int_eq}
-use Rattle.std.proofs.lemmas.List.{append-nil, reverse-append, reverse-reverse, length-reverse, take-append-le, drop-append-le, take-append-drop}
-use Rattle.std.proofs.lemmas.List.Elements.{All-append, All-nil, All-cons, All-take, All-drop}
+use Rattle.std.proofs.lemmas.List.{append-nil, reverse-append, reverse-reverse, take-append-le, drop-append-le, take-append-drop}
+use Rattle.std.proofs.lemmas.List.Elements.{All-append, All-take, All-drop}
 use Rattle.sn_tree.specs.declared.entry.Entry.{Entry}
 use Rattle.sn_tree.specs.declared.entry.Place.{Place}
 use Rattle.sn_tree.specs.declared.node.Action.{Action}
 use Rattle.sn_tree.specs.declared.node.TreeFault.{TreeFault}
-use Rattle.sn_tree.specs.declared.node.TreeFault.TheVariants.{NoNode, InUse, NotGroup, IsRoot, Inside, TooMany}
-use Rattle.sn_tree.specs.Trees.{Label, Nodes, none, node, holds, joined, put, subtree, without, label_of, count, changed, with_running, without_first}
+use Rattle.sn_tree.specs.declared.node.TreeFault.TheVariants.{NoNode, NotGroup, IsRoot, TooMany}
+use Rattle.sn_tree.specs.Trees.{Nodes, none, node, holds, joined, put, subtree, without, label_of, count, changed, with_running, without_first}
 use Rattle.sn_tree.specs.Faults.{first_fault, spot_fault, insert_fault, detach_fault, set_run_fault, is_missing, is_beside_root, is_in_synth}
-use Rattle.sn_tree.specs.Order.{Key, entry_of, flat, tree_of, IsFlat, adjusted, length-flat, take_at, drop_at, flat_is, tree_is, is_flat, tree_of-flat}
-use Rattle.sn_tree.specs.Places.{IsSmall, Found, Spotted, lifted, IsPlace, taken_out, IsSetRunning}
-use Rattle.sn_tree.specs.Arranged.{Arranged, arranged, IsArranged}
+use Rattle.sn_tree.specs.Order.{Key, entry_of, flat, tree_of, length-flat, take_at, drop_at, flat_is, tree_is, is_flat, tree_of-flat}
+use Rattle.sn_tree.specs.Places.{IsSmall, Found, Spotted, lifted, IsPlace, IsSetRunning}
+use Rattle.sn_tree.specs.Arranged.{arranged, IsArranged}
 use Rattle.sn_tree.proofs.Placing.{flat-joined, found}
-use Rattle.sn_tree.proofs.Spotting.{few, small, item, reach, within, taken_list}
+use Rattle.sn_tree.proofs.Spotting.{few, small, item}
 
 pub no_label : {P : Type 0} (id : ℤ) (t : Nodes P) → holds id t ≡ false → label_of id t ≡ None
 no_label id none h = refl

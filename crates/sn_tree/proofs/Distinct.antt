@@ -1,5 +1,5 @@
 -- No id is attached twice.
-use Rattle.std.proofs.Common.{◌≡◌, ◌⊎◌, ℕ, ◌+◌, ◌≤◌, ℤ, Bool, true, false, ◌||◌, List, [], ◌∷◌, ◌++◌, sym, refl, ap, ◌∙◌, ⊎_elim, arith}
+use Rattle.std.proofs.Common.{◌≡◌, ℕ, ◌+◌, ◌≤◌, ℤ, Bool, true, false, ◌||◌, List, [], ◌∷◌, ◌++◌, sym, refl, ap, ◌∙◌, ⊎_elim, arith}
 use Rattle.std.specs.Prelude.{if◌then◌else◌}
 use Rattle.std.specs.Ordering.{int_eq}
 use Rattle.std.proofs.lemmas.Bool.{cases_Bool, or_parts}
@@ -18,7 +18,7 @@ module _ {P : Type 0} (x : ℤ) where
   abbrev occurs : Nodes P → ℕ
   occurs t = occurrences int_eq x (ids t)
 
-  occurs-node : (label : Label P) (below after : Nodes P) → occurs (node label below after) ≡ (if int_eq label.id x then 1 else 0) + (occurs below + occurs after)
+  pub occurs-node : (label : Label P) (below after : Nodes P) → occurs (node label below after) ≡ (if int_eq label.id x then 1 else 0) + (occurs below + occurs after)
   occurs-node label below after = omega (arith, occurrences-append int_eq x (ids below) (ids after))
 
   occurs-joined : (s t : Nodes P) → occurs (joined s t) ≡ occurs s + occurs t

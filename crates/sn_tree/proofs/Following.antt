@@ -1,9 +1,8 @@
 -- The tree that nodes and payloads stand for, after each step.
-use Rattle.std.proofs.Common.{◌≡◌, ◌≢◌, ◌⊎◌, ℕ, zero, suc, ◌+◌, ◌-◌, ◌<◌, ◌≤◌, ℤ, pos, Bool, true, false, not, ◌&&◌, ◌||◌, nat_lt, List, [], ◌∷◌, ◌++◌, reverse, Option, Some, None, sym, refl, ap, ◌∙◌, subst, ⊎_elim, inl, inr, arith}
-use Rattle.std.specs.Prelude.{◌==◌, is_some, unwrap_or, slice_index_or, if◌then◌else◌}
+use Rattle.std.proofs.Common.{◌≡◌, ◌≢◌, ◌⊎◌, ℕ, ◌+◌, ◌-◌, ◌<◌, ◌≤◌, ℤ, pos, Bool, true, false, not, ◌&&◌, nat_lt, List, [], ◌∷◌, Option, Some, None, sym, refl, ap, ◌∙◌, subst, ⊎_elim, inl, inr, arith}
+use Rattle.std.specs.Prelude.{◌==◌, unwrap_or, slice_index_or, if◌then◌else◌}
 use Rattle.std.specs.Ordering.{int_eq}
-use Rattle.std.specs.Option.{option_map}
-use Rattle.std.proofs.lemmas.Bool.{cases_Bool, cases_lt, lt-ltb, le-ltb, false_from_ne_true}
+use Rattle.std.proofs.lemmas.Bool.{cases_Bool, cases_lt, lt-ltb, le-ltb}
 use Rattle.std.proofs.lemmas.Bool.Decides.{eqb_tells, Decides-int_eq}
 use Rattle.slab.specs.Slab.{Slab, get, Updates}
 use Rattle.sn_tree.specs.declared.node.NodeKind.{NodeKind}
@@ -12,18 +11,18 @@ use Rattle.sn_tree.specs.declared.node.Spot.{Spot}
 use Rattle.sn_tree.specs.declared.node.Action.{Action}
 use Rattle.sn_tree.specs.declared.node.Action.TheVariants.{Head, Tail, Before, After}
 use Rattle.sn_tree.specs.declared.node.TreeFault.{TreeFault}
-use Rattle.sn_tree.specs.Trees.{Label, Nodes, Sides, none, node, holds, ids, label_of, subtree, without, joined, count, has_top, shares, put, leaf, with_payloads, with_payloads_of, changed, with_running, last_top, without_last, first_label, without_first}
+use Rattle.sn_tree.specs.Trees.{Nodes, Sides, none, node, holds, ids, subtree, without, joined, count, has_top, shares, put, leaf, with_payloads, with_payloads_of, changed, with_running, last_top}
 use Rattle.std.specs.List.{AllByRecursion}
 use Rattle.sn_tree.specs.declared.node.TreeFault.TheVariants.{NoNode, InUse, NotGroup, IsRoot, Inside, TooMany}
 use Rattle.sn_tree.specs.Faults.{first_fault, is_beside_root, is_missing, is_in_synth, detach_fault, insert_fault, move_fault, attach_fault}
 use Rattle.sn_tree.specs.Order.{Key}
 use Rattle.sn_tree.specs.Arranged.{Arranged}
 use Rattle.sn_tree.specs.Saving.{SavedNodes, HasSpare, spent, noted, forgotten}
-use Rattle.sn_tree.specs.Model.{Journal, NodeTree}
-use Rattle.sn_tree.specs.Steps.{occurrences, HasRoom, followed, stepped, inserted, inserting, detaching, attaching, moving, setting, detached, attached, moved, running}
-use Rattle.sn_tree.specs.Kept.{same_key, uses, times, payload_of, filled, IsRooted, IsFilled, IsSaved, IsKept, mark_of, origin, journal_shown, shown}
+use Rattle.sn_tree.specs.Model.{NodeTree}
+use Rattle.sn_tree.specs.Steps.{occurrences, HasRoom, followed, stepped, inserted, inserting, detaching, moving, setting, detached, moved, running}
+use Rattle.sn_tree.specs.Kept.{same_key, uses, payload_of, filled, IsRooted, IsSaved, IsKept, mark_of, origin, journal_shown, shown}
 use Rattle.sn_tree.proofs.Distinct.{occurs-put, occurs-parts, occurs-set, distinct_leaf}
-use Rattle.sn_tree.proofs.Keeping.{same_key-refl, agree, uses-put, used, used_detaching, used_moving, used_attaching, used_setting, inserting_map, detaching_map, moving_map, attaching_map, setting_map}
+use Rattle.sn_tree.proofs.Keeping.{agree, uses-put, used_detaching, used_moving, used_setting, inserting_map, detaching_map, moving_map, setting_map}
 
 -- the root stays where it is
 

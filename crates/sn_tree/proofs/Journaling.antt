@@ -1,23 +1,21 @@
 -- Opening a journal, undoing, and ending detached nodes.
-use Rattle.std.proofs.Common.{◌≡◌, ◌≢◌, ◌⊎◌, ℕ, zero, suc, ◌+◌, ◌-◌, ◌<◌, ◌≤◌, ℤ, pos, Bool, true, false, nat_lt, List, [], ◌∷◌, ◌++◌, reverse, length, Option, Some, None, sym, refl, ap, ◌∙◌, subst, ⊎_elim, arith}
-use Rattle.std.specs.Prelude.{◌==◌, is_some, unwrap_or, slice_index_or, option_to_list, if◌then◌else◌}
+use Rattle.std.proofs.Common.{◌≡◌, ◌≢◌, ℕ, zero, suc, ◌+◌, ◌<◌, ◌≤◌, List, [], Option, Some, None, sym, refl, ap, ◌∙◌, subst, ⊎_elim, arith}
+use Rattle.std.specs.Prelude.{◌==◌, is_some, unwrap_or, slice_index_or, if◌then◌else◌}
 use Rattle.std.specs.Option.{option_map}
-use Rattle.std.proofs.lemmas.Bool.{cases_Bool, cases_lt, lt-ltb}
-use Rattle.std.proofs.lemmas.Bool.Decides.{eqb_tells}
-use Rattle.std.proofs.lemmas.List.{reverse-append}
-use Rattle.slab.specs.Slab.{Slab, get, Updates}
-use Rattle.sn_tree.specs.Trees.{Label, Nodes, Sides, none, node, joined, with_payloads, with_payloads_of, first_label, without_first}
+use Rattle.std.proofs.lemmas.Bool.{cases_lt, lt-ltb}
+use Rattle.slab.specs.Slab.{Slab, Updates}
+use Rattle.sn_tree.specs.Trees.{Label, Nodes, none, node, with_payloads, with_payloads_of, first_label, without_first}
 use Rattle.sn_tree.specs.Order.{Key}
 use Rattle.sn_tree.specs.Arranged.{Arranged}
 use Rattle.sn_tree.specs.Saving.{SavedNodes}
-use Rattle.sn_tree.specs.Model.{Journal, NodeTree}
-use Rattle.sn_tree.specs.Steps.{IsOpen, IsOpened, IsShapedAs, AllDistinct, occurrences, payloads_of, undone, committed, freed}
-use Rattle.sn_tree.specs.Kept.{same_key, uses, times, payload_of, filled, IsRooted, IsFilled, IsSaved, IsKept, mark_of, origin, journal_shown, shown}
+use Rattle.sn_tree.specs.Model.{NodeTree}
+use Rattle.sn_tree.specs.Steps.{IsOpened, occurrences, payloads_of, undone, committed, freed}
+use Rattle.sn_tree.specs.Kept.{same_key, uses, times, payload_of, filled, IsRooted, IsKept, mark_of, origin, shown}
 use Rattle.sn_tree.proofs.PayloadLaws.{without_first-payloads, first_label-payloads}
-use Rattle.sn_tree.proofs.Keeping.{same_key-refl, agree, uses_first, uses-joined, labelled, option_label}
+use Rattle.sn_tree.proofs.Keeping.{same_key-refl, agree, uses-joined, labelled, option_label}
 use Rattle.sn_tree.proofs.Distinct.{occurrences-append}
 use Rattle.sn_tree.proofs.Following.{same_kept}
-use Rattle.sn_tree.proofs.Writing.{at_most_one, same_is, mark_test}
+use Rattle.sn_tree.proofs.Writing.{at_most_one, mark_test}
 
 -- payloads changed twice
 pub twice : {A B C : Type 0} (g : B → C) (f : A → B) (t : Nodes A) → with_payloads g (with_payloads f t) ≡ with_payloads (λ x. g (f x)) t

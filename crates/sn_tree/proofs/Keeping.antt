@@ -1,9 +1,9 @@
 -- Keys and payloads after a change.
-use Rattle.std.proofs.Common.{◌≡◌, ◌≢◌, ◌⊎◌, ℕ, ◌+◌, ◌-◌, ◌<◌, ◌≤◌, ℤ, Bool, true, false, ◌||◌, List, [], ◌∷◌, Option, Some, None, sym, refl, ap, ◌∙◌, subst, ⊎_elim, arith, true≢false}
+use Rattle.std.proofs.Common.{◌≡◌, ◌≢◌, ℕ, ◌+◌, ◌<◌, ◌≤◌, ℤ, Bool, true, false, List, Option, Some, None, sym, refl, ap, ◌∙◌, subst, ⊎_elim, arith}
 use Rattle.std.specs.Prelude.{◌==◌, is_some, unwrap_or, slice_index_or, if◌then◌else◌}
 use Rattle.std.specs.Ordering.{int_eq}
 use Rattle.std.specs.Option.{option_map}
-use Rattle.std.proofs.lemmas.Bool.{cases_Bool, or_cases}
+use Rattle.std.proofs.lemmas.Bool.{cases_Bool}
 use Rattle.std.proofs.lemmas.Bool.Decides.{eqb_tells}
 use Rattle.sn_tree.specs.declared.node.NodeKind.{NodeKind}
 use Rattle.sn_tree.specs.declared.node.Action.{Action}
@@ -12,7 +12,7 @@ use Rattle.sn_tree.specs.Trees.{Label, Nodes, none, node, holds, label_of, subtr
 use Rattle.sn_tree.specs.Order.{Key}
 use Rattle.sn_tree.specs.Arranged.{Arranged}
 use Rattle.sn_tree.specs.Steps.{inserting, detaching, attaching, moving, setting}
-use Rattle.sn_tree.specs.Kept.{same_key, uses, payload_of, filled, IsFilled}
+use Rattle.sn_tree.specs.Kept.{same_key, uses, payload_of, IsFilled}
 use Rattle.sn_tree.proofs.PayloadLaws.{relabelled, put-payloads, without-payloads, subtree-payloads, joined-payloads, label-payloads, changed-payloads, last_top-payloads, without_last-payloads}
 
 pub same_key-refl : (key : Key) → same_key key key ≡ true

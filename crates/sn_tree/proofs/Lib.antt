@@ -10,3 +10,8 @@ pub mod Writing
 pub mod Journaling
 pub mod Moving
 pub mod Distinct
+pub mod Viewing
+pub mod Agreeing
+pub mod Reworking
+pub mod Listing
+pub mod Tallying

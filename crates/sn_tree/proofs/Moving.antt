@@ -1,7 +1,6 @@
 -- A subtree put in elsewhere.
-use Rattle.std.proofs.Common.{◌≡◌, ◌⊎◌, ℕ, zero, suc, ◌+◌, ◌-◌, ◌<◌, ◌≤◌, ℤ, pos, Bool, true, false, not, ◌||◌, ◌&&◌, nat_lt, List, [], ◌∷◌, ◌++◌, length, take, drop, get_or, reverse, length-take, length-drop, Option, Some, None, sym, refl, ap, ◌∙◌, subst, ⊎_elim, arith, append_assoc, length-append, true≢false}
+use Rattle.std.proofs.Common.{◌≡◌, ℕ, ◌+◌, ◌-◌, ◌≤◌, ℤ, pos, Bool, true, false, not, ◌||◌, ◌&&◌, List, [], ◌∷◌, ◌++◌, length, take, drop, reverse, length-take, length-drop, Option, Some, None, sym, refl, ap, ◌∙◌, subst, ⊎_elim, arith, append_assoc, length-append}
 use Rattle.std.specs.Prelude.{if◌then◌else◌, Result, Ok, Err, MatchResult}
-use Rattle.std.specs.List.{All}
 use Rattle.std.specs.Ordering.{int_eq}
 use Rattle.std.proofs.lemmas.Bool.{cases_Bool, or_parts}
 use Rattle.std.proofs.lemmas.List.{append-nil, reverse-reverse, take-append-le, drop-append-le, take-append-drop}
@@ -10,14 +9,14 @@ use Rattle.sn_tree.specs.declared.entry.Entry.{Entry}
 use Rattle.sn_tree.specs.declared.entry.Place.{Place}
 use Rattle.sn_tree.specs.declared.node.Action.{Action}
 use Rattle.sn_tree.specs.declared.node.TreeFault.{TreeFault}
-use Rattle.sn_tree.specs.declared.node.TreeFault.TheVariants.{NoNode, InUse, NotGroup, IsRoot, Inside, TooMany}
-use Rattle.sn_tree.specs.Trees.{Label, Nodes, none, node, holds, put, subtree, without, label_of, count}
-use Rattle.sn_tree.specs.Faults.{first_fault, spot_fault, move_fault, is_missing, is_beside_root, is_in_synth, is_inside, is_synth, labels_synth}
-use Rattle.sn_tree.specs.Order.{Key, entry_of, flat, tree_of, IsFlat, adjusted, length-flat, take_at, drop_at, flat_is, tree_is, is_flat, tree_of-flat}
-use Rattle.sn_tree.specs.Places.{IsSmall, Found, Spotted, lifted, IsPlace, moved_to_end, put_back_list, IsMoved}
-use Rattle.sn_tree.specs.Arranged.{Arranged, arranged, IsArranged}
-use Rattle.sn_tree.proofs.Spotting.{few, small, small-flat, item, spot_is, length-adjusted}
-use Rattle.sn_tree.proofs.Arranging.{Shows, shows_of, list_is, count_is}
+use Rattle.sn_tree.specs.declared.node.TreeFault.TheVariants.{NoNode, NotGroup, IsRoot, Inside}
+use Rattle.sn_tree.specs.Trees.{Nodes, none, node, holds, put, subtree, without, label_of, count}
+use Rattle.sn_tree.specs.Faults.{spot_fault, move_fault, is_missing, is_beside_root, is_in_synth, is_inside, labels_synth}
+use Rattle.sn_tree.specs.Order.{Key, entry_of, flat, tree_of, IsFlat, adjusted, length-flat, take_at, drop_at, flat_is, tree_is, tree_of-flat}
+use Rattle.sn_tree.specs.Places.{IsSmall, Spotted, lifted, IsPlace, moved_to_end, put_back_list, IsMoved}
+use Rattle.sn_tree.specs.Arranged.{arranged, IsArranged}
+use Rattle.sn_tree.proofs.Spotting.{few, small-flat, length-adjusted}
+use Rattle.sn_tree.proofs.Arranging.{Shows, shows_of, count_is}
 
 -- what a node's target is like in the rest
 

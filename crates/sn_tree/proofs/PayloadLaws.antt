@@ -1,16 +1,15 @@
 -- Nodes whose payloads are changed are the same nodes in the same places.
-use Rattle.std.proofs.Common.{◌≡◌, ℕ, ℤ, pos, negsuc, ◌+◌, ◌<◌, ◌≤◌, Bool, true, false, not, ◌&&◌, ◌||◌, List, [], ◌∷◌, ◌++◌, Option, Some, None, refl, ap, sym, ◌∙◌, arith, nat_lt}
+use Rattle.std.proofs.Common.{◌≡◌, ℤ, pos, negsuc, ◌+◌, Bool, true, false, not, ◌&&◌, ◌||◌, [], ◌∷◌, ◌++◌, Option, Some, None, refl, ap, ◌∙◌, nat_lt}
 use Rattle.std.specs.Prelude.{if◌then◌else◌}
 use Rattle.std.specs.Option.{option_map}
 use Rattle.std.specs.Ordering.{int_eq}
 use Rattle.sn_tree.specs.declared.node.Action.{Action}
 use Rattle.sn_tree.specs.declared.node.Action.TheVariants.{Head, Tail, Before, After}
-use Rattle.sn_tree.specs.declared.node.NodeKind.{NodeKind}
 use Rattle.sn_tree.specs.declared.node.NodeView.{NodeView}
-use Rattle.sn_tree.specs.declared.node.TreeFault.{TreeFault}
 use Rattle.sn_tree.specs.declared.node.TreeFault.TheVariants.{NoNode, InUse, NotGroup, IsRoot, Inside, TooMany}
-use Rattle.sn_tree.specs.Trees.{Label, Nodes, none, node, holds, label_of, children, count, ids, subtree, without, joined, beside, put, changed, first_id, last_id, first_of, view_from, view_of, with_payloads, has_top, last_top, without_last, shares, first_label, without_first}
-use Rattle.sn_tree.specs.Faults.{labels_synth, is_synth, is_inside, is_missing, is_beside_root, is_in_synth, spot_fault, insert_fault, detach_fault, set_run_fault, move_fault, attach_fault, first_fault}
+use Rattle.sn_tree.specs.Trees.{Label, Nodes, none, node, holds, label_of, children, count, ids, subtree, without, joined, beside, put, changed, first_id, last_id, first_of, view_from, with_payloads, has_top, last_top, without_last, shares, first_label, without_first}
+use Rattle.sn_tree.specs.Views.{seen, views_from, views_at}
+use Rattle.sn_tree.specs.Faults.{labels_synth, is_inside, is_beside_root, spot_fault, insert_fault, detach_fault, set_run_fault, move_fault, attach_fault, first_fault}
 
 -- a label with its payload changed
 abbrev pub relabelled : {P Q : Type 0} → (P → Q) → Label P → Label Q
@@ -142,6 +141,24 @@ module _ {P Q : Type 0} (f : P → Q) where
     where
       view_with : ℤ → ℤ → ℤ → NodeView
       view_with next head tail = record { kind = label.kind; running = label.running; parent = parent; previous = previous; next = next; head = head; tail = tail }
+
+  seen-payloads : (parent previous : ℤ) (label : Label P) (below after : Nodes P) → seen parent previous (relabelled f label) (with_payloads f below) (with_payloads f after) ≡ seen parent previous label below after
+  seen-payloads parent previous label below after = λ i. view_with (first_id-payloads after i) (first_id-payloads below i) (last_id-payloads (negsuc 0) below i)
+    where
+      view_with : ℤ → ℤ → ℤ → NodeView
+      view_with next head tail = record { kind = label.kind; running = label.running; parent = parent; previous = previous; next = next; head = head; tail = tail }
+
+  views_from-payloads : (parent previous : ℤ) (t : Nodes P) → views_from parent previous (with_payloads f t) ≡ views_from parent previous t
+  views_from-payloads parent previous none = refl
+  views_from-payloads parent previous (node label below after) =
+      λ i. (label.id, seen-payloads parent previous label below after i) ∷ (views_from-payloads label.id (negsuc 0) below i ++ views_from-payloads parent label.id after i)
+
+  pub views-payloads : (parent previous id : ℤ) (t : Nodes P) → views_at parent previous id (with_payloads f t) ≡ views_at parent previous id t
+  views-payloads parent previous id none = refl
+  views-payloads parent previous id (node label below after) =
+      both (λ l. l) (int_eq label.id id) _ _ _ _
+      (λ i. (label.id, seen-payloads parent previous label below after i) ∷ views_from-payloads label.id (negsuc 0) below i)
+      (both_at (λ l. l) (holds id (with_payloads f below)) (holds id below) _ _ _ _ (holds-payloads id below) (views-payloads label.id (negsuc 0) id below) (views-payloads parent label.id id after))
 
   synth-map : (o : Option (Label P)) → labels_synth (option_map (relabelled f) o) ≡ labels_synth o
   synth-map None = refl

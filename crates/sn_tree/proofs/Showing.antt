@@ -1,21 +1,16 @@
 -- What the nodes by their keys say of the tree that they stand for.
-use Rattle.std.specs.Prelude.{Bool}
-use Rattle.std.proofs.Common.{◌≡◌, ◌≢◌, ℕ, ◌+◌, ◌≤◌, ◌<◌, ℤ, negsuc, List, Option, Some, None, Result, Ok, Err, sym, refl, ap, ◌∙◌, subst}
-use Rattle.std.specs.Prelude.{OnOk, OnErr, slice_index_or}
+use Rattle.std.proofs.Common.{◌≡◌, ℤ, negsuc, List, Option, sym, ap, ◌∙◌}
 use Rattle.std.specs.Option.{option_map}
-use Rattle.slab.specs.Slab.{Slab, get, Updates}
-use Rattle.sn_tree.specs.declared.node.NodeKind.{NodeKind}
-use Rattle.sn_tree.specs.declared.node.Spot.{Spot}
-use Rattle.sn_tree.specs.declared.node.TreeFault.{TreeFault}
 use Rattle.sn_tree.specs.declared.node.Action.{Action}
-use Rattle.sn_tree.specs.Trees.{changed, with_running, Label, Nodes, put, leaf, without, subtree, joined, label_of, children, count, ids, next_after, first_of, view_of, with_payloads}
+use Rattle.sn_tree.specs.Trees.{Label, label_of, children, count, ids, next_after, first_of, view_of}
+use Rattle.sn_tree.specs.Views.{views_below}
 use Rattle.sn_tree.specs.Faults.{insert_fault, detach_fault, set_run_fault, move_fault, attach_fault}
 use Rattle.sn_tree.specs.Order.{Key}
 use Rattle.sn_tree.specs.Arranged.{Arranged}
 use Rattle.sn_tree.specs.Saving.{SavedNodes}
 use Rattle.sn_tree.specs.Model.{NodeTree}
 use Rattle.sn_tree.specs.Kept.{payload_of, shown}
-use Rattle.sn_tree.proofs.PayloadLaws.{view-payloads, count-payloads, ids-payloads, children-payloads, first-payloads, insert_fault-payloads, detach_fault-payloads, set_run_fault-payloads, move_fault-payloads, attach_fault-payloads, first_label-payloads}
+use Rattle.sn_tree.proofs.PayloadLaws.{views-payloads, view-payloads, count-payloads, ids-payloads, children-payloads, first-payloads, insert_fault-payloads, detach_fault-payloads, set_run_fault-payloads, move_fault-payloads, attach_fault-payloads}
 use Rattle.sn_tree.proofs.Keeping.{payload_is}
 
 module _ {P : Type 0} (root : P) (slots : List (Option P)) (nodes : Arranged) (saved : Option SavedNodes) (tree : NodeTree P) (e : shown root slots nodes saved ≡ tree) where
@@ -30,6 +25,9 @@ module _ {P : Type 0} (root : P) (slots : List (Option P)) (nodes : Arranged) (s
 
   pub view_shown : (id : ℤ) → view_of id nodes.attached ≡ view_of id tree.attached
   view_shown id = sym (view-payloads (payload_of root slots) (negsuc 0) (negsuc 0) id nodes.attached) ∙ ap (λ (t : NodeTree P). view_of id t.attached) e
+
+  pub views_shown : (id : ℤ) → views_below id nodes.attached ≡ views_below id tree.attached
+  views_shown id = sym (views-payloads (payload_of root slots) (negsuc 0) (negsuc 0) id nodes.attached) ∙ ap (λ (t : NodeTree P). views_below id t.attached) e
 
   pub count_shown : count nodes.attached ≡ count tree.attached
   count_shown = sym (count-payloads (payload_of root slots) nodes.attached) ∙ ap (λ (t : NodeTree P). count t.attached) e

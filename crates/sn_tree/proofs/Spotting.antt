@@ -1,6 +1,6 @@
 -- What is known of a node whose position was found.
-use Rattle.std.proofs.Common.{◌≡◌, ◌⊎◌, ℕ, zero, suc, ◌+◌, ◌-◌, ◌<◌, ◌≤◌, ℤ, pos, Bool, true, false, not, ◌||◌, ◌&&◌, nat_lt, List, [], ◌∷◌, ◌++◌, length, take, drop, get_or, slice_set, length-take, length-drop, reverse, Option, Some, None, sym, refl, ap, ◌∙◌, subst, ⊎_elim, arith, append_assoc, length-append, true≢false}
-use Rattle.std.specs.Prelude.{if◌then◌else◌, MatchOption}
+use Rattle.std.proofs.Common.{◌≡◌, ℕ, ◌+◌, ◌-◌, ◌<◌, ◌≤◌, ℤ, pos, true, false, ◌||◌, ◌&&◌, nat_lt, List, [], ◌∷◌, ◌++◌, length, take, drop, get_or, slice_set, length-take, length-drop, reverse, Option, Some, None, sym, refl, ap, ◌∙◌, subst, ⊎_elim, arith, append_assoc, length-append}
+use Rattle.std.specs.Prelude.{MatchOption}
 use Rattle.std.specs.List.{position_or_len, position, All}
 use Rattle.std.specs.Ordering.{int_eq}
 use Rattle.std.proofs.Math.Seq.{get_or-append_seam, set-append_seam}
@@ -12,7 +12,7 @@ use Rattle.sn_tree.specs.declared.entry.Place.{Place}
 use Rattle.sn_tree.specs.declared.node.NodeKind.TheVariants.{Synth}
 use Rattle.sn_tree.specs.declared.node.Action.{Action}
 use Rattle.sn_tree.specs.declared.node.Action.TheVariants.{Head, Tail, Before, After}
-use Rattle.sn_tree.specs.Trees.{Label, Nodes, none, node, holds, put, subtree, without, label_of, children, count, ids, next_after, first_of}
+use Rattle.sn_tree.specs.Trees.{Label, Nodes, none, node, holds, put, subtree, without, children, count, ids, next_after, first_of}
 use Rattle.sn_tree.specs.declared.node.TreeFault.TheVariants.{NoNode, IsRoot, NotGroup}
 use Rattle.sn_tree.specs.Faults.{is_inside, is_synth, is_beside_root, first_fault, spot_fault}
 use Rattle.sn_tree.specs.Order.{Key, entry_of, flat, tree_of, IsFlat, adjusted, length-flat, take_at, drop_at}

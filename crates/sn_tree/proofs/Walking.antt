@@ -1,5 +1,5 @@
 -- Going over the nodes that run.
-use Rattle.std.proofs.Common.{◌≡◌, ◌⊎◌, ℕ, zero, suc, ◌+◌, ◌-◌, ◌<◌, ◌≤◌, ℤ, Bool, true, false, List, [], ◌∷◌, ◌++◌, length, take, drop, map, Option, Some, None, sym, refl, ap, ◌∙◌, subst, ⊎_elim, arith, append_assoc, length-append}
+use Rattle.std.proofs.Common.{◌≡◌, ℕ, ◌+◌, ◌<◌, ◌≤◌, ℤ, true, false, List, [], ◌∷◌, ◌++◌, length, take, drop, map, Option, Some, None, sym, refl, ap, ◌∙◌, subst, ⊎_elim, arith, append_assoc, length-append}
 use Rattle.std.specs.Prelude.{if◌then◌else◌}
 use Rattle.std.specs.Prelude.{is_some, unwrap_or, slice_index_or}
 use Rattle.std.specs.List.{IsFirstAndRest}
@@ -7,7 +7,7 @@ use Rattle.std.proofs.lemmas.List.{map-append}
 use Rattle.std.proofs.lemmas.Bool.{cases_Bool}
 use Rattle.sn_tree.specs.declared.entry.Entry.{Entry}
 use Rattle.sn_tree.specs.Trees.{Label, Nodes, none, node, count, joined, running_labels, with_payloads}
-use Rattle.sn_tree.specs.Order.{Key, entry_of, label_in, flat, tree_of, parse, IsFlat, length-flat, drop_at, flat_is, tree_is, is_flat}
+use Rattle.sn_tree.specs.Order.{Key, label_in, flat, tree_of, parse, IsFlat, length-flat, drop_at, flat_is, tree_is}
 use Rattle.sn_tree.specs.Kept.{same_key, uses, payload_of, filled}
 use Rattle.sn_tree.specs.Walking.{BeginsRunning, IsPast, IsFromRunning, payload_at, left_of, IsLeft}
 use Rattle.sn_tree.proofs.Placing.{flat-joined}
@@ -59,7 +59,7 @@ running-joined (node label below after) t =
 -- what follows a node in the list
 
 module _ (e : Entry) (es : List Entry) (h : IsFlat (e ∷ es)) where
-  parts : Opened e es
+  pub parts : Opened e es
   parts = opened e es h
 
   rest_list : es ≡ flat (joined parts.below parts.after)
@@ -74,7 +74,7 @@ module _ (e : Entry) (es : List Entry) (h : IsFlat (e ∷ es)) where
   pub rest_flat : IsFlat es
   rest_flat = flat_is es (joined parts.below parts.after) rest_list
 
-  rest_tree : tree_of es ≡ joined parts.below parts.after
+  pub rest_tree : tree_of es ≡ joined parts.below parts.after
   rest_tree = tree_is es (joined parts.below parts.after) rest_list
 
   skip_tree : tree_of (drop e.below es) ≡ parts.after
@@ -150,7 +150,7 @@ nothing_left root slots (e ∷ es) z = absurd (omega arith)
 pub ended : {P : Type 0} (root : P) (slots : List (Option P)) (es rest : List Entry) → IsFromRunning es rest → length rest ≡ 0 → left_of root slots es ≡ []
 ended root slots es rest h z = sym (left_same root slots es rest h.past) ∙ nothing_left root slots rest z
 
-held_at : {P : Type 0} (root : P) (slots : List (Option P)) (key : Key) → 1 ≤ filled slots key → payload_at root slots key ≡ Some (payload_of root slots key)
+pub held_at : {P : Type 0} (root : P) (slots : List (Option P)) (key : Key) → 1 ≤ filled slots key → payload_at root slots key ≡ Some (payload_of root slots key)
 held_at root slots None h = refl
 held_at root slots (Some key) h = there (slice_index_or slots key None) h
   where

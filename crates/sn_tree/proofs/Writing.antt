@@ -1,5 +1,5 @@
 -- A payload written under its key is the payload of one node.
-use Rattle.std.proofs.Common.{◌≡◌, ◌≢◌, ◌⊎◌, ℕ, zero, suc, ◌+◌, ◌<◌, ◌≤◌, ℤ, Bool, true, false, ◌||◌, List, [], ◌∷◌, length, Option, Some, None, sym, refl, ap, ◌∙◌, subst, ⊎_elim, inl, inr, arith}
+use Rattle.std.proofs.Common.{◌≡◌, ◌≢◌, ◌⊎◌, ℕ, suc, ◌+◌, ◌<◌, ◌≤◌, ℤ, Bool, true, false, List, length, Option, Some, None, sym, refl, ap, ◌∙◌, subst, ⊎_elim, inl, arith}
 use Rattle.std.specs.Prelude.{◌==◌, is_some, unwrap_or, slice_index_or, slice_set, if◌then◌else◌}
 use Rattle.std.specs.Ordering.{int_eq}
 use Rattle.std.specs.Option.{option_map}
@@ -12,7 +12,7 @@ use Rattle.sn_tree.specs.Order.{Key}
 use Rattle.sn_tree.specs.Arranged.{Arranged}
 use Rattle.sn_tree.specs.Saving.{SavedNodes}
 use Rattle.sn_tree.specs.Model.{Journal, NodeTree}
-use Rattle.sn_tree.specs.Kept.{same_key, uses, times, payload_of, filled, IsRooted, IsFilled, IsSaved, IsKept, mark_of, origin, journal_shown, shown}
+use Rattle.sn_tree.specs.Kept.{same_key, uses, payload_of, filled, IsFilled, IsSaved, IsKept, mark_of, origin, journal_shown, shown}
 use Rattle.sn_tree.specs.Steps.{mark_in, remarked, rewritten, saved_written, written}
 use Rattle.sn_tree.proofs.PayloadLaws.{relabelled, holds-payloads, label-payloads}
 use Rattle.sn_tree.proofs.Showing.{payload_shown}

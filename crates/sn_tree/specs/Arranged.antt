@@ -1,5 +1,5 @@
 -- The attached nodes and the detached ones, kept in one list.
-use Rattle.std.specs.Prelude.{◌≡◌, ℕ, ◌+◌, ◌≤◌, List, length, take, drop, reverse, refl}
+use Rattle.std.specs.Prelude.{ℕ, ◌≤◌, List, length, take, drop, reverse, refl}
 use Rattle.std.specs.Coded.{Coded, code_by, coded×, coded_ℕ, coded_option}
 use Rattle.sn_tree.specs.declared.entry.Entry.{Entry}
 use Rattle.sn_tree.specs.Trees.{Nodes, Sides}

@@ -1,5 +1,5 @@
 -- How the nodes, by the keys of their payloads, and the payloads stand for a tree.
-use Rattle.std.specs.Prelude.{◌≡◌, ℕ, suc, ◌+◌, ◌-◌, ◌<◌, ◌≤◌, ◌==◌, nat_lt, ℤ, pos, Bool, true, false, List, [], ◌∷◌, Option, Some, None, is_some, unwrap_or, slice_index_or, if◌then◌else◌}
+use Rattle.std.specs.Prelude.{◌≡◌, ℕ, suc, ◌+◌, ◌≤◌, ◌==◌, nat_lt, pos, Bool, true, false, List, [], ◌∷◌, Option, Some, None, is_some, unwrap_or, slice_index_or, if◌then◌else◌}
 use Rattle.std.specs.Ordering.{int_eq}
 use Rattle.sn_tree.specs.declared.node.NodeKind.TheVariants.{Group}
 use Rattle.sn_tree.specs.Trees.{Label, Nodes, none, node, ids, with_payloads, with_payloads_of}

@@ -8,4 +8,9 @@ pub mod Saving
 pub mod Kept
 pub mod Steps
 pub mod Walking
+pub mod Views
+pub mod Reaching
+pub mod Reworking
+pub mod Members
 pub mod Lends
+pub mod Tallies

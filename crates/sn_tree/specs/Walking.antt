@@ -1,5 +1,5 @@
 -- What is left of a walk over the nodes that run.
-use Rattle.std.specs.Prelude.{◌≡◌, ℕ, ◌≤◌, true, List, [], ◌∷◌, Option, Some, None, slice_index_or}
+use Rattle.std.specs.Prelude.{◌≡◌, ◌≤◌, true, List, [], ◌∷◌, Option, Some, None, slice_index_or}
 use Rattle.sn_tree.specs.declared.entry.Entry.{Entry}
 use Rattle.sn_tree.specs.Trees.{Label, running_labels, with_payloads}
 use Rattle.sn_tree.specs.Order.{Key, tree_of, IsFlat}

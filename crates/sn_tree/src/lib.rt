@@ -3,16 +3,23 @@
 
 mod change;
 mod entry;
+mod members;
 mod moves;
 mod node;
 mod order;
+mod payloads;
 mod saved;
 mod search;
+mod tally;
 #[cfg(test)]
 mod tests;
 mod tree;
+mod views;
 mod walk;
 
+pub use members::{Member, Members};
 pub use node::{Action, NodeKind, NodeView, Spot, TreeFault, Uninserted};
+pub use payloads::ChangePayload;
+pub use tally::Tally;
 pub use tree::Tree;
 pub use walk::{Visit, Walk};

@@ -1,7 +1,8 @@
 //! What can be moved where.
 ghost use Rattle.std.specs.Prelude.{◌≡◌, ◌≤◌, ◌+◌, None, Some, length, take, drop, MatchResult};
 ghost use Rattle.sn_tree.specs.Faults.{move_fault};
-ghost use Rattle.sn_tree.specs.Order.{IsFlat, tree_of};
+ghost use Rattle.sn_tree.specs.Order.{IsFlat, flat, tree_of};
+ghost use Rattle.sn_tree.specs.Trees.{subtree};
 ghost use Rattle.sn_tree.specs.Places.{Spotted};
 
 use crate::entry::Entry;
@@ -14,6 +15,19 @@ fn part(entries: &[Entry], position: usize, count: u32) -> &[Entry]
     ensures { result.now ≡ take count (drop position entries.now) }
 {
     &entries[position..position + count as usize]
+}
+
+/// The entries of a node and of all below it.
+pub fn subtree_of(entries: &[Entry], id: i32) -> &[Entry]
+    requires flat { IsFlat entries.now }
+    requires few { length entries.now ≤ 4096 }
+    ensures { result.now ≡ flat (subtree id (tree_of entries.now)) }
+{
+    let Some(position) = position_of(entries, id) else {
+        return part(entries, 0, 0);
+    };
+    let count = entries[position].below + 1;
+    part(entries, position, count)
 }
 
 /// The position of a node that can be moved to this spot.

@@ -12,6 +12,7 @@ ghost use Rattle.sn_tree.specs.Places.{IsPlace, IsSmall, IsDetached, IsMoved, Is
 
 use crate::change::{detach_from, lift, move_from, set_running_from};
 use crate::entry::{Entry, Place};
+use crate::moves::subtree_of;
 use crate::node::{NodeKind, Spot, TreeFault};
 use crate::search::{first_in, key_in, next_of, place_for_new};
 use sn_ports::NoMemory;
@@ -142,6 +143,14 @@ impl Order {
         ensures value { tree_of result.now ≡ self.now.attached }
     {
         &self.entries[..self.attached]
+    }
+
+    /// The entries of an attached node and of all below it.
+    pub fn subtree_entries(&self, id: i32) -> &[Entry]
+        ensures flat { IsFlat result.now }
+        ensures value { tree_of result.now ≡ subtree id self.now.attached }
+    {
+        subtree_of(&self.entries[..self.attached], id)
     }
 
     /// How many nodes are attached.

@@ -13,7 +13,8 @@ ghost use Rattle.sn_tree.specs.Walking.{IsFromRunning};
 use crate::entry::{Entry, Place};
 use crate::node::{Action, NodeKind, Spot, TreeFault};
 
-fn first_with(entries: &[Entry], id: i32) -> Option<usize>
+/// The position of the first entry with this id.
+pub fn first_with(entries: &[Entry], id: i32) -> Option<usize>
     ensures { result ≡ position (λ e. int_eq e.id id) entries.now }
 {
     entries.iter().position(|e| e.id == id)
@@ -180,7 +181,7 @@ pub fn detachable(entries: &[Entry], id: i32) -> Result<usize, TreeFault>
 }
 
 /// The entries past so many.
-fn past(entries: &[Entry], count: u32) -> &[Entry]
+pub fn past(entries: &[Entry], count: u32) -> &[Entry]
     requires within { count ≤ length entries.now }
     ensures { result.now ≡ drop count entries.now }
 {

@@ -1,4 +1,6 @@
-use crate::{Action, NodeKind, Spot, Tree, TreeFault, Uninserted};
+ghost use Rattle.std.specs.Prelude.{◌+◌, min};
+
+use crate::{Action, ChangePayload, NodeKind, Spot, Tree, TreeFault, Uninserted};
 use std::test::Fail;
 
 fn spot(action: Action, target: i32) -> Spot {
@@ -156,5 +158,30 @@ fn a_group_does_not_go_into_itself(rt: HostRuntime) -> Result<(), Fail> {
     let below = tree.move_to(4, spot(Action::Tail, 5));
     assert_eq!(rt; below, Err(TreeFault::Inside));
     assert_eq!(rt; tree.first(4), Some(5));
+    Ok(())
+}
+
+struct Raise(u32);
+
+impl ChangePayload<u32> for Raise {
+    ghost changed = { λ raise payload. min (payload + raise.0) 4294967295 };
+
+    fn change(&self, payload: &mut u32) {
+        *payload = payload.saturating_add(self.0);
+    }
+}
+
+#[test]
+fn payloads_change_below_a_group_alone(rt: HostRuntime) -> Result<(), Fail> {
+    let mut tree = Tree::new(rt.alloc(), 10u32)?;
+    tree.insert(1, NodeKind::Group, spot(Action::Tail, 0), 11)?;
+    tree.insert(2, NodeKind::Synth, spot(Action::Tail, 1), 12)?;
+    tree.insert(3, NodeKind::Synth, spot(Action::Tail, 0), 13)?;
+    tree.change_below(1, &Raise(100));
+    let mut payloads = Vec::new(rt.alloc());
+    for member in tree.members(0) {
+        payloads.push(*member.payload)?;
+    }
+    assert_eq!(rt; payloads.as_slice(), [10, 111, 112, 13].as_slice());
     Ok(())
 }

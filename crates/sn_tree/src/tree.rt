@@ -3,16 +3,26 @@ ghost use Rattle.std.specs.Prelude.{◌≡◌, ◌≤◌, ℕ, reverse, None, So
 ghost use Rattle.std.specs.Option.{option_map, option_copied, option_copied_mut};
 ghost use Rattle.std.specs.Borrow.{sem};
 ghost use Rattle.sn_tree.specs.declared.node.NodeKind.TheVariants.{Group};
-ghost use Rattle.sn_tree.specs.Trees.{none, count, ids, next_after, first_of, children, label_of, leaf, running_labels, first_label};
+ghost use Rattle.sn_tree.specs.Trees.{none, count, ids, next_after, first_of, children, label_of, leaf, running_labels, first_label, subtree, view_of};
 ghost use Rattle.sn_tree.specs.Faults.{insert_fault, insert_fault_of, returned, detach_fault, move_fault, set_run_fault, fault_of};
+ghost use Rattle.std.specs.List.{All};
 ghost use Rattle.std.specs.Ordering.{int_eq};
+ghost use Rattle.sn_tree.specs.declared.node.NodeView.{NodeView};
 ghost use Rattle.sn_tree.specs.Steps.{AllDistinct, HasRoom, IsOpen, IsOpened, inserted, detached, moved, running, undone, committed, freed};
 ghost use Rattle.sn_tree.specs.Kept.{times};
+ghost use Rattle.sn_tree.specs.Views.{views_below};
+ghost use Rattle.sn_tree.specs.Members.{members};
+ghost use Rattle.sn_tree.specs.Reworking.{changed_below};
+ghost use Rattle.sn_tree.specs.Tallies.{gathered, payloads};
 ghost use Rattle.slab.specs.Slab.{get};
 
-use crate::node::{NodeKind, Spot, TreeFault, Uninserted};
+use crate::members::Members;
+use crate::node::{NodeKind, NodeView, Spot, TreeFault, Uninserted};
 use crate::order::Order;
+use crate::payloads::{ChangePayload, change_all};
 use crate::saved::{Saved, forget, note, spend};
+use crate::tally::{Tally, tally_entries};
+use crate::views::{view_in, views_in};
 use crate::walk::{Walk, payload_at};
 use slab::Slab;
 use sn_ports::NoMemory;
@@ -238,6 +248,15 @@ impl<P: Drop> Tree<P> {
         }
     }
 
+    /// Changes the payload of an attached node and of each node below it. Where no such node is attached nothing changes.
+    pub fn change_below<C: ChangePayload<P>>(&mut self, id: i32, change: &C)
+        requires closed { self.old.journal ≡ None }
+        ensures { self.new ≡ changed_below (C.changed change.now) id self.old }
+    {
+        let entries = self.order.subtree_entries(id);
+        change_all(&mut self.root, &mut self.payloads, entries, change);
+    }
+
     /// The walk over the running nodes: a node comes before those below it, and these before those after it.
     /// What is below a paused node is left out with it.
     pub fn walk(&self) -> Walk<'_, P>
@@ -247,6 +266,45 @@ impl<P: Drop> Tree<P> {
             root: &self.root,
             payloads: &self.payloads,
             entries: self.order.attached_entries(),
+        }
+    }
+
+    /// Goes over the payloads of all attached nodes, in the order of the walk.
+    pub fn tally<T: Tally<P>>(&self, tally: &mut T)
+        ensures { tally.new ≡ gathered T.with_one tally.old (payloads self.now.attached) }
+    {
+        tally_entries(
+            &self.root,
+            &self.payloads,
+            self.order.attached_entries(),
+            tally,
+        );
+    }
+
+    /// An attached node as it stands in the tree.
+    pub fn node(&self, id: i32) -> Option<NodeView>
+        ensures { result ≡ view_of id self.now.attached }
+    {
+        view_in(self.order.attached_entries(), id)
+    }
+
+    /// An attached node and all below it as they stand in the tree, by their ids, in the order of the walk. Where no such
+    /// node is attached there are none.
+    pub fn views(&self, id: i32) -> Result<Vec<(i32, NodeView)>, NoMemory>
+        ensures { IfOk result (λ views. views.items ≡ views_below id self.now.attached) }
+    {
+        views_in(self.order.alloc(), self.order.attached_entries(), id)
+    }
+
+    /// An attached node and all nodes below it, running or not, in the order of the walk. Where no such node is attached
+    /// there are none.
+    pub fn members(&self, id: i32) -> Members<'_, P>
+        ensures { result ≡ members (subtree id self.now.attached) }
+    {
+        Members {
+            root: &self.root,
+            payloads: &self.payloads,
+            entries: self.order.subtree_entries(id),
         }
     }
 
@@ -267,6 +325,13 @@ impl<P: Drop> Tree<P> {
     /// A law: no two attached nodes have the same id.
     pub fn ids_are_distinct(&self)
         ensures { AllDistinct int_eq (ids self.now.attached) }
+    {
+        let _ = &self.order;
+    }
+
+    /// A law: what `views` lists of a node is what `node` tells of it.
+    pub fn views_agree(&self, id: i32)
+        ensures { All (λ (v : ℤ × NodeView). view_of v.0 self.now.attached ≡ Some v.1) (views_below id self.now.attached) }
     {
         let _ = &self.order;
     }

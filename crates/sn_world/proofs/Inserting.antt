@@ -1,13 +1,13 @@
 -- A node that is put into the tree: what the stage, its words and the world are after it.
-use Rattle.std.proofs.Common.{◌≡◌, ◌≤◌, ◌<◌, ◌+◌, ◌||◌, ◌&&◌, ℕ, zero, suc, ℤ, Bool, true, false, not, nat_lt, ltb, Option, Some, None, List, [], ◌∷◌, ◌++◌, length, get_or, refl, ap, sym, subst, ◌∙◌, arith}
+use Rattle.std.proofs.Common.{◌≡◌, ◌≤◌, ◌<◌, ◌+◌, ◌||◌, ◌&&◌, ℕ, zero, suc, ℤ, Bool, true, false, Option, not, nat_lt, Some, None, List, [], ◌∷◌, ◌++◌, length, get_or, refl, ap, sym, subst, ◌∙◌, arith}
 use Rattle.std.specs.Prelude.{if◌then◌else◌}
 use Rattle.std.specs.Ordering.{int_eq}
-use Rattle.std.proofs.lemmas.Bool.{cond_both, lt-ltb, ltb-true}
+use Rattle.std.proofs.lemmas.Bool.{cond_both, lt-ltb}
 use Rattle.sn_mem.specs.declared.extents.Extent.{Extent}
 use Rattle.sn_mem.specs.Words.{covers, has}
-use Rattle.sn_mem.specs.Buses.{AudioBus, ControlBus, audio_buses, control_buses}
+use Rattle.sn_mem.specs.Buses.{AudioBus, ControlBus}
 use Rattle.sn_mem.proofs.BusLaws.{audio_same, control_same}
-use Rattle.sn_pool.specs.Pools.{with_extent}
+use Rattle.sn_pool.specs.Pools.{with_extent, times}
 use Rattle.sn_pool.specs.Regions.{are_free, first_free, least_place}
 use Rattle.sn_tree.specs.declared.node.NodeKind.{NodeKind}
 use Rattle.sn_tree.specs.declared.node.Action.{Action}
@@ -23,6 +23,7 @@ use Rattle.sn_world.specs.Definitions.{Definitions, definitions_of}
 use Rattle.sn_world.specs.Nodes.{Content, content_of, extents_of, live_in}
 use Rattle.sn_world.specs.Pictures.{held_extents, live_held, overlaps, IsHeld, AreHeld, Pictures}
 use Rattle.sn_world.specs.World.{World, world_of}
+use Rattle.sn_world.proofs.Counting.{overlaps-put, times-put, times-leaf, live_words}
 use Rattle.sn_world.proofs.Walking.{parts_of, same_nodes, held_from, AgreesOn}
 
 -- ---- words in extents
@@ -72,33 +73,6 @@ pub live_in-payloads : (t : Nodes Held) (ws : List ℕ) → live_in (with_payloa
 live_in-payloads none ws = refl
 live_in-payloads (node l below after) ws = λ i. own_extents l.payload ws i ++ (live_in-payloads below ws i ++ live_in-payloads after ws i)
 
-overlaps-joined : (s t : Nodes Held) (x : ℕ) → overlaps x (live_held (joined s t)) ≡ overlaps x (live_held s) + overlaps x (live_held t)
-overlaps-joined none t x = omega arith
-overlaps-joined (node l below after) t x = omega (arith, parts_of l below (joined after t) x, overlaps-joined after t x, parts_of l below after x)
-
-overlaps-beside : (action : Action) (new : Nodes Held) (l : Label Held) (below after : Nodes Held) (x : ℕ) → overlaps x (live_held (beside action new l below after)) ≡ overlaps x (live_held new) + overlaps x (live_held (node l below after))
-overlaps-beside Head new l below after x = omega (arith, parts_of l (joined new below) after x, overlaps-joined new below x, parts_of l below after x)
-overlaps-beside Tail new l below after x = omega (arith, parts_of l (joined below new) after x, overlaps-joined below new x, parts_of l below after x)
-overlaps-beside Before new l below after x = overlaps-joined new (node l below after) x
-overlaps-beside After new l below after x = omega (arith, parts_of l below (joined new after) x, overlaps-joined new after x, parts_of l below after x)
-
-third : (p q r : Bool) → (p || (q || r)) ≡ true → p ≡ false → q ≡ false → r ≡ true
-third false false r h e f = h
-third false true r h e f = absurd cc
-third true q r h e f = absurd cc
-
-pub overlaps-put : (action : Action) (target : ℤ) (new t : Nodes Held) (x : ℕ) → holds target t ≡ true → overlaps x (live_held (put action target new t)) ≡ overlaps x (live_held new) + overlaps x (live_held t)
-overlaps-put action target new none x there = absurd cc
-overlaps-put action target new (node l below after) x there =
-    let parts = parts_of l below after x in
-    cond_both (int_eq l.id target) (beside action new l below after) (if holds target below then node l (put action target new below) after else node l below (put action target new after))
-    (λ (s : Nodes Held). overlaps x (live_held s) ≡ overlaps x (live_held new) + overlaps x (live_held (node l below after)))
-    (λ _. overlaps-beside action new l below after x)
-    (λ other. cond_both (holds target below) (node l (put action target new below) after) (node l below (put action target new after))
-    (λ (s : Nodes Held). overlaps x (live_held s) ≡ overlaps x (live_held new) + overlaps x (live_held (node l below after)))
-    (λ inner. omega (arith, parts, parts_of l (put action target new below) after x, overlaps-put action target new below x inner))
-    (λ outer. omega (arith, parts, parts_of l below (put action target new after) x, overlaps-put action target new after x (third (int_eq l.id target) (holds target below) (holds target after) there other outer))))
-
 module _ (rate : ℕ) (region : Extent) where
   held-joined : (s t : Nodes Held) → AreHeld rate region s → AreHeld rate region t → AreHeld rate region (joined s t)
   held-joined none t hs ht = ht
@@ -127,11 +101,13 @@ pub record IsPut (id : ℤ) (kind : NodeKind) (action : Action) (target : ℤ) (
   pub held : IsHeld old.rate old.pool.region h
   pub free : (x : ℕ) → 0 < overlaps x (held_extents h) → has old.pool.live x ≡ false
   pub tree : new.tree ≡ inserted id kind action target h old.tree
-  pub live : (x : ℕ) → has new.pool.live x ≡ (has (held_extents h) x || has old.pool.live x)
+  pub live : (e : Extent) → 1 ≤ e.len → times e new.pool.live ≡ times e (held_extents h) + times e old.pool.live
   pub region : new.pool.region ≡ old.pool.region
   pub journal : new.pool.journal ≡ None
   pub rate : new.rate ≡ old.rate
   pub defs : new.defs ≡ old.defs
+  pub notify : new.notify ≡ old.notify
+  pub next : new.next_id ≡ old.next_id
   pub length : length us ≡ length ws
   pub others : (x : ℕ) → overlaps x (held_extents h) ≡ 0 → get_or us x 0 ≡ get_or ws x 0
 
@@ -162,7 +138,7 @@ module _ (id : ℤ) (kind : NodeKind) (action : Action) (target : ℤ) (h : Held
 
   -- no word of the node is that of another
   pub put_apart : (x : ℕ) → 0 < overlaps x (held_extents h) → overlaps x (live_held old.tree.attached) ≡ 0
-  put_apart x some = at (overlaps x (live_held old.tree.attached)) (sym (has-overlaps (live_held old.tree.attached) x) ∙ sym (before.live x) ∙ is.free x some)
+  put_apart x some = at (overlaps x (live_held old.tree.attached)) (sym (has-overlaps (live_held old.tree.attached) x) ∙ sym (live_words old ws before x) ∙ is.free x some)
     where
       at : (n : ℕ) → nat_lt 0 n ≡ false → n ≡ 0
       at zero e = refl
@@ -175,18 +151,8 @@ module _ (id : ℤ) (kind : NodeKind) (action : Action) (target : ℤ) (h : Held
       at zero e = omega (arith, now_live x, before.apart x, e)
       at (suc n) e = omega (arith, now_live x, put_apart x (omega (arith, e)), own_once h x)
 
-  put_has : (x : ℕ) → has new.pool.live x ≡ has (live_held new.tree.attached) x
-  put_has x =
-      is.live x
-      ∙ ap (λ b. has (held_extents h) x || b) (before.live x)
-      ∙ (λ i. has-overlaps (held_extents h) x i || has-overlaps (live_held old.tree.attached) x i)
-      ∙ either_sum (overlaps x (held_extents h)) (overlaps x (live_held old.tree.attached))
-      ∙ ap (nat_lt 0) (sym (now_live x))
-      ∙ sym (has-overlaps (live_held new.tree.attached) x)
-    where
-      either_sum : (n m : ℕ) → (nat_lt 0 n || nat_lt 0 m) ≡ nat_lt 0 (n + m)
-      either_sum zero m = ap (nat_lt 0) (omega arith)
-      either_sum (suc n) m = ap (λ b. b || nat_lt 0 m) (lt-ltb 0 (suc n) (omega arith)) ∙ sym (lt-ltb 0 (suc n + m) (omega arith))
+  put_live : (e : Extent) → 1 ≤ e.len → times e new.pool.live ≡ times e (live_held new.tree.attached)
+  put_live e some = omega (arith, is.live e some, before.live e some, ap (λ (t : Nodes Held). times e (live_held t)) attached, times-put action target (leaf id kind h) old.tree.attached e is.there, times-leaf id kind h e)
 
   -- the pictures stay
   pub put_pictures : Pictures new us
@@ -197,7 +163,7 @@ module _ (id : ℤ) (kind : NodeKind) (action : Action) (target : ℤ) (h : Held
     bounded = omega (arith, ap (λ (e : Extent). e.len) is.region, before.bounded);
     fits = omega (arith, ap (λ (e : Extent). e.len) is.region, before.fits, is.length);
     synths = moved old.rate new.rate old.pool.region new.pool.region _ _ is.rate is.region attached (held-put old.rate old.pool.region action target (leaf id kind h) old.tree.attached (is.held, (tt, tt)) before.synths);
-    live = put_has;
+    live = put_live;
     apart = put_once;
     attached = ap (λ (t : NodeTree Held). t.detached) is.tree ∙ before.attached;
     settled = ap (λ (t : NodeTree Held). t.journal) is.tree ∙ ap (followed 0 (inserting id kind action target None)) before.settled;
@@ -225,12 +191,12 @@ module _ (id : ℤ) (kind : NodeKind) (action : Action) (target : ℤ) (h : Held
       ∙ sym (put-payloads (content_of us) action target (leaf id kind h) old.tree.attached)
       ∙ ap (put action target (leaf id kind (content_of us h))) (same_nodes old.tree.attached us ws put_agrees)
 
-  abbrev world_with : Nodes Content → Definitions → List AudioBus → List ControlBus → ℕ → Extent → World
-  world_with nodes definitions audio control rate region = record { nodes = nodes; definitions = definitions; audio_buses = audio; control_buses = control; rate = rate; region = region }
+  abbrev world_with : Nodes Content → Definitions → List AudioBus → List ControlBus → List Bool → Option ℤ → ℕ → Extent → World
+  world_with nodes definitions audio control notify next rate region = record { nodes = nodes; definitions = definitions; audio_buses = audio; control_buses = control; notify = notify; next_id = next; rate = rate; region = region }
 
   -- the world with the node
   pub put_world : world_of new us ≡ record (world_of old ws) { nodes = put action target (leaf id kind (content_of us h)) (world_of old ws).nodes }
   put_world = λ i. world_with (put_nodes i) (definitions_of (is.defs i))
       (audio_same us ws (λ j low. is.others j (behind j (omega arith))) i)
       (control_same us ws (λ j from low. is.others j (behind j low)) i)
-      (is.rate i) (is.region i)
+      (is.notify i) (is.next i) (is.rate i) (is.region i)

@@ -1,6 +1,9 @@
 pub mod Parsing
+pub mod RunLemmas
 pub mod StepLaws
+pub mod Continuing
 pub mod Meanings
+pub mod Counting
 pub mod Walking
 pub mod Changes
 pub mod DefsLemmas

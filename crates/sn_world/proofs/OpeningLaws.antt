@@ -40,19 +40,19 @@ pub control_silent : (n : ℕ) → control_buses (replicate n 0) ≡ replicate 1
 unfolding control_buses
 control_silent n = all_same (control_bus (replicate n 0)) silent_control 1024 (λ k. same_control _ _ _ _ (zero_word n _) (ap sample_in (zero_word n _)))
 
-pub opens : (rate memory n : ℕ) (stage : Stage) → IsOpening rate memory stage → world_of stage (replicate n 0) ≡ opening rate memory
+pub opens : (rate memory clients n : ℕ) (stage : Stage) → IsOpening rate memory clients stage → world_of stage (replicate n 0) ≡ opening rate memory clients
 unfolding opening
-opens rate memory n stage o = rw (o.tree, o.definitions, o.pool, o.frames, audio_silent n, control_silent n) refl
+opens rate memory clients n stage o = rw (o.tree, o.definitions, o.pool, o.frames, o.notify, o.next, audio_silent n, control_silent n) refl
 
-pub opens_pictured : (rate memory n : ℕ) (stage : Stage) → IsOpening rate memory stage → 0 < rate → rate ≤ 96000 → 10368 + memory < 4294967296 → 10368 + memory ≤ n → Pictures stage (replicate n 0)
-opens_pictured rate memory n stage o some small bounded fits = record {
+pub opens_pictured : (rate memory clients n : ℕ) (stage : Stage) → IsOpening rate memory clients stage → 0 < rate → rate ≤ 96000 → 10368 + memory < 4294967296 → 10368 + memory ≤ n → Pictures stage (replicate n 0)
+opens_pictured rate memory clients n stage o some small bounded fits = record {
   rate = rw o.frames some;
   rate_fits = rw o.frames small;
   base = rw o.pool refl;
   bounded = rw o.pool bounded;
   fits = rw o.pool (omega (arith, fits, length-replicate {A = ℕ} n 0));
   synths = rw o.tree (tt, (tt, tt));
-  live = λ x. rw (o.pool, o.tree) refl;
+  live = λ e some. rw (o.pool, o.tree) refl;
   apart = λ x. rw o.tree (omega arith);
   attached = rw o.tree refl;
   settled = rw o.tree refl;

@@ -70,6 +70,14 @@ some_of-few (Some (r ∷ all)) rs n few h = let same : rs ≡ r ∷ all = cc in 
 pub triples-few_of : {R : Type 0} (p : Argument → Argument → Argument → Option R) (args : List Arg) (rs : List R) → Some rs ≡ some_of (triples p (map argument_of args)) → length rs ≤ length args
 triples-few_of p args rs h = omega (arith, some_of-few (triples p (map argument_of args)) rs (length (map argument_of args)) (triples-length p (map argument_of args)) h, length-map args argument_of)
 
+pairs-length : {R : Type 0} (p : Argument → Argument → Option R) (xs : List Argument) → IfSome (pairs p xs) (λ rs. length rs ≤ length xs)
+pairs-length p [] = omega arith
+pairs-length p (x ∷ []) = tt
+pairs-length p (x ∷ y ∷ rest) = another-few (p x y) (pairs p rest) (length rest) (length (x ∷ y ∷ rest)) (pairs-length p rest) (omega arith)
+
+pub pairs-few_of : {R : Type 0} (p : Argument → Argument → Option R) (args : List Arg) (rs : List R) → Some rs ≡ some_of (pairs p (map argument_of args)) → length rs ≤ length args
+pairs-few_of p args rs h = omega (arith, some_of-few (pairs p (map argument_of args)) rs (length (map argument_of args)) (pairs-length p (map argument_of args)) h, length-map args argument_of)
+
 singles-length : {R : Type 0} (p : Argument → Option R) (xs : List Argument) → IfSome (singles p xs) (λ rs. length rs ≤ length xs)
 singles-length p [] = omega arith
 singles-length p (x ∷ rest) = another-few (p x) (singles p rest) (length rest) (length (x ∷ rest)) (singles-length p rest) (omega arith)

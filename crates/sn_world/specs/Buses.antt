@@ -1,11 +1,10 @@
 -- The commands on control buses, and `/sync`.
-use Rattle.std.specs.Prelude.{ℕ, suc, zero, ◌+◌, ℤ, pos, negsuc, Bool, true, false, not, ◌&&◌, List, [], ◌∷◌, ◌++◌, replicate, Option, Some, None, Result, Ok, Err, if◌then◌else◌, nat_lt, nat_le, codes}
+use Rattle.std.specs.Prelude.{ℕ, suc, zero, ◌+◌, ℤ, pos, negsuc, Bool, false, not, ◌&&◌, List, [], ◌∷◌, replicate, Option, Some, None, Result, Ok, Err, nat_lt, nat_le, codes}
 use Rattle.sn_osc.specs.Shape.{Argument, int, string, blob, arguments, MessageShape}
 use Rattle.sn_reply.specs.declared.reason.Reason.{Reason}
 use Rattle.sn_reply.specs.declared.reason.Reason.TheVariants.{Bus, Arguments}
 use Rattle.sn_world.specs.declared.repetition.BusNumber.{BusNumber}
 use Rattle.sn_world.specs.declared.repetition.BusValue.{BusValue}
-use Rattle.sn_world.specs.declared.repetition.BusRun.{BusRun}
 use Rattle.sn_world.specs.declared.repetition.BusFill.{BusFill}
 use Rattle.sn_mem.specs.Buses.{ControlBus}
 use Rattle.sn_world.specs.World.{World, Turn, replied}
@@ -114,15 +113,6 @@ abbrev pub sync_row : ℕ → List Argument → Turn → Result Turn Reason
 sync_row from xs t = sync_outcome from (sync_number xs) t
 
 -- ---- runs of buses
-
--- a bus and a count of 0 or more
-abbrev pub bus_run : Argument → Argument → Option BusRun
-bus_run (int bus) (int (pos count)) = Some (record { bus = bus; count = count })
-bus_run (int bus) (int (negsuc n)) = None
-bus_run (int bus) (string s) = None
-bus_run (int bus) (blob b) = None
-bus_run (string s) y = None
-bus_run (blob b) y = None
 
 -- a bus, a count of 0 or more, and a value
 abbrev pub bus_fill : Argument → Argument → Argument → Option BusFill

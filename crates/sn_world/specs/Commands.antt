@@ -1,44 +1,98 @@
 -- What a message does, whichever command it is.
-use Rattle.std.specs.Prelude.{ℕ, List, [], ◌∷◌, Option, Some, None, Result, Ok, Err, if◌then◌else◌, codes}
+use Rattle.std.specs.Prelude.{ℕ, Bool, false, List, [], Option, Some, None, Result, Ok, Err, if◌then◌else◌, codes}
 use Rattle.std.specs.Str.{bytes_eq}
 use Rattle.sn_osc.specs.Shape.{Argument, BodyShape, bare, arguments, foreign, MessageShape}
 use Rattle.sn_reply.specs.declared.reason.Reason.{Reason}
 use Rattle.sn_reply.specs.declared.reason.Reason.TheVariants.{UnknownCommand, ArgumentType}
 use Rattle.sn_reply.specs.Failing.{fail_message}
 use Rattle.sn_world.specs.declared.command.BusCommand.{BusCommand}
-use Rattle.sn_world.specs.declared.command.BusCommand.TheVariants.{Set, Fill, Get, Sync, Receive}
+use Rattle.sn_world.specs.declared.command.BusCommand.TheVariants as buses
 use Rattle.sn_world.specs.declared.command.NodeCommand.{NodeCommand}
-use Rattle.sn_world.specs.declared.command.NodeCommand.TheVariants.{New}
+use Rattle.sn_world.specs.declared.command.NodeCommand.TheVariants as nodes
 use Rattle.sn_world.specs.World.{Turn, replied}
 use Rattle.sn_world.specs.Buses.{set_row, fill_row, get_row, sync_row}
+use Rattle.sn_world.specs.Runs.{setn_row, getn_row}
 use Rattle.sn_world.specs.Recv.{recv_row}
+use Rattle.sn_world.specs.Free.{free_row as forget_row}
+use Rattle.sn_world.specs.Status.{status_row}
+use Rattle.sn_world.specs.Ending.{quit_row, clear_row, Next, nothing, quitting, clearing, is_clearing}
+use Rattle.sn_world.specs.declared.command.Handled.{Handled}
+use Rattle.sn_world.specs.declared.command.Handled.TheVariants as answers
 use Rattle.sn_world.specs.NewSynth.{new_row}
+use Rattle.sn_world.specs.Notifying.{notify_row}
+use Rattle.sn_world.specs.RunFlags.{run_row}
+use Rattle.sn_world.specs.Queries.{query_row}
+use Rattle.sn_world.specs.ControlRuns.{set_controls_row, set_runs_row, fill_runs_row}
+use Rattle.sn_world.specs.NewNodes.{group_row}
+use Rattle.sn_world.specs.Freeing.{free_row}
 
--- the command on control buses or definitions with an address, or `/sync`
+-- the command on control buses, on definitions or on the server itself with an address
 abbrev pub bus_command_of : List ℕ → Option BusCommand
 bus_command_of address =
-    if bytes_eq address (codes "/c_set") then Some Set
-    else if bytes_eq address (codes "/c_fill") then Some Fill
-    else if bytes_eq address (codes "/c_get") then Some Get
-    else if bytes_eq address (codes "/sync") then Some Sync
-    else if bytes_eq address (codes "/d_recv") then Some Receive
+    if bytes_eq address (codes "/c_set") then Some buses.Set
+    else if bytes_eq address (codes "/c_setn") then Some buses.SetRuns
+    else if bytes_eq address (codes "/c_fill") then Some buses.Fill
+    else if bytes_eq address (codes "/c_get") then Some buses.Get
+    else if bytes_eq address (codes "/c_getn") then Some buses.GetRuns
+    else if bytes_eq address (codes "/sync") then Some buses.Sync
+    else if bytes_eq address (codes "/d_recv") then Some buses.Receive
+    else if bytes_eq address (codes "/d_free") then Some buses.Free
+    else if bytes_eq address (codes "/status") then Some buses.Status
+    else if bytes_eq address (codes "/clearSched") then Some buses.ClearSched
+    else if bytes_eq address (codes "/quit") then Some buses.Quit
     else None
 
 -- its row
 abbrev pub bus_row : BusCommand → ℕ → List Argument → Turn → Result Turn Reason
-bus_row Set = set_row
-bus_row Fill = fill_row
-bus_row Get = get_row
-bus_row Sync = sync_row
-bus_row Receive = recv_row
+bus_row buses.Set = set_row
+bus_row buses.SetRuns = setn_row
+bus_row buses.Fill = fill_row
+bus_row buses.Get = get_row
+bus_row buses.GetRuns = getn_row
+bus_row buses.Sync = sync_row
+bus_row buses.Receive = recv_row
+bus_row buses.Free = forget_row
+bus_row buses.Status = status_row
+bus_row buses.ClearSched = clear_row
+bus_row buses.Quit = quit_row
+
+-- what is done besides where it is accepted
+abbrev pub next_of : Option BusCommand → Next
+next_of (Some buses.ClearSched) = clearing
+next_of (Some buses.Quit) = quitting
+next_of _ = nothing
+
+-- how it is told that it was carried out
+abbrev pub done_with : BusCommand → Handled
+done_with buses.ClearSched = answers.ClearSched
+done_with buses.Quit = answers.Quit
+done_with _ = answers.Done
 
 -- the command on nodes with an address
 abbrev pub node_command_of : List ℕ → Option NodeCommand
-node_command_of address = if bytes_eq address (codes "/s_new") then Some New else None
+node_command_of address =
+    if bytes_eq address (codes "/s_new") then Some nodes.New
+    else if bytes_eq address (codes "/notify") then Some nodes.Notify
+    else if bytes_eq address (codes "/n_run") then Some nodes.TurnNodes
+    else if bytes_eq address (codes "/n_set") then Some nodes.SetControls
+    else if bytes_eq address (codes "/n_setn") then Some nodes.SetRuns
+    else if bytes_eq address (codes "/n_fill") then Some nodes.FillRuns
+    else if bytes_eq address (codes "/g_new") then Some nodes.NewGroup
+    else if bytes_eq address (codes "/n_free") then Some nodes.Free
+    else if bytes_eq address (codes "/n_query") then Some nodes.Query
+    else None
 
 -- its row
 abbrev pub node_row : NodeCommand → ℕ → List Argument → Turn → Result Turn Reason
-node_row New = new_row
+node_row nodes.New = new_row
+node_row nodes.Notify = notify_row
+node_row nodes.TurnNodes = run_row
+node_row nodes.SetControls = set_controls_row
+node_row nodes.SetRuns = set_runs_row
+node_row nodes.FillRuns = fill_runs_row
+node_row nodes.NewGroup = group_row
+node_row nodes.Free = free_row
+node_row nodes.Query = query_row
 
 -- A row takes the arguments, of which an address alone has none. Tags that are not read are refused before anything else is judged.
 abbrev pub with_arguments : BodyShape → (List Argument → Turn → Result Turn Reason) → Turn → Result Turn Reason
@@ -50,7 +104,7 @@ abbrev pub bus_outcome : Option BusCommand → ℕ → BodyShape → Turn → Op
 bus_outcome None from body t = None
 bus_outcome (Some command) from body t = Some (with_arguments body (bus_row command from) t)
 
--- what a message from a client does where it is a command on control buses or definitions, or `/sync`
+-- what a message from a client does where it is such a command
 abbrev pub run_bus : ℕ → MessageShape → Turn → Option (Result Turn Reason)
 run_bus from m t = bus_outcome (bus_command_of m.address) from m.body t
 
@@ -79,3 +133,13 @@ answered from address t (Err reason) = replied from (fail_message address reason
 -- a command
 abbrev pub command : ℕ → MessageShape → Turn → Turn
 command from m t = answered from m.address t (or_unknown (either (run_node from m t) (run_bus from m t)))
+
+-- Whether a message is an accepted `/clearSched`: the outcomes of the commands on nodes and of the others, and what is done besides.
+abbrev pub clear_in : Option (Result Turn Reason) → Option (Result Turn Reason) → Next → Bool
+clear_in (Some r) other n = false
+clear_in None None n = false
+clear_in None (Some (Err reason)) n = false
+clear_in None (Some (Ok t)) n = is_clearing n
+
+abbrev pub clears : ℕ → MessageShape → Turn → Bool
+clears from m t = clear_in (run_node from m t) (run_bus from m t) (next_of (bus_command_of m.address))

@@ -18,6 +18,7 @@ use Rattle.sn_tree.specs.Trees.{Nodes, put, leaf, holds, count}
 use Rattle.sn_tree.specs.Faults.{is_missing, is_in_synth, is_beside_root}
 use Rattle.sn_world.specs.Nodes.{Content, group, synth, live_in}
 use Rattle.sn_world.specs.World.{World, Turn}
+use Rattle.sn_world.specs.NewNodes.{add_action}
 use Rattle.sn_world.specs.Rows.{first_of, unless, pairs}
 
 -- a control of a definition, by its number or by its name
@@ -98,14 +99,6 @@ abbrev pub defaults : Definition → List Control
 defaults d = map (λ p. record { value = p.default; bus = None }) d.controls
 
 -- ---- its place in the tree
-
-abbrev pub add_action : ℤ → Option Action
-add_action n =
-    if int_eq n (pos 0) then Some Head
-    else if int_eq n (pos 1) then Some Tail
-    else if int_eq n (pos 2) then Some Before
-    else if int_eq n (pos 3) then Some After
-    else None
 
 abbrev pub action_of : NewSynth → Action
 action_of r = unwrap_or (add_action r.action) Head

@@ -1,5 +1,5 @@
 -- The world before anything happened.
-use Rattle.std.specs.Prelude.{◌≡◌, ℕ, pos, List, [], replicate, None}
+use Rattle.std.specs.Prelude.{◌≡◌, ℕ, pos, negsuc, false, List, [], replicate, Some, None}
 use Rattle.std.specs.FinMap as finite
 use Rattle.sn_mem.specs.Buses.{AudioBus, ControlBus}
 use Rattle.sn_tree.specs.declared.node.NodeKind.TheVariants as kinds
@@ -17,21 +17,25 @@ silent_audio = record { written = 0; samples = replicate 64 (pos 0) }
 abbrev pub silent_control : ControlBus
 silent_control = record { written = 0; value = pos 0 }
 
--- At so many frames a second, with so many words in the pool: the root group alone, no definitions, and silent buses. The pool's
--- words come behind those of the buses.
-unfoldable pub opening : ℕ → ℕ → World
-opening rate memory = record {
+-- At so many frames a second, with so many words in the pool, and for so many clients: the root group alone, no definitions, silent
+-- buses, and nobody is notified. The pool's words come behind those of the buses. The id that is chosen first is -2.
+unfoldable pub opening : ℕ → ℕ → ℕ → World
+opening rate memory clients = record {
   nodes = leaf (pos 0) kinds.Group group;
   definitions = finite.empty;
   audio_buses = replicate 128 silent_audio;
   control_buses = replicate 1024 silent_control;
+  notify = replicate clients false;
+  next_id = Some (negsuc 1);
   rate = rate;
   region = record { at = 10368; len = memory };
 }
 
 -- a stage that stands for it, where all words are 0
-pub record IsOpening (rate memory : ℕ) (stage : Stage) : Type 0 where
+pub record IsOpening (rate memory clients : ℕ) (stage : Stage) : Type 0 where
   pub tree : stage.tree ≡ record { attached = leaf (pos 0) kinds.Group held.Group; detached = none; journal = None }
   pub definitions : definitions_of stage.defs ≡ finite.empty
   pub pool : stage.pool ≡ record { region = record { at = 10368; len = memory }; live = []; journal = None }
+  pub notify : stage.notify ≡ replicate clients false
+  pub next : stage.next_id ≡ Some (negsuc 1)
   pub frames : stage.rate ≡ rate

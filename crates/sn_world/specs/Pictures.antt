@@ -1,13 +1,13 @@
 -- When a stage and its words stand for a world.
-use Rattle.std.specs.Prelude.{◌≡◌, ◌≤◌, ◌<◌, ◌+◌, ℕ, ℤ, true, ◌++◌, List, [], ◌∷◌, length, Option, None, if◌then◌else◌}
+use Rattle.std.specs.Prelude.{◌≡◌, ◌≤◌, ◌<◌, ◌+◌, ℕ, true, ◌++◌, List, [], ◌∷◌, length, slice_index, None, if◌then◌else◌}
 use Rattle.sn_mem.specs.declared.extents.Extent.{Extent}
 use Rattle.sn_mem.specs.declared.extents.Foot.{Foot}
-use Rattle.sn_mem.specs.Words.{covers, has, writes}
+use Rattle.sn_mem.specs.Words.{covers, writes}
 use Rattle.sn_def.specs.declared.control.Control.{Control}
 use Rattle.sn_def.specs.Defs.{definition_of}
 use Rattle.sn_def.specs.Definition.{Definition}
 use Rattle.sn_def.specs.StateWords.{state_words}
-use Rattle.sn_pool.specs.Pools.{LiesIn}
+use Rattle.sn_pool.specs.Pools.{LiesIn, times}
 use Rattle.sn_synth.specs.Conditions.{AreControlsOf}
 use Rattle.sn_tree.specs.Trees.{Nodes, none, node}
 use Rattle.sn_world.specs.declared.stage.Held.{Held}
@@ -28,6 +28,11 @@ abbrev pub overlaps : ℕ → List Extent → ℕ
 overlaps x [] = 0
 overlaps x (e ∷ es) = (if covers e x then 1 else 0) + overlaps x es
 
+-- the weights of extents together
+unfoldable pub amount : (Extent → ℕ) → List Extent → ℕ
+amount weight [] = 0
+amount weight (e ∷ es) = weight e + amount weight es
+
 -- a synth has its definition's controls, and its words lie in the region
 pub record IsSynthOf (rate : ℕ) (region : Extent) (d : Definition) (controls : List Control) (state : Extent) : Type 0 where
   pub each : AreControlsOf d controls
@@ -42,7 +47,8 @@ abbrev pub AreHeld : ℕ → Extent → Nodes Held → Type 0
 AreHeld rate region none = Unit {0}
 AreHeld rate region (node label below after) = IsHeld rate region label.payload × (AreHeld rate region below × AreHeld rate region after)
 
--- The pool gives from the words behind the buses; what is live in it are the words of the synths, and no word is that of two.
+-- The pool gives from the words behind the buses. Each extent with a word is live in it as often as it is that of a synth, and no word is
+-- that of two synths.
 pub record Pictures (stage : Stage) (words : List ℕ) : Type 0 where
   pub rate : 0 < stage.rate
   pub rate_fits : stage.rate ≤ 96000
@@ -50,7 +56,7 @@ pub record Pictures (stage : Stage) (words : List ℕ) : Type 0 where
   pub bounded : 10368 + stage.pool.region.len < 4294967296
   pub fits : 10368 + stage.pool.region.len ≤ length words
   pub synths : AreHeld stage.rate stage.pool.region stage.tree.attached
-  pub live : (x : ℕ) → has stage.pool.live x ≡ has (live_held stage.tree.attached) x
+  pub live : (e : Extent) → 1 ≤ e.len → times e stage.pool.live ≡ times e (live_held stage.tree.attached)
   pub apart : (x : ℕ) → overlaps x (live_held stage.tree.attached) ≤ 1
   pub attached : stage.tree.detached ≡ none
   pub settled : stage.tree.journal ≡ None
@@ -64,3 +70,7 @@ WritesBuses foot = (k : ℕ) → k < 10368 → writes foot k ≡ true
 pub record WritesWorld (foot : Foot) (region : Extent) : Type 0 where
   pub buses : WritesBuses foot
   pub pool : (k : ℕ) → region.at ≤ k → k < region.at + region.len → writes foot k ≡ true
+
+-- each word behind the buses and the pool's region is as before
+abbrev pub KeepsOutside : Extent → List ℕ → List ℕ → Type 0
+KeepsOutside region old new = (k : ℕ) → 10368 ≤ k → region.at + region.len ≤ k → slice_index new k ≡ slice_index old k

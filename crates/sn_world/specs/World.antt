@@ -1,5 +1,5 @@
 -- What the server holds, as a value.
-use Rattle.std.specs.Prelude.{◌≡◌, ◌≤◌, ◌<◌, ℕ, zero, suc, ◌+◌, ℤ, pos, true, length, take, drop, List, [], ◌∷◌, ◌++◌}
+use Rattle.std.specs.Prelude.{◌≡◌, ◌≤◌, ◌<◌, ℕ, zero, suc, ◌+◌, ℤ, pos, Bool, true, Option, length, take, drop, List, [], ◌∷◌, ◌++◌}
 use Rattle.sn_osc.specs.Shape.{MessageShape}
 use Rattle.sn_mem.specs.declared.extents.Extent.{Extent}
 use Rattle.sn_mem.specs.declared.extents.Foot.{Foot}
@@ -13,13 +13,16 @@ use Rattle.sn_world.specs.declared.stage.Stage.{Stage}
 use Rattle.sn_world.specs.Definitions.{Definitions, definitions_of}
 use Rattle.sn_world.specs.Nodes.{Content, content_of}
 
--- The tree of nodes, the definitions, the 128 audio buses and the 1,024 control buses; and, which nothing changes, the frames a
--- second and the words from which the pool gives.
+-- The tree of nodes, the definitions, the 128 audio buses and the 1,024 control buses; for each client whether it is notified of what
+-- happens to nodes; the id that is chosen next, where one is left; and, which nothing changes, the frames a second and the words from
+-- which the pool gives.
 pub record World : Type 0 where
   pub nodes : Nodes Content
   pub definitions : Definitions
   pub audio_buses : List AudioBus
   pub control_buses : List ControlBus
+  pub notify : List Bool
+  pub next_id : Option ℤ
   pub rate : ℕ
   pub region : Extent
 
@@ -39,6 +42,8 @@ world_of stage words = record {
   definitions = definitions_of stage.defs;
   audio_buses = audio_buses words;
   control_buses = control_buses words;
+  notify = stage.notify;
+  next_id = stage.next_id;
   rate = stage.rate;
   region = stage.pool.region;
 }

@@ -3,9 +3,12 @@ ghost use Rattle.std.specs.Prelude.{◌≡◌, map, IfOk};
 ghost use Rattle.std.specs.Option.{option_map};
 ghost use Rattle.sn_osc.specs.Shape.{argument_of};
 ghost use Rattle.sn_world.specs.Rows.{singles, pairs, triples, some_of};
-ghost use Rattle.sn_world.specs.Buses.{bus_number, bus_value, bus_run, bus_fill};
+ghost use Rattle.sn_world.specs.NewNodes.{new_node};
+ghost use Rattle.sn_world.specs.Freeing.{node_id};
+ghost use Rattle.sn_world.specs.Runs.{place_run};
+ghost use Rattle.sn_world.specs.Buses.{bus_number, bus_value, bus_fill};
 
-use crate::repetition::{BusFill, BusNumber, BusRun, BusValue};
+use crate::repetition::{BusFill, BusNumber, BusValue, NewNode, NodeId, Run};
 use sn_osc::Arg;
 use sn_ports::NoMemory;
 use std::alloc::Global;
@@ -68,13 +71,13 @@ impl Pair for BusValue {
     }
 }
 
-impl Pair for BusRun {
-    ghost from_two = { bus_run };
+impl Pair for Run {
+    ghost from_two = { place_run };
 
-    fn from_two(bus: &Arg, count: &Arg) -> Option<BusRun> {
-        match (bus, count) {
-            (Arg::Int(bus), Arg::Int(count)) if *count >= 0 => Some(BusRun {
-                bus: *bus,
+    fn from_two(first: &Arg, count: &Arg) -> Option<Run> {
+        match (first, count) {
+            (Arg::Int(first), Arg::Int(count)) if *count >= 0 => Some(Run {
+                first: *first,
                 count: *count as u32,
             }),
             _ => None,
@@ -92,6 +95,34 @@ impl Triple for BusFill {
                 count: *count as u32,
                 value: *value,
             }),
+            _ => None,
+        }
+    }
+}
+
+impl Single for NodeId {
+    ghost from_one = { node_id };
+
+    fn from_one(id: &Arg) -> Option<NodeId> {
+        match id {
+            Arg::Int(id) => Some(NodeId { id: *id }),
+            _ => None,
+        }
+    }
+}
+
+impl Triple for NewNode {
+    ghost from_three = { new_node };
+
+    fn from_three(id: &Arg, action: &Arg, target: &Arg) -> Option<NewNode> {
+        match (id, action, target) {
+            (Arg::Int(id), Arg::Int(action), Arg::Int(target)) if *id >= -1 && *action != 4 => {
+                Some(NewNode {
+                    id: *id,
+                    action: *action,
+                    target: *target,
+                })
+            }
             _ => None,
         }
     }

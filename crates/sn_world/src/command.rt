@@ -1,18 +1,30 @@
 use sn_reply::Reason;
 
-/// A command on control buses or definitions, or `/sync`.
+/// A command on control buses, on definitions or on the server itself.
 #[derive(Clone, Copy, Debug, PartialEq, Eq)]
 pub enum BusCommand {
     /// `/c_set`
     Set,
+    /// `/c_setn`
+    SetRuns,
     /// `/c_fill`
     Fill,
     /// `/c_get`
     Get,
+    /// `/c_getn`
+    GetRuns,
     /// `/sync`
     Sync,
     /// `/d_recv`
     Receive,
+    /// `/d_free`
+    Free,
+    /// `/status`
+    Status,
+    /// `/clearSched`
+    ClearSched,
+    /// `/quit`
+    Quit,
 }
 
 /// A command on nodes.
@@ -20,6 +32,22 @@ pub enum BusCommand {
 pub enum NodeCommand {
     /// `/s_new`
     New,
+    /// `/notify`
+    Notify,
+    /// `/n_run`
+    TurnNodes,
+    /// `/n_set`
+    SetControls,
+    /// `/n_setn`
+    SetRuns,
+    /// `/n_fill`
+    FillRuns,
+    /// `/g_new`
+    NewGroup,
+    /// `/n_free`
+    Free,
+    /// `/n_query`
+    Query,
 }
 
 /// What a crate of commands did with a message.
@@ -27,6 +55,10 @@ pub enum NodeCommand {
 pub enum Handled {
     /// The command was carried out.
     Done,
+    /// `/quit` was carried out: the server ends.
+    Quit,
+    /// `/clearSched` was accepted: the entries that are due after this boundary are to be dropped.
+    ClearSched,
     /// The command is refused, and nothing has changed.
     Failed(Reason),
     /// The address is none of the crate's, and nothing has changed.

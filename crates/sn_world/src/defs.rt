@@ -46,4 +46,20 @@ impl Defs {
         self.items.insert(name, def)?;
         Ok(())
     }
+
+    /// How many definitions there are.
+    pub fn len(&self) -> usize
+        ensures { result ≡ finite.len (definitions_of self.now) }
+    {
+        self.items.len()
+    }
+
+    /// Forgets the definition of this name, where there is one.
+    pub fn remove(&mut self, name: &[u8])
+        ensures { definitions_of self.new ≡ finite.remove (definitions_of self.old) name.now }
+    {
+        // Tells that no name is there twice.
+        let _ = self.items.len();
+        self.items.remove(name);
+    }
 }

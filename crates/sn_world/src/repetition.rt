@@ -11,10 +11,10 @@ pub struct BusValue {
     pub value: i32,
 }
 
-/// Control buses in a row, from `bus` on.
+/// Places in a row, as buses or samples, from `first` on.
 #[derive(Clone, Copy, Debug, PartialEq, Eq)]
-pub struct BusRun {
-    pub bus: i32,
+pub struct Run {
+    pub first: i32,
     pub count: u32,
 }
 
@@ -24,4 +24,18 @@ pub struct BusFill {
     pub bus: i32,
     pub count: u32,
     pub value: i32,
+}
+
+/// A node that is made: its id or -1, the number of an add action, and the target.
+#[derive(Clone, Copy, Debug, PartialEq, Eq)]
+pub struct NewNode {
+    pub id: i32,
+    pub action: i32,
+    pub target: i32,
+}
+
+/// The id of a node.
+#[derive(Clone, Copy, Debug, PartialEq, Eq)]
+pub struct NodeId {
+    pub id: i32,
 }

@@ -3,6 +3,7 @@ ghost use Rattle.std.specs.Prelude.{◌≤◌, IfOk};
 ghost use Rattle.sn_world.specs.Opening.{IsOpening};
 
 use crate::defs::Defs;
+use crate::flags::Flags;
 use sn_def::{Controls, Def};
 use sn_mem::Extent;
 use sn_pool::{POOL_BASE, Pool};
@@ -23,26 +24,33 @@ pub enum Held {
     },
 }
 
-/// The nodes, the definitions, and the pool from which the synths' states come.
+/// The nodes, the definitions, the pool from which the synths' states come, and what the server keeps of its clients.
 #[derive(Drop)]
 pub struct Stage {
     pub tree: Tree<Held>,
     pub defs: Defs,
     pub pool: Pool,
+    /// Which clients are notified of what happens to nodes.
+    pub notify: Flags,
+    /// The id that is chosen next: -2 or less, or `None` once -2147483648 was chosen.
+    pub next_id: Option<i32>,
     /// Frames a second: 44,100, 48,000 or 96,000.
     pub rate: u32,
 }
 
 impl Stage {
-    /// The root group alone, no definitions, and a pool of `memory` words behind those of the buses.
-    pub fn new(alloc: Global, rate: u32, memory: u32) -> Result<Stage, NoMemory>
+    /// The root group alone, no definitions, a pool of `memory` words behind those of the buses, and `clients` clients, none of them notified.
+    pub fn new(alloc: Global, rate: u32, memory: u32, clients: u32) -> Result<Stage, NoMemory>
         requires memory { memory ≤ 16777216 }
-        ensures { IfOk result (IsOpening rate memory) }
+        requires clients { clients ≤ 4 }
+        ensures { IfOk result (IsOpening rate memory clients) }
     {
         Ok(Stage {
             tree: Tree::new(alloc, Held::Group)?,
             defs: Defs::new(alloc),
             pool: Pool::new(alloc, POOL_BASE, memory)?,
+            notify: Flags::new(alloc, clients)?,
+            next_id: Some(-2),
             rate,
         })
     }

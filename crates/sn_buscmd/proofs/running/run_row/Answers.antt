@@ -12,8 +12,31 @@ returns-in-Set-clause-row g c =
     subst (λ (v : BusCommand). Follows c.run_set.result (bus_row v c.args.from (map argument_of c.args.arguments.now) (turn_of stage (g.P.Port.words c.args.port.now) c.args.replies.now)) (turn_of stage (g.P.Port.words c.run_set.new.port) c.args.replies.now))
     (sym c.in-Set.is) (c.run_set.ensures.row c.args.from stage c.args.replies.now c.requires.pictures)
 
+pub returns-in-SetRuns-clause-row : goal.returns-in-SetRuns-clause-row
+returns-in-SetRuns-clause-row g c =
+    let stage = c.args.stage.now in
+    subst (λ (v : BusCommand). Follows c.run_set_runs.result (bus_row v c.args.from (map argument_of c.args.arguments.now) (turn_of stage (g.P.Port.words c.args.port.now) c.args.replies.now)) (turn_of stage (g.P.Port.words c.run_set_runs.new.port) c.args.replies.now))
+    (sym c.in-SetRuns.is) (c.run_set_runs.ensures.row c.args.from stage c.args.replies.now c.requires.pictures)
+
 pub returns-in-Fill-clause-row : goal.returns-in-Fill-clause-row
 returns-in-Fill-clause-row g c =
     let stage = c.args.stage.now in
     subst (λ (v : BusCommand). Follows c.run_fill.result (bus_row v c.args.from (map argument_of c.args.arguments.now) (turn_of stage (g.P.Port.words c.args.port.now) c.args.replies.now)) (turn_of stage (g.P.Port.words c.run_fill.new.port) c.args.replies.now))
     (sym c.in-Fill.is) (c.run_fill.ensures.row c.args.from stage c.args.replies.now c.requires.pictures)
+
+pub returns-in-Free-clause-row : goal.returns-in-Free-clause-row
+returns-in-Free-clause-row g c =
+    let words = g.P.Port.words c.args.port.now in
+    subst (λ (v : BusCommand). Follows c.run_free.result (bus_row v c.args.from (map argument_of c.args.arguments.now) (turn_of c.args.stage.now words c.args.replies.now)) (turn_of c.run_free.new.stage words c.args.replies.now))
+    (sym c.in-Free.is) (c.run_free.ensures.row c.args.from words c.args.replies.now)
+
+pub returns-in-Free-clause-unchanged : goal.returns-in-Free-clause-unchanged
+returns-in-Free-clause-unchanged g c = c.run_free.ensures.unchanged (g.P.Port.words c.args.port.now) c.args.replies.now
+
+pub returns-in-ClearSched-clause-row : goal.returns-in-ClearSched-clause-row
+returns-in-ClearSched-clause-row g c =
+    let words = g.P.Port.words c.args.port.now in
+    let stage = c.args.stage.now in
+    let replies = c.args.replies.now in
+    subst (λ (v : BusCommand). Follows c.run_clear.result (bus_row v c.args.from (map argument_of c.args.arguments.now) (turn_of stage words replies)) (turn_of stage words replies))
+    (sym c.in-ClearSched.is) (c.run_clear.ensures.row c.args.from stage words replies)

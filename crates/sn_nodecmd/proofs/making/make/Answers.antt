@@ -10,7 +10,7 @@ use Rattle.sn_def.specs.declared.control.Control.{Control}
 use Rattle.sn_world.specs.NewSynth.{with_values, defaults}
 use Rattle.sn_nodecmd.specs.Asking.{request_of}
 use Rattle.sn_nodecmd.specs.Placing.{Adds}
-use Rattle.sn_nodecmd.proofs.MakingLemmas.{row_refused, row_full, row_done, none_against, made_is, made_pictures, made_length}
+use Rattle.sn_nodecmd.proofs.MakingLemmas.{row_refused, row_full, row_done, none_against, made_is, made_pictures, made_length, made_outside}
 use Rattle.sn_nodecmd.proofs.making.make.Goals as goal
 
 pub returns-in-Some-clause-row : goal.returns-in-Some-clause-row
@@ -52,6 +52,15 @@ returns-clause-pictures g c =
 pub returns-clause-len : goal.returns-clause-len
 returns-clause-len g c =
     made_length c.args.asked.now.id c.spot_of.result (definition_of c.args.def.value) c.in_ok-controls.controls (λ s. held.Synth c.args.def c.in_ok-controls.controls s) c.args.stage.now c.add_synth.new.stage (g.P.Port.words c.args.port.now) (g.P.Port.words c.clear.new.port) c.in-Some-2.state
+    (made_is c.args.asked.now.id c.spot_of.result (definition_of c.args.def.value) c.in_ok-controls.controls (λ s. held.Synth c.args.def c.in_ok-controls.controls s) c.args.stage.now c.add_synth.new.stage (g.P.Port.words c.args.port.now) (g.P.Port.words c.clear.new.port) c.in-Some-2.state
+    (record { own = refl; content = λ us. refl; held = λ rate region is. is }) (subst (λ v. AreControlsOf (definition_of v) c.in_ok-controls.controls) c.deref.ensures c.in_ok-controls.ensures.each)
+    (ap (λ (s : Spot). insert_fault c.args.asked.now.id s.action s.target c.args.stage.now.tree.attached) c.spot_of.ensures ∙ none_against c.args.stage.now (g.P.Port.words c.args.port.now) c.requires.pictures (request_of c.args.asked.now) (definition_of c.args.def.value) c.in_default.ensures)
+    c.in_ok-state.field-0 c.in_ok-state.ensures c.in-Some-2.is c.clear.ensures.words)
+    c.requires.pictures
+
+pub returns-clause-others : goal.returns-clause-others
+returns-clause-others g c =
+    made_outside c.args.asked.now.id c.spot_of.result (definition_of c.args.def.value) c.in_ok-controls.controls (λ s. held.Synth c.args.def c.in_ok-controls.controls s) c.args.stage.now c.add_synth.new.stage (g.P.Port.words c.args.port.now) (g.P.Port.words c.clear.new.port) c.in-Some-2.state
     (made_is c.args.asked.now.id c.spot_of.result (definition_of c.args.def.value) c.in_ok-controls.controls (λ s. held.Synth c.args.def c.in_ok-controls.controls s) c.args.stage.now c.add_synth.new.stage (g.P.Port.words c.args.port.now) (g.P.Port.words c.clear.new.port) c.in-Some-2.state
     (record { own = refl; content = λ us. refl; held = λ rate region is. is }) (subst (λ v. AreControlsOf (definition_of v) c.in_ok-controls.controls) c.deref.ensures c.in_ok-controls.ensures.each)
     (ap (λ (s : Spot). insert_fault c.args.asked.now.id s.action s.target c.args.stage.now.tree.attached) c.spot_of.ensures ∙ none_against c.args.stage.now (g.P.Port.words c.args.port.now) c.requires.pictures (request_of c.args.asked.now) (definition_of c.args.def.value) c.in_default.ensures)

@@ -1,12 +1,72 @@
 use Rattle.std.proofs.Common.{subst, sym, map, List, ℕ, Result}
 use Rattle.sn_osc.specs.Shape.{Argument, argument_of}
-use Rattle.sn_reply.specs.declared.reason.Reason.{Reason}
-use Rattle.sn_world.specs.World.{Turn, turn_of}
+use Rattle.sn_world.specs.declared.command.NodeCommand.{NodeCommand}
+use Rattle.sn_world.specs.World.{turn_of}
+use Rattle.sn_world.specs.Commands.{node_row}
 use Rattle.sn_world.specs.Answers.{Follows}
-use Rattle.sn_nodecmd.proofs.MakingLemmas.{only_new}
+use Rattle.sn_nodecmd.proofs.Repeating.{same_turn}
+use Rattle.sn_nodecmd.proofs.Underway.{at_rest}
 use Rattle.sn_nodecmd.proofs.running.run_row.Goals as goal
 
-pub returns-clause-row : goal.returns-clause-row
-returns-clause-row g c =
-    subst (λ (row : ℕ → List Argument → Turn → Result Turn Reason). Follows c.run_new.result (row c.args.from (map argument_of c.args.arguments.now) (turn_of c.args.stage.now (g.P.Port.words c.args.port.now) c.args.replies.now)) (turn_of c.run_new.new.stage (g.P.Port.words c.run_new.new.port) c.args.replies.now))
-    (sym (only_new c.args.command)) (c.run_new.ensures.row c.args.from c.args.replies.now)
+pub returns-in-New-clause-row : goal.returns-in-New-clause-row
+returns-in-New-clause-row g c =
+    subst (λ (v : NodeCommand). Follows c.run_new.result (node_row v c.args.from (map argument_of c.args.arguments.now) (turn_of c.args.stage.now (g.P.Port.words c.args.port.now) c.args.replies.now)) (turn_of c.run_new.new.stage (g.P.Port.words c.run_new.new.port) c.args.replies.now))
+    (sym c.in-New.is) (c.run_new.ensures.row c.args.from c.args.replies.now)
+
+pub returns-in-Notify-clause-row : goal.returns-in-Notify-clause-row
+returns-in-Notify-clause-row g c =
+    subst (λ (v : NodeCommand). Follows c.run_notify.result (node_row v c.args.from (map argument_of c.args.arguments.now) (turn_of c.args.stage.now (g.P.Port.words c.args.port.now) c.args.replies.now)) (turn_of c.run_notify.new.stage (g.P.Port.words c.args.port.now) c.run_notify.new.replies))
+    (sym c.in-Notify.is) (c.run_notify.ensures.row (g.P.Port.words c.args.port.now))
+
+pub returns-in-TurnNodes-clause-row : goal.returns-in-TurnNodes-clause-row
+returns-in-TurnNodes-clause-row g c =
+    subst (λ (v : NodeCommand). Follows c.run_flags.result (node_row v c.args.from (map argument_of c.args.arguments.now) (turn_of c.args.stage.now (g.P.Port.words c.args.port.now) c.args.replies.now)) (turn_of c.run_flags.new.stage (g.P.Port.words c.args.port.now) c.run_flags.new.replies))
+    (sym c.in-TurnNodes.is) (c.run_flags.ensures.row c.args.from (g.P.Port.words c.args.port.now))
+
+pub returns-in-SetControls-clause-row : goal.returns-in-SetControls-clause-row
+returns-in-SetControls-clause-row g c =
+    subst (λ (v : NodeCommand). Follows c.run_set.result (node_row v c.args.from (map argument_of c.args.arguments.now) (turn_of c.args.stage.now (g.P.Port.words c.args.port.now) c.args.replies.now)) (turn_of c.run_set.new.stage (g.P.Port.words c.args.port.now) c.args.replies.now))
+    (sym c.in-SetControls.is) (c.run_set.ensures.row (g.P.Port.words c.args.port.now) c.args.replies.now)
+
+pub returns-in-SetRuns-clause-row : goal.returns-in-SetRuns-clause-row
+returns-in-SetRuns-clause-row g c =
+    subst (λ (v : NodeCommand). Follows c.run_set-in-SetRuns.result (node_row v c.args.from (map argument_of c.args.arguments.now) (turn_of c.args.stage.now (g.P.Port.words c.args.port.now) c.args.replies.now)) (turn_of c.run_set-in-SetRuns.new.stage (g.P.Port.words c.args.port.now) c.args.replies.now))
+    (sym c.in-SetRuns.is) (c.run_set-in-SetRuns.ensures.row (g.P.Port.words c.args.port.now) c.args.replies.now)
+
+pub returns-in-FillRuns-clause-row : goal.returns-in-FillRuns-clause-row
+returns-in-FillRuns-clause-row g c =
+    subst (λ (v : NodeCommand). Follows c.run_set-in-FillRuns.result (node_row v c.args.from (map argument_of c.args.arguments.now) (turn_of c.args.stage.now (g.P.Port.words c.args.port.now) c.args.replies.now)) (turn_of c.run_set-in-FillRuns.new.stage (g.P.Port.words c.args.port.now) c.args.replies.now))
+    (sym c.in-FillRuns.is) (c.run_set-in-FillRuns.ensures.row (g.P.Port.words c.args.port.now) c.args.replies.now)
+
+pub returns-in-NewGroup-clause-row : goal.returns-in-NewGroup-clause-row
+returns-in-NewGroup-clause-row g c =
+    subst (λ (v : NodeCommand). Follows c.run_new_groups.result (node_row v c.args.from (map argument_of c.args.arguments.now) (turn_of c.args.stage.now (g.P.Port.words c.args.port.now) c.args.replies.now)) (turn_of c.run_new_groups.new.stage (g.P.Port.words c.args.port.now) c.run_new_groups.new.replies))
+    (sym c.in-NewGroup.is) (c.run_new_groups.ensures.row c.args.from (g.P.Port.words c.args.port.now))
+
+pub returns-in-NewGroup-clause-unchanged : goal.returns-in-NewGroup-clause-unchanged
+returns-in-NewGroup-clause-unchanged g c = same_turn c.run_new_groups.result c.args.stage.now c.run_new_groups.new.stage (g.P.Port.words c.args.port.now) c.args.replies.now c.run_new_groups.new.replies c.run_new_groups.ensures.unchanged c.run_new_groups.ensures.untold
+
+pub returns-in-NewGroup-clause-pictures : goal.returns-in-NewGroup-clause-pictures
+returns-in-NewGroup-clause-pictures g c = c.run_new_groups.ensures.pictures (g.P.Port.words c.args.port.now) c.requires.pictures
+
+pub run_new_groups-requires-clause-rest : goal.run_new_groups-requires-clause-rest
+run_new_groups-requires-clause-rest g c = at_rest c.args.stage.now (g.P.Port.words c.args.port.now) c.requires.pictures
+
+pub returns-in-Free-clause-row : goal.returns-in-Free-clause-row
+returns-in-Free-clause-row g c =
+    subst (λ (v : NodeCommand). Follows c.run_free.result (node_row v c.args.from (map argument_of c.args.arguments.now) (turn_of c.args.stage.now (g.P.Port.words c.args.port.now) c.args.replies.now)) (turn_of c.run_free.new.stage (g.P.Port.words c.args.port.now) c.run_free.new.replies))
+    (sym c.in-Free.is) (c.run_free.ensures.row c.args.from (g.P.Port.words c.args.port.now))
+
+pub returns-in-Free-clause-unchanged : goal.returns-in-Free-clause-unchanged
+returns-in-Free-clause-unchanged g c = same_turn c.run_free.result c.args.stage.now c.run_free.new.stage (g.P.Port.words c.args.port.now) c.args.replies.now c.run_free.new.replies c.run_free.ensures.unchanged c.run_free.ensures.untold
+
+pub returns-in-Free-clause-pictures : goal.returns-in-Free-clause-pictures
+returns-in-Free-clause-pictures g c = c.run_free.ensures.pictures (g.P.Port.words c.args.port.now) c.requires.pictures
+
+pub run_free-requires-clause-rest : goal.run_free-requires-clause-rest
+run_free-requires-clause-rest g c = at_rest c.args.stage.now (g.P.Port.words c.args.port.now) c.requires.pictures
+
+pub returns-in-Query-clause-row : goal.returns-in-Query-clause-row
+returns-in-Query-clause-row g c =
+    subst (λ (v : NodeCommand). Follows c.run_query.result (node_row v c.args.from (map argument_of c.args.arguments.now) (turn_of c.args.stage.now (g.P.Port.words c.args.port.now) c.args.replies.now)) (turn_of c.args.stage.now (g.P.Port.words c.args.port.now) c.run_query.new.replies))
+    (sym c.in-Query.is) (c.run_query.ensures.row (g.P.Port.words c.args.port.now))

@@ -1,53 +1,10 @@
-use Rattle.std.proofs.Common.{◌≡◌, map, sym, ap, subst, ◌∙◌}
-use Rattle.std.specs.List.{AllByRecursion}
-use Rattle.sn_osc.specs.Shape.{message_of}
-use Rattle.sn_reply.specs.Sending.{IsAnswerable}
-use Rattle.sn_world.specs.World.{turn_of}
-use Rattle.sn_server.specs.Play.{act_messages, act_entries, due_at}
-use Rattle.sn_server.proofs.ActingLemmas.{IsTaken, IsDone, taken, done}
+use Rattle.std.proofs.Common.{sym, ◌∙◌}
+use Rattle.sn_server.proofs.ActingLemmas.{cleared-left, cleared-answerable}
 use Rattle.sn_server.proofs.acting.act_due.Goals as goal
-
-pub act_messages-requires-clause-messages : goal.act_messages-requires-clause-messages
-act_messages-requires-clause-messages g c =
-    let t = taken c.args.now c.loop-entry.queue c.take_due.new.self c.in-Some.entry c.in-Some.ensures.taken c.in-Some.ensures.left in
-    subst (λ ms. AllByRecursion IsAnswerable (map message_of ms)) (sym c.as_slice.ensures) (t.answerable c.loop-entry.invariant.waiting)
-
-pub returns-in_err-act_messages-clause-waiting : goal.returns-in_err-act_messages-clause-waiting
-returns-in_err-act_messages-clause-waiting g c =
-    let t = taken c.args.now c.loop-entry.queue c.take_due.new.self c.in-Some.entry c.in-Some.ensures.taken c.in-Some.ensures.left in
-    t.others c.loop-entry.invariant.waiting
-
-pub loop-entry-smaller : goal.loop-entry-smaller
-loop-entry-smaller g c =
-    let t = taken c.args.now c.loop-entry.queue c.take_due.new.self c.in-Some.entry c.in-Some.ensures.taken c.in-Some.ensures.left in
-    t.fewer
-
-pub loop-entry-preserved : goal.loop-entry-preserved
-loop-entry-preserved g c =
-    let i = c.loop-entry.invariant in
-    let t = taken c.args.now c.loop-entry.queue c.take_due.new.self c.in-Some.entry c.in-Some.ensures.taken c.in-Some.ensures.left in
-    record {
-      acts = ap (act_entries (due_at c.args.now c.take_due.new.self)) (c.in_ok-act_messages.ensures.acts ∙ ap (λ ms. act_messages c.in-Some.entry.from (map message_of ms) (turn_of c.loop-entry.stage (g.P.Port.words c.loop-entry.port) c.loop-entry.replies)) c.as_slice.ensures) ∙ t.acts _ ∙ i.acts;
-      left = t.left ∙ i.left;
-      waiting = t.others i.waiting;
-      pictures = c.act_messages.ensures.pictures;
-      region = c.act_messages.ensures.region ∙ i.region;
-      len = c.act_messages.ensures.len ∙ i.len;
-      foot = c.act_messages.ensures.foot ∙ i.foot;
-      rest = c.act_messages.ensures.rest ∙ i.rest;
-    }
-
-pub returns-clause-acts : goal.returns-clause-acts
-returns-clause-acts g c =
-    let d = done c.args.now c.loop-entry.queue c.take_due.new.self c.in_default.ensures.taken c.in_default.ensures.left in
-    sym (d.acts _) ∙ c.loop-entry.invariant.acts
 
 pub returns-clause-left : goal.returns-clause-left
 returns-clause-left g c =
-    let d = done c.args.now c.loop-entry.queue c.take_due.new.self c.in_default.ensures.taken c.in_default.ensures.left in
-    d.left ∙ c.loop-entry.invariant.left
+    cleared-left c.args.now c.args.queue.now c.act_taken.new.queue c.clear_after.new.self _ c.in_ok-cleared.ensures.left c.clear_after.ensures.left (sym c.in_ok-cleared.ensures.clears ∙ c.if-not-cleared.false)
 
 pub returns-clause-waiting : goal.returns-clause-waiting
-returns-clause-waiting g c =
-    let d = done c.args.now c.loop-entry.queue c.take_due.new.self c.in_default.ensures.taken c.in_default.ensures.left in
-    d.others c.loop-entry.invariant.waiting
+returns-clause-waiting g c = cleared-answerable c.args.now c.act_taken.new.queue c.clear_after.new.self c.clear_after.ensures.left c.act_taken.ensures.waiting

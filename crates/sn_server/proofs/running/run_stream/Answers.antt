@@ -5,7 +5,7 @@ use Rattle.sn_queue.specs.Steps.{last_due}
 use Rattle.sn_server.specs.Play.{last_of}
 use Rattle.sn_osc.specs.Frames.{Frames}
 use Rattle.sn_server.proofs.ArrivingLemmas.{frames_put}
-use Rattle.sn_server.proofs.OutcomeLemmas.{done_played}
+use Rattle.sn_server.proofs.OutcomeLemmas.{done_played, long_answer}
 use Rattle.sn_server.proofs.running.run_stream.Goals as goal
 
 pub opened-requires : goal.opened-requires
@@ -19,3 +19,11 @@ returns-in-Ok-play-clause-done g c = λ n same.
     let last : c.unwrap_or-blocks.result ≡ last_of s packets = c.unwrap_or-blocks.ensures ∙ ap (λ o. unwrap_or o 0) (c.last.ensures ∙ ap (λ e. last_due e.waiting) c.in-Ok-opened.ensures) in
     done_played s (g.S.Source.left c.args.source.now) (g.O.Sink.taken c.args.sound.now) (g.O.Sink.taken c.play.new.sound) (g.R.Sink.taken c.args.replies.now) (g.R.Sink.taken c.play.new.replies)
     c.in-Ok.bytes.items packets c.unwrap_or-blocks.result n c.in-Ok-opened.engine c.in-Ok.ensures.bytes frames last c.in-Ok-opened.ensures c.in-Ok-play.ensures.ended same
+
+pub returns-then-too_long-clause-answer : goal.returns-then-too_long-clause-answer
+returns-then-too_long-clause-answer g c =
+    let s = c.args.settings.now in
+    let packets = map shape c.in-Ok-decode_stream.packets.items in
+    let frames = subst (Frames packets) c.deref.ensures.value c.in-Ok-decode_stream.ensures.found in
+    let last : c.unwrap_or-blocks.result ≡ last_of s packets = c.unwrap_or-blocks.ensures ∙ ap (λ o. unwrap_or o 0) (c.last.ensures ∙ ap (λ e. last_due e.waiting) c.in-Ok-opened.ensures) in
+    long_answer s (g.S.Source.left c.args.source.now) c.in-Ok.bytes.items packets c.unwrap_or-blocks.result c.in-Ok.ensures.bytes c.in-Ok.ensures.size frames last (c.too_long.ensures.0 c.if-too_long.true)

@@ -1,6 +1,8 @@
-use Rattle.std.proofs.Common.{arith, ◌∙◌, sym}
-use Rattle.sn_synth.proofs.BuiltRows.{out_index}
+use Rattle.std.proofs.Common.{◌∙◌, sym}
+use Rattle.sn_filt.specs.Rings.{most_frames}
+use Rattle.sn_synth.proofs.BuiltRows.{bus_unit_words}
 use Rattle.sn_synth.proofs.units.run_kind.Goals as goal
 
-pub run_out-requires-clause-index : goal.run_out-requires-clause-index
-run_out-requires-clause-index g c = let enough = c.requires.can.enough in let out = out_index c.args.kind (sym c.is_out.ensures ∙ c.if-is_out.true) in omega arith
+-- a unit on buses or triggers has a fixed number of words
+pub run-requires-clause-size : goal.run-requires-clause-size
+run-requires-clause-size g c = bus_unit_words c.args.kind (most_frames c.args.now.now.rate c.args.inputs.now) c.args.state.len (sym c.is_bus_unit.ensures ∙ c.if-is_bus_unit.true) c.requires.can.size

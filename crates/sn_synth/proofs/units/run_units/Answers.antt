@@ -1,4 +1,5 @@
 use Rattle.std.proofs.Common.{◌≡◌, ◌<◌, ◌+◌, List, ℤ, length, drop, refl, ap, ◌∙◌, arith, length-append}
+use Rattle.sn_def.specs.declared.control.Now.{Now}
 use Rattle.sn_def.specs.StateWords.{unit_words, units_words}
 use Rattle.sn_synth.specs.Words.{begun}
 use Rattle.sn_synth.proofs.Stepping.{next_at, ahead_at, known_at, gathered, can_at, inputs_at_most, outputs_are, unit_more}
@@ -17,19 +18,26 @@ gather-requires-clause-few g c =
     let few = inputs_at_most (length c.args.scratch.now.values) (length c.loop-unit.scratch.wires) c.unit-item.result next.fits in
     rw c.as_slice.ensures (omega arith)
 
+pub resize-requires : goal.resize-requires
+resize-requires g c =
+    let lt : c.loop-unit.unit-index < length c.args.units.now = omega arith in
+    let next = next_at c.args.now.now.rate (length c.args.scratch.now.values) (length c.loop-unit.scratch.wires) c.loop-unit.place (c.args.at + units_words c.args.now.now.rate c.args.units.now) c.args.units.now c.loop-unit.unit-index c.unit-item.result lt c.unit-item.is c.loop-unit.invariant.ahead in
+    let room = next.room in omega arith
+
 pub run_kind-requires-clause-can : goal.run_kind-requires-clause-can
 run_kind-requires-clause-can g c =
     let lt : c.loop-unit.unit-index < length c.args.units.now = omega arith in
     let next = next_at c.args.now.now.rate (length c.args.scratch.now.values) (length c.loop-unit.scratch.wires) c.loop-unit.place (c.args.at + units_words c.args.now.now.rate c.args.units.now) c.args.units.now c.loop-unit.unit-index c.unit-item.result lt c.unit-item.is c.loop-unit.invariant.ahead in
-    can_at c.args.now.now.rate (g.P.Port.foot c.args.port.now) (g.P.Port.foot c.loop-unit.port) c.args.at (units_words c.args.now.now.rate c.args.units.now) c.loop-unit.place (length c.args.scratch.now.values) (length c.loop-unit.scratch.wires) c.state_words-len.result
-    c.args.scratch.now.values c.loop-unit.scratch.wires c.gather.new.blocks c.args.units.now c.loop-unit.unit-index c.unit-item.result lt c.unit-item.is next.fits c.requires.outputs c.state_words-len.ensures c.requires.state c.loop-unit.invariant.foot c.loop-unit.invariant.low next.size
+    can_at c.args.now.now.rate c.numbered.result.rate (g.P.Port.foot c.args.port.now) (g.P.Port.foot c.loop-unit.port) c.args.at (units_words c.args.now.now.rate c.args.units.now) c.loop-unit.place (length c.args.scratch.now.values) (length c.loop-unit.scratch.wires) (length c.resize.new.self) c.state_words-len.result
+    c.args.scratch.now.values c.loop-unit.scratch.wires c.gather.new.blocks c.args.units.now c.loop-unit.unit-index c.unit-item.result lt c.unit-item.is next.fits c.requires.outputs c.resize.ensures c.state_words-len.ensures c.requires.apart c.requires.state c.loop-unit.invariant.foot c.loop-unit.invariant.low next.size
     (gathered c.args.scratch.now.values c.loop-unit.scratch.values c.loop-unit.scratch.wires c.gather.new.blocks c.unit-item.result c.as_slice.result.now c.gather.ensures c.as_slice.ensures c.loop-unit.invariant.values)
+    (ap (λ (n : Now). n.rate) c.numbered.ensures)
 
 pub append-requires : goal.append-requires
 append-requires g c =
     let lt : c.loop-unit.unit-index < length c.args.units.now = omega arith in
     let next = next_at c.args.now.now.rate (length c.args.scratch.now.values) (length c.loop-unit.scratch.wires) c.loop-unit.place (c.args.at + units_words c.args.now.now.rate c.args.units.now) c.args.units.now c.loop-unit.unit-index c.unit-item.result lt c.unit-item.is c.loop-unit.invariant.ahead in
-    let long = outputs_are (length c.args.scratch.now.values) (length c.loop-unit.scratch.wires) c.unit-item.result c.numbered.result (g.P.Port.words c.loop-unit.port) c.loop-unit.place c.state_words-len.result c.gather.new.blocks next.fits in
+    let long = outputs_are (length c.args.scratch.now.values) (length c.loop-unit.scratch.wires) (length c.resize.new.self) c.unit-item.result c.numbered.result (g.P.Port.words c.loop-unit.port) c.loop-unit.place c.state_words-len.result c.gather.new.blocks next.fits c.resize.ensures in
     let room = next.room in
     rw c.run_kind.ensures.outputs (omega arith)
 
@@ -38,16 +46,16 @@ loop-unit-preserved g c =
     let lt : c.loop-unit.unit-index < length c.args.units.now = omega arith in
     let i = c.loop-unit.invariant in
     let next = next_at c.args.now.now.rate (length c.args.scratch.now.values) (length c.loop-unit.scratch.wires) c.loop-unit.place (c.args.at + units_words c.args.now.now.rate c.args.units.now) c.args.units.now c.loop-unit.unit-index c.unit-item.result lt c.unit-item.is i.ahead in
-    let long = outputs_are (length c.args.scratch.now.values) (length c.loop-unit.scratch.wires) c.unit-item.result c.numbered.result (g.P.Port.words c.loop-unit.port) c.loop-unit.place c.state_words-len.result c.gather.new.blocks next.fits in
+    let long = outputs_are (length c.args.scratch.now.values) (length c.loop-unit.scratch.wires) (length c.resize.new.self) c.unit-item.result c.numbered.result (g.P.Port.words c.loop-unit.port) c.loop-unit.place c.state_words-len.result c.gather.new.blocks next.fits c.resize.ensures in
     let wires : length c.append.new.self ≡ length c.loop-unit.scratch.wires + c.unit-item.result.outputs =
     ap (λ (ws : List (List ℤ)). length ws) c.append.ensures ∙ (length-append c.loop-unit.scratch.wires c.run_kind.new.outputs ∙ ap (λ n. length c.loop-unit.scratch.wires + n) (ap (λ (ws : List (List ℤ)). length ws) c.run_kind.ensures.outputs ∙ long)) in
     record {
       going = unit_more c.args.now.now.rate c.args.now.now.block c.args.now.now.node c.args.scratch.now.values c.args.units.now (begun (g.P.Port.words c.args.port.now) c.args.at)
           (record { words = g.P.Port.words c.loop-unit.port; wires = c.loop-unit.scratch.wires; at = c.loop-unit.place; number = c.loop-unit.number })
-          c.loop-unit.unit-index c.unit-item.result c.numbered.result (g.P.Port.words c.run_kind.new.port) c.gather.new.blocks c.run_kind.new.outputs c.append.new.self c.state_words-len.result
+          c.loop-unit.unit-index c.unit-item.result c.numbered.result (g.P.Port.words c.run_kind.new.port) c.gather.new.blocks c.run_kind.new.outputs c.append.new.self (length c.resize.new.self) c.state_words-len.result
           lt c.unit-item.is i.going
           (gathered c.args.scratch.now.values c.loop-unit.scratch.values c.loop-unit.scratch.wires c.gather.new.blocks c.unit-item.result c.as_slice.result.now c.gather.ensures c.as_slice.ensures i.values)
-          c.numbered.ensures c.state_words-len.ensures c.run_kind.ensures.words c.run_kind.ensures.outputs c.append.ensures;
+          c.numbered.ensures c.resize.ensures c.state_words-len.ensures c.run_kind.ensures.words c.run_kind.ensures.outputs c.append.ensures;
       ahead = ahead_at c.args.now.now.rate (length c.args.scratch.now.values) (length c.loop-unit.scratch.wires + c.unit-item.result.outputs) (c.loop-unit.place + unit_words c.args.now.now.rate c.unit-item.result) (length c.append.new.self) (c.loop-unit.place + c.state_words-len.result)
           (c.args.at + units_words c.args.now.now.rate c.args.units.now) (drop (c.loop-unit.unit-index + 1) c.args.units.now) wires (ap (λ n. c.loop-unit.place + n) c.state_words-len.ensures) next.ahead;
       low = omega arith;

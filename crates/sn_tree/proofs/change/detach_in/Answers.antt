@@ -1,8 +1,6 @@
-use Rattle.std.proofs.Common.{◌≡◌, ◌≤◌, ◌<◌, ◌+◌, ℕ, None, arith, sym, ap, ◌∙◌, w32, to_z, of_z, get_or, length}
+use Rattle.std.proofs.Common.{◌≡◌, ◌+◌, None, arith, ◌∙◌, w32, get_or}
 use mir.Val.{SFits}
 use Rattle.std.proofs.lemmas.Int.{to_z-of_z}
-use Rattle.sn_tree.specs.declared.entry.Entry.{Entry}
-use Rattle.sn_tree.specs.Trees.{count, without, subtree}
 use Rattle.sn_tree.specs.Faults.{detach_fault}
 use Rattle.sn_tree.specs.Order.{tree_of}
 use Rattle.sn_tree.specs.Places.{Spotted}

@@ -1,9 +1,9 @@
-use Rattle.std.proofs.Common.{◌≡◌, ◌≤◌, ◌<◌, ◌+◌, ◌-◌, ℕ, None, Some, arith, sym, ap, ◌∙◌, refl, w32, to_z, of_z, get_or, length, take}
+use Rattle.std.proofs.Common.{◌≡◌, ◌+◌, ◌-◌, None, arith, sym, ap, ◌∙◌, refl, w32, get_or, length}
 use mir.Val.{SFits}
 use Rattle.std.proofs.lemmas.Int.{to_z-of_z}
-use Rattle.sn_tree.specs.Trees.{count, without, subtree}
+use Rattle.sn_tree.specs.Trees.{without}
 use Rattle.sn_tree.specs.Faults.{move_fault, spot_fault}
-use Rattle.sn_tree.specs.Order.{tree_of, flat, IsFlat}
+use Rattle.sn_tree.specs.Order.{tree_of}
 use Rattle.sn_tree.specs.Places.{Spotted}
 use Rattle.sn_tree.proofs.Spotting.{below_is, reach, blank}
 use Rattle.sn_tree.proofs.Moving.{moved_list, end_front, end_length, end_small, spot_stays, absurd_fault}

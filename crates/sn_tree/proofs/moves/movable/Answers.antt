@@ -1,10 +1,10 @@
-use Rattle.std.proofs.Common.{◌≡◌, ◌+◌, ◌≤◌, ◌∙◌, true, false, pos, int_eq, arith, sym, ap, refl, subst, w32, to_z, of_z, take, drop, get_or, rules}
+use Rattle.std.proofs.Common.{◌≡◌, ◌+◌, ◌∙◌, true, false, pos, int_eq, arith, sym, ap, w32, of_z, get_or, rules}
 use mir.Val.{SFits}
 use Rattle.std.proofs.lemmas.Int.{to_z-of_z}
 use Rattle.std.proofs.lemmas.Bool.{false_from_ne_true}
 use Rattle.std.proofs.lemmas.Bool.Decides.{Decides-int_eq}
 use Rattle.sn_tree.specs.Trees.{holds, subtree}
-use Rattle.sn_tree.specs.Order.{tree_of, flat, IsFlat, flat_is, tree_is}
+use Rattle.sn_tree.specs.Order.{tree_of, flat_is, tree_is}
 use Rattle.sn_tree.specs.Places.{Spotted}
 use Rattle.sn_tree.proofs.Spotting.{below_is, reach, blank}
 use Rattle.sn_tree.proofs.Moving.{at_end_list, spot_refused, inside_itself, can_move}

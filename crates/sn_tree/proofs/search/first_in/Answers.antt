@@ -1,9 +1,8 @@
-use Rattle.std.proofs.Common.{◌≡◌, ◌<◌, sym, ap, ◌∙◌, refl, false, Some, w32, to_z, of_z, rules}
+use Rattle.std.proofs.Common.{sym, ap, ◌∙◌, Some, w32, rules}
 use mir.Val.{SFits}
 use Rattle.std.proofs.lemmas.Int.{to_z-of_z}
 use Rattle.sn_tree.specs.Order.{tree_of}
-use Rattle.sn_tree.specs.Trees.{holds, first_of}
-use Rattle.sn_tree.specs.Places.{Spotted}
+use Rattle.sn_tree.specs.Trees.{first_of}
 use Rattle.sn_tree.proofs.Spotting.{no_children, first_at, first_end, first_within}
 use Rattle.sn_tree.proofs.search.first_in.Goals as goal
 

@@ -1,4 +1,4 @@
-use Rattle.std.proofs.Common.{◌≡◌, ◌<◌, ◌≤◌, arith, length, drop, length-drop, ap, subst, sym, ◌∙◌}
+use Rattle.std.proofs.Common.{arith, length, length-drop, ap, subst, sym}
 use Rattle.sn_tree.specs.Walking.{IsPast}
 use Rattle.sn_tree.proofs.Walking.{past_none, past_paused, within_rest, from_first, from_end}
 use Rattle.sn_tree.proofs.search.from_running.Goals as goal

@@ -1,7 +1,6 @@
-use Rattle.std.proofs.Common.{◌≡◌, ◌<◌, sym, ap, ◌∙◌, refl, false, Some, w32, to_z, of_z, rules}
+use Rattle.std.proofs.Common.{sym, ap, ◌∙◌, Some, w32, rules}
 use mir.Val.{SFits}
 use Rattle.std.proofs.lemmas.Int.{to_z-of_z}
-use Rattle.sn_tree.specs.Places.{Spotted}
 use Rattle.sn_tree.proofs.Spotting.{no_next, next_at, next_end}
 use Rattle.sn_tree.proofs.search.next_of.Goals as goal
 

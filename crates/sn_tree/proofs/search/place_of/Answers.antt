@@ -1,4 +1,4 @@
-use Rattle.std.proofs.Common.{◌≡◌, sym, ap, ◌∙◌, refl, w32, to_z, of_z, rules}
+use Rattle.std.proofs.Common.{sym, ap, ◌∙◌, refl, w32, rules}
 use mir.Val.{SFits}
 use Rattle.std.proofs.lemmas.Int.{to_z-of_z}
 use Rattle.sn_tree.specs.declared.entry.Entry.{Entry}

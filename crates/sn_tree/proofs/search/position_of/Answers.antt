@@ -1,4 +1,4 @@
-use Rattle.std.proofs.Common.{w32, to_z, of_z}
+use Rattle.std.proofs.Common.{w32}
 use mir.Val.{SFits}
 use Rattle.std.proofs.lemmas.Int.{to_z-of_z}
 use Rattle.sn_tree.proofs.Spotting.{match_spotted}

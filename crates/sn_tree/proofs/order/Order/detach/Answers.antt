@@ -1,11 +1,11 @@
-use Rattle.std.proofs.Common.{◌≡◌, ◌≤◌, ◌+◌, ◌-◌, ◌∙◌, ℕ, arith, sym, ap, w32, to_z, of_z, List, ◌++◌, take, drop}
+use Rattle.std.proofs.Common.{◌≡◌, ◌∙◌, arith, ap, w32, List, ◌++◌, take, drop}
 use mir.Val.{SFits}
 use Rattle.std.proofs.lemmas.Int.{to_z-of_z}
 use Rattle.sn_tree.specs.declared.entry.Entry.{Entry}
 use Rattle.sn_tree.specs.Trees.{without, subtree, joined}
 use Rattle.sn_tree.specs.Places.{IsDetached}
 use Rattle.sn_tree.specs.Arranged.{Arranged}
-use Rattle.sn_tree.proofs.Arranging.{Shows, detach_shows, count_is}
+use Rattle.sn_tree.proofs.Arranging.{detach_shows, count_is}
 use Rattle.sn_tree.proofs.order.Order.detach.Goals as goal
 
 pub overflow_sub-self : goal.overflow_sub-self

@@ -1,7 +1,7 @@
-use Rattle.std.proofs.Common.{◌≡◌, ◌∙◌, ap, arith, length}
+use Rattle.std.proofs.Common.{◌∙◌, ap, arith}
 use Rattle.sn_tree.specs.Trees.{without_first}
 use Rattle.sn_tree.specs.Arranged.{Arranged}
-use Rattle.sn_tree.proofs.Arranging.{Shows, free_shows}
+use Rattle.sn_tree.proofs.Arranging.{free_shows}
 use Rattle.sn_tree.proofs.order.Order.free.Goals as goal
 
 pub invariant_of-self-2 : goal.invariant_of-self-2

@@ -1,4 +1,4 @@
-use Rattle.std.proofs.Common.{◌≡◌, ◌∙◌, ap}
+use Rattle.std.proofs.Common.{◌∙◌, ap}
 use Rattle.sn_tree.specs.Trees.{count}
 use Rattle.sn_tree.specs.Arranged.{Arranged}
 use Rattle.sn_tree.proofs.Arranging.{count_is}

@@ -1,11 +1,10 @@
-use Rattle.std.proofs.Common.{◌≡◌, ◌∙◌, ap, sym, w32, to_z, of_z, List, ◌++◌, take, drop}
+use Rattle.std.proofs.Common.{◌≡◌, ◌∙◌, ap, w32, List, ◌++◌, take, drop}
 use mir.Val.{SFits}
 use Rattle.std.proofs.lemmas.Int.{to_z-of_z}
 use Rattle.sn_tree.specs.declared.entry.Entry.{Entry}
 use Rattle.sn_tree.specs.Steps.{moving}
 use Rattle.sn_tree.specs.Places.{IsMoved}
 use Rattle.sn_tree.specs.Arranged.{Arranged}
-use Rattle.sn_tree.proofs.Arranging.{Shows}
 use Rattle.sn_tree.proofs.Moving.{move_shows}
 use Rattle.sn_tree.proofs.order.Order.move_to.Goals as goal
 

@@ -1,14 +1,14 @@
-use Rattle.std.proofs.Common.{◌≡◌, ◌≤◌, ◌<◌, ◌+◌, ◌∙◌, ℕ, Some, true, arith, sym, ap, subst, w32, to_z, of_z, length, List, [], ◌∷◌, ◌++◌, take, drop}
+use Rattle.std.proofs.Common.{◌≡◌, ◌≤◌, ◌∙◌, Some, true, arith, sym, ap, subst, w32, to_z, of_z, [], ◌∷◌}
 use mir.Val.{SFits}
 use Rattle.std.proofs.lemmas.Int.{to_z-of_z}
 use Rattle.std.proofs.lemmas.List.Elements.{All-cons, All-nil}
 use Rattle.std.specs.List.{insert}
 use Rattle.sn_tree.specs.declared.entry.Entry.{Entry}
 use Rattle.sn_tree.specs.Trees.{put, leaf, count}
-use Rattle.sn_tree.specs.Order.{Key, flat}
+use Rattle.sn_tree.specs.Order.{flat}
 use Rattle.sn_tree.specs.Places.{IsPlace, lifted}
-use Rattle.sn_tree.specs.Arranged.{Arranged, arranged}
-use Rattle.sn_tree.proofs.Arranging.{Shows, put_shows, small_put, count_is}
+use Rattle.sn_tree.specs.Arranged.{Arranged}
+use Rattle.sn_tree.proofs.Arranging.{put_shows, small_put, count_is}
 use Rattle.sn_tree.proofs.order.Order.put_new.Goals as goal
 
 pub put_entry-requires-clause-few : goal.put_entry-requires-clause-few

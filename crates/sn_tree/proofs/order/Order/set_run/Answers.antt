@@ -1,12 +1,11 @@
-use Rattle.std.proofs.Common.{◌≡◌, ◌∙◌, ap, sym, w32, to_z, of_z, List, ◌++◌, take, drop, None, Some}
+use Rattle.std.proofs.Common.{◌≡◌, ◌∙◌, ap, w32, List, ◌++◌, take, drop}
 use mir.Val.{SFits}
 use Rattle.std.proofs.lemmas.Int.{to_z-of_z}
 use Rattle.sn_tree.specs.declared.entry.Entry.{Entry}
 use Rattle.sn_tree.specs.Trees.{changed, with_running}
-use Rattle.sn_tree.specs.Faults.{set_run_fault}
 use Rattle.sn_tree.specs.Places.{IsSetRunning}
 use Rattle.sn_tree.specs.Arranged.{Arranged}
-use Rattle.sn_tree.proofs.Arranging.{Shows, run_shows}
+use Rattle.sn_tree.proofs.Arranging.{run_shows}
 use Rattle.sn_tree.proofs.order.Order.set_run.Goals as goal
 
 pub invariant_of-self-2 : goal.invariant_of-self-2

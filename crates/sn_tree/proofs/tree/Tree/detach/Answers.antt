@@ -1,7 +1,6 @@
-use Rattle.std.proofs.Common.{◌≡◌, ◌∙◌, false, None, sym, ap, w32, to_z, of_z}
+use Rattle.std.proofs.Common.{◌∙◌, sym, w32}
 use mir.Val.{SFits}
 use Rattle.std.proofs.lemmas.Int.{to_z-of_z}
-use Rattle.sn_tree.specs.Faults.{detach_fault}
 use Rattle.sn_tree.proofs.Showing.{detach_fault_shown}
 use Rattle.sn_tree.proofs.Following.{detach_root, detach_keeps, detach_gives}
 use Rattle.sn_tree.proofs.tree.Tree.detach.Goals as goal

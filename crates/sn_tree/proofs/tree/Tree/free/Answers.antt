@@ -1,7 +1,4 @@
-use Rattle.std.proofs.Common.{◌≡◌, ◌∙◌, sym, ap, Some, None}
-use Rattle.std.specs.Option.{option_map}
-use Rattle.sn_tree.specs.Trees.{Label, first_label}
-use Rattle.sn_tree.specs.Order.{Key}
+use Rattle.std.proofs.Common.{◌∙◌}
 use Rattle.sn_tree.proofs.Journaling.{free_keeps, free_gives, free_payload, not_detached_root}
 use Rattle.sn_tree.proofs.tree.Tree.free.Goals as goal
 

@@ -1,4 +1,4 @@
-use Rattle.std.proofs.Common.{◌≡◌, ◌∙◌, refl, sym, ap, w32, to_z, of_z, rules}
+use Rattle.std.proofs.Common.{◌∙◌, refl, sym, w32, to_z, of_z}
 use mir.Val.{SFits}
 use Rattle.std.proofs.lemmas.Int.{to_z-of_z}
 use Rattle.sn_tree.proofs.Showing.{insert_fault_shown}

@@ -1,6 +1,4 @@
-use Rattle.std.proofs.Common.{◌≡◌, ◌∙◌, Option, Some, None, sym, ap, w32, to_z, of_z, rules}
-use mir.Val.{SFits}
-use Rattle.std.proofs.lemmas.Int.{to_z-of_z}
+use Rattle.std.proofs.Common.{◌∙◌}
 use Rattle.sn_tree.proofs.Showing.{count_shown}
 use Rattle.sn_tree.proofs.tree.Tree.len.Goals as goal
 

@@ -1,7 +1,6 @@
-use Rattle.std.proofs.Common.{◌≡◌, ◌∙◌, false, None, sym, ap, w32, to_z, of_z}
+use Rattle.std.proofs.Common.{◌∙◌, sym, w32}
 use mir.Val.{SFits}
 use Rattle.std.proofs.lemmas.Int.{to_z-of_z}
-use Rattle.sn_tree.specs.Faults.{move_fault}
 use Rattle.sn_tree.proofs.Showing.{move_fault_shown}
 use Rattle.sn_tree.proofs.Following.{move_root, move_keeps, move_gives}
 use Rattle.sn_tree.proofs.tree.Tree.move_to.Goals as goal

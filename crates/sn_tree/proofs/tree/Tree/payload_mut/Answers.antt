@@ -1,16 +1,15 @@
-use Rattle.std.proofs.Common.{◌≡◌, ◌∙◌, Option, Some, None, inl, inr, sym, ap, w32, to_z, of_z, rules}
+use Rattle.std.proofs.Common.{◌∙◌, inr, sym, ap, w32}
 use borrow.Follows.Closed.{read_of}
 use mir.Val.{SFits}
 use Rattle.std.proofs.lemmas.Int.{to_z-of_z}
 use Rattle.std.specs.Option.{option_map, ghost_name_of}
 use Rattle.sn_tree.specs.Trees.{Label, label_of}
-use Rattle.sn_tree.specs.Order.{Key}
 use Rattle.sn_tree.specs.Model.{NodeTree}
 use Rattle.sn_tree.specs.Kept.{payload_of}
 use Rattle.sn_tree.specs.Steps.{written}
 use Rattle.sn_tree.proofs.Keeping.{slot_is}
 use Rattle.sn_tree.proofs.Showing.{payload_shown}
-use Rattle.sn_tree.proofs.Writing.{lent, no_payload, root_written, slot_written, slot_keeps}
+use Rattle.sn_tree.proofs.Writing.{lent, no_payload, root_written, slot_written}
 use Rattle.sn_tree.proofs.tree.Tree.payload_mut.Goals as goal
 
 pub returns-in-None : goal.returns-in-None

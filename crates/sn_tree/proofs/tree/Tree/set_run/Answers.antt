@@ -1,7 +1,6 @@
-use Rattle.std.proofs.Common.{◌≡◌, ◌∙◌, false, None, sym, ap, w32, to_z, of_z}
+use Rattle.std.proofs.Common.{◌∙◌, w32}
 use mir.Val.{SFits}
 use Rattle.std.proofs.lemmas.Int.{to_z-of_z}
-use Rattle.sn_tree.specs.Faults.{set_run_fault}
 use Rattle.sn_tree.proofs.Showing.{set_run_fault_shown}
 use Rattle.sn_tree.proofs.Following.{run_keeps, run_gives}
 use Rattle.sn_tree.proofs.tree.Tree.set_run.Goals as goal

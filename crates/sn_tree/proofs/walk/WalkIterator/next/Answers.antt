@@ -1,10 +1,6 @@
-use Rattle.std.proofs.Common.{◌≡◌, ◌<◌, ◌∙◌, arith, length, sym, ap, refl, subst, true, List, [], ◌∷◌, Some, None, w32, to_z, of_z, rules}
-use mir.Val.{SFits}
+use Rattle.std.proofs.Common.{◌∙◌, sym, w32, rules}
 use Rattle.std.proofs.lemmas.Int.{to_z-of_z}
-use Rattle.sn_tree.specs.Trees.{Label}
-use Rattle.sn_tree.specs.Kept.{payload_of}
-use Rattle.sn_tree.specs.Walking.{payload_at, left_of, IsLeft}
-use Rattle.sn_tree.proofs.Walking.{ended, first_payload, first_runs, rest_left, steps, never, given, fewer}
+use Rattle.sn_tree.proofs.Walking.{ended, first_payload, rest_left, never, given, fewer}
 use Rattle.sn_tree.proofs.walk.WalkIterator.next.Goals as goal
 
 pub returns-in_default-clause-steps : goal.returns-in_default-clause-steps

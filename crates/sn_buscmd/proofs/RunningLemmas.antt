@@ -1,0 +1,69 @@
+-- A message that is run by its row.
+use Rattle.std.proofs.Common.{◌≡◌, ℕ, List, [], Option, Some, None, Result, Ok, refl, ap, sym, subst, ◌∙◌}
+use Rattle.sn_osc.specs.Shape.{Argument, BodyShape, bare, arguments, foreign}
+use Rattle.sn_reply.specs.declared.reason.Reason.{Reason}
+use Rattle.sn_world.specs.declared.command.Handled.{Handled}
+use Rattle.sn_world.specs.declared.command.BusCommand.{BusCommand}
+use Rattle.sn_world.specs.World.{Turn}
+use Rattle.sn_world.specs.declared.command.BusCommand.TheVariants.{Set, SetRuns, Fill, Get, GetRuns, Sync, Receive, Free, Status, ClearSched, Quit}
+use Rattle.sn_world.specs.Commands.{with_arguments, bus_row, bus_outcome, next_of, done_with}
+use Rattle.sn_world.specs.Answers.{Handles, IsNext, UnlessDone}
+use Rattle.sn_buscmd.specs.Given.{ArgumentsOf}
+
+with-given : (body : BodyShape) (given : Option (List Argument)) (xs : List Argument) (run : List Argument → Turn → Result Turn Reason) (t : Turn) → ArgumentsOf body given → given ≡ Some xs → with_arguments body run t ≡ run xs t
+with-given bare given xs run t is e = let same : xs ≡ [] = cc in ap (λ ys. run ys t) cc
+with-given (arguments ys) given xs run t is e = let same : Some xs ≡ Some ys = cc in ap (λ zs. run zs t) cc
+with-given (foreign tags rest) given xs run t is e = absurd cc
+
+-- the outcome of a message is that of its command's row
+pub outcome-of_row : (asked : Option BusCommand) (command : BusCommand) (from : ℕ) (body : BodyShape) (given : Option (List Argument)) (xs : List Argument) (t : Turn) (r : Result Turn Reason)
+    → asked ≡ Some command → ArgumentsOf body given → given ≡ Some xs → bus_row command from xs t ≡ r → bus_outcome asked from body t ≡ Some r
+outcome-of_row asked command from body given xs t r is_command is_body is_given is =
+    ap (λ o. bus_outcome o from body t) is_command ∙ ap Some (with-given body given xs (bus_row command from) t is_body is_given ∙ is)
+
+-- ---- how it is told
+
+pub handles-done : (command : BusCommand) (outcome : Option (Result Turn Reason)) (after : Turn) → outcome ≡ Some (Ok after) → Handles (Ok (done_with command)) outcome after
+handles-done Set outcome after is = is
+handles-done SetRuns outcome after is = is
+handles-done Fill outcome after is = is
+handles-done Get outcome after is = is
+handles-done GetRuns outcome after is = is
+handles-done Sync outcome after is = is
+handles-done Receive outcome after is = is
+handles-done Free outcome after is = is
+handles-done Status outcome after is = is
+handles-done ClearSched outcome after is = is
+handles-done Quit outcome after is = is
+
+pub next-done : (command : BusCommand) → IsNext (Ok (done_with command)) (next_of (Some command))
+next-done Set = refl
+next-done SetRuns = refl
+next-done Fill = refl
+next-done Get = refl
+next-done GetRuns = refl
+next-done Sync = refl
+next-done Receive = refl
+next-done Free = refl
+next-done Status = refl
+next-done ClearSched = refl
+next-done Quit = refl
+
+pub unless-done : (command : BusCommand) (P : Type 0) → UnlessDone (Ok (done_with command)) P
+unless-done Set P = tt
+unless-done SetRuns P = tt
+unless-done Fill P = tt
+unless-done Get P = tt
+unless-done GetRuns P = tt
+unless-done Sync P = tt
+unless-done Receive P = tt
+unless-done Free P = tt
+unless-done Status P = tt
+unless-done ClearSched P = tt
+unless-done Quit P = tt
+
+pub told-done : (told : Handled) (command : BusCommand) (outcome : Option (Result Turn Reason)) (after : Turn) → told ≡ done_with command → outcome ≡ Some (Ok after) → Handles (Ok told) outcome after
+told-done told command outcome after is_told is = subst (λ (h : Handled). Handles (Ok h) outcome after) (sym is_told) (handles-done command outcome after is)
+
+pub told-unless : (told : Handled) (command : BusCommand) (P : Type 0) → told ≡ done_with command → UnlessDone (Ok told) P
+told-unless told command P is_told = subst (λ (h : Handled). UnlessDone (Ok h) P) (sym is_told) (unless-done command P)

@@ -1,0 +1,84 @@
+//! The bytes of messages, as Open Sound Control 1.0 spells them.
+use sn_ports::{NoMemory, Text};
+use std::alloc::Global;
+
+/// An argument of a message, as a script gives it.
+#[derive(Clone, Copy)]
+pub enum Given<'a> {
+    Int(i32),
+    Word(&'a str),
+    Blob(&'a [u8]),
+}
+
+impl Given<'_> {
+    fn tag(&self) -> u8 {
+        match self {
+            Given::Int(_) => b'i',
+            Given::Word(_) => b's',
+            Given::Blob(_) => b'b',
+        }
+    }
+}
+
+/// Null bytes up to a multiple of 4, at least so many.
+fn pad(out: &mut Text, len: usize, least: usize) -> Result<(), NoMemory> {
+    let zeros = if len % 4 == 0 { least } else { 4 - len % 4 };
+    for _ in 0..zeros {
+        out.append(&[0])?;
+    }
+    Ok(())
+}
+
+fn put_string(out: &mut Text, text: &[u8]) -> Result<(), NoMemory> {
+    out.append(text)?;
+    pad(out, text.len(), 4)
+}
+
+/// A length as an int32.
+pub fn size_of(bytes: &[u8]) -> Result<[u8; 4], NoMemory> {
+    match u32::try_from(bytes.len()) {
+        Ok(size) => Ok(size.to_be_bytes()),
+        Err(_) => Err(NoMemory),
+    }
+}
+
+/// Bytes behind their length.
+pub fn put_sized(out: &mut Text, bytes: &[u8]) -> Result<(), NoMemory> {
+    out.append(&size_of(bytes)?)?;
+    out.append(bytes)
+}
+
+fn put_argument(out: &mut Text, argument: Given<'_>) -> Result<(), NoMemory> {
+    match argument {
+        Given::Int(value) => out.append(&value.to_be_bytes()),
+        Given::Word(word) => put_string(out, word.as_bytes()),
+        Given::Blob(bytes) => {
+            put_sized(out, bytes)?;
+            pad(out, bytes.len(), 0)
+        }
+    }
+}
+
+/// A message with all its arguments.
+pub fn message(alloc: Global, address: &str, arguments: &[Given<'_>]) -> Result<Text, NoMemory> {
+    let mut out = Text::new(alloc);
+    put_string(&mut out, address.as_bytes())?;
+    let mut tags = Text::new(alloc);
+    tags.append(b",")?;
+    for argument in arguments {
+        tags.append(&[argument.tag()])?;
+    }
+    put_string(&mut out, tags.as_slice())?;
+    for argument in arguments {
+        put_argument(&mut out, *argument)?;
+    }
+    Ok(out)
+}
+
+/// The head of a bundle with a time tag.
+pub fn bundle_head(alloc: Global, tag: u64) -> Result<Text, NoMemory> {
+    let mut out = Text::new(alloc);
+    put_string(&mut out, b"#bundle")?;
+    out.append(&tag.to_be_bytes())?;
+    Ok(out)
+}

@@ -1,0 +1,64 @@
+//! Renders scripts of commands, and compares what comes of each with what the script says.
+#![tactic(auto)]
+
+mod bytes;
+mod case;
+mod script;
+mod trial;
+
+use script::read_cases;
+use std::process::ExitCode;
+use std::rt::{Env, Files};
+use std::thread::Threads;
+use std::{env, fs, io};
+use trial::{Verdict, try_case};
+
+/// Prints bytes in hexadecimal, on a line of their own.
+fn print_bytes(rt: &impl Print, bytes: &[u8]) -> io::Result<()> {
+    for byte in bytes {
+        print!(rt; " {byte:02x}")?;
+    }
+    println!(rt; "")
+}
+
+/// Prints what came of a case, and answers whether it is what should come.
+fn print_verdict(rt: &impl Print, name: &str, verdict: &Verdict) -> io::Result<bool> {
+    println!(rt; "{name}: {}", verdict.words())?;
+    if let Some(bytes) = verdict.bytes() {
+        print_bytes(rt, bytes)?;
+    }
+    Ok(matches!(verdict, Verdict::Agrees))
+}
+
+/// Reads the cases of one file and prints a line for each. It answers whether all came out as they should.
+fn run_file<H: Files + Print + AllocGlobal + Threads + Sync>(
+    rt: &H,
+    path: &str,
+) -> io::Result<bool> {
+    let text = fs::read_to_string(rt, path)?;
+    let Ok(script) = read_cases(rt.alloc(), text.as_str()) else {
+        println!(rt; "no memory")?;
+        return Ok(false);
+    };
+    let mut is_well = script.bad_lines.is_empty();
+    for line in script.bad_lines.iter() {
+        println!(rt; "{path}: line {line} says nothing")?;
+    }
+    for case in script.cases.iter() {
+        let verdict = try_case(rt, case).unwrap_or(Verdict::NoMemory);
+        is_well = print_verdict(rt, case.name.as_str(), &verdict)? && is_well;
+    }
+    Ok(is_well)
+}
+
+fn main(rt: HostRuntime) -> io::Result<ExitCode> {
+    let mut is_well = true;
+    for path in env::args(&rt)?.skip(1) {
+        is_well = run_file(&rt, path.as_str())? && is_well;
+    }
+    Ok(if is_well {
+        ExitCode::SUCCESS
+    } else {
+        ExitCode::FAILURE
+    })
+}

@@ -1,0 +1,260 @@
+//! Scripts as text: one line for each step.
+//!
+//! `case NAME` begins a case, `with KEY=VALUE` gives a setting, `at TAG` begins a bundle, `/address argument ..` is a message,
+//! `raw HEX ..` the bytes of a packet, `> /address argument ..` a reply, `= HEX ..` the first bytes of the sound, `blocks N` its length. `blob NAME /address ..` names
+//! the bytes of a message, and `text NAME` those of the lines up to a line `.`; `@NAME` is such a blob as an argument. An argument
+//! that is a whole number is an int, any other is a string, and so is what stands between two `"`.
+use crate::bytes::{Given, bundle_head, message, put_sized};
+use crate::case::Case;
+use sn_ports::{NoMemory, Text};
+use std::alloc::Global;
+
+/// The cases of a script, and the numbers of the lines that say nothing.
+#[derive(Drop)]
+pub struct Script {
+    pub cases: Vec<Case>,
+    pub bad_lines: Vec<u64>,
+}
+
+#[derive(Drop)]
+struct Blob {
+    name: String,
+    bytes: Text,
+}
+
+/// A script as far as it was read.
+#[derive(Drop)]
+struct Reader {
+    alloc: Global,
+    script: Script,
+    blobs: Vec<Blob>,
+    /// The text that is being read, up to a line `.`.
+    is_in_text: bool,
+}
+
+fn blob_named<'a>(blobs: &'a [Blob], name: &str) -> Option<&'a [u8]> {
+    for blob in blobs {
+        if blob.name.as_str() == name {
+            return Some(blob.bytes.as_slice());
+        }
+    }
+    None
+}
+
+/// A word outside quotes.
+fn given<'a>(blobs: &'a [Blob], word: &'a str) -> Option<Given<'a>> {
+    if let Some(name) = word.strip_prefix('@') {
+        return match blob_named(blobs, name) {
+            Some(bytes) => Some(Given::Blob(bytes)),
+            None => None,
+        };
+    }
+    match word.parse::<i32>() {
+        Ok(value) => Some(Given::Int(value)),
+        Err(_) => Some(Given::Word(word)),
+    }
+}
+
+/// The arguments of a line, or `None` where a blob has no such name.
+fn arguments<'a>(
+    alloc: Global,
+    blobs: &'a [Blob],
+    line: &'a str,
+) -> Result<Option<Vec<Given<'a>>>, NoMemory> {
+    let mut found = Vec::new(alloc);
+    let mut is_quoted = false;
+    for part in line.split('"') {
+        if is_quoted {
+            found.push(Given::Word(part))?;
+        } else {
+            for word in part.split_whitespace() {
+                let Some(argument) = given(blobs, word) else {
+                    return Ok(None);
+                };
+                found.push(argument)?;
+            }
+        }
+        is_quoted = !is_quoted;
+    }
+    Ok(Some(found))
+}
+
+/// The bytes of the message that a line gives.
+fn message_of(alloc: Global, blobs: &[Blob], line: &str) -> Result<Option<Text>, NoMemory> {
+    let (address, rest) = line.split_once(' ').unwrap_or((line, ""));
+    if !address.starts_with('/') {
+        return Ok(None);
+    }
+    match arguments(alloc, blobs, rest)? {
+        Some(given) => Ok(Some(message(alloc, address, &given)?)),
+        None => Ok(None),
+    }
+}
+
+fn put_hex(out: &mut Text, line: &str) -> Result<bool, NoMemory> {
+    for word in line.split_whitespace() {
+        match u8::from_str_radix(word, 16) {
+            Ok(byte) => out.append(&[byte])?,
+            Err(_) => return Ok(false),
+        }
+    }
+    Ok(true)
+}
+
+fn put_words(alloc: Global, case: &mut Case, line: &str) -> Result<(), NoMemory> {
+    for word in line.split_whitespace() {
+        case.words.push(Text::from_slice(alloc, word.as_bytes())?)?;
+    }
+    Ok(())
+}
+
+/// Begins a bundle with a time tag.
+fn put_bundle(alloc: Global, case: &mut Case, tag: &str) -> Result<bool, NoMemory> {
+    let Ok(tag) = tag.parse::<u64>() else {
+        return Ok(false);
+    };
+    case.close_bundle()?;
+    case.bundle = Some(bundle_head(alloc, tag)?);
+    Ok(true)
+}
+
+fn put_raw(alloc: Global, case: &mut Case, hex: &str) -> Result<bool, NoMemory> {
+    let mut element = Text::new(alloc);
+    if !put_hex(&mut element, hex)? {
+        return Ok(false);
+    }
+    case.put_element(&element)?;
+    Ok(true)
+}
+
+fn put_reply(
+    alloc: Global,
+    blobs: &[Blob],
+    case: &mut Case,
+    reply: &str,
+) -> Result<bool, NoMemory> {
+    let Some(reply) = message_of(alloc, blobs, reply)? else {
+        return Ok(false);
+    };
+    put_sized(&mut case.replies, reply.as_slice())?;
+    Ok(true)
+}
+
+fn put_command(
+    alloc: Global,
+    blobs: &[Blob],
+    case: &mut Case,
+    line: &str,
+) -> Result<bool, NoMemory> {
+    let Some(command) = message_of(alloc, blobs, line)? else {
+        return Ok(false);
+    };
+    case.put_element(&command)?;
+    Ok(true)
+}
+
+/// A line of a case. It answers whether the line says something.
+fn case_line(alloc: Global, blobs: &[Blob], case: &mut Case, line: &str) -> Result<bool, NoMemory> {
+    let (word, rest) = line.split_once(' ').unwrap_or((line, ""));
+    match word {
+        "with" => {
+            put_words(alloc, case, rest)?;
+            Ok(true)
+        }
+        "at" => put_bundle(alloc, case, rest),
+        "raw" => put_raw(alloc, case, rest),
+        "=" => put_hex(&mut case.sound, rest),
+        "blocks" => {
+            case.blocks = rest.parse::<u64>().ok();
+            Ok(case.blocks.is_some())
+        }
+        ">" => put_reply(alloc, blobs, case, rest),
+        _ => put_command(alloc, blobs, case, line),
+    }
+}
+
+impl Reader {
+    fn new(alloc: Global) -> Reader {
+        Reader {
+            alloc,
+            script: Script {
+                cases: Vec::new(alloc),
+                bad_lines: Vec::new(alloc),
+            },
+            blobs: Vec::new(alloc),
+            is_in_text: false,
+        }
+    }
+
+    fn put_blob(&mut self, name: &str, bytes: Text) -> Result<(), NoMemory> {
+        self.blobs.push(Blob {
+            name: String::from_str(self.alloc, name)?,
+            bytes,
+        })?;
+        Ok(())
+    }
+
+    /// A line of the text that is being read.
+    fn text_line(&mut self, line: &str) -> Result<(), NoMemory> {
+        if line == "." {
+            self.is_in_text = false;
+            return Ok(());
+        }
+        match self.blobs.last_mut() {
+            Some(blob) => {
+                blob.bytes.append(line.as_bytes())?;
+                blob.bytes.append(b"\n")
+            }
+            None => Ok(()),
+        }
+    }
+
+    /// A line by itself. It answers whether the line says something.
+    fn line(&mut self, line: &str) -> Result<bool, NoMemory> {
+        if self.is_in_text {
+            self.text_line(line)?;
+            return Ok(true);
+        }
+        if line.is_empty() || line.starts_with('#') {
+            return Ok(true);
+        }
+        if let Some(name) = line.strip_prefix("case ") {
+            self.script.cases.push(Case::new(self.alloc, name)?)?;
+            return Ok(true);
+        }
+        if let Some(name) = line.strip_prefix("text ") {
+            self.put_blob(name, Text::new(self.alloc))?;
+            self.is_in_text = true;
+            return Ok(true);
+        }
+        if let Some(rest) = line.strip_prefix("blob ") {
+            let (name, command) = rest.split_once(' ').unwrap_or((rest, ""));
+            let Some(bytes) = message_of(self.alloc, &self.blobs, command)? else {
+                return Ok(false);
+            };
+            self.put_blob(name, bytes)?;
+            return Ok(true);
+        }
+        match self.script.cases.last_mut() {
+            Some(case) => case_line(self.alloc, &self.blobs, case, line),
+            None => Ok(false),
+        }
+    }
+}
+
+/// The cases of a script.
+pub fn read_cases(alloc: Global, text: &str) -> Result<Script, NoMemory> {
+    let mut reader = Reader::new(alloc);
+    let mut number: u64 = 0;
+    for line in text.lines() {
+        number = number.saturating_add(1);
+        if !reader.line(line)? {
+            reader.script.bad_lines.push(number)?;
+        }
+    }
+    for case in reader.script.cases.iter_mut() {
+        case.close_bundle()?;
+        put_words(alloc, case, "commands sound replies")?;
+    }
+    Ok(reader.script)
+}

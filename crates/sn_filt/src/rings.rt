@@ -1,0 +1,217 @@
+//! Delay lines: rings of samples in words.
+ghost use Rattle.std.specs.Prelude.{◌≡◌, ◌<◌, ◌≤◌, ◌+◌, ◌-◌, ◌∷◌, [], ℕ, ℤ, List, max, length, slice_index, slice_set};
+ghost use Rattle.sn_mem.specs.Words.{MayWrite};
+ghost use Rattle.sn_mem.specs.Blocks.{window, put, sample_in, word_for};
+ghost use Rattle.sn_filt.specs.Rings.{before, after, ringed, most_frames, delay_n, comb_n};
+
+use sn_fixed::{frames_of, mul_add};
+use sn_mem::{Blocks, Extent, Port, sample_of, word_of};
+
+/// A unit that hears what it kept some frames ago.
+trait Echo {
+    /// The number of its inputs.
+    ghost arity: { Self → ℕ };
+
+    /// The most frames.
+    ghost most: { Self → ℕ };
+
+    /// How many frames ago, at a frame.
+    ghost reach: { Self → List (List ℤ) → ℕ → ℕ };
+
+    /// From what was kept then: what is kept now, and the output.
+    ghost step: { Self → ℤ → List (List ℤ) → ℕ → ℤ × ℤ };
+
+    fn reach(&self, inputs: &Blocks, frame: usize) -> u32
+        requires inputs { arity self.now ≤ length inputs.now }
+        requires frame { frame < 64 }
+        ensures value { result ≡ reach self.now inputs.now frame }
+        ensures bound { result ≤ most self.now };
+
+    fn next(&self, old: i32, inputs: &Blocks, frame: usize) -> (i32, i32)
+        requires inputs { arity self.now ≤ length inputs.now }
+        requires frame { frame < 64 }
+        ensures { result ≡ step self.now old inputs.now frame };
+}
+
+/// The place some frames before `place`, of `room` in a ring.
+fn before(room: u32, place: u32, frames: u32) -> u32
+    requires place { place < room }
+    requires frames { frames < room }
+    ensures value { result ≡ before room place frames }
+    ensures bound { result < room }
+{
+    if place < frames {
+        room - (frames - place)
+    } else {
+        place - frames
+    }
+}
+
+/// The place after `place`, of `room` in a ring.
+fn after(room: u32, place: u32) -> u32
+    requires { place < room }
+    ensures value { result ≡ after room place }
+    ensures bound { result < room }
+{
+    if place + 1 < room { place + 1 } else { 0 }
+}
+
+/// One frame of a unit whose ring has its next sample in the word `at + 1 + place`.
+fn hear<U: Echo, P: Port>(
+    unit: &U,
+    port: &mut P,
+    state: Extent,
+    place: u32,
+    inputs: &Blocks,
+    frame: usize,
+) -> i32
+    requires inputs { U.arity unit.now ≤ length inputs.now }
+    requires frame { frame < 64 }
+    requires size { U.most unit.now + 2 ≡ state.len }
+    requires place { place < state.len - 1 }
+    requires state { MayWrite (P.foot port.old) state.at state.len }
+    ensures words { P.words port.new ≡ slice_set (P.words port.old) (state.at + 1 + place) (word_for (U.step unit.now (sample_in (slice_index (P.words port.old) (state.at + 1 + before (state.len - 1) place (U.reach unit.now inputs.now frame)))) inputs.now frame).0) }
+    ensures sample { result ≡ (U.step unit.now (sample_in (slice_index (P.words port.old) (state.at + 1 + before (state.len - 1) place (U.reach unit.now inputs.now frame)))) inputs.now frame).1 }
+    ensures reach { U.reach unit.now inputs.now frame ≤ U.most unit.now }
+    ensures foot { P.foot port.new ≡ P.foot port.old }
+    ensures rest { P.rest port.new ≡ P.rest port.old }
+{
+    let frames = unit.reach(inputs, frame);
+    let past = before(state.len - 1, place, frames);
+    let old = port.load(state.at + 1 + past);
+    let (kept, sample) = unit.next(sample_of(old), inputs, frame);
+    port.store(state.at + 1 + place, word_of(kept));
+    sample
+}
+
+/// Runs a unit for a block. The first word of `state` is the place of the next sample in the ring
+/// of the words after it.
+fn run_echo<U: Echo, P: Port>(
+    unit: &U,
+    port: &mut P,
+    state: Extent,
+    inputs: &Blocks,
+    outputs: &mut Blocks,
+)
+    requires inputs { U.arity unit.now ≤ length inputs.now }
+    requires size { U.most unit.now + 2 ≡ state.len }
+    requires state { MayWrite (P.foot port.old) state.at state.len }
+    ensures words { P.words port.new ≡ put (P.words port.old) state.at (ringed (U.reach unit.now) (U.step unit.now) (window (P.words port.old) state.at state.len) inputs.now).0 }
+    ensures outputs { outputs.new ≡ (ringed (U.reach unit.now) (U.step unit.now) (window (P.words port.old) state.at state.len) inputs.now).1 ∷ [] }
+    ensures foot { P.foot port.new ≡ P.foot port.old }
+    ensures rest { P.rest port.new ≡ P.rest port.old }
+{
+    let room = state.len - 1;
+    let mut place = (port.load(state.at) % u64::from(room)) as u32;
+    let mut samples = [0i32; 64];
+    for frame in 0..64 {
+        samples[frame] = hear(unit, port, state, place, inputs, frame);
+        place = after(room, place);
+    }
+    outputs.clear();
+    outputs.push(&samples);
+    port.store(state.at, u64::from(place));
+}
+
+/// DelayN x max! time
+#[derive(Clone, Copy)]
+struct DelayN {
+    rate: u32,
+    most: u32,
+}
+
+impl Echo for DelayN {
+    ghost use Rattle.sn_filt.specs.Rings.{delay_reach, delay_step};
+
+    ghost arity = { λ _. 3 };
+
+    ghost most = { λ u. u.most };
+
+    ghost reach = { λ u. delay_reach u.rate u.most };
+
+    ghost step = { λ u. delay_step u.rate u.most };
+
+    fn reach(&self, inputs: &Blocks, frame: usize) -> u32 {
+        frames_of(inputs.at(2, frame), self.rate).min(self.most)
+    }
+
+    fn next(&self, old: i32, inputs: &Blocks, frame: usize) -> (i32, i32) {
+        let x = inputs.at(0, frame);
+        let y = if self.reach(inputs, frame) == 0 {
+            x
+        } else {
+            old
+        };
+        (x, y)
+    }
+}
+
+/// CombN x max! time c
+#[derive(Clone, Copy)]
+struct CombN {
+    rate: u32,
+    most: u32,
+    ghost some: { 1 ≤ most },
+}
+
+impl Echo for CombN {
+    ghost use Rattle.sn_filt.specs.Rings.{comb_reach, comb_step};
+
+    ghost arity = { λ _. 4 };
+
+    ghost most = { λ u. u.most };
+
+    ghost reach = { λ u. comb_reach u.rate u.most };
+
+    ghost step = { λ _. comb_step };
+
+    fn reach(&self, inputs: &Blocks, frame: usize) -> u32 {
+        frames_of(inputs.at(2, frame), self.rate)
+            .max(1)
+            .min(self.most)
+    }
+
+    fn next(&self, old: i32, inputs: &Blocks, frame: usize) -> (i32, i32) {
+        (mul_add(inputs.at(3, frame), old, inputs.at(0, frame)), old)
+    }
+}
+
+/// A block of DelayN, with a ring for one sample more than its longest delay has frames.
+pub(crate) fn run_delay_n<P: Port>(
+    rate: u32,
+    port: &mut P,
+    state: Extent,
+    inputs: &Blocks,
+    outputs: &mut Blocks,
+)
+    requires inputs { 3 ≤ length inputs.now }
+    requires size { most_frames rate inputs.now + 2 ≡ state.len }
+    requires state { MayWrite (P.foot port.old) state.at state.len }
+    ensures words { P.words port.new ≡ put (P.words port.old) state.at (delay_n rate (window (P.words port.old) state.at state.len) inputs.now).0 }
+    ensures outputs { outputs.new ≡ (delay_n rate (window (P.words port.old) state.at state.len) inputs.now).1 ∷ [] }
+    ensures foot { P.foot port.new ≡ P.foot port.old }
+    ensures rest { P.rest port.new ≡ P.rest port.old }
+{
+    let most = frames_of(inputs.at(1, 0), rate);
+    run_echo(&DelayN { rate, most }, port, state, inputs, outputs);
+}
+
+/// A block of CombN, likewise, its longest delay having at least one frame.
+pub(crate) fn run_comb_n<P: Port>(
+    rate: u32,
+    port: &mut P,
+    state: Extent,
+    inputs: &Blocks,
+    outputs: &mut Blocks,
+)
+    requires inputs { 4 ≤ length inputs.now }
+    requires size { max 1 (most_frames rate inputs.now) + 2 ≡ state.len }
+    requires state { MayWrite (P.foot port.old) state.at state.len }
+    ensures words { P.words port.new ≡ put (P.words port.old) state.at (comb_n rate (window (P.words port.old) state.at state.len) inputs.now).0 }
+    ensures outputs { outputs.new ≡ (comb_n rate (window (P.words port.old) state.at state.len) inputs.now).1 ∷ [] }
+    ensures foot { P.foot port.new ≡ P.foot port.old }
+    ensures rest { P.rest port.new ≡ P.rest port.old }
+{
+    let most = frames_of(inputs.at(1, 0), rate).max(1);
+    run_echo(&CombN { rate, most }, port, state, inputs, outputs);
+}

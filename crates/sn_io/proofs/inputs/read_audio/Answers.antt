@@ -1,0 +1,32 @@
+use Rattle.std.proofs.Common.{ℕ, ◌+◌, List, ℤ, Option, length, refl, sym, ap, ◌∙◌}
+use Rattle.sn_mem.specs.Buses.{audio_buses}
+use Rattle.sn_mem.proofs.Tables.{table_none, table_push, length-table}
+use Rattle.sn_io.specs.Channels.{audio_channel}
+use Rattle.sn_io.specs.BusInputs.{audio_in}
+use Rattle.sn_io.proofs.inputs.read_audio.Goals as goal
+
+pub loop-channel-init : goal.loop-channel-init
+loop-channel-init g c = record {
+  made = c.clear.ensures ∙ sym (table_none (λ i. audio_in c.args.feedback c.args.block (audio_buses (g.P.Port.words c.args.port.now)) (audio_channel c.args.inputs.now i)));
+  long = ap (λ (bs : List (List ℤ)). length bs) c.clear.ensures;
+  words = refl;
+  foot = refl;
+  rest = refl;
+}
+
+pub loop-channel-preserved : goal.loop-channel-preserved
+loop-channel-preserved g c =
+    let ws = g.P.Port.words c.args.port.now in
+    let f : ℕ → List ℤ = λ i. audio_in c.args.feedback c.args.block (audio_buses ws) (audio_channel c.args.inputs.now i) in
+    let i = c.loop-channel.invariant in
+    let made = table_push f c.loop-channel.channel c.loop-channel.outputs c.push.new.self c.audio_in-samples.result i.made
+    (c.audio_in-samples.ensures.value
+    ∙ (ap (λ (ws : List ℕ). audio_in c.args.feedback c.args.block (audio_buses ws) c.audio_channel.result) i.words
+    ∙ ap (λ (o : Option ℕ). audio_in c.args.feedback c.args.block (audio_buses ws) o) c.audio_channel.ensures.number)) c.push.ensures in
+    record {
+      made = made;
+      long = ap (λ (bs : List (List ℤ)). length bs) made ∙ length-table f (c.loop-channel.channel + 1);
+      words = c.audio_in-samples.ensures.words ∙ i.words;
+      foot = c.audio_in-samples.ensures.foot ∙ i.foot;
+      rest = c.audio_in-samples.ensures.rest ∙ i.rest;
+    }

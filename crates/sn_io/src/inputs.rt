@@ -1,0 +1,136 @@
+//! In.ar, InFeedback and In.kr: channels read from buses.
+ghost use Rattle.std.specs.Prelude.{◌≡◌, ◌<◌, ◌≤◌, ◌+◌, ◌^◌, ℕ, IfSome, Some, cond, length, pos, replicate, slice_index, slice_index_or};
+ghost use Rattle.sn_mem.specs.Words.{MayRead};
+ghost use Rattle.sn_mem.specs.Blocks.{samples_at};
+ghost use Rattle.sn_mem.specs.Buses.{audio_buses, control_buses, resting};
+ghost use Rattle.sn_io.specs.Channels.{audio_channel, control_channel};
+ghost use Rattle.sn_io.specs.BusInputs.{hears, audio_in, control_in, audio_inputs, control_inputs};
+ghost use Rattle.sn_io.specs.Conditions.{MayReadAudio, MayReadControl};
+
+use crate::channels::{audio_channel, control_channel};
+use sn_mem::{Block, Blocks, Places, Port, sample_of};
+
+/// Whether a bus is heard in a block, by the number that it keeps.
+fn hears(feedback: bool, block: u64, written: u64) -> bool
+    requires { block < 2 ^ 63 }
+    ensures { result ≡ hears feedback block written }
+{
+    written == block + 1 || (feedback && block > 0 && written == block)
+}
+
+/// The samples in the 64 words from `at` on.
+fn samples_at<P: Port>(port: &mut P, at: u32) -> Block
+    requires { MayRead (P.foot port.old) at 64 }
+    ensures value { result ≡ samples_at (P.words port.old) at }
+    ensures words { P.words port.new ≡ P.words port.old }
+    ensures foot { P.foot port.new ≡ P.foot port.old }
+    ensures rest { P.rest port.new ≡ P.rest port.old }
+{
+    let mut samples = [0i32; 64];
+    for frame in 0..64 {
+        let word = port.load(at + frame as u32);
+        samples[frame] = sample_of(word);
+    }
+    samples
+}
+
+/// What is heard of the audio bus at a place.
+fn heard_at<P: Port>(port: &mut P, feedback: bool, block: u64, at: u32) -> Block
+    requires block { block < 2 ^ 63 }
+    requires reads { MayRead (P.foot port.old) at 65 }
+    ensures value { result ≡ cond (hears feedback block (slice_index (P.words port.old) at)) (samples_at (P.words port.old) (at + 1)) (replicate 64 (pos 0)) }
+    ensures words { P.words port.new ≡ P.words port.old }
+    ensures foot { P.foot port.new ≡ P.foot port.old }
+    ensures rest { P.rest port.new ≡ P.rest port.old }
+{
+    let written = port.load(at);
+    if hears(feedback, block, written) {
+        samples_at(port, at + 1)
+    } else {
+        [0; 64]
+    }
+}
+
+fn audio_in<P: Port>(port: &mut P, feedback: bool, block: u64, bus: Option<u32>) -> Block
+    requires block { block < 2 ^ 63 }
+    requires number { IfSome bus (λ n. n < 128) }
+    requires reads { MayReadAudio (P.foot port.old) bus }
+    ensures value { result ≡ audio_in feedback block (audio_buses (P.words port.old)) bus }
+    ensures words { P.words port.new ≡ P.words port.old }
+    ensures foot { P.foot port.new ≡ P.foot port.old }
+    ensures rest { P.rest port.new ≡ P.rest port.old }
+{
+    match bus {
+        Some(bus) => heard_at(port, feedback, block, Places::audio(bus).at),
+        None => [0; 64],
+    }
+}
+
+/// The value of a control bus.
+fn control_value<P: Port>(port: &mut P, bus: u32) -> i32
+    requires number { bus < 1024 }
+    requires reads { MayReadControl (P.foot port.old) (Some bus) }
+    ensures value { result ≡ (slice_index_or (control_buses (P.words port.old)) bus resting).value }
+    ensures words { P.words port.new ≡ P.words port.old }
+    ensures foot { P.foot port.new ≡ P.foot port.old }
+    ensures rest { P.rest port.new ≡ P.rest port.old }
+{
+    let place = Places::control(bus);
+    let word = port.load(place.at + 1);
+    sample_of(word)
+}
+
+fn control_in<P: Port>(port: &mut P, bus: Option<u32>) -> Block
+    requires number { IfSome bus (λ n. n < 1024) }
+    requires reads { MayReadControl (P.foot port.old) bus }
+    ensures value { result ≡ control_in (control_buses (P.words port.old)) bus }
+    ensures words { P.words port.new ≡ P.words port.old }
+    ensures foot { P.foot port.new ≡ P.foot port.old }
+    ensures rest { P.rest port.new ≡ P.rest port.old }
+{
+    match bus {
+        Some(bus) => [control_value(port, bus); 64],
+        None => [0; 64],
+    }
+}
+
+/// In.ar bus#, and InFeedback bus# with `feedback`: as many channels as `outputs` has blocks.
+pub(crate) fn read_audio<P: Port>(
+    port: &mut P,
+    feedback: bool,
+    block: u64,
+    inputs: &Blocks,
+    outputs: &mut Blocks,
+)
+    requires block { block < 2 ^ 63 }
+    requires index { 1 ≤ length inputs.now }
+    requires reads { (i : ℕ) → i < length outputs.old → MayReadAudio (P.foot port.old) (audio_channel inputs.now i) }
+    ensures outputs { outputs.new ≡ audio_inputs feedback block inputs.now (length outputs.old) (audio_buses (P.words port.old)) }
+    ensures words { P.words port.new ≡ P.words port.old }
+    ensures foot { P.foot port.new ≡ P.foot port.old }
+    ensures rest { P.rest port.new ≡ P.rest port.old }
+{
+    let count = outputs.len();
+    outputs.clear();
+    for channel in 0..count {
+        let samples = audio_in(port, feedback, block, audio_channel(inputs, channel));
+        outputs.push(&samples);
+    }
+}
+
+/// In.kr bus#: as many channels as `outputs` has blocks.
+pub(crate) fn read_control<P: Port>(port: &mut P, inputs: &Blocks, outputs: &mut Blocks)
+    requires index { 1 ≤ length inputs.now }
+    requires reads { (i : ℕ) → i < length outputs.old → MayReadControl (P.foot port.old) (control_channel inputs.now i) }
+    ensures outputs { outputs.new ≡ control_inputs inputs.now (length outputs.old) (control_buses (P.words port.old)) }
+    ensures words { P.words port.new ≡ P.words port.old }
+    ensures foot { P.foot port.new ≡ P.foot port.old }
+    ensures rest { P.rest port.new ≡ P.rest port.old }
+{
+    let count = outputs.len();
+    outputs.clear();
+    for channel in 0..count {
+        let samples = control_in(port, control_channel(inputs, channel));
+        outputs.push(&samples);
+    }
+}

@@ -1,0 +1,152 @@
+//! Out.ar, ReplaceOut and Out.kr: signals onto buses.
+ghost use Rattle.std.specs.Prelude.{◌≡◌, ◌<◌, ◌≤◌, ◌+◌, ◌^◌, ℕ, IfSome, length, ◌+ℤ◌};
+ghost use Rattle.sn_mem.specs.Words.{MayWrite};
+ghost use Rattle.sn_io.specs.Channels.{audio_channel, control_channel, channels, signals};
+ghost use Rattle.sn_io.specs.OverWords.{onto_block, onto_audio, onto_audio_channel, held_at, onto_value, onto_control, onto_control_channel};
+ghost use Rattle.sn_io.specs.Conditions.{MayWriteAudio, MayWriteControl};
+
+use crate::channels::{audio_channel, control_channel};
+use sn_fixed::add;
+use sn_mem::{Block, Blocks, Change, Places, Port, change_block, sample_of, word_of};
+
+#[derive(Clone, Copy)]
+struct Mix;
+
+impl Change for Mix {
+    ghost use Rattle.sn_io.specs.OverWords.{summed};
+
+    ghost change = { λ _. summed };
+
+    fn change(&self, word: u64, x: i32) -> u64 {
+        word_of(add(sample_of(word), x))
+    }
+}
+
+#[derive(Clone, Copy)]
+struct Overwrite;
+
+impl Change for Overwrite {
+    ghost use Rattle.sn_io.specs.OverWords.{overwritten};
+
+    ghost change = { λ _ _. overwritten };
+
+    fn change(&self, _word: u64, x: i32) -> u64 {
+        word_of(x)
+    }
+}
+
+/// Puts a signal onto the audio bus at a place. With `adds` it adds to what was written in this
+/// block, and overwrites else.
+fn put_block<P: Port>(port: &mut P, adds: bool, block: u64, at: u32, signal: &Block)
+    requires block { block < 2 ^ 63 }
+    requires bus { MayWrite (P.foot port.old) at 65 }
+    ensures words { P.words port.new ≡ onto_block adds block (P.words port.old) at signal.now }
+    ensures foot { P.foot port.new ≡ P.foot port.old }
+    ensures rest { P.rest port.new ≡ P.rest port.old }
+{
+    let written = port.load(at);
+    if adds && written == block + 1 {
+        change_block(&Mix, port, at + 1, signal);
+    } else {
+        change_block(&Overwrite, port, at + 1, signal);
+        port.store(at, block + 1);
+    }
+}
+
+fn put_audio<P: Port>(port: &mut P, adds: bool, block: u64, bus: Option<u32>, signal: &Block)
+    requires block { block < 2 ^ 63 }
+    requires number { IfSome bus (λ n. n < 128) }
+    requires bus { MayWriteAudio (P.foot port.old) bus }
+    ensures words { P.words port.new ≡ onto_audio adds block (P.words port.old) bus signal.now }
+    ensures foot { P.foot port.new ≡ P.foot port.old }
+    ensures rest { P.rest port.new ≡ P.rest port.old }
+{
+    match bus {
+        Some(bus) => put_block(port, adds, block, Places::audio(bus).at, signal),
+        None => {}
+    }
+}
+
+/// Out.ar bus# signals with `adds`, and ReplaceOut bus# signals: each channel onto the audio bus of
+/// its number.
+pub(crate) fn write_audio<P: Port>(port: &mut P, adds: bool, block: u64, inputs: &Blocks)
+    requires block { block < 2 ^ 63 }
+    requires index { 1 ≤ length inputs.now }
+    requires buses { (i : ℕ) → i + 1 < length inputs.now → MayWriteAudio (P.foot port.old) (audio_channel inputs.now i) }
+    ensures words { P.words port.new ≡ channels (onto_audio_channel adds block inputs.now) inputs.now (signals inputs.now) (P.words port.old) }
+    ensures foot { P.foot port.new ≡ P.foot port.old }
+    ensures rest { P.rest port.new ≡ P.rest port.old }
+{
+    for channel in 0..inputs.len() - 1 {
+        put_audio(
+            port,
+            adds,
+            block,
+            audio_channel(inputs, channel),
+            inputs.block(channel + 1),
+        );
+    }
+}
+
+/// What units have written onto the control bus at a place in this block.
+fn held_at<P: Port>(port: &mut P, block: u64, at: u32) -> i32
+    requires block { block < 2 ^ 63 }
+    requires bus { MayWrite (P.foot port.old) at 2 }
+    ensures value { result ≡ held_at block (P.words port.old) at }
+    ensures words { P.words port.new ≡ P.words port.old }
+    ensures foot { P.foot port.new ≡ P.foot port.old }
+    ensures rest { P.rest port.new ≡ P.rest port.old }
+{
+    let written = port.load(at);
+    let word = port.load(at + 1);
+    if written == block + 1 {
+        sample_of(word)
+    } else {
+        0
+    }
+}
+
+fn put_value<P: Port>(port: &mut P, block: u64, at: u32, x: i32)
+    requires block { block < 2 ^ 63 }
+    requires bus { MayWrite (P.foot port.old) at 2 }
+    ensures words { P.words port.new ≡ onto_value block (P.words port.old) at x }
+    ensures foot { P.foot port.new ≡ P.foot port.old }
+    ensures rest { P.rest port.new ≡ P.rest port.old }
+{
+    let value = add(held_at(port, block, at), x);
+    port.store(at + 1, word_of(value));
+    port.store(at, block + 1);
+}
+
+fn put_control<P: Port>(port: &mut P, block: u64, bus: Option<u32>, signal: &Block)
+    requires block { block < 2 ^ 63 }
+    requires number { IfSome bus (λ n. n < 1024) }
+    requires bus { MayWriteControl (P.foot port.old) bus }
+    ensures words { P.words port.new ≡ onto_control block (P.words port.old) bus signal.now }
+    ensures foot { P.foot port.new ≡ P.foot port.old }
+    ensures rest { P.rest port.new ≡ P.rest port.old }
+{
+    match bus {
+        Some(bus) => put_value(port, block, Places::control(bus).at, signal[0]),
+        None => {}
+    }
+}
+
+/// Out.kr bus# signals: the first sample of each channel onto the control bus of its number.
+pub(crate) fn write_control<P: Port>(port: &mut P, block: u64, inputs: &Blocks)
+    requires block { block < 2 ^ 63 }
+    requires index { 1 ≤ length inputs.now }
+    requires buses { (i : ℕ) → i + 1 < length inputs.now → MayWriteControl (P.foot port.old) (control_channel inputs.now i) }
+    ensures words { P.words port.new ≡ channels (onto_control_channel block inputs.now) inputs.now (signals inputs.now) (P.words port.old) }
+    ensures foot { P.foot port.new ≡ P.foot port.old }
+    ensures rest { P.rest port.new ≡ P.rest port.old }
+{
+    for channel in 0..inputs.len() - 1 {
+        put_control(
+            port,
+            block,
+            control_channel(inputs, channel),
+            inputs.block(channel + 1),
+        );
+    }
+}

@@ -1,0 +1,286 @@
+//! Units whose state words tell what is to be settled after a block.
+ghost use Rattle.std.specs.Prelude.{◌≡◌, ◌<◌, ◌≤◌, ◌^◌, [], true, length};
+ghost use Rattle.sn_def.specs.Units.{row_of};
+ghost use Rattle.sn_def.specs.declared.table.Words.TheVariants.{Fixed};
+ghost use Rattle.sn_mem.specs.Words.{MayWrite};
+ghost use Rattle.sn_mem.specs.Blocks.{window, put, recurred};
+ghost use Rattle.sn_io.specs.Triggers.{is_trigger, trigger_block, counted, is_quiet, is_silent, quieter, send_trig};
+
+use sn_def::{Kind, Now};
+use sn_fixed::{ONE, frames_of, rises};
+use sn_mem::{Blocks, Extent, Port, Recurrence, Stored, ended, run_recurrence, sample_of, word_of};
+
+/// What a unit has to report.
+#[derive(Clone, Copy)]
+pub(crate) struct Sent {
+    /// The number of the last block in which the trigger rose plus 1, or 0.
+    pub rose: u64,
+    /// The id and the value at the frame of the first rise in that block.
+    pub id: i32,
+    pub value: i32,
+    /// The last sample of the trigger.
+    pub trigger: i32,
+}
+
+impl Stored for Sent {
+    ghost use Rattle.sn_io.specs.Triggers.{sent_in, sent_words};
+
+    ghost size = { 4 };
+
+    ghost loaded = { sent_in };
+
+    ghost stored = { sent_words };
+
+    fn size() -> usize {
+        4
+    }
+
+    fn load(words: &[u64]) -> Sent {
+        Sent {
+            rose: words[0],
+            id: sample_of(words[1]),
+            value: sample_of(words[2]),
+            trigger: sample_of(words[3]),
+        }
+    }
+
+    fn store(self, words: &mut [u64]) {
+        words.copy_from_slice(&[
+            self.rose,
+            word_of(self.id),
+            word_of(self.value),
+            word_of(self.trigger),
+        ]);
+    }
+}
+
+/// SendTrig trig id value
+#[derive(Clone, Copy)]
+pub(crate) struct SendTrig {
+    pub block: u64,
+    ghost low: { block < 2 ^ 63 },
+}
+
+impl Recurrence for SendTrig {
+    ghost use Rattle.sn_io.specs.Triggers.{send_trig};
+
+    type State = Sent;
+
+    ghost arity = { λ _. 3 };
+
+    ghost step = { λ u. send_trig u.block };
+
+    fn next(&self, state: Sent, inputs: &Blocks, frame: usize) -> (Sent, i32) {
+        let trigger = inputs.at(0, frame);
+        let this = self.block + 1;
+        if rises(state.trigger, trigger) && state.rose != this {
+            let first = Sent {
+                rose: this,
+                id: inputs.at(1, frame),
+                value: inputs.at(2, frame),
+                trigger,
+            };
+            (first, 0)
+        } else {
+            (Sent { trigger, ..state }, 0)
+        }
+    }
+}
+
+/// How long a signal has been quiet.
+#[derive(Clone, Copy)]
+pub(crate) struct Quiet {
+    pub done: u64,
+    /// 0 before the first frame that is not quiet, and from there on 1 more than the number of
+    /// quiet frames since the last one.
+    pub count: u32,
+}
+
+impl Stored for Quiet {
+    ghost use Rattle.sn_io.specs.Triggers.{quiet_in, quiet_words};
+
+    ghost size = { 2 };
+
+    ghost loaded = { quiet_in };
+
+    ghost stored = { quiet_words };
+
+    fn size() -> usize {
+        2
+    }
+
+    fn load(words: &[u64]) -> Quiet {
+        Quiet {
+            done: words[0],
+            count: (words[1] % 4_294_967_296) as u32,
+        }
+    }
+
+    fn store(self, words: &mut [u64]) {
+        words.copy_from_slice(&[self.done, u64::from(self.count)]);
+    }
+}
+
+/// Whether a frame's distance from 0 is less than `amp`.
+fn is_quiet(inputs: &Blocks, frame: usize) -> bool
+    requires inputs { 2 ≤ length inputs.now }
+    requires frame { frame < 64 }
+    ensures { result ≡ is_quiet inputs.now frame }
+{
+    i64::from(inputs.at(0, frame).unsigned_abs()) < i64::from(inputs.at(1, frame))
+}
+
+fn counted(quiet: bool, count: u32) -> u32
+    ensures { result ≡ counted quiet count }
+{
+    if !quiet {
+        1
+    } else if count == 0 {
+        0
+    } else {
+        count.saturating_add(1)
+    }
+}
+
+/// Whether so many frames were quiet that the unit ends.
+fn is_silent(rate: u32, time: i32, count: u32) -> bool
+    ensures { result ≡ is_silent rate time count }
+{
+    count > frames_of(time, rate).max(1)
+}
+
+fn quieter(rate: u32, state: Quiet, inputs: &Blocks, frame: usize) -> Quiet
+    requires inputs { 3 ≤ length inputs.now }
+    requires frame { frame < 64 }
+    ensures { result ≡ quieter rate state inputs.now frame }
+{
+    let count = counted(is_quiet(inputs, frame), state.count);
+    let done = if is_silent(rate, inputs.at(2, frame), count) {
+        ended(state.done)
+    } else {
+        state.done
+    };
+    Quiet { done, count }
+}
+
+/// DetectSilence x amp time done!
+#[derive(Clone, Copy)]
+pub(crate) struct DetectSilence {
+    pub rate: u32,
+}
+
+impl Recurrence for DetectSilence {
+    ghost use Rattle.sn_io.specs.Triggers.{detect_silence};
+
+    type State = Quiet;
+
+    ghost arity = { λ _. 4 };
+
+    ghost step = { λ u. detect_silence u.rate };
+
+    fn next(&self, state: Quiet, inputs: &Blocks, frame: usize) -> (Quiet, i32) {
+        let after = quieter(self.rate, state, inputs, frame);
+        (after, if after.done == 0 { 0 } else { ONE })
+    }
+}
+
+/// Whether a unit has ended.
+#[derive(Clone, Copy)]
+pub(crate) struct Ending {
+    pub done: u64,
+}
+
+impl Stored for Ending {
+    ghost use Rattle.sn_io.specs.Triggers.{ending_in, ending_words};
+
+    ghost size = { 1 };
+
+    ghost loaded = { ending_in };
+
+    ghost stored = { ending_words };
+
+    fn size() -> usize {
+        1
+    }
+
+    fn load(words: &[u64]) -> Ending {
+        Ending { done: words[0] }
+    }
+
+    fn store(self, words: &mut [u64]) {
+        words[0] = self.done;
+    }
+}
+
+/// FreeSelf x, PauseSelf x
+#[derive(Clone, Copy)]
+pub(crate) struct EndSelf;
+
+impl Recurrence for EndSelf {
+    ghost use Rattle.sn_io.specs.Triggers.{end_self};
+
+    type State = Ending;
+
+    ghost arity = { λ _. 1 };
+
+    ghost step = { λ _. end_self };
+
+    fn next(&self, state: Ending, inputs: &Blocks, frame: usize) -> (Ending, i32) {
+        let done = if inputs.at(0, frame) > 0 {
+            ended(state.done)
+        } else {
+            state.done
+        };
+        (Ending { done }, 0)
+    }
+}
+
+/// Runs a unit that has no output.
+fn run_silent<U: Recurrence, P: Port>(
+    unit: &U,
+    port: &mut P,
+    at: u32,
+    inputs: &Blocks,
+    outputs: &mut Blocks,
+)
+    requires inputs { U.arity unit.now ≤ length inputs.now }
+    requires state { MayWrite (P.foot port.old) at U.State.size }
+    ensures words { P.words port.new ≡ (recurred U.State.size U.State.loaded U.State.stored (U.step unit.now) (P.words port.old) at inputs.now).0 }
+    ensures outputs { outputs.new ≡ [] }
+    ensures foot { P.foot port.new ≡ P.foot port.old }
+    ensures rest { P.rest port.new ≡ P.rest port.old }
+{
+    run_recurrence(unit, port, at, inputs, outputs);
+    outputs.clear();
+}
+
+/// SendTrig, DetectSilence, FreeSelf or PauseSelf.
+#[tactic(auto, unfolding(crate::specs::Triggers::trigger_block, sn_def::specs::Units::row_of))]
+pub(crate) fn run_trigger<P: Port>(
+    kind: Kind,
+    now: &Now,
+    port: &mut P,
+    state: Extent,
+    inputs: &Blocks,
+    outputs: &mut Blocks,
+)
+    requires kind { is_trigger kind ≡ true }
+    requires block { now.now.block < 2 ^ 63 }
+    requires inputs { length (row_of kind).inputs ≤ length inputs.now }
+    requires size { (row_of kind).words ≡ Fixed state.len }
+    requires state { MayWrite (P.foot port.old) state.at state.len }
+    ensures words { P.words port.new ≡ put (P.words port.old) state.at (trigger_block kind now.now (window (P.words port.old) state.at state.len) inputs.now).0 }
+    ensures outputs { outputs.new ≡ (trigger_block kind now.now (window (P.words port.old) state.at state.len) inputs.now).1 }
+    ensures foot { P.foot port.new ≡ P.foot port.old }
+    ensures rest { P.rest port.new ≡ P.rest port.old }
+{
+    let rate = now.rate;
+    let block = now.block;
+    let at = state.at;
+    match kind {
+        Kind::SendTrig => run_silent(&SendTrig { block }, port, at, inputs, outputs),
+        Kind::DetectSilence => run_recurrence(&DetectSilence { rate }, port, at, inputs, outputs),
+        Kind::FreeSelf | Kind::PauseSelf => run_silent(&EndSelf, port, at, inputs, outputs),
+        _ => {}
+    }
+}

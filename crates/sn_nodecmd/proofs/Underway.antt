@@ -1,0 +1,121 @@
+-- A stage whose journals are open.
+use Rattle.std.proofs.Common.{◌≡◌, ◌≤◌, ◌+◌, ℕ, ℤ, Bool, true, false, List, [], Option, Some, None, is_some, refl, ap, sym, subst, ◌∙◌, arith}
+use Rattle.std.specs.Prelude.{if◌then◌else◌}
+use Rattle.sn_mem.specs.declared.extents.Extent.{Extent}
+use Rattle.sn_mem.specs.Words.{covers}
+use Rattle.sn_pool.specs.Pools.{PoolState, same_extent, times, mark_of, saved_of, room_of}
+use Rattle.sn_pool.specs.declared.pool.Mark.{Mark}
+use Rattle.sn_tree.specs.Trees.{Nodes, Sides, none, count}
+use Rattle.sn_tree.specs.Model.{Journal, NodeTree}
+use Rattle.sn_tree.specs.Steps.{IsOpen, IsOpened, HasRoom, undone, restored, committed}
+use Rattle.sn_world.specs.declared.stage.Held.{Held}
+use Rattle.sn_world.specs.declared.stage.Stage.{Stage}
+use Rattle.sn_world.specs.Pictures.{live_held, amount, overlaps, AreHeld, Pictures}
+use Rattle.sn_world.proofs.Counting.{times-amount, overlaps-amount, few_extents, amount-none}
+use Rattle.sn_nodecmd.specs.Folding.{room_in, saved_in, IsAtRest, CanStep, KeepsTree, Keeps, IsUnderway}
+
+pub at_rest : (stage : Stage) (words : List ℕ) → Pictures stage words → IsAtRest stage
+at_rest stage words p = record { live = p.live; detached = p.attached; settled = p.settled; closed = p.closed }
+
+-- ---- journals
+
+pub opened : (j : Option (Journal Held)) → is_some (saved_in j) ≡ true → IsOpen j
+opened None h = absurd cc
+opened (Some journal) h = tt
+
+pub has_room : (j : Option (Journal Held)) → 1 ≤ room_in j → HasRoom j
+has_room None some = tt
+has_room (Some journal) some = some
+
+restored_is : (j : Option (Journal Held)) (tree : NodeTree Held) (a d : Nodes Held) → saved_in j ≡ Some (record { attached = a; detached = d }) → restored j tree ≡ record { attached = a; detached = d; journal = None }
+restored_is None tree a d h = absurd cc
+restored_is (Some journal) tree a d h = ap (λ (s : Option (Sides Held)). back s) h
+  where
+    back : Option (Sides Held) → NodeTree Held
+    back None = tree
+    back (Some sides) = record { attached = sides.attached; detached = sides.detached; journal = None }
+
+module _ (left : ℕ) (mark : Mark) (old now : Stage) (is : IsUnderway left mark old now) where
+  pub underway_open : IsOpen now.tree.journal
+  underway_open = opened now.tree.journal (ap (λ (s : Option (Sides Held)). is_some s) is.saved)
+
+  pub underway_mark : mark_of now.pool.journal ≡ Some mark
+  underway_mark = ap (λ (p : PoolState). mark_of p.journal) is.pool
+
+  pub underway_undone : undone now.tree ≡ record { attached = old.tree.attached; detached = old.tree.detached; journal = None }
+  underway_undone = restored_is now.tree.journal now.tree old.tree.attached old.tree.detached is.saved
+
+  pub underway_saved : saved_of now.pool.journal ≡ old.pool.live
+  underway_saved = ap (λ (p : PoolState). saved_of p.journal) is.pool
+
+  total_times : (e : Extent) → times e (live_held now.tree.attached) + times e (live_held now.tree.detached) ≡ times e (live_held old.tree.attached) + times e (live_held old.tree.detached)
+  total_times e = omega (arith, is.extents (λ y. if same_extent e y then 1 else 0), times-amount e (live_held now.tree.attached), times-amount e (live_held now.tree.detached), times-amount e (live_held old.tree.attached), times-amount e (live_held old.tree.detached))
+
+  total_overlaps : (x : ℕ) → overlaps x (live_held now.tree.attached) + overlaps x (live_held now.tree.detached) ≡ overlaps x (live_held old.tree.attached) + overlaps x (live_held old.tree.detached)
+  total_overlaps x = omega (arith, is.extents (λ e. if covers e x then 1 else 0), overlaps-amount x (live_held now.tree.attached), overlaps-amount x (live_held now.tree.detached), overlaps-amount x (live_held old.tree.attached), overlaps-amount x (live_held old.tree.detached))
+
+  nothing_overlaps : (rest : old.tree.detached ≡ none) (x : ℕ) → overlaps x (live_held old.tree.detached) ≡ 0
+  nothing_overlaps rest x = ap (λ (t : Nodes Held). overlaps x (live_held t)) rest
+
+  nothing_times : (rest : old.tree.detached ≡ none) (e : Extent) → times e (live_held old.tree.detached) ≡ 0
+  unfolding times
+  nothing_times rest e = ap (λ (t : Nodes Held). times e (live_held t)) rest
+
+  pub underway_live : IsAtRest old → (e : Extent) → 1 ≤ e.len → times e (live_held now.tree.detached) ≤ times e now.pool.live
+  underway_live rest e some = omega (arith, total_times e, rest.live e some, nothing_times rest.detached e, ap (λ (p : PoolState). times e p.live) is.pool)
+
+  pub underway_room : IsAtRest old → amount (λ e. 1) (live_held now.tree.detached) ≤ room_of now.pool.journal
+  underway_room rest = omega (arith, is.extents (λ e. 1), few_extents old.tree.attached, ap (λ (t : Nodes Held). amount (λ e. 1) (live_held t)) rest.detached, amount-none (λ e. 1), ap (λ (p : PoolState). room_of p.journal) is.pool)
+
+  -- what is left is a picture again
+  pub underway_pictures : (new : Stage) (words : List ℕ) → Pictures old words → new.tree ≡ record { attached = now.tree.attached; detached = none; journal = None }
+      → ((e : Extent) → 1 ≤ e.len → times e now.pool.live ≡ times e (live_held now.tree.detached) + times e new.pool.live) → new.pool.region ≡ now.pool.region → new.pool.journal ≡ None → new.rate ≡ now.rate → Pictures new words
+  underway_pictures new words p tree live region closed rate =
+      let same_region : new.pool.region ≡ old.pool.region = region ∙ ap (λ (q : PoolState). q.region) is.pool in
+      let attached : new.tree.attached ≡ now.tree.attached = ap (λ (t : NodeTree Held). t.attached) tree in
+      record {
+        rate = omega (arith, rate, is.rate, p.rate);
+        rate_fits = omega (arith, rate, is.rate, p.rate_fits);
+        base = ap (λ (e : Extent). e.at) same_region ∙ p.base;
+        bounded = omega (arith, ap (λ (e : Extent). e.len) same_region, p.bounded);
+        fits = omega (arith, ap (λ (e : Extent). e.len) same_region, p.fits);
+        synths = subst (λ (r : ℕ). AreHeld r new.pool.region new.tree.attached) (sym (rate ∙ is.rate)) (subst (λ (g : Extent). AreHeld old.rate g new.tree.attached) (sym same_region)
+            (subst (λ (t : Nodes Held). AreHeld old.rate old.pool.region t) (sym attached) (is.held old.rate old.pool.region p.synths)));
+        live = λ e some. omega (arith, live e some, total_times e, p.live e some, nothing_times p.attached e, ap (λ (q : PoolState). times e q.live) is.pool, ap (λ (t : Nodes Held). times e (live_held t)) attached);
+        apart = λ x. omega (arith, total_overlaps x, p.apart x, nothing_overlaps p.attached x, ap (λ (t : Nodes Held). overlaps x (live_held t)) attached);
+        attached = ap (λ (t : NodeTree Held). t.detached) tree;
+        settled = ap (λ (t : NodeTree Held). t.journal) tree;
+        closed = closed;
+      }
+
+-- a repetition more
+pub underway_more : (left : ℕ) (mark : Mark) (old now new : Stage) → IsUnderway (1 + left) mark old now → Keeps now new → IsUnderway left mark old new
+underway_more left mark old now new is keeps = record {
+  pool = keeps.pool ∙ is.pool;
+  saved = keeps.tree.saved ∙ is.saved;
+  room = omega (arith, is.room, keeps.tree.room);
+  extents = λ weight. keeps.tree.extents weight ∙ is.extents weight;
+  held = λ rate region h. keeps.tree.held rate region (is.held rate region h);
+  defs = keeps.defs ∙ is.defs;
+  notify = keeps.notify ∙ is.notify;
+  rate = keeps.rate ∙ is.rate;
+}
+
+pub can_step : (left : ℕ) (mark : Mark) (old now : Stage) → IsUnderway (1 + left) mark old now → CanStep now.tree
+can_step left mark old now is = record { is_open = ap (λ (s : Option (Sides Held)). is_some s) is.saved; room = omega (arith, is.room) }
+
+-- journals that were just opened
+pub underway_first : (steps : ℕ) (mark : Mark) (old new : Stage) (tree : NodeTree Held) → IsAtRest old → IsOpened (count old.tree.attached + steps) old.tree tree
+    → new ≡ record old { tree = tree; pool = record old.pool { journal = Some (record { mark = mark; saved = old.pool.live; room = count old.tree.attached }) } } → IsUnderway steps mark old new
+underway_first steps mark old new tree rest begun is =
+    let tree_is : new.tree ≡ record old.tree { journal = Some begun.journal } = ap (λ (s : Stage). s.tree) is ∙ begun.open_now in
+    record {
+      pool = ap (λ (s : Stage). s.pool) is;
+      saved = ap (λ (t : NodeTree Held). saved_in t.journal) tree_is ∙ (λ i. Some (record { attached = begun.attached_now i; detached = begun.detached_now i }));
+      room = omega (arith, ap (λ (t : NodeTree Held). room_in t.journal) tree_is, begun.room, ap (λ (t : NodeTree Held). count t.attached) tree_is);
+      extents = λ weight. ap (λ (t : NodeTree Held). amount weight (live_held t.attached) + amount weight (live_held t.detached)) tree_is;
+      held = λ rate region h. subst (λ (t : NodeTree Held). AreHeld rate region t.attached) (sym tree_is) h;
+      defs = ap (λ (s : Stage). s.defs) is;
+      notify = ap (λ (s : Stage). s.notify) is;
+      rate = ap (λ (s : Stage). s.rate) is;
+    }

@@ -1,0 +1,21 @@
+use Rattle.std.proofs.Common.{◌≡◌, ◌∙◌, ap, sym, refl, List, ℕ, ℤ}
+use Rattle.sn_tree.specs.declared.node.NodeView.{NodeView}
+use Rattle.sn_tree.specs.Model.{NodeTree}
+use Rattle.sn_tree.specs.Steps.{detached}
+use Rattle.sn_world.specs.declared.stage.Held.{Held}
+use Rattle.sn_world.specs.declared.stage.Stage.{Stage}
+use Rattle.sn_world.specs.Freeing.{told_ends}
+use Rattle.sn_world.specs.World.{World, Turn}
+use Rattle.sn_nodecmd.proofs.Stepping.{freed_is, keeps_with, keeps_detached}
+use Rattle.sn_nodecmd.proofs.freeing.free_node.Goals as goal
+
+pub returns-clause-row : goal.returns-clause-row
+returns-clause-row c =
+    freed_is c.args.stage.now _ c.args.node.now.id c.args.replies.now c.tell_ends.new.replies
+    (ap (λ (t : NodeTree Held). let s : Stage = record c.args.stage.now { tree = t } in s) c.detach.ensures)
+    (λ w same. ap (λ (vs : List (ℤ × NodeView)). told_ends vs (let t : Turn = record { world = w; replies = c.args.replies.now } in t)) (sym (c.deref.ensures.value ∙ c.in_ok-views.ensures)) ∙ c.in_ok-tell_ends.ensures.told w same)
+
+pub returns-clause-keeps : goal.returns-clause-keeps
+returns-clause-keeps c =
+    keeps_with c.args.stage.now _ (detached c.args.node.now.id c.args.stage.now.tree) c.args.stage.now.next_id (keeps_detached c.args.node.now.id c.args.stage.now.tree)
+    (ap (λ (t : NodeTree Held). let s : Stage = record c.args.stage.now { tree = t } in s) c.detach.ensures)

@@ -1,0 +1,31 @@
+use Rattle.std.proofs.Common.{◌≡◌, ◌∙◌, ◌++◌, ◌∷◌, [], ap, List, w32, to_z, of_z, Some, rules}
+use Rattle.std.specs.Prelude.{FitsSigned}
+use Rattle.std.proofs.lemmas.Int.{to_z-of_z}
+use Rattle.sn_osc.specs.Shape.{MessageShape}
+use Rattle.sn_reply.specs.declared.replies.To.TheVariants.{Client}
+use Rattle.sn_reply.specs.Replies.{ReplyShape}
+use Rattle.sn_tree.specs.Trees.{view_of}
+use Rattle.sn_world.specs.declared.notices.NodeEvent.TheVariants.{Asked}
+use Rattle.sn_world.specs.World.{turn_of}
+use Rattle.sn_world.specs.Notices.{event_message}
+use Rattle.sn_nodecmd.proofs.TurningLemmas.{no_node, some_node}
+use Rattle.sn_nodecmd.proofs.QueryLemmas.{informed}
+use Rattle.sn_nodecmd.proofs.querying.answer.Goals as goal
+
+pub returns-in_default-clause-act : goal.returns-in_default-clause-act
+returns-in_default-clause-act c =
+    let fits : FitsSigned w32 c.args.query.now.id = search rules in
+    let same = to_z-of_z w32 c.args.query.now.id fits in
+    λ words. no_node c.args.stage.now words c.args.query.now.id (c.in_default.ensures ∙ ap (λ n. view_of n c.args.stage.now.tree.attached) same)
+
+pub returns-clause-act : goal.returns-clause-act
+returns-clause-act c =
+    let fits : FitsSigned w32 c.args.query.now.id = search rules in
+    let same = to_z-of_z w32 c.args.query.now.id fits in
+    let seen = c.in-Some.ensures ∙ ap (λ n. view_of n c.args.stage.now.tree.attached) same in
+    λ words. (
+      some_node c.args.stage.now words c.args.query.now.id c.in-Some.view seen,
+      ap (λ (rs : List ReplyShape). turn_of c.args.stage.now words rs)
+          (c.in_ok-push.ensures.ok ∙ ap (λ (m : MessageShape). let r : ReplyShape = record { to = Client c.args.from; message = m } in c.args.replies.now ++ r ∷ []) (c.in_ok-message.ensures.message ∙ ap (λ n. event_message Asked n c.in-Some.view) same))
+          ∙ informed c.args.stage.now words c.args.replies.now c.args.from c.args.query.now (Some c.in-Some.view) seen,
+    )

@@ -1,0 +1,10 @@
+use Rattle.std.proofs.Common.{◌≡◌, List, ℕ}
+use Rattle.sn_world.specs.World.{turn_of}
+use Rattle.sn_nodecmd.proofs.ToldLemmas.{told_here, told_nowhere, on_ok}
+use Rattle.sn_nodecmd.proofs.telling.tell.Goals as goal
+
+pub returns-in_default-clause-told : goal.returns-in_default-clause-told
+returns-in_default-clause-told c = told_nowhere c.args.stage.now c.args.event c.args.node.now.id c.args.replies.now c.in_default.ensures
+
+pub returns-clause-told : goal.returns-clause-told
+returns-clause-told c = on_ok c.tell_of.result _ _ (λ more. told_here c.args.stage.now c.args.event c.args.node.now.id c.in-Some.view c.args.replies.now c.tell_of.new.replies c.in-Some.ensures more) c.tell_of.ensures.told

@@ -1,0 +1,166 @@
+//! Repetitions that change the tree, each judged in what the earlier ones left.
+ghost use Rattle.std.specs.Prelude.{◌≡◌, ◌+◌, ◌≤◌, ◌<◌, ◌^◌, List, ℕ, length, Some, None, IfOk, IfErr};
+ghost use Rattle.sn_mem.specs.declared.extents.Extent.{Extent};
+ghost use Rattle.sn_pool.specs.Pools.{times, mark_of, room_of, saved_of};
+ghost use Rattle.sn_reply.specs.Replies.{ReplyShape};
+ghost use Rattle.sn_tree.specs.Trees.{none, count};
+ghost use Rattle.sn_world.specs.Answers.{Follows, UnlessFollowed, Continues};
+ghost use Rattle.sn_world.specs.Pictures.{live_held, held_extents, amount, Pictures};
+ghost use Rattle.sn_world.specs.Rows.{steps};
+ghost use Rattle.sn_world.specs.World.{World, Turn, turn_of, world_of};
+ghost use Rattle.sn_nodecmd.specs.Folding.{IsAtRest, CanStep, Keeps, Steps, IsUnderway, WasAtRest};
+
+use sn_pool::{Mark, Pool};
+use sn_ports::NoMemory;
+use sn_reply::{Reason, Replies};
+use sn_tree::Tree;
+use sn_world::{Held, Stage};
+use std::alloc::Global;
+
+/// What a message repeats.
+pub trait Repetition {
+    ghost use Rattle.std.specs.Prelude.{Option, List, ℕ, ◌≡◌};
+    ghost use Rattle.sn_reply.specs.declared.reason.Reason.{Reason};
+    ghost use Rattle.sn_world.specs.Answers.{Continues};
+    ghost use Rattle.sn_world.specs.World.{World, Turn, turn_of, world_of};
+    ghost use Rattle.sn_nodecmd.specs.Folding.{CanStep, Keeps, Steps};
+
+    /// The first reason against it.
+    ghost judge: { World → Self → Option Reason };
+
+    /// What it does.
+    ghost act: { Self → Turn → Turn };
+
+    /// Judges a repetition, and does what it asks for where nothing is against it. Else the stage and the replies may be left in the
+    /// midst of it.
+    fn step(
+        &self,
+        alloc: Global,
+        stage: &mut Stage,
+        replies: &mut Replies,
+    ) -> Result<Option<Reason>, NoMemory>
+        requires { CanStep stage.old.tree }
+        ensures row { (words : List ℕ) → Steps result (judge (world_of stage.old words) self.now) (act self.now (turn_of stage.old words replies.old)) (turn_of stage.new words replies.new) }
+        ensures keeps { Keeps stage.old stage.new }
+        ensures continues { Continues replies.old replies.new };
+}
+
+/// Gives the words of a freed node back.
+fn give_back(pool: &mut Pool, held: &Held)
+    requires live { (e : Extent) → 1 ≤ e.len → times e (held_extents held.now) ≤ times e pool.old.live }
+    requires room { amount (λ e. 1) (held_extents held.now) ≤ room_of pool.old.journal }
+    ensures live { (e : Extent) → 1 ≤ e.len → times e pool.old.live ≡ times e (held_extents held.now) + times e pool.new.live }
+    ensures room { room_of pool.old.journal ≤ amount (λ e. 1) (held_extents held.now) + room_of pool.new.journal }
+    ensures mark { mark_of pool.new.journal ≡ mark_of pool.old.journal }
+    ensures region { pool.new.region ≡ pool.old.region }
+{
+    match held {
+        Held::Group => {}
+        Held::Synth { state, .. } => {
+            if state.len > 0 {
+                pool.give_back(*state);
+            }
+        }
+    }
+}
+
+/// Ends a freed node, and gives its words back.
+fn end_node(pool: &mut Pool, held: Held)
+    requires live { (e : Extent) → 1 ≤ e.len → times e (held_extents held) ≤ times e pool.old.live }
+    requires room { amount (λ e. 1) (held_extents held) ≤ room_of pool.old.journal }
+    ensures live { (e : Extent) → 1 ≤ e.len → times e pool.old.live ≡ times e (held_extents held) + times e pool.new.live }
+    ensures room { room_of pool.old.journal ≤ amount (λ e. 1) (held_extents held) + room_of pool.new.journal }
+    ensures mark { mark_of pool.new.journal ≡ mark_of pool.old.journal }
+    ensures region { pool.new.region ≡ pool.old.region }
+{
+    give_back(pool, &held);
+}
+
+/// Ends the nodes that were freed, and gives their words back.
+fn end_freed(tree: &mut Tree<Held>, pool: &mut Pool)
+    requires closed { tree.old.journal ≡ None }
+    requires live { (e : Extent) → 1 ≤ e.len → times e (live_held tree.old.detached) ≤ times e pool.old.live }
+    requires room { amount (λ e. 1) (live_held tree.old.detached) ≤ room_of pool.old.journal }
+    ensures tree { tree.new ≡ record tree.old { detached = none } }
+    ensures live { (e : Extent) → 1 ≤ e.len → times e pool.old.live ≡ times e (live_held tree.old.detached) + times e pool.new.live }
+    ensures mark { mark_of pool.new.journal ≡ mark_of pool.old.journal }
+    ensures region { pool.new.region ≡ pool.old.region }
+{
+    while let Some(held) = tree.free() {
+        end_node(pool, held);
+    }
+}
+
+/// Opens the journals of a stage.
+fn begin(stage: &mut Stage, repetitions: usize) -> Result<Mark, NoMemory>
+    requires rest { IsAtRest stage.old }
+    requires few { repetitions < 2 ^ 31 }
+    ensures begun { IfOk result (λ mark. IsUnderway repetitions mark stage.old stage.new) }
+    ensures same { IfOk result (λ _. (words : List ℕ) (replies : List ReplyShape) → turn_of stage.new words replies ≡ turn_of stage.old words replies) }
+    ensures refused { IfErr result (λ _. stage.new ≡ stage.old) }
+{
+    let nodes = stage.tree.len();
+    let mark = stage.pool.begin(nodes)?;
+    match stage.tree.begin(nodes + repetitions as u32) {
+        Ok(()) => Ok(mark),
+        Err(fault) => {
+            stage.pool.undo(mark);
+            Err(fault)
+        }
+    }
+}
+
+/// Puts a stage back as it was when its journals were opened.
+fn undo(stage: &mut Stage, mark: Mark, next_id: Option<i32>)
+    requires { WasAtRest mark stage.old }
+    ensures { (left : ℕ) (old : Stage) → IsUnderway left mark old stage.old → IsAtRest old → stage.new ≡ record old { next_id = next_id } }
+{
+    stage.tree.undo();
+    stage.pool.undo(mark);
+    stage.next_id = next_id;
+}
+
+/// Closes the journals of a stage, and ends what was freed.
+fn commit(stage: &mut Stage, mark: Mark)
+    requires { WasAtRest mark stage.old }
+    ensures same { (words : List ℕ) (replies : List ReplyShape) → turn_of stage.new words replies ≡ turn_of stage.old words replies }
+    ensures pictures { (left : ℕ) (old : Stage) (words : List ℕ) → IsUnderway left mark old stage.old → Pictures old words → Pictures stage.new words }
+    ensures region { stage.new.pool.region ≡ stage.old.pool.region }
+{
+    stage.tree.commit();
+    end_freed(&mut stage.tree, &mut stage.pool);
+    stage.pool.commit(mark);
+}
+
+/// Carries out repetitions one after the other, each judged in what the earlier ones left: all of them, or none. Where there is a reason
+/// against one, or memory runs out, the stage and the replies are as they were.
+pub fn each<R: Repetition>(
+    alloc: Global,
+    stage: &mut Stage,
+    repetitions: &[R],
+    replies: &mut Replies,
+) -> Result<Option<Reason>, NoMemory>
+    requires rest { IsAtRest stage.old }
+    requires few { length repetitions.now < 2 ^ 31 }
+    ensures row { (words : List ℕ) → Follows result (steps R.judge R.act repetitions.now (turn_of stage.old words replies.old)) (turn_of stage.new words replies.new) }
+    ensures unchanged { UnlessFollowed result (stage.new ≡ stage.old) }
+    ensures untold { UnlessFollowed result (replies.new ≡ replies.old) }
+    ensures pictures { (words : List ℕ) → Pictures stage.old words → Pictures stage.new words }
+    ensures region { stage.new.pool.region ≡ stage.old.pool.region }
+{
+    let next_id = stage.next_id;
+    let told = replies.len();
+    let mark = begin(stage, repetitions.len())?;
+    for repetition in repetitions {
+        match repetition.step(alloc, stage, replies) {
+            Ok(None) => {}
+            refused => {
+                undo(stage, mark, next_id);
+                replies.truncate(told);
+                return refused;
+            }
+        }
+    }
+    commit(stage, mark);
+    Ok(None)
+}

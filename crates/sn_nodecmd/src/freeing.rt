@@ -1,0 +1,112 @@
+//! Nodes that are freed.
+ghost use Rattle.std.specs.Prelude.{◌≡◌, ◌+◌, ◌*◌, ◌^◌, ◌<◌, map, length, OnOk, None, List, ℕ};
+ghost use Rattle.sn_tree.specs.Trees.{holds};
+ghost use Rattle.sn_tree.specs.Steps.{HasRoom, detached};
+ghost use Rattle.sn_osc.specs.Shape.{argument_of};
+ghost use Rattle.sn_world.specs.World.{World, Turn, turn_of};
+ghost use Rattle.sn_world.specs.Freeing.{free_row, free_refusal, freed};
+ghost use Rattle.sn_world.specs.Answers.{Continues, Follows, UnlessFollowed};
+ghost use Rattle.sn_world.specs.Pictures.{Pictures};
+ghost use Rattle.sn_nodecmd.specs.Folding.{IsAtRest, Keeps};
+
+use crate::folding::{Repetition, each};
+use crate::telling::{tell_ends, view_of, views_of};
+use sn_osc::Arg;
+use sn_ports::NoMemory;
+use sn_reply::{Reason, Replies};
+use sn_tree::Tree;
+use sn_world::{Held, NodeId, Stage, singles, some_of};
+use std::alloc::Global;
+
+#[tactic(auto, using(crate::proofs::Stepping::is_seen))]
+fn is_attached(tree: &Tree<Held>, node: &NodeId) -> bool
+    ensures { result ≡ holds node.now.id tree.now.attached }
+{
+    view_of(tree, node).is_some()
+}
+
+/// The first reason against freeing a node.
+fn refusal(tree: &Tree<Held>, node: &NodeId) -> Option<Reason>
+    ensures { result ≡ free_refusal node.now.id tree.now.attached }
+{
+    if !is_attached(tree, node) {
+        return Some(Reason::NoSuchNode);
+    }
+    if node.id == 0 {
+        return Some(Reason::Root);
+    }
+    None
+}
+
+#[tactic(auto, using(crate::proofs::Stepping::detach_allowed))]
+fn detach(tree: &mut Tree<Held>, node: &NodeId)
+    requires allowed { free_refusal node.now.id tree.old.attached ≡ None }
+    requires room { HasRoom tree.old.journal }
+    ensures { tree.new ≡ detached node.now.id tree.old }
+{
+    match tree.detach(node.id) {
+        Ok(()) => {}
+        Err(_) => unreachable!(),
+    }
+}
+
+/// Frees a node and all below it, and tells of each of them.
+fn free_node(
+    alloc: Global,
+    stage: &mut Stage,
+    node: &NodeId,
+    replies: &mut Replies,
+) -> Result<(), NoMemory>
+    requires allowed { free_refusal node.now.id stage.old.tree.attached ≡ None }
+    requires room { HasRoom stage.old.tree.journal }
+    ensures row { OnOk result ((words : List ℕ) → freed node.now.id (turn_of stage.old words replies.old) ≡ turn_of stage.new words replies.new) }
+    ensures keeps { Keeps stage.old stage.new }
+    ensures continues { Continues replies.old replies.new }
+{
+    let views = views_of(&stage.tree, node)?;
+    tell_ends(alloc, &stage.notify, &views, replies)?;
+    detach(&mut stage.tree, node);
+    Ok(())
+}
+
+impl Repetition for NodeId {
+    ghost use Rattle.sn_world.specs.Freeing.{judge_free, act_free};
+
+    ghost judge = { judge_free };
+
+    ghost act = { act_free };
+
+    fn step(
+        &self,
+        alloc: Global,
+        stage: &mut Stage,
+        replies: &mut Replies,
+    ) -> Result<Option<Reason>, NoMemory> {
+        if let Some(reason) = refusal(&stage.tree, self) {
+            return Ok(Some(reason));
+        }
+        free_node(alloc, stage, self, replies)?;
+        Ok(None)
+    }
+}
+
+/// `/n_free` id..
+pub fn run_free(
+    alloc: Global,
+    stage: &mut Stage,
+    arguments: &[Arg],
+    replies: &mut Replies,
+) -> Result<Option<Reason>, NoMemory>
+    requires rest { IsAtRest stage.old }
+    requires few { 16 * length arguments.now + 2 ^ 20 < 2 ^ 31 }
+    ensures row { (from : ℕ) (words : List ℕ) → Follows result (free_row from (map argument_of arguments.now) (turn_of stage.old words replies.old)) (turn_of stage.new words replies.new) }
+    ensures unchanged { UnlessFollowed result (stage.new ≡ stage.old) }
+    ensures untold { UnlessFollowed result (replies.new ≡ replies.old) }
+    ensures pictures { (words : List ℕ) → Pictures stage.old words → Pictures stage.new words }
+    ensures region { stage.new.pool.region ≡ stage.old.pool.region }
+{
+    let Some(nodes) = some_of(singles::<NodeId>(alloc, arguments)?) else {
+        return Ok(Some(Reason::Arguments));
+    };
+    each(alloc, stage, &nodes, replies)
+}

@@ -1,0 +1,91 @@
+//! Clients are told of events of nodes.
+ghost use Rattle.std.specs.Prelude.{◌≡◌, ◌++◌, IfOk, OnOk, List, ℕ};
+ghost use Rattle.sn_tree.specs.Trees.{view_of};
+ghost use Rattle.sn_tree.specs.Views.{views_below};
+ghost use Rattle.sn_world.specs.World.{World, Turn, turn_of};
+ghost use Rattle.sn_world.specs.Notices.{told, event_message, notices};
+ghost use Rattle.sn_world.specs.Freeing.{told_ends};
+ghost use Rattle.sn_world.specs.Answers.{Continues};
+ghost use Rattle.sn_world.specs.declared.notices.NodeEvent.TheVariants.{Ended};
+
+use sn_ports::NoMemory;
+use sn_reply::Replies;
+use sn_tree::{NodeView, Tree};
+use sn_world::{Flags, Held, NodeEvent, NodeId, Stage, notify};
+use std::alloc::Global;
+
+/// A node as it stands.
+pub fn view_of(tree: &Tree<Held>, node: &NodeId) -> Option<NodeView>
+    ensures { result ≡ view_of node.now.id tree.now.attached }
+{
+    tree.node(node.id)
+}
+
+/// A node and all below it as they stand.
+pub fn views_of(tree: &Tree<Held>, node: &NodeId) -> Result<Vec<(i32, NodeView)>, NoMemory>
+    ensures { IfOk result (λ views. views.items ≡ views_below node.now.id tree.now.attached) }
+{
+    tree.views(node.id)
+}
+
+/// Tells of an event of a node that stands so.
+fn tell_of(
+    alloc: Global,
+    flags: &Flags,
+    event: NodeEvent,
+    node: &NodeId,
+    view: &NodeView,
+    replies: &mut Replies,
+) -> Result<(), NoMemory>
+    ensures told { OnOk result (replies.new ≡ replies.old ++ notices 0 flags.now (event_message event node.now.id view.now)) }
+    ensures continues { Continues replies.old replies.new }
+{
+    notify(alloc, flags, event, node.id, view, replies)
+}
+
+/// Tells of an event of an attached node, at the place where it stands.
+pub fn tell(
+    alloc: Global,
+    stage: &Stage,
+    event: NodeEvent,
+    node: &NodeId,
+    replies: &mut Replies,
+) -> Result<(), NoMemory>
+    ensures told { OnOk result ((words : List ℕ) → turn_of stage.now words replies.new ≡ told event node.now.id (turn_of stage.now words replies.old)) }
+    ensures continues { Continues replies.old replies.new }
+{
+    let Some(view) = view_of(&stage.tree, node) else {
+        return Ok(());
+    };
+    tell_of(alloc, &stage.notify, event, node, &view, replies)
+}
+
+/// Tells of a node that ends.
+fn tell_end(
+    alloc: Global,
+    flags: &Flags,
+    id: i32,
+    view: &NodeView,
+    replies: &mut Replies,
+) -> Result<(), NoMemory>
+    ensures told { OnOk result (replies.new ≡ replies.old ++ notices 0 flags.now (event_message Ended id view.now)) }
+    ensures continues { Continues replies.old replies.new }
+{
+    notify(alloc, flags, NodeEvent::Ended, id, view, replies)
+}
+
+/// Tells of nodes that end, at the places where they stand.
+pub fn tell_ends(
+    alloc: Global,
+    flags: &Flags,
+    ended: &[(i32, NodeView)],
+    replies: &mut Replies,
+) -> Result<(), NoMemory>
+    ensures told { OnOk result ((w : World) → w.notify ≡ flags.now → told_ends ended.now (record { world = w; replies = replies.old }) ≡ record { world = w; replies = replies.new }) }
+    ensures continues { Continues replies.old replies.new }
+{
+    for (id, view) in ended {
+        tell_end(alloc, flags, *id, view, replies)?;
+    }
+    Ok(())
+}

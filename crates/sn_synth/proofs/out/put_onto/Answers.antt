@@ -1,9 +1,0 @@
-use Rattle.std.proofs.Common.{◌+◌, arith}
-use Rattle.sn_mem.proofs.Feet.{part_at}
-use Rattle.sn_synth.proofs.out.put_onto.Goals as goal
-
-pub change_block-requires : goal.change_block-requires
-change_block-requires g c = part_at (g.P.Port.foot c.args.port.now) (g.P.Port.foot c.load.new.self) c.args.at 65 (c.args.at + 1) 64 c.requires.bus c.load.ensures.foot (omega arith) (omega arith)
-
-pub change_block-requires-else-load-block : goal.change_block-requires-else-load-block
-change_block-requires-else-load-block g c = part_at (g.P.Port.foot c.args.port.now) (g.P.Port.foot c.load.new.self) c.args.at 65 (c.args.at + 1) 64 c.requires.bus c.load.ensures.foot (omega arith) (omega arith)

@@ -1,0 +1,155 @@
+-- Payloads changed in a node and in all nodes below it.
+use Rattle.std.proofs.Common.{◌≡◌, ◌≢◌, ◌||◌, suc, ◌+◌, ◌<◌, ◌≤◌, ℤ, Bool, true, false, List, [], ◌∷◌, ◌++◌, length, Option, Some, None, sym, refl, ap, ◌∙◌, subst, ⊎_elim, arith}
+use Rattle.std.specs.Prelude.{◌==◌, is_some, slice_index_or, if◌then◌else◌}
+use Rattle.std.specs.List.{IsFirstAndRest}
+use Rattle.std.specs.Ordering.{int_eq}
+use Rattle.std.proofs.lemmas.Bool.{cases_Bool, or_parts}
+use Rattle.std.proofs.lemmas.Bool.Decides.{eqb_tells}
+use Rattle.sn_tree.specs.declared.entry.Entry.{Entry}
+use Rattle.sn_tree.specs.Trees.{Nodes, none, node, holds, subtree, without, with_payloads}
+use Rattle.sn_tree.specs.Order.{Key, flat, tree_of, IsFlat}
+use Rattle.sn_tree.specs.Arranged.{Arranged}
+use Rattle.sn_tree.specs.Saving.{SavedNodes}
+use Rattle.sn_tree.specs.Model.{NodeTree}
+use Rattle.sn_tree.specs.Kept.{same_key, uses, payload_of, filled, IsFilled, journal_shown, shown}
+use Rattle.sn_tree.specs.Reworking.{reworked, changed_below, repeated, hits, IsChangedAt, AreChanged}
+use Rattle.sn_tree.proofs.PayloadLaws.{holds-payloads}
+use Rattle.sn_tree.proofs.Keeping.{agree, uses_here, uses-parts}
+
+-- a node that is not there
+pub no_subtree : {P : Type 0} (id : ℤ) (t : Nodes P) → holds id t ≡ false → subtree id t ≡ none
+no_subtree id none h = refl
+no_subtree id (node label below after) h =
+    let d = or_parts (int_eq label.id id) (holds id below || holds id after) h in
+    let b = or_parts (holds id below) (holds id after) d.1 in
+    rw (d.0, b.0) (no_subtree id after b.1)
+
+hits-append : (key : Key) (xs ys : List Entry) → hits key (xs ++ ys) ≡ hits key xs + hits key ys
+hits-append key [] ys = omega arith
+hits-append key (x ∷ xs) ys = omega (arith, hits-append key xs ys)
+
+pub hits-flat : (key : Key) (t : Nodes Key) → hits key (flat t) ≡ uses key t
+hits-flat key none = refl
+hits-flat key (node label below after) = omega (arith, hits-append key (flat below) (flat after), hits-flat key below, hits-flat key after)
+
+-- the loop
+
+pub record IsChanging {P : Type 0} (change : P → P) (root : P) (slots : List (Option P)) (es : List Entry) (root' : P) (slots' : List (Option P)) (rest : List Entry) : Type 0 where
+  pub keeps : (key : Key) → filled slots' key ≡ filled slots key
+  pub each : (key : Key) → 1 ≤ filled slots key → repeated change (hits key rest) (payload_of root' slots' key) ≡ repeated change (hits key es) (payload_of root slots key)
+
+pub changing_start : {P : Type 0} (change : P → P) (root : P) (slots : List (Option P)) (es : List Entry) → IsChanging change root slots es root slots es
+changing_start change root slots es = record { keeps = λ key. refl; each = λ key h. refl }
+
+pub same_key_is : (a b : Key) → same_key a b ≡ true → a ≡ b
+same_key_is None None h = refl
+same_key_is None (Some b) h = cc
+same_key_is (Some a) None h = cc
+same_key_is (Some a) (Some b) h = ⊎_elim (λ (t : ((a == b) ≡ true) × (a ≡ b)). ap Some t.1) (λ (t : ((a == b) ≡ false) × (a ≢ b)). let bad : true ≡ false = sym h ∙ t.0 in cc) (eqb_tells a b)
+
+module _ {P : Type 0} (change : P → P) (root : P) (slots : List (Option P)) (es : List Entry) where
+  pub changing_next : (root1 root2 : P) (slots1 slots2 : List (Option P)) (rest : List Entry) (e : Entry) (after : List Entry)
+      → IsChanging change root slots es root1 slots1 rest → IsFirstAndRest rest e after → IsChangedAt change root1 slots1 root2 slots2 e.key → IsChanging change root slots es root2 slots2 after
+  changing_next root1 root2 slots1 slots2 rest e after h f s = record {
+    keeps = λ key. s.keeps key ∙ h.keeps key;
+    each = λ key full.
+        let full1 : 1 ≤ filled slots1 key = subst (λ n. 1 ≤ n) (sym (h.keeps key)) full in
+        let before : repeated change (hits key (e ∷ after)) (payload_of root1 slots1 key) ≡ repeated change (hits key es) (payload_of root slots key) = ap (λ l. repeated change (hits key l) (payload_of root1 slots1 key)) (sym f.0) ∙ h.each key full in
+        ⊎_elim
+        (λ (k : same_key e.key key ≡ true).
+        let same : e.key ≡ key = same_key_is e.key key k in
+        let now : payload_of root2 slots2 key ≡ change (payload_of root1 slots1 key) = subst (λ (x : Key). payload_of root2 slots2 x ≡ change (payload_of root1 slots1 x)) same (s.this (subst (λ (x : Key). 1 ≤ filled slots1 x) (sym same) full1)) in
+        let more : hits key (e ∷ after) ≡ suc (hits key after) = rw k (omega arith) in
+        ap (repeated change (hits key after)) now ∙ (ap (λ n. repeated change n (payload_of root1 slots1 key)) (sym more) ∙ before))
+        (λ (k : same_key e.key key ≡ false).
+        let more : hits key (e ∷ after) ≡ hits key after = rw k (omega arith) in
+        ap (repeated change (hits key after)) (s.others key k full1) ∙ (ap (λ n. repeated change n (payload_of root1 slots1 key)) (sym more) ∙ before))
+        (cases_Bool (same_key e.key key));
+  }
+
+  pub changing_end : (root1 : P) (slots1 : List (Option P)) (rest : List Entry) → IsChanging change root slots es root1 slots1 rest → length rest ≡ 0 → AreChanged change root slots root1 slots1 es
+  changing_end root1 slots1 [] h z = record { keeps = h.keeps; each = h.each }
+  changing_end root1 slots1 (e ∷ rest) h z = absurd (omega arith)
+
+-- what the change makes of the nodes
+
+agree_twice : {P : Type 0} (change : P → P) (g g' : Key → P) (t : Nodes Key) → ((key : Key) → 0 < uses key t → g' key ≡ change (g key)) → with_payloads g' t ≡ with_payloads change (with_payloads g t)
+agree_twice change g g' none h = refl
+agree_twice change g g' (node label below after) h =
+    λ i. node (record { id = label.id; kind = label.kind; running = label.running; payload = h label.payload (uses_here label below after) i })
+    (agree_twice change g g' below (λ key u. h key (omega arith)) i) (agree_twice change g g' after (λ key u. h key (omega arith)) i)
+
+pub reworked_is : {P : Type 0} (change : P → P) (g g' : Key → P) (id : ℤ) (t : Nodes Key)
+    → ((key : Key) → 0 < uses key (subtree id t) → g' key ≡ change (g key))
+    → ((key : Key) → 0 < uses key (without id t) → g' key ≡ g key)
+    → with_payloads g' t ≡ reworked change id (with_payloads g t)
+reworked_is change g g' id none h k = refl
+reworked_is change g g' id (node label below after) h k =
+    ⊎_elim
+    (λ (n : int_eq label.id id ≡ true).
+    let s : subtree id (node label below after) ≡ node label below none = rw n refl in
+    let w : without id (node label below after) ≡ after = rw n refl in
+    let hb : (key : Key) → 0 < uses key (node label below none) → g' key ≡ change (g key) = λ key u. h key (subst (λ x. 0 < uses key x) (sym s) u) in
+    rw n (λ i. node (record { id = label.id; kind = label.kind; running = label.running; payload = hb label.payload (uses_here label below none) i })
+    (agree_twice change g g' below (λ key u. hb key (omega arith)) i)
+    (agree g' g after (λ key u. k key (subst (λ x. 0 < uses key x) (sym w) u)) i)))
+    (λ (n : int_eq label.id id ≡ false). ⊎_elim
+    (λ (i : holds id below ≡ true).
+    let s : subtree id (node label below after) ≡ subtree id below = rw (n, i) refl in
+    let w : without id (node label below after) ≡ node label (without id below) after = rw (n, i) refl in
+    let kb : (key : Key) → 0 < uses key (node label (without id below) after) → g' key ≡ g key = λ key u. k key (subst (λ x. 0 < uses key x) (sym w) u) in
+    let i' : holds id (with_payloads g below) ≡ true = holds-payloads g id below ∙ i in
+    rw (n, i') (λ j. node (record { id = label.id; kind = label.kind; running = label.running; payload = kb label.payload (uses_here label (without id below) after) j })
+    (reworked_is change g g' id below (λ key u. h key (subst (λ x. 0 < uses key x) (sym s) u)) (λ key u. kb key (omega arith)) j)
+    (agree g' g after (λ key u. kb key (omega arith)) j)))
+    (λ (i : holds id below ≡ false).
+    let s : subtree id (node label below after) ≡ subtree id after = rw (n, i) refl in
+    let w : without id (node label below after) ≡ node label below (without id after) = rw (n, i) refl in
+    let kb : (key : Key) → 0 < uses key (node label below (without id after)) → g' key ≡ g key = λ key u. k key (subst (λ x. 0 < uses key x) (sym w) u) in
+    let i' : holds id (with_payloads g below) ≡ false = holds-payloads g id below ∙ i in
+    rw (n, i') (λ j. node (record { id = label.id; kind = label.kind; running = label.running; payload = kb label.payload (uses_here label below (without id after)) j })
+    (agree g' g below (λ key u. kb key (omega arith)) j)
+    (reworked_is change g g' id after (λ key u. h key (subst (λ x. 0 < uses key x) (sym s) u)) (λ key u. kb key (omega arith)) j)))
+    (cases_Bool (holds id below)))
+    (cases_Bool (int_eq label.id id))
+
+filled_once : {P : Type 0} (slots : List (Option P)) (key : Key) → filled slots key ≤ 1
+filled_once slots None = omega arith
+filled_once slots (Some key) = there (is_some (slice_index_or slots key None))
+  where
+    there : (b : Bool) → (if b then 1 else 0) ≤ 1
+    there true = omega arith
+    there false = omega arith
+
+module _ {P : Type 0} (change : P → P) (root : P) (slots : List (Option P)) (root' : P) (slots' : List (Option P)) (nodes : Arranged) (saved : Option SavedNodes) (tree : NodeTree P) (id : ℤ) (es : List Entry)
+    (view : shown root slots nodes saved ≡ tree) (closed : tree.journal ≡ None) (kept : IsFilled slots nodes) (fl : IsFlat es) (value : tree_of es ≡ subtree id nodes.attached)
+    (c : AreChanged change root slots root' slots' es) where
+  hit : (key : Key) → hits key es ≡ uses key (subtree id nodes.attached)
+  hit key = ap (hits key) fl ∙ (hits-flat key (tree_of es) ∙ ap (uses key) value)
+
+  whole : (key : Key) → (uses key (without id nodes.attached) + uses key (subtree id nodes.attached)) + uses key nodes.detached ≤ filled slots key
+  whole key = omega (arith, uses-parts key id nodes.attached, kept.keys key)
+
+  inside_changed : (key : Key) → 0 < uses key (subtree id nodes.attached) → payload_of root' slots' key ≡ change (payload_of root slots key)
+  inside_changed key u =
+      let one : hits key es ≡ 1 = omega (arith, hit key, u, whole key, filled_once slots key) in
+      c.each key (omega (arith, whole key, u)) ∙ ap (λ n. repeated change n (payload_of root slots key)) one
+
+  outside_kept : (key : Key) → 0 < uses key (without id nodes.attached) + uses key nodes.detached → payload_of root' slots' key ≡ payload_of root slots key
+  outside_kept key u =
+      let no : hits key es ≡ 0 = omega (arith, hit key, u, whole key, filled_once slots key) in
+      c.each key (omega (arith, whole key, u)) ∙ ap (λ n. repeated change n (payload_of root slots key)) no
+
+  no_journal : (s : Option SavedNodes) → journal_shown root slots nodes s ≡ None → journal_shown root' slots' nodes s ≡ None
+  no_journal None h = refl
+  no_journal (Some s) h = cc
+
+  pub rework_shows : shown root' slots' nodes saved ≡ changed_below change id tree
+  rework_shows =
+      let a : with_payloads (payload_of root' slots') nodes.attached ≡ reworked change id (with_payloads (payload_of root slots) nodes.attached) =
+      reworked_is change (payload_of root slots) (payload_of root' slots') id nodes.attached inside_changed (λ key u. outside_kept key (omega (arith, u))) in
+      let d : with_payloads (payload_of root' slots') nodes.detached ≡ with_payloads (payload_of root slots) nodes.detached =
+      agree (payload_of root' slots') (payload_of root slots) nodes.detached (λ key u. outside_kept key (omega (arith, u))) in
+      let was : journal_shown root slots nodes saved ≡ None = ap (λ (t : NodeTree P). t.journal) view ∙ closed in
+      let j : journal_shown root' slots' nodes saved ≡ journal_shown root slots nodes saved = no_journal saved was ∙ sym was in
+      (λ i. record { attached = a i; detached = d i; journal = j i }) ∙ ap (changed_below change id) view

@@ -1,0 +1,92 @@
+//! The walk over a node and all nodes below it.
+ghost use Rattle.std.specs.Prelude.{◌≡◌, ◌≤◌, length};
+ghost use Rattle.std.specs.Iterator.{YieldsFirstBy, item_count};
+ghost use Rattle.sn_tree.specs.Order.{IsFlat, tree_of};
+ghost use Rattle.sn_tree.specs.Members.{tops};
+
+use crate::entry::Entry;
+use crate::node::NodeKind;
+use crate::search::past;
+use crate::views::front;
+use crate::walk::payload_at;
+use slab::Slab;
+use std::iter::FusedIterator;
+use std::marker::Model;
+
+/// A node that the walk has reached, with the number of nodes just below it.
+#[derive(Drop)]
+pub struct Member<'a, P> {
+    pub id: i32,
+    pub kind: NodeKind,
+    pub running: bool,
+    pub children: u32,
+    pub payload: &'a P,
+}
+
+/// A node and all nodes below it, running or not, in the order of the walk, seen as the list of the labels of those that
+/// are left, each with the number of nodes just below it. It takes no memory.
+#[derive(Drop)]
+pub struct Members<'a, P> {
+    pub(crate) root: &'a P,
+    pub(crate) payloads: &'a Slab<P>,
+    pub(crate) entries: &'a [Entry],
+}
+
+impl<'a, P> Model for Members<'a, P> {
+    ghost use Rattle.std.specs.Prelude.{List, ℕ};
+    ghost use Rattle.sn_tree.specs.Trees.{Label};
+    ghost use Rattle.sn_tree.specs.Members.{members_code, members_of};
+
+    ghost Value = { List (Label P × ℕ) };
+
+    ghost coded = { members_code P.code };
+
+    ghost use Rattle.sn_tree.specs.Walking.{IsLeft};
+
+    ghost view = { λ m. members_of m.root.now m.payloads.now.slots m.entries.now };
+
+    ghost invariant = { λ m. IsLeft m.payloads.now.slots m.entries.now };
+}
+
+/// How many nodes stand beside the first one, itself among them, where there are so many nodes at most.
+fn tops(entries: &[Entry], most: u32) -> u32
+    requires flat { IsFlat entries.now }
+    requires few { length entries.now ≤ most }
+    ensures { result ≡ tops (tree_of entries.now) }
+{
+    let mut count = 0;
+    let mut rest = entries;
+    while let Some((entry, after)) = rest.split_first() {
+        count += 1;
+        rest = past(after, entry.below);
+    }
+    count
+}
+
+impl<'a, P> Iterator for Members<'a, P> {
+    type Item = Member<'a, P>;
+
+    ghost next_gives = { YieldsFirstBy (λ m. (record { id = m.id; kind = m.kind; running = m.running; payload = m.payload.now }, m.children)) (λ rest. rest) };
+
+    ghost remaining = { item_count (λ rest. rest) };
+
+    fn next(&mut self) -> Option<Member<'a, P>> {
+        let Some((entry, after)) = self.entries.split_first() else {
+            return None;
+        };
+        let Some(payload) = payload_at(self.root, self.payloads, entry.key) else {
+            return None;
+        };
+        let children = tops(front(after, entry.below), entry.below);
+        self.entries = after;
+        Some(Member {
+            id: entry.id,
+            kind: entry.kind,
+            running: entry.running,
+            children,
+            payload,
+        })
+    }
+}
+
+impl<'a, P> FusedIterator for Members<'a, P> {}

@@ -1,0 +1,96 @@
+-- What commands that make nodes have in common, and those that make groups.
+use Rattle.std.specs.Prelude.{ℕ, ◌+◌, ℤ, pos, negsuc, Bool, true, false, not, ◌&&◌, if◌then◌else◌, nat_lt, List, [], ◌∷◌, Option, Some, None, is_some, unwrap_or, Result}
+use Rattle.std.specs.Ordering.{int_eq}
+use Rattle.sn_osc.specs.Shape.{Argument, int, string, blob}
+use Rattle.sn_reply.specs.declared.reason.Reason.{Reason}
+use Rattle.sn_reply.specs.declared.reason.Reason.TheVariants as Reasons
+use Rattle.sn_tree.specs.declared.node.NodeKind.{NodeKind}
+use Rattle.sn_tree.specs.declared.node.NodeKind.TheVariants as kinds
+use Rattle.sn_tree.specs.declared.node.Action.{Action}
+use Rattle.sn_tree.specs.declared.node.Action.TheVariants.{Head, Tail, Before, After}
+use Rattle.sn_tree.specs.Trees.{Nodes, put, leaf, holds, count}
+use Rattle.sn_tree.specs.Faults.{is_missing, is_in_synth, is_beside_root}
+use Rattle.sn_world.specs.declared.notices.NodeEvent.TheVariants.{Went}
+use Rattle.sn_world.specs.declared.repetition.NewNode.{NewNode}
+use Rattle.sn_world.specs.Nodes.{Content, group}
+use Rattle.sn_world.specs.Notices.{told}
+use Rattle.sn_world.specs.World.{World, Turn}
+use Rattle.sn_world.specs.Rows.{first_of, row, triples, some_of}
+
+-- ---- ids
+
+-- the id of a new node: -1 asks for the one that is chosen next
+abbrev pub id_for : Option ℤ → ℤ → Option ℤ
+id_for next id = if int_eq id (negsuc 0) then next else Some id
+
+-- there is none, or a node has it
+abbrev pub is_used : {P : Type 0} → Option ℤ → Nodes P → Bool
+is_used None nodes = true
+is_used (Some id) nodes = holds id nodes
+
+-- -2147483648 is chosen last
+abbrev pub one_below : Option ℤ → Option ℤ
+one_below None = None
+one_below (Some (pos n)) = None
+one_below (Some (negsuc n)) = if nat_lt n 2147483647 then Some (negsuc (n + 1)) else None
+
+-- the id that is chosen next, after a node with such an id was made
+abbrev pub next_after : Option ℤ → ℤ → Option ℤ
+next_after next id = if int_eq id (negsuc 0) then one_below next else next
+
+-- ---- places
+
+abbrev pub add_action : ℤ → Option Action
+add_action n =
+    if int_eq n (pos 0) then Some Head
+    else if int_eq n (pos 1) then Some Tail
+    else if int_eq n (pos 2) then Some Before
+    else if int_eq n (pos 3) then Some After
+    else None
+
+abbrev pub action_for : ℤ → Action
+action_for action = unwrap_or (add_action action) Head
+
+-- the first reason against a new node with an id, at a place
+abbrev pub node_refusal : {P : Type 0} → Option ℤ → ℤ → ℤ → Nodes P → Option Reason
+node_refusal id action target nodes = first_of (
+    (is_used id nodes, Reasons.IdInUse)
+    ∷ (not (is_some (add_action action)), Reasons.AddAction)
+    ∷ (is_missing target nodes, Reasons.NoSuchNode)
+    ∷ (is_in_synth (action_for action) target nodes, Reasons.NotGroup)
+    ∷ (is_beside_root (action_for action) target, Reasons.Root)
+    ∷ (nat_lt 4096 (count nodes + 1), Reasons.TooManyNodes)
+    ∷ [])
+
+-- ---- `/g_new` (id action target)..
+
+-- An id is -1 or more. The action is none that replaces its target: no node is replaced yet.
+abbrev pub is_asked : ℤ → ℤ → Bool
+is_asked (pos id) action = not (int_eq action (pos 4))
+is_asked (negsuc n) action = int_eq (negsuc n) (negsuc 0) && not (int_eq action (pos 4))
+
+abbrev pub new_node : Argument → Argument → Argument → Option NewNode
+new_node (int id) (int action) (int target) = if is_asked id action then Some (record { id = id; action = action; target = target }) else None
+new_node (int id) (int action) (string s) = None
+new_node (int id) (int action) (blob b) = None
+new_node (int id) (string s) z = None
+new_node (int id) (blob b) z = None
+new_node (string s) y z = None
+new_node (blob b) y z = None
+
+abbrev pub judge_group : World → NewNode → Option Reason
+judge_group w r = node_refusal (id_for w.next_id r.id) r.action r.target w.nodes
+
+-- the world with an empty group; an id that was chosen is used up
+abbrev pub with_group : NodeKind → NewNode → ℤ → World → World
+with_group kind r id w = record w { nodes = put (action_for r.action) r.target (leaf id kind group) w.nodes; next_id = next_after w.next_id r.id }
+
+abbrev pub act_with : NodeKind → NewNode → Option ℤ → Turn → Turn
+act_with kind r None t = t
+act_with kind r (Some id) t = told Went id (record t { world = with_group kind r id t.world })
+
+abbrev pub act_group : NewNode → Turn → Turn
+act_group r t = act_with kinds.Group r (id_for t.world.next_id r.id) t
+
+abbrev pub group_row : ℕ → List Argument → Turn → Result Turn Reason
+group_row from xs = row judge_group act_group (some_of (triples new_node xs))

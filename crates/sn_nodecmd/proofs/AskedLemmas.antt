@@ -1,14 +1,15 @@
 -- The arguments of `/s_new`, read one after the other.
-use Rattle.std.proofs.Common.{◌≡◌, ◌≤◌, ◌-◌, ◌+◌, ℕ, ℤ, Bool, true, is_some, unwrap_or, List, [], ◌∷◌, length, map, take, drop, get_or, Option, Some, None, refl, ap, sym, ◌∙◌, arith}
-use Rattle.std.specs.Prelude.{if◌then◌else◌}
+use Rattle.std.proofs.Common.{◌≡◌, ◌≤◌, ◌-◌, ℕ, true, is_some, unwrap_or, List, [], ◌∷◌, length, map, take, drop, get_or, Option, Some, None, refl, sym, ◌∙◌, arith}
 use Rattle.std.proofs.lemmas.List.{take_all}
 use Rattle.sn_osc.specs.declared.packet.Arg.{Arg}
 use Rattle.sn_osc.specs.Shape.{argument_of}
 use Rattle.sn_world.specs.Rows.{pairs}
-use Rattle.sn_world.specs.NewSynth.{NewSynth, ControlValue, control_value, text_of, int_of, is_asked, asked_with, new_synth}
+use Rattle.sn_world.specs.NewSynth.{ControlValue, control_value, text_of, asked_with, new_synth}
+use Rattle.sn_world.specs.NewNodes.{new_node}
+use Rattle.sn_world.specs.declared.repetition.NewNode.{NewNode}
 
 pub new_synth-step : (args : List Arg) (a b c d : Arg) → 4 ≤ length args → a ≡ get_or args 0 a → b ≡ get_or args 1 b → c ≡ get_or args 2 c → d ≡ get_or args 3 d
-    → new_synth (map argument_of args) ≡ asked_with (text_of (argument_of a)) (int_of (argument_of b)) (int_of (argument_of c)) (int_of (argument_of d)) (pairs control_value (map argument_of (take (length args - 4) (drop 4 args))))
+    → new_synth (map argument_of args) ≡ asked_with (text_of (argument_of a)) (new_node (argument_of b) (argument_of c) (argument_of d)) (pairs control_value (map argument_of (take (length args - 4) (drop 4 args))))
 new_synth-step [] a b c d four is-a is-b is-c is-d = absurd (omega arith)
 new_synth-step (p ∷ []) a b c d four is-a is-b is-c is-d = absurd (omega arith)
 new_synth-step (p ∷ q ∷ []) a b c d four is-a is-b is-c is-d = absurd (omega arith)
@@ -24,14 +25,14 @@ new_synth-few (p ∷ q ∷ []) few = refl
 new_synth-few (p ∷ q ∷ r ∷ []) few = refl
 new_synth-few (p ∷ q ∷ r ∷ s ∷ rest) few = absurd (omega arith)
 
-pub asked-made : (args : List Arg) (a b c d : Arg) (name : List ℕ) (id action target : ℤ) → 4 ≤ length args → a ≡ get_or args 0 a → b ≡ get_or args 1 b → c ≡ get_or args 2 c → d ≡ get_or args 3 d
-    → Some name ≡ text_of (argument_of a) → Some id ≡ int_of (argument_of b) → Some action ≡ int_of (argument_of c) → Some target ≡ int_of (argument_of d)
-    → is_some (pairs control_value (map argument_of (take (length args - 4) (drop 4 args)))) ≡ true → is_asked id action ≡ true
-    → Some (record { name = name; id = id; action = action; target = target; values = unwrap_or (pairs control_value (map argument_of (take (length args - 4) (drop 4 args)))) [] }) ≡ new_synth (map argument_of args)
-asked-made args a b c d name id action target four is-a is-b is-c is-d e-name e-id e-action e-target valid asked =
+pub asked-made : (args : List Arg) (a b c d : Arg) (name : List ℕ) (n : NewNode) → 4 ≤ length args → a ≡ get_or args 0 a → b ≡ get_or args 1 b → c ≡ get_or args 2 c → d ≡ get_or args 3 d
+    → Some name ≡ text_of (argument_of a) → Some n ≡ new_node (argument_of b) (argument_of c) (argument_of d)
+    → is_some (pairs control_value (map argument_of (take (length args - 4) (drop 4 args)))) ≡ true
+    → Some (record { name = name; node = n; values = unwrap_or (pairs control_value (map argument_of (take (length args - 4) (drop 4 args)))) [] }) ≡ new_synth (map argument_of args)
+asked-made args a b c d name n four is-a is-b is-c is-d e-name e-node valid =
     let values = pairs control_value (map argument_of (take (length args - 4) (drop 4 args))) in
-    sym (new_synth-step args a b c d four is-a is-b is-c is-d ∙ (λ i. asked_with (sym e-name i) (sym e-id i) (sym e-action i) (sym e-target i) values) ∙ at values valid)
+    sym (new_synth-step args a b c d four is-a is-b is-c is-d ∙ (λ i. asked_with (sym e-name i) (sym e-node i) values) ∙ at values valid)
   where
-    at : (o : Option (List ControlValue)) → is_some o ≡ true → asked_with (Some name) (Some id) (Some action) (Some target) o ≡ Some (record { name = name; id = id; action = action; target = target; values = unwrap_or o [] })
+    at : (o : Option (List ControlValue)) → is_some o ≡ true → asked_with (Some name) (Some n) o ≡ Some (record { name = name; node = n; values = unwrap_or o [] })
     at None valid = absurd cc
-    at (Some vs) valid = ap (λ (b : Bool). let o : Option NewSynth = if b then Some (record { name = name; id = id; action = action; target = target; values = vs }) else None in o) asked
+    at (Some vs) valid = refl

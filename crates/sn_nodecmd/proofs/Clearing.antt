@@ -1,11 +1,11 @@
 -- Words that are set to 0, and extents that are taken.
-use Rattle.std.proofs.Common.{◌≡◌, ◌≢◌, ◌≤◌, ◌<◌, ◌+◌, ◌||◌, ◌⊎◌, inl, inr, ⊎_elim, ℕ, zero, suc, Bool, true, false, List, [], ◌∷◌, length, get_or, set, replicate, refl, ap, sym, ◌∙◌, arith, length-set, get_or-set_same, get_or-set_other}
+use Rattle.std.proofs.Common.{◌≡◌, ◌≢◌, ◌≤◌, ◌<◌, ◌+◌, ◌⊎◌, inl, inr, ⊎_elim, ℕ, zero, suc, Bool, true, false, List, [], ◌∷◌, length, get_or, set, replicate, refl, ap, sym, ◌∙◌, arith, length-set, get_or-set_same, get_or-set_other}
 use Rattle.std.specs.Prelude.{if◌then◌else◌, nat_eq, nat_le, nat_lt}
 use Rattle.std.proofs.lemmas.Bool.{cases_eq, cond_both, and_parts, leb-true, ltb-true, eqb-true}
 use Rattle.std.proofs.lemmas.Bool.Decides.{leb_tells}
 use Rattle.std.proofs.lemmas.List.{ext_get_or, get_or-replicate, length-replicate}
 use Rattle.sn_mem.specs.declared.extents.Extent.{Extent}
-use Rattle.sn_mem.specs.Words.{covers, has}
+use Rattle.sn_mem.specs.Words.{covers}
 use Rattle.sn_mem.specs.Blocks.{window}
 use Rattle.sn_mem.proofs.Steps.{length-window}
 use Rattle.sn_mem.proofs.Windows.{window_at}
@@ -13,7 +13,6 @@ use Rattle.sn_mem.proofs.Meetings.{covered}
 use Rattle.sn_pool.specs.Pools.{PoolState, with_extent, same_extent, times}
 use Rattle.sn_pool.proofs.Counts.{same_is, times_with}
 use Rattle.sn_world.specs.Pictures.{overlaps}
-use Rattle.sn_world.proofs.Inserting.{has-with_extent}
 use Rattle.sn_nodecmd.specs.Placing.{taken, cleared}
 
 -- ---- words that are set to 0

@@ -1,5 +1,5 @@
 -- Freed nodes that end, one after the other.
-use Rattle.std.proofs.Common.{◌≡◌, ◌≤◌, ◌+◌, ℕ, ℤ, Bool, true, false, List, [], ◌∷◌, Option, Some, None, refl, ap, sym, ◌∙◌, arith}
+use Rattle.std.proofs.Common.{◌≡◌, ◌≤◌, ◌+◌, ℕ, Bool, true, false, [], ◌∷◌, Option, Some, None, refl, ap, ◌∙◌, arith}
 use Rattle.std.specs.Prelude.{if◌then◌else◌}
 use Rattle.std.specs.Option.{option_map}
 use Rattle.sn_mem.specs.declared.extents.Extent.{Extent}
@@ -7,7 +7,6 @@ use Rattle.sn_pool.specs.Pools.{Journal, same_extent, times, room_of, one_given}
 use Rattle.sn_pool.proofs.Counts.{same_itself, same_is}
 use Rattle.sn_tree.specs.Trees.{Label, Nodes, none, node, count, joined, first_label, without_first}
 use Rattle.sn_world.specs.declared.stage.Held.{Held}
-use Rattle.sn_world.specs.declared.stage.Held.TheVariants as held
 use Rattle.sn_world.specs.Pictures.{held_extents, live_held, amount}
 use Rattle.sn_world.proofs.Counting.{amount-parts, amount-joined, times-amount}
 

@@ -1,19 +1,13 @@
--- The reason against a new synth is the tree's.
-use Rattle.std.proofs.Common.{◌≡◌, ◌+◌, ℕ, ℤ, pos, Bool, true, false, not, ◌&&◌, nat_lt, List, [], ◌∷◌, Option, Some, None, refl, ap, sym, ◌∙◌, is_some, unwrap_or}
-use Rattle.std.specs.Prelude.{if◌then◌else◌}
+-- The reason against a new node is the tree's.
+use Rattle.std.proofs.Common.{◌≡◌, ◌+◌, ℤ, pos, Bool, true, false, not, ◌&&◌, nat_lt, [], ◌∷◌, Some, None, refl, is_some}
 use Rattle.std.specs.Ordering.{int_eq}
-use Rattle.sn_reply.specs.declared.reason.Reason.{Reason}
 use Rattle.sn_reply.specs.declared.reason.Reason.TheVariants as Reasons
 use Rattle.sn_tree.specs.declared.node.Action.{Action}
-use Rattle.sn_tree.specs.declared.node.Action.TheVariants.{Head}
 use Rattle.sn_tree.specs.declared.node.TreeFault.TheVariants as faults
 use Rattle.sn_tree.specs.Trees.{Nodes, holds, label_of, count}
 use Rattle.sn_tree.specs.Faults.{first_fault, insert_fault, is_inside, labels_synth, is_missing, is_in_synth, is_beside_root}
-use Rattle.sn_tree.proofs.PayloadLaws.{insert_fault-payloads}
 use Rattle.sn_world.specs.Rows.{first_of}
-use Rattle.sn_world.specs.World.{World}
 use Rattle.sn_world.specs.NewNodes.{add_action, action_for, node_refusal}
-use Rattle.sn_world.specs.NewSynth.{NewSynth, action_of, judge_new}
 use Rattle.sn_nodecmd.specs.Judging.{reason_for}
 
 -- a node is not both inside a synth and beside the root
@@ -36,9 +30,6 @@ by_tests false false false false synth true many = refl
 by_tests false false false false synth false true = refl
 by_tests false false false false synth false false = refl
 
-pub judged : (w : World) (r : NewSynth) → reason_for (is_some (add_action r.action)) (insert_fault r.id (action_of r) r.target w.nodes) ≡ judge_new w r
-judged w r = by_tests (is_some (add_action r.action)) (holds r.id w.nodes) (is_missing r.target w.nodes) (is_inside (action_of r)) (labels_synth (label_of r.target w.nodes)) (int_eq r.target (pos 0)) (nat_lt 4096 (count w.nodes + 1))
-
 -- no fault: the target is there
 pub spotted : {P : Type 0} (id : ℤ) (action : Action) (target : ℤ) (t : Nodes P) → insert_fault id action target t ≡ None → holds target t ≡ true
 spotted id action target t h = at (holds id t) (holds target t) (is_beside_root action target) (is_in_synth action target t) (nat_lt 4096 (count t + 1)) h
@@ -48,6 +39,5 @@ spotted id action target t h = at (holds id t) (holds target t) (is_beside_root 
     at false true root synth many h = refl
     at false false root synth many h = absurd cc
 
--- the same of a node with an id
 pub judged_node : {P : Type 0} (id action target : ℤ) (t : Nodes P) → reason_for (is_some (add_action action)) (insert_fault id (action_for action) target t) ≡ node_refusal (Some id) action target t
 judged_node id action target t = by_tests (is_some (add_action action)) (holds id t) (is_missing target t) (is_inside (action_for action)) (labels_synth (label_of target t)) (int_eq target (pos 0)) (nat_lt 4096 (count t + 1))

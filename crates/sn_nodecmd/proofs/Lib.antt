@@ -11,5 +11,8 @@ pub mod Ending
 pub mod Underway
 pub mod Repeating
 pub mod Stepping
+pub mod Relocating
 pub mod ToldLemmas
 pub mod QueryLemmas
+pub mod MappingLemmas
+mod Inserted

@@ -1,5 +1,5 @@
 -- `/s_new`: what a stage and its words stand for after it.
-use Rattle.std.proofs.Common.{◌≡◌, ◌≤◌, ◌<◌, ◌+◌, ◌||◌, ℕ, ℤ, Bool, true, false, List, [], ◌∷◌, length, get_or, replicate, Option, Some, None, Result, Ok, Err, refl, ap, sym, subst, ◌∙◌, inr, arith, is_some, unwrap_or}
+use Rattle.std.proofs.Common.{◌≡◌, ◌≤◌, ◌+◌, ℕ, ℤ, Bool, true, false, List, [], ◌∷◌, length, get_or, replicate, Option, Some, None, Result, Ok, Err, refl, ap, sym, subst, ◌∙◌, inr, arith, is_some}
 use Rattle.std.specs.Prelude.{if◌then◌else◌, nat_eq}
 use Rattle.sn_mem.specs.declared.extents.Extent.{Extent}
 use Rattle.sn_mem.specs.Words.{has}
@@ -9,31 +9,34 @@ use Rattle.sn_def.specs.Definition.{Definition}
 use Rattle.sn_def.specs.StateWords.{state_words}
 use Rattle.sn_synth.specs.Conditions.{AreControlsOf}
 use Rattle.sn_pool.specs.Pools.{PoolState, times}
-use Rattle.sn_pool.specs.Regions.{least_place}
 use Rattle.sn_reply.specs.declared.reason.Reason.{Reason}
 use Rattle.sn_reply.specs.declared.reason.Reason.TheVariants as Reasons
 use Rattle.sn_reply.specs.Replies.{ReplyShape}
 use Rattle.sn_tree.specs.declared.node.NodeKind.TheVariants as kinds
 use Rattle.sn_tree.specs.declared.node.Spot.{Spot}
-use Rattle.sn_tree.specs.Trees.{Nodes, put, leaf}
+use Rattle.sn_tree.specs.Trees.{put, leaf, view_of}
 use Rattle.sn_tree.specs.declared.node.TreeFault.{TreeFault}
 use Rattle.sn_tree.specs.declared.node.TreeFault.TheVariants as faults
 use Rattle.sn_tree.specs.Faults.{insert_fault}
-use Rattle.sn_tree.proofs.PayloadLaws.{insert_fault-payloads}
 use Rattle.sn_world.specs.declared.stage.Held.{Held}
 use Rattle.sn_world.specs.declared.stage.Stage.{Stage}
 use Rattle.sn_world.specs.Nodes.{Content, synth, content_of, live_in}
-use Rattle.sn_world.specs.Pictures.{Pictures, KeepsOutside, held_extents, live_held, overlaps, IsHeld, IsSynthOf}
+use Rattle.sn_world.specs.Pictures.{Pictures, KeepsOutside, held_extents, overlaps, IsHeld, IsSynthOf}
 use Rattle.sn_world.specs.World.{World, Turn, world_of, turn_of}
+use Rattle.sn_world.specs.declared.notices.NodeEvent.TheVariants.{Went}
+use Rattle.sn_world.specs.Notices.{told}
 use Rattle.sn_world.specs.Rows.{unless}
-use Rattle.sn_world.specs.NewNodes.{add_action}
-use Rattle.sn_world.specs.NewSynth.{NewSynth, action_of, with_values, defaults, place_for, judge_new, made, with_synth, new_at, new_of, new_outcome, new_row}
+use Rattle.sn_world.specs.NewNodes.{id_for, next_after, add_action, action_for, node_refusal}
+use Rattle.sn_world.specs.NewSynth.{NewSynth, with_values, defaults, place_for, new_at, new_with, new_of, new_outcome}
 use Rattle.std.specs.FinMap as finite
 use Rattle.sn_world.proofs.Counting.{live_words}
 use Rattle.sn_world.proofs.Inserting.{IsPut, put_pictures, put_world, live_in-payloads, least_place-same}
 use Rattle.sn_nodecmd.specs.Judging.{reason_for}
-use Rattle.sn_nodecmd.specs.Placing.{place_in, taken, IsPlace, IsAdded, Adds, cleared}
-use Rattle.sn_nodecmd.proofs.Judged.{judged, spotted}
+use Rattle.sn_nodecmd.specs.Placing.{place_in, taken, IsAdded, Adds, cleared}
+use Rattle.sn_nodecmd.proofs.Judged.{judged_node, spotted}
+use Rattle.sn_nodecmd.proofs.Stepping.{node_refusal_in}
+use Rattle.sn_nodecmd.specs.Telling.{said}
+use Rattle.sn_nodecmd.proofs.ToldLemmas.{told_by}
 use Rattle.sn_nodecmd.proofs.Clearing.{length-cleared, cleared_other, window-cleared, within_one, outside_one, times-taken, region-taken, journal-taken}
 
 -- what a synth holds
@@ -121,6 +124,25 @@ made_is id spot d controls held old new ws us e what each allowed o adds is word
 abbrev with_node : Stage → List ℕ → ℤ → Definition → ℕ → Spot → List Control → World
 with_node old ws id d at spot controls = record (world_of old ws) { nodes = put spot.action spot.target (leaf id kinds.Synth (synth (record { definition = d; controls = controls; state = replicate (state_words old.rate d) 0; extent = record { at = at; len = state_words old.rate d } }))) (world_of old ws).nodes }
 
+abbrev done_with : ℤ → List ReplyShape → Option ℤ → World → Result Turn Reason
+done_with id replies next w = let t : Turn = record { world = record w { next_id = next }; replies = replies } in Ok (told Went id t)
+
+-- another id is chosen next
+pub next_pictures : (stage : Stage) (words : List ℕ) (next : Option ℤ) → Pictures stage words → Pictures (record stage { next_id = next }) words
+next_pictures stage words next p = record {
+  rate = p.rate;
+  rate_fits = p.rate_fits;
+  base = p.base;
+  bounded = p.bounded;
+  fits = p.fits;
+  synths = p.synths;
+  live = p.live;
+  apart = p.apart;
+  attached = p.attached;
+  settled = p.settled;
+  closed = p.closed;
+}
+
 no_reason : (known : Bool) (o : Option TreeFault) → None ≡ reason_for known o → o ≡ None
 no_reason known None h = refl
 no_reason known (Some faults.InUse) h = absurd cc
@@ -136,40 +158,47 @@ no_reason true (Some faults.TooMany) h = absurd cc
 no_reason false (Some faults.TooMany) h = absurd cc
 
 abbrev pub spot_for : NewSynth → Spot
-spot_for r = record { action = action_of r; target = r.target }
+spot_for r = record { action = action_for r.node.action; target = r.node.target }
 
-module _ (old : Stage) (ws : List ℕ) (before : Pictures old ws) (r : NewSynth) (d : Definition) where
-  judges : judge_new (world_of old ws) r ≡ reason_for (is_some (add_action r.action)) (insert_fault r.id (action_of r) r.target old.tree.attached)
-  judges = sym (judged (world_of old ws) r) ∙ ap (reason_for (is_some (add_action r.action))) (insert_fault-payloads (content_of ws) r.id (action_of r) r.target old.tree.attached)
+-- no id is left
+pub row_used : (t : Turn) (r : NewSynth) (d : Definition) → None ≡ id_for t.world.next_id r.node.id → new_of r (Some d) t ≡ Err Reasons.IdInUse
+row_used t r d none = ap (λ (o : Option ℤ). new_with r d o t) (sym none)
 
+-- no reason: no fault
+pub none_against : (stage : Stage) (r : NewSynth) (id : ℤ) → None ≡ node_refusal (Some id) r.node.action r.node.target stage.tree.attached → insert_fault id (action_for r.node.action) r.node.target stage.tree.attached ≡ None
+none_against stage r id h =
+    no_reason (is_some (add_action r.node.action)) (insert_fault id (action_for r.node.action) r.node.target stage.tree.attached) (h ∙ sym (judged_node id r.node.action r.node.target stage.tree.attached))
+
+module _ (old : Stage) (ws : List ℕ) (before : Pictures old ws) (r : NewSynth) (d : Definition) (id : ℤ) (gets : Some id ≡ id_for old.next_id r.node.id) where
   places : (n : ℕ) → place_for (world_of old ws) n ≡ place_in old.pool n
   places n = ap (λ (o : Option ℕ). if nat_eq n 0 then Some old.pool.region.at else o)
       (least_place-same old.pool.region (live_in (world_of old ws).nodes) old.pool.live n (λ x. ap (λ (es : List Extent). has es x) (live_in-payloads old.tree.attached ws) ∙ sym (live_words old ws before x)))
 
-  pub row_refused : (replies : List ReplyShape) (reason : Reason) → Some reason ≡ reason_for (is_some (add_action r.action)) (insert_fault r.id (action_of r) r.target old.tree.attached) → new_of r (Some d) (turn_of old ws replies) ≡ Err reason
-  row_refused replies reason why = ap (λ (o : Option Reason). unless o (new_at r d (place_for (world_of old ws) (state_words old.rate d)) (turn_of old ws replies))) (judges ∙ sym why)
+  row_reason : (replies : List ReplyShape) (o : Option Reason) → o ≡ node_refusal (Some id) r.node.action r.node.target old.tree.attached
+      → new_of r (Some d) (turn_of old ws replies) ≡ unless o (new_at r d id (place_for (world_of old ws) (state_words old.rate d)) (turn_of old ws replies))
+  row_reason replies o why =
+      ap (λ (n : Option ℤ). new_with r d n (turn_of old ws replies)) (sym gets)
+      ∙ ap (λ (q : Option Reason). unless q (new_at r d id (place_for (world_of old ws) (state_words old.rate d)) (turn_of old ws replies))) (node_refusal_in old ws (Some id) r.node.action r.node.target ∙ sym why)
 
-  row_judged : (replies : List ReplyShape) → None ≡ reason_for (is_some (add_action r.action)) (insert_fault r.id (action_of r) r.target old.tree.attached) → (o : Option ℕ) → place_in old.pool (state_words old.rate d) ≡ o
-      → new_of r (Some d) (turn_of old ws replies) ≡ new_at r d o (turn_of old ws replies)
-  row_judged replies allowed o place =
-      ap (λ (q : Option Reason). unless q (new_at r d (place_for (world_of old ws) (state_words old.rate d)) (turn_of old ws replies))) (judges ∙ sym allowed)
-      ∙ ap (λ (q : Option ℕ). new_at r d q (turn_of old ws replies)) (places (state_words old.rate d) ∙ place)
+  pub row_refused : (replies : List ReplyShape) (reason : Reason) → Some reason ≡ node_refusal (Some id) r.node.action r.node.target old.tree.attached → new_of r (Some d) (turn_of old ws replies) ≡ Err reason
+  row_refused replies reason why = row_reason replies (Some reason) why
 
-  pub row_full : (replies : List ReplyShape) → None ≡ reason_for (is_some (add_action r.action)) (insert_fault r.id (action_of r) r.target old.tree.attached) → place_in old.pool (state_words old.rate d) ≡ None
+  row_judged : (replies : List ReplyShape) → None ≡ node_refusal (Some id) r.node.action r.node.target old.tree.attached → (o : Option ℕ) → place_in old.pool (state_words old.rate d) ≡ o
+      → new_of r (Some d) (turn_of old ws replies) ≡ new_at r d id o (turn_of old ws replies)
+  row_judged replies allowed o place = row_reason replies None allowed ∙ ap (λ (q : Option ℕ). new_at r d id q (turn_of old ws replies)) (places (state_words old.rate d) ∙ place)
+
+  pub row_full : (replies : List ReplyShape) → None ≡ node_refusal (Some id) r.node.action r.node.target old.tree.attached → place_in old.pool (state_words old.rate d) ≡ None
       → new_of r (Some d) (turn_of old ws replies) ≡ Err Reasons.PoolFull
   row_full replies allowed place = row_judged replies allowed None place
 
-  pub row_done : (replies : List ReplyShape) → None ≡ reason_for (is_some (add_action r.action)) (insert_fault r.id (action_of r) r.target old.tree.attached)
-      → (new : Stage) (us : List ℕ) (spot : Spot) (controls : List Control) (held : Extent → Held) (e : Extent) → spot ≡ spot_for r → controls ≡ with_values d r.values (defaults d) → IsMade r.id spot d controls held old new ws us e
-      → new_of r (Some d) (turn_of old ws replies) ≡ Ok (turn_of new us replies)
-  row_done replies allowed new us spot controls held e at set is =
+  pub row_done : (replies : List ReplyShape) → None ≡ node_refusal (Some id) r.node.action r.node.target old.tree.attached
+      → (new : Stage) (us : List ℕ) (spot : Spot) (controls : List Control) (held : Extent → Held) (e : Extent) (next : Option ℤ) (tells : List ReplyShape) → spot ≡ spot_for r → controls ≡ with_values d r.values (defaults d) → next ≡ next_after new.next_id r.node.id
+      → IsMade id spot d controls held old new ws us e → tells ≡ said Went id (view_of id new.tree.attached) new.notify replies → new_of r (Some d) (turn_of old ws replies) ≡ Ok (turn_of (record new { next_id = next }) us tells)
+  row_done replies allowed new us spot controls held e next tells at set is_next is tells_it =
+      let chosen : next ≡ next_after old.next_id r.node.id = is_next ∙ ap (λ (s : Stage). next_after s.next_id r.node.id) is.added.stage in
       row_judged replies allowed (Some e.at) is.added.place.least
-      ∙ ap (λ (w : World). let t : Turn = record { world = w; replies = replies } in let o : Result Turn Reason = Ok t in o)
-      (sym (made_world r.id spot d controls held old new ws us e is before ∙ (λ i. with_node old ws r.id d e.at (at i) (set i))))
-
-  -- no reason: no fault
-  pub none_against : None ≡ reason_for (is_some (add_action r.action)) (insert_fault r.id (action_of r) r.target old.tree.attached) → insert_fault r.id (action_of r) r.target old.tree.attached ≡ None
-  none_against h = no_reason (is_some (add_action r.action)) (insert_fault r.id (action_of r) r.target old.tree.attached) h
+      ∙ sym (ap (done_with id replies next) (made_world id spot d controls held old new ws us e is before) ∙ (λ i. done_with id replies (chosen i) (with_node old ws id d e.at (at i) (set i))))
+      ∙ ap {B = Result Turn Reason} (λ (t : Turn). Ok t) (told_by (record new { next_id = next }) us id replies tells tells_it)
 
 -- ---- what one message gives
 

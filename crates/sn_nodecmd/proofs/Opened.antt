@@ -1,8 +1,7 @@
 -- A stage with a root group alone, and a message to it.
 use Rattle.std.proofs.Common.{◌≡◌, ◌≤◌, ◌<◌, ◌+◌, ◌||◌, ℕ, pos, None, true, false, [], ◌∷◌, List, length, ap, sym, refl, subst, ◌∙◌, arith}
 use Rattle.std.proofs.lemmas.Bool.{or_left}
-use Rattle.sn_mem.specs.declared.extents.Extent.{Extent}
-use Rattle.sn_mem.specs.Words.{has, covers, everything}
+use Rattle.sn_mem.specs.Words.{covers, everything}
 use Rattle.sn_mem.proofs.Meetings.{covered}
 use Rattle.std.specs.Prelude.{codes}
 use Rattle.sn_osc.specs.Shape.{MessageShape, arguments, int, string}

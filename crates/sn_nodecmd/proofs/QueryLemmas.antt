@@ -1,5 +1,5 @@
 -- `/n_query`: the replies of one repetition after the other.
-use Rattle.std.proofs.Common.{◌≡◌, ◌<◌, ◌+◌, ℕ, suc, ℤ, negsuc, List, [], ◌∷◌, ◌++◌, length, take, drop, get_or, drop-cons, Option, Some, None, Ok, ap, sym, subst, ◌∙◌, arith}
+use Rattle.std.proofs.Common.{◌≡◌, ◌<◌, ◌+◌, ℕ, suc, negsuc, List, ◌∷◌, length, drop, get_or, drop-cons, Option, None, Ok, ap, sym, subst, ◌∙◌, arith}
 use Rattle.sn_reply.specs.declared.reason.Reason.{Reason}
 use Rattle.sn_reply.specs.Replies.{ReplyShape}
 use Rattle.sn_tree.specs.declared.node.NodeView.{NodeView}

@@ -99,3 +99,9 @@ pub same_turn : (result : Result (Option Reason) NoMemory) (old new : Stage) (wo
 same_turn (Ok None) old new words told tells p q = tt
 same_turn (Ok (Some reason)) old new words told tells p q = λ i. turn_of (p i) words (q i)
 same_turn (Err e) old new words told tells p q = λ i. turn_of (p i) words (q i)
+
+pub same_outcome : (result : Result (Option Reason) NoMemory) (old new : Stage) (ws us : List ℕ) (told tells : List ReplyShape) → UnlessFollowed result (new ≡ old) → UnlessFollowed result (us ≡ ws) → UnlessFollowed result (tells ≡ told)
+    → UnlessFollowed result (turn_of new us tells ≡ turn_of old ws told)
+same_outcome (Ok None) old new ws us told tells p w q = tt
+same_outcome (Ok (Some reason)) old new ws us told tells p w q = λ i. turn_of (p i) (w i) (q i)
+same_outcome (Err e) old new ws us told tells p w q = λ i. turn_of (p i) (w i) (q i)

@@ -1,7 +1,6 @@
 -- Controls that are changed in a node and in all nodes below it: what the stage and its words stand for after it.
-use Rattle.std.proofs.Common.{◌≡◌, ℕ, zero, suc, ◌+◌, ℤ, Bool, true, false, List, [], ◌∷◌, ◌++◌, length, get_or, set, Option, Some, None, Result, Ok, Err, refl, ap, sym, subst, ◌∙◌, arith, length-set}
+use Rattle.std.proofs.Common.{◌≡◌, ℕ, zero, suc, ◌+◌, ℤ, Bool, true, false, List, [], ◌∷◌, ◌++◌, get_or, set, Option, Some, None, Result, Ok, Err, refl, ap, sym, subst, ◌∙◌, length-set}
 use Rattle.std.specs.Prelude.{if◌then◌else◌}
-use Rattle.std.specs.List.{All}
 use Rattle.std.specs.Ordering.{int_eq}
 use Rattle.std.proofs.lemmas.Bool.{cond_both}
 use Rattle.std.proofs.lemmas.List.Elements.{All-set}
@@ -9,20 +8,18 @@ use Rattle.sn_mem.specs.declared.extents.Extent.{Extent}
 use Rattle.sn_def.specs.declared.control.Control.{Control}
 use Rattle.sn_def.specs.Definition.{Definition}
 use Rattle.sn_def.specs.Defs.{definition_of}
-use Rattle.sn_def.specs.Asked.{is_index}
 use Rattle.sn_synth.specs.Conditions.{AreControlsOf, IsFollowed, no_control}
 use Rattle.sn_reply.specs.declared.reason.Reason.{Reason}
 use Rattle.sn_reply.specs.Replies.{ReplyShape}
-use Rattle.sn_tree.specs.Trees.{Label, Nodes, none, node, holds, with_payload, with_payloads}
-use Rattle.sn_tree.specs.Model.{NodeTree}
+use Rattle.sn_tree.specs.Trees.{Nodes, none, node, holds, with_payload, with_payloads}
 use Rattle.sn_tree.specs.Reworking.{reworked, changed_below}
 use Rattle.sn_tree.proofs.PayloadLaws.{relabelled, holds-payloads}
 use Rattle.sn_world.specs.declared.stage.Held.{Held}
 use Rattle.sn_world.specs.declared.stage.Held.TheVariants as held
 use Rattle.sn_world.specs.declared.stage.Stage.{Stage}
 use Rattle.sn_world.specs.Nodes.{Content, content_of}
-use Rattle.sn_world.specs.Pictures.{Pictures, held_extents, live_held, IsHeld, IsSynthOf, AreHeld}
-use Rattle.sn_world.specs.World.{World, Turn, world_of, turn_of}
+use Rattle.sn_world.specs.Pictures.{Pictures, held_extents, live_held, IsHeld, AreHeld}
+use Rattle.sn_world.specs.World.{Turn, world_of, turn_of}
 use Rattle.sn_world.specs.Rows.{unless}
 use Rattle.sn_world.specs.NewSynth.{control_of, with_value}
 use Rattle.sn_world.specs.ControlRuns.{ControlRun, ForNode, in_synth, with_values_from, with_run, with_runs, judge_node, set_controls, set_outcome}

@@ -1,7 +1,6 @@
 -- What a repetition makes of the tree.
 use Rattle.std.proofs.Common.{◌≡◌, ◌≤◌, ◌+◌, ◌-◌, ◌||◌, ◌&&◌, ℕ, ℤ, pos, negsuc, Bool, true, false, not, nat_lt, List, [], ◌∷◌, Option, Some, None, is_some, refl, ap, sym, subst, ◌∙◌, arith}
 use Rattle.std.specs.Prelude.{if◌then◌else◌}
-use Rattle.std.specs.Option.{option_map}
 use Rattle.std.specs.Ordering.{int_eq}
 use Rattle.std.proofs.lemmas.Bool.{cond_both}
 use Rattle.sn_mem.specs.declared.extents.Extent.{Extent}
@@ -13,7 +12,7 @@ use Rattle.sn_tree.specs.declared.node.NodeView.{NodeView}
 use Rattle.sn_tree.specs.declared.node.TreeFault.TheVariants as faults
 use Rattle.sn_tree.specs.declared.node.Action.{Action}
 use Rattle.sn_tree.specs.declared.node.Action.TheVariants.{Head, Tail, Before, After}
-use Rattle.sn_tree.specs.Trees.{Label, Nodes, Sides, none, node, holds, label_of, count, joined, beside, put, leaf, subtree, without, view_of, view_from, first_id, last_id, with_payloads}
+use Rattle.sn_tree.specs.Trees.{Label, Nodes, Sides, none, node, holds, count, joined, beside, put, leaf, subtree, without, view_of, view_from, first_id, last_id, with_payloads}
 use Rattle.sn_tree.specs.Views.{views_below}
 use Rattle.sn_tree.specs.Faults.{first_fault, detach_fault, is_inside, is_in_synth, is_beside_root}
 use Rattle.sn_tree.specs.Model.{Journal, NodeTree}
@@ -28,7 +27,7 @@ use Rattle.sn_world.specs.Nodes.{Content, content_of}
 use Rattle.sn_world.specs.Notices.{told}
 use Rattle.sn_world.specs.Freeing.{told_ends, freed, free_refusal}
 use Rattle.sn_world.specs.NewNodes.{is_used, next_after, add_action, action_for, node_refusal, act_with}
-use Rattle.sn_world.specs.Pictures.{live_held, held_extents, amount, AreHeld}
+use Rattle.sn_world.specs.Pictures.{live_held, amount, AreHeld}
 use Rattle.sn_world.specs.Rows.{first_of}
 use Rattle.sn_world.specs.World.{World, Turn, world_of, turn_of}
 use Rattle.sn_world.proofs.Counting.{amount-put, amount-leaf, amount-joined, amount-without}
@@ -71,17 +70,17 @@ count-without id (node l below after) =
 
 -- ---- journals
 
-saved_followed : (cost : ℕ) (step : Sides (Option ℕ) → Sides (Option ℕ)) (j : Option (Journal Held)) → saved_in (followed cost step j) ≡ saved_in j
+pub saved_followed : (cost : ℕ) (step : Sides (Option ℕ) → Sides (Option ℕ)) (j : Option (Journal Held)) → saved_in (followed cost step j) ≡ saved_in j
 saved_followed cost step None = refl
 saved_followed cost step (Some journal) = refl
 
-room_followed : (cost : ℕ) (step : Sides (Option ℕ) → Sides (Option ℕ)) (j : Option (Journal Held)) → room_in (followed cost step j) ≡ room_in j - cost
+pub room_followed : (cost : ℕ) (step : Sides (Option ℕ) → Sides (Option ℕ)) (j : Option (Journal Held)) → room_in (followed cost step j) ≡ room_in j - cost
 room_followed cost step None = omega arith
 room_followed cost step (Some journal) = refl
 
 -- ---- nodes that stay
 
-held-without : (rate : ℕ) (region : Extent) (id : ℤ) (t : Nodes Held) → AreHeld rate region t → AreHeld rate region (without id t)
+pub held-without : (rate : ℕ) (region : Extent) (id : ℤ) (t : Nodes Held) → AreHeld rate region t → AreHeld rate region (without id t)
 held-without rate region id none h = h
 held-without rate region id (node l below after) h =
     cond_both (int_eq l.id id) after (if holds id below then node l (without id below) after else node l below (without id after)) (AreHeld rate region)

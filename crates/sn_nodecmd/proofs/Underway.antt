@@ -1,5 +1,5 @@
 -- A stage whose journals are open.
-use Rattle.std.proofs.Common.{◌≡◌, ◌≤◌, ◌+◌, ℕ, ℤ, Bool, true, false, List, [], Option, Some, None, is_some, refl, ap, sym, subst, ◌∙◌, arith}
+use Rattle.std.proofs.Common.{◌≡◌, ◌≤◌, ◌+◌, ℕ, true, List, Option, Some, None, is_some, ap, sym, subst, ◌∙◌, arith}
 use Rattle.std.specs.Prelude.{if◌then◌else◌}
 use Rattle.sn_mem.specs.declared.extents.Extent.{Extent}
 use Rattle.sn_mem.specs.Words.{covers}
@@ -7,12 +7,12 @@ use Rattle.sn_pool.specs.Pools.{PoolState, same_extent, times, mark_of, saved_of
 use Rattle.sn_pool.specs.declared.pool.Mark.{Mark}
 use Rattle.sn_tree.specs.Trees.{Nodes, Sides, none, count}
 use Rattle.sn_tree.specs.Model.{Journal, NodeTree}
-use Rattle.sn_tree.specs.Steps.{IsOpen, IsOpened, HasRoom, undone, restored, committed}
+use Rattle.sn_tree.specs.Steps.{IsOpen, IsOpened, HasRoom, undone, restored}
 use Rattle.sn_world.specs.declared.stage.Held.{Held}
 use Rattle.sn_world.specs.declared.stage.Stage.{Stage}
 use Rattle.sn_world.specs.Pictures.{live_held, amount, overlaps, AreHeld, Pictures}
 use Rattle.sn_world.proofs.Counting.{times-amount, overlaps-amount, few_extents, amount-none}
-use Rattle.sn_nodecmd.specs.Folding.{room_in, saved_in, IsAtRest, CanStep, KeepsTree, Keeps, IsUnderway}
+use Rattle.sn_nodecmd.specs.Folding.{room_in, saved_in, IsAtRest, CanStep, Keeps, IsUnderway}
 
 pub at_rest : (stage : Stage) (words : List ℕ) → Pictures stage words → IsAtRest stage
 at_rest stage words p = record { live = p.live; detached = p.attached; settled = p.settled; closed = p.closed }

@@ -14,8 +14,6 @@ AreValues args = is_some (pairs control_value (map argument_of args)) ≡ true
 abbrev pub request_of : Asked → NewSynth
 request_of a = record {
   name = a.name.now;
-  id = a.id;
-  action = a.action;
-  target = a.target;
+  node = a.node;
   values = unwrap_or (pairs control_value (map argument_of a.values.now)) [];
 }

@@ -1,11 +1,11 @@
 -- Repetitions that change the tree, one after the other, whole or not at all.
-use Rattle.std.specs.Prelude.{◌≡◌, ◌+◌, ◌≤◌, ◌<◌, ℕ, ℤ, true, List, [], Option, Some, None, is_some, Result, Ok, Err}
+use Rattle.std.specs.Prelude.{◌≡◌, ◌+◌, ◌≤◌, ℕ, true, Option, Some, None, is_some, Result, Ok, Err}
 use Rattle.sn_ports.specs.declared.failed.NoMemory.{NoMemory}
 use Rattle.sn_mem.specs.declared.extents.Extent.{Extent}
 use Rattle.sn_pool.specs.Pools.{times}
 use Rattle.sn_pool.specs.declared.pool.Mark.{Mark}
 use Rattle.sn_reply.specs.declared.reason.Reason.{Reason}
-use Rattle.sn_tree.specs.Trees.{Nodes, Sides, none, count}
+use Rattle.sn_tree.specs.Trees.{Sides, none, count}
 use Rattle.sn_tree.specs.Model.{Journal, NodeTree}
 use Rattle.sn_world.specs.declared.stage.Held.{Held}
 use Rattle.sn_world.specs.declared.stage.Stage.{Stage}

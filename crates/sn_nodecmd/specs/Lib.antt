@@ -6,4 +6,7 @@ pub mod Given
 pub mod Runs
 pub mod Stepping
 pub mod Reworks
+pub mod Mapped
 pub mod Folding
+pub mod Relocating
+pub mod Telling

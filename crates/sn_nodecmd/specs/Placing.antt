@@ -1,5 +1,5 @@
 -- A synth that is put into a stage.
-use Rattle.std.specs.Prelude.{◌≡◌, ◌+◌, ◌≤◌, ◌<◌, ℕ, zero, suc, ℤ, List, [], ◌∷◌, ◌++◌, Option, Some, None, Result, Ok, Err, if◌then◌else◌, nat_eq, slice_set}
+use Rattle.std.specs.Prelude.{◌≡◌, ◌+◌, ℕ, zero, suc, ℤ, List, Option, Some, None, Result, Ok, Err, if◌then◌else◌, nat_eq, slice_set}
 use Rattle.sn_ports.specs.declared.failed.NoMemory.{NoMemory}
 use Rattle.sn_mem.specs.declared.extents.Extent.{Extent}
 use Rattle.sn_pool.specs.Pools.{PoolState, with_extent}

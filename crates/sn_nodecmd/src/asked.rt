@@ -1,24 +1,21 @@
 //! What `/s_new` asks for.
-ghost use Rattle.std.specs.Prelude.{◌≡◌, List, ℕ, map, is_some, IfSome, FitsSigned};
-ghost use Rattle.std.specs.Int.{w32};
+ghost use Rattle.std.specs.Prelude.{◌≡◌, List, ℕ, map, is_some, IfSome};
 ghost use Rattle.std.specs.Option.{option_map};
 ghost use Rattle.std.specs.Borrow.{Bor};
 ghost use Rattle.sn_osc.specs.Shape.{argument_of};
 ghost use Rattle.sn_world.specs.Rows.{pairs};
-ghost use Rattle.sn_world.specs.NewSynth.{text_of, int_of, control_value, is_asked, new_synth};
+ghost use Rattle.sn_world.specs.NewSynth.{text_of, control_value, new_synth};
 ghost use Rattle.sn_nodecmd.specs.Asking.{request_of, AreValues};
 
 use sn_osc::Arg;
+use sn_world::{NewNode, Triple};
 
 /// The arguments of `/s_new`.
 #[derive(Clone, Copy)]
 pub struct Asked<'a> {
     /// The name of a definition.
     pub name: &'a [u8],
-    pub id: i32,
-    /// The number of an add action.
-    pub action: i32,
-    pub target: i32,
+    pub node: NewNode,
     /// Controls and their values in turns.
     pub values: &'a [Arg],
 }
@@ -28,16 +25,6 @@ fn text_of(argument: &Arg) -> Option<&[u8]>
 {
     match argument {
         Arg::Text(text) => Some(text.as_slice()),
-        _ => None,
-    }
-}
-
-fn int_of(argument: &Arg) -> Option<i32>
-    ensures value { result ≡ int_of (argument_of argument.now) }
-    ensures fits { IfSome result (λ n. FitsSigned w32 n) }
-{
-    match argument {
-        Arg::Int(number) => Some(*number),
         _ => None,
     }
 }
@@ -66,12 +53,6 @@ fn are_values(arguments: &[Arg]) -> bool
     rest.is_empty()
 }
 
-fn is_asked(id: i32, action: i32) -> bool
-    ensures { result ≡ is_asked id action }
-{
-    id >= 0 && action != 4
-}
-
 /// What arguments ask for, where they are those of `/s_new`.
 pub fn asked_by(arguments: &[Arg]) -> Option<Asked<'_>>
     ensures request { option_map request_of result ≡ new_synth (map argument_of arguments.now) }
@@ -83,23 +64,11 @@ pub fn asked_by(arguments: &[Arg]) -> Option<Asked<'_>>
     let Some(name) = text_of(name) else {
         return None;
     };
-    let Some(id) = int_of(id) else {
+    let Some(node) = NewNode::from_three(id, action, target) else {
         return None;
     };
-    let Some(action) = int_of(action) else {
-        return None;
-    };
-    let Some(target) = int_of(target) else {
-        return None;
-    };
-    if !are_values(values) || !is_asked(id, action) {
+    if !are_values(values) {
         return None;
     }
-    Some(Asked {
-        name,
-        id,
-        action,
-        target,
-        values,
-    })
+    Some(Asked { name, node, values })
 }

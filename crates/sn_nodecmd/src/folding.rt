@@ -125,6 +125,7 @@ fn commit(stage: &mut Stage, mark: Mark)
     requires { WasAtRest mark stage.old }
     ensures same { (words : List ℕ) (replies : List ReplyShape) → turn_of stage.new words replies ≡ turn_of stage.old words replies }
     ensures pictures { (left : ℕ) (old : Stage) (words : List ℕ) → IsUnderway left mark old stage.old → Pictures old words → Pictures stage.new words }
+    ensures clients { stage.new.notify ≡ stage.old.notify }
     ensures region { stage.new.pool.region ≡ stage.old.pool.region }
 {
     stage.tree.commit();
@@ -146,6 +147,7 @@ pub fn each<R: Repetition>(
     ensures unchanged { UnlessFollowed result (stage.new ≡ stage.old) }
     ensures untold { UnlessFollowed result (replies.new ≡ replies.old) }
     ensures pictures { (words : List ℕ) → Pictures stage.old words → Pictures stage.new words }
+    ensures clients { stage.new.notify ≡ stage.old.notify }
     ensures region { stage.new.pool.region ≡ stage.old.pool.region }
 {
     let next_id = stage.next_id;

@@ -103,6 +103,7 @@ pub fn run_free(
     ensures unchanged { UnlessFollowed result (stage.new ≡ stage.old) }
     ensures untold { UnlessFollowed result (replies.new ≡ replies.old) }
     ensures pictures { (words : List ℕ) → Pictures stage.old words → Pictures stage.new words }
+    ensures clients { stage.new.notify ≡ stage.old.notify }
     ensures region { stage.new.pool.region ≡ stage.old.pool.region }
 {
     let Some(nodes) = some_of(singles::<NodeId>(alloc, arguments)?) else {

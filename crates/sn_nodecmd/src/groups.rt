@@ -1,101 +1,24 @@
 //! Groups that are made.
-ghost use Rattle.std.specs.Prelude.{◌≡◌, ◌+◌, ◌*◌, ◌^◌, ◌<◌, map, length, OnOk, OnErr, Some, None, List, ℕ, is_some};
-ghost use Rattle.std.specs.Option.{option_map};
+ghost use Rattle.std.specs.Prelude.{◌≡◌, ◌+◌, ◌*◌, ◌^◌, ◌<◌, map, length, OnOk, OnErr, Some, None, List, ℕ};
 ghost use Rattle.sn_tree.specs.declared.node.NodeKind.TheVariants as kinds;
-ghost use Rattle.sn_tree.specs.Faults.{insert_fault};
 ghost use Rattle.sn_tree.specs.Steps.{inserted};
 ghost use Rattle.sn_world.specs.declared.stage.Held.TheVariants as held;
 ghost use Rattle.sn_osc.specs.Shape.{argument_of};
 ghost use Rattle.sn_world.specs.World.{World, Turn, turn_of};
-ghost use Rattle.sn_world.specs.NewNodes.{group_row, id_for, one_below, next_after, add_action, action_for, node_refusal, act_with};
+ghost use Rattle.sn_world.specs.NewNodes.{group_row, action_for, node_refusal, act_with};
 ghost use Rattle.sn_world.specs.Answers.{Continues, Follows, UnlessFollowed};
 ghost use Rattle.sn_world.specs.Pictures.{Pictures};
 ghost use Rattle.sn_nodecmd.specs.Folding.{IsAtRest, Keeps};
 
 use crate::folding::{Repetition, each};
-use crate::judging::reason_for;
+use crate::judging::{id_for, next_after, refusal, spot_of};
 use crate::telling::tell;
 use sn_osc::Arg;
 use sn_ports::NoMemory;
 use sn_reply::{Reason, Replies};
-use sn_tree::{Action, NodeKind, Spot, Tree, TreeFault};
+use sn_tree::{NodeKind, Tree};
 use sn_world::{Held, NewNode, NodeEvent, NodeId, Stage, some_of, triples};
 use std::alloc::Global;
-
-/// The id that a new node gets.
-fn id_for(next_id: Option<i32>, new: &NewNode) -> Option<NodeId>
-    ensures { option_map (λ node. node.id) result ≡ id_for next_id new.now.id }
-{
-    if new.id != -1 {
-        return Some(NodeId { id: new.id });
-    }
-    match next_id {
-        Some(id) => Some(NodeId { id }),
-        None => None,
-    }
-}
-
-fn one_below(next_id: Option<i32>) -> Option<i32>
-    ensures { result ≡ one_below next_id }
-{
-    match next_id {
-        Some(id) if id < 0 => id.checked_sub(1),
-        _ => None,
-    }
-}
-
-/// The id that is chosen next, after the node was made.
-fn next_after(next_id: Option<i32>, new: &NewNode) -> Option<i32>
-    ensures { result ≡ next_after next_id new.now.id }
-{
-    if new.id != -1 {
-        return next_id;
-    }
-    one_below(next_id)
-}
-
-fn add_action(new: &NewNode) -> Option<Action>
-    ensures { result ≡ add_action new.now.action }
-{
-    match new.action {
-        0 => Some(Action::Head),
-        1 => Some(Action::Tail),
-        2 => Some(Action::Before),
-        3 => Some(Action::After),
-        _ => None,
-    }
-}
-
-/// Where the node goes, at the head where no add action has the number.
-fn spot_of(new: &NewNode) -> Spot
-    ensures { result ≡ record { action = action_for new.now.action; target = new.now.target } }
-{
-    Spot {
-        action: add_action(new).unwrap_or(Action::Head),
-        target: new.target,
-    }
-}
-
-/// Whether an add action has the number.
-fn is_known(new: &NewNode) -> bool
-    ensures { result ≡ is_some (add_action new.now.action) }
-{
-    add_action(new).is_some()
-}
-
-/// Why the tree refuses a new node, but for want of memory.
-fn fault_of(tree: &Tree<Held>, node: &NodeId, spot: Spot) -> Option<TreeFault>
-    ensures { result ≡ insert_fault node.now.id spot.action spot.target tree.now.attached }
-{
-    tree.refusal(node.id, spot)
-}
-
-/// The first reason against a new node.
-fn refusal(tree: &Tree<Held>, node: &NodeId, new: &NewNode) -> Option<Reason>
-    ensures { result ≡ node_refusal (Some node.now.id) new.now.action new.now.target tree.now.attached }
-{
-    reason_for(is_known(new), fault_of(tree, node, spot_of(new)))
-}
 
 /// Puts a group into the tree.
 fn add_group(tree: &mut Tree<Held>, node: &NodeId, new: &NewNode) -> Result<(), NoMemory>
@@ -163,6 +86,7 @@ pub fn run_new_groups(
     ensures unchanged { UnlessFollowed result (stage.new ≡ stage.old) }
     ensures untold { UnlessFollowed result (replies.new ≡ replies.old) }
     ensures pictures { (words : List ℕ) → Pictures stage.old words → Pictures stage.new words }
+    ensures clients { stage.new.notify ≡ stage.old.notify }
     ensures region { stage.new.pool.region ≡ stage.old.pool.region }
 {
     let Some(nodes) = some_of(triples::<NewNode>(alloc, arguments)?) else {

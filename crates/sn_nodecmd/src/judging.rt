@@ -1,19 +1,50 @@
-//! What is against a new synth.
-ghost use Rattle.std.specs.Prelude.{◌≡◌, is_some, unwrap_or};
-ghost use Rattle.sn_tree.specs.declared.node.Action.TheVariants.{Head};
+//! The id of a new node, its place, and what is against it.
+ghost use Rattle.std.specs.Prelude.{◌≡◌, is_some, Some};
+ghost use Rattle.std.specs.Option.{option_map};
 ghost use Rattle.sn_tree.specs.Faults.{insert_fault};
-ghost use Rattle.sn_world.specs.NewNodes.{add_action};
+ghost use Rattle.sn_world.specs.NewNodes.{id_for, one_below, next_after, add_action, action_for, node_refusal};
 ghost use Rattle.sn_nodecmd.specs.Judging.{reason_for};
 
-use crate::asked::Asked;
 use sn_reply::Reason;
 use sn_tree::{Action, Spot, Tree, TreeFault};
-use sn_world::Held;
+use sn_world::{Held, NewNode, NodeId};
 
-fn add_action(asked: &Asked<'_>) -> Option<Action>
-    ensures { result ≡ add_action asked.now.action }
+/// The id that a new node gets.
+pub fn id_for(next_id: Option<i32>, new: &NewNode) -> Option<NodeId>
+    ensures { option_map (λ node. node.id) result ≡ id_for next_id new.now.id }
 {
-    match asked.action {
+    if new.id != -1 {
+        return Some(NodeId { id: new.id });
+    }
+    match next_id {
+        Some(id) => Some(NodeId { id }),
+        None => None,
+    }
+}
+
+fn one_below(next_id: Option<i32>) -> Option<i32>
+    ensures { result ≡ one_below next_id }
+{
+    match next_id {
+        Some(id) if id < 0 => id.checked_sub(1),
+        _ => None,
+    }
+}
+
+/// The id that is chosen next, after the node was made.
+pub fn next_after(next_id: Option<i32>, new: &NewNode) -> Option<i32>
+    ensures { result ≡ next_after next_id new.now.id }
+{
+    if new.id != -1 {
+        return next_id;
+    }
+    one_below(next_id)
+}
+
+fn add_action(new: &NewNode) -> Option<Action>
+    ensures { result ≡ add_action new.now.action }
+{
+    match new.action {
         0 => Some(Action::Head),
         1 => Some(Action::Tail),
         2 => Some(Action::Before),
@@ -22,18 +53,25 @@ fn add_action(asked: &Asked<'_>) -> Option<Action>
     }
 }
 
-/// Where the synth goes, at the head where no add action has the number.
-pub fn spot_of(asked: &Asked<'_>) -> Spot
-    ensures { result ≡ record { action = unwrap_or (add_action asked.now.action) Head; target = asked.now.target } }
+/// Where the node goes, at the head where no add action has the number.
+pub fn spot_of(new: &NewNode) -> Spot
+    ensures { result ≡ record { action = action_for new.now.action; target = new.now.target } }
 {
     Spot {
-        action: add_action(asked).unwrap_or(Action::Head),
-        target: asked.target,
+        action: add_action(new).unwrap_or(Action::Head),
+        target: new.target,
     }
 }
 
+/// Whether an add action has the number.
+fn is_known(new: &NewNode) -> bool
+    ensures { result ≡ is_some (add_action new.now.action) }
+{
+    add_action(new).is_some()
+}
+
 /// The reason by the tree's, and by whether an add action has the number.
-pub fn reason_for(known: bool, fault: Option<TreeFault>) -> Option<Reason>
+fn reason_for(known: bool, fault: Option<TreeFault>) -> Option<Reason>
     ensures { result ≡ reason_for known fault }
 {
     match fault {
@@ -48,12 +86,16 @@ pub fn reason_for(known: bool, fault: Option<TreeFault>) -> Option<Reason>
     }
 }
 
-/// The first reason against the synth, but for want of words.
-pub fn refusal(tree: &Tree<Held>, asked: &Asked<'_>) -> Option<Reason>
-    ensures { result ≡ reason_for (is_some (add_action asked.now.action)) (insert_fault asked.now.id (unwrap_or (add_action asked.now.action) Head) asked.now.target tree.now.attached) }
+/// Why the tree refuses a new node, but for want of memory.
+fn fault_of(tree: &Tree<Held>, node: &NodeId, spot: Spot) -> Option<TreeFault>
+    ensures { result ≡ insert_fault node.now.id spot.action spot.target tree.now.attached }
 {
-    reason_for(
-        add_action(asked).is_some(),
-        tree.refusal(asked.id, spot_of(asked)),
-    )
+    tree.refusal(node.id, spot)
+}
+
+/// The first reason against a new node.
+pub fn refusal(tree: &Tree<Held>, node: &NodeId, new: &NewNode) -> Option<Reason>
+    ensures { result ≡ node_refusal (Some node.now.id) new.now.action new.now.target tree.now.attached }
+{
+    reason_for(is_known(new), fault_of(tree, node, spot_of(new)))
 }

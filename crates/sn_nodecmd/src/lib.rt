@@ -8,6 +8,8 @@ mod freeing;
 mod groups;
 mod judging;
 mod making;
+mod mappings;
+mod moving;
 mod names;
 mod notifying;
 mod placing;

@@ -14,6 +14,8 @@ ghost use Rattle.sn_nodecmd.specs.Given.{ArgumentsOf};
 use crate::freeing::run_free;
 use crate::groups::run_new_groups;
 use crate::making::run_new;
+use crate::mappings::run_map;
+use crate::moving::run_moves;
 use crate::notifying::run_notify;
 use crate::querying::run_query;
 use crate::runs::RunForm;
@@ -23,6 +25,7 @@ use sn_mem::Port;
 use sn_osc::{Arg, Body, Message};
 use sn_ports::NoMemory;
 use sn_reply::{Reason, Replies};
+use sn_tree::Action;
 use sn_world::{Handled, NodeCommand, Stage};
 use std::alloc::Global;
 
@@ -47,6 +50,9 @@ fn node_command_of(address: &[u8]) -> Option<NodeCommand>
     if address == b"/n_fill".as_slice() {
         return Some(NodeCommand::FillRuns);
     }
+    if address == b"/n_map".as_slice() {
+        return Some(NodeCommand::MapControls);
+    }
     if address == b"/g_new".as_slice() {
         return Some(NodeCommand::NewGroup);
     }
@@ -55,6 +61,18 @@ fn node_command_of(address: &[u8]) -> Option<NodeCommand>
     }
     if address == b"/n_query".as_slice() {
         return Some(NodeCommand::Query);
+    }
+    if address == b"/n_before".as_slice() {
+        return Some(NodeCommand::Move(Action::Before));
+    }
+    if address == b"/n_after".as_slice() {
+        return Some(NodeCommand::Move(Action::After));
+    }
+    if address == b"/g_head".as_slice() {
+        return Some(NodeCommand::Move(Action::Head));
+    }
+    if address == b"/g_tail".as_slice() {
+        return Some(NodeCommand::Move(Action::Tail));
     }
     None
 }
@@ -88,6 +106,7 @@ fn run_row<P: Port>(
     ensures row { Follows result (node_row command from (map argument_of arguments.now) (turn_of stage.old (P.words port.old) replies.old)) (turn_of stage.new (P.words port.new) replies.new) }
     ensures unchanged { UnlessFollowed result (turn_of stage.new (P.words port.new) replies.new ≡ turn_of stage.old (P.words port.old) replies.old) }
     ensures pictures { Pictures stage.new (P.words port.new) }
+    ensures clients { length stage.new.notify ≡ length stage.old.notify }
     ensures region { stage.new.pool.region ≡ stage.old.pool.region }
     ensures others { KeepsOutside stage.old.pool.region (P.words port.old) (P.words port.new) }
     ensures len { length (P.words port.new) ≡ length (P.words port.old) }
@@ -95,15 +114,17 @@ fn run_row<P: Port>(
     ensures rest { P.rest port.new ≡ P.rest port.old }
 {
     match command {
-        NodeCommand::New => run_new(alloc, stage, port, arguments),
+        NodeCommand::New => run_new(alloc, stage, port, arguments, replies),
         NodeCommand::Notify => run_notify(alloc, stage, arguments, from, replies),
         NodeCommand::TurnNodes => run_flags(alloc, stage, arguments, replies),
         NodeCommand::SetControls => run_set(alloc, stage, RunForm::Value, arguments),
         NodeCommand::SetRuns => run_set(alloc, stage, RunForm::Values, arguments),
         NodeCommand::FillRuns => run_set(alloc, stage, RunForm::Fill, arguments),
+        NodeCommand::MapControls => run_map(alloc, stage, arguments),
         NodeCommand::NewGroup => run_new_groups(alloc, stage, arguments, replies),
         NodeCommand::Free => run_free(alloc, stage, arguments, replies),
         NodeCommand::Query => run_query(alloc, stage, arguments, from, replies),
+        NodeCommand::Move(action) => run_moves(alloc, stage, action, arguments, replies),
     }
 }
 
@@ -125,6 +146,7 @@ pub fn run_node_command<P: Port>(
     ensures row { Handles result (run_node from (message_of message.now) (turn_of stage.old (P.words port.old) replies.old)) (turn_of stage.new (P.words port.new) replies.new) }
     ensures unchanged { UnlessDone result (turn_of stage.new (P.words port.new) replies.new ≡ turn_of stage.old (P.words port.old) replies.old) }
     ensures pictures { Pictures stage.new (P.words port.new) }
+    ensures clients { length stage.new.notify ≡ length stage.old.notify }
     ensures region { stage.new.pool.region ≡ stage.old.pool.region }
     ensures others { KeepsOutside stage.old.pool.region (P.words port.old) (P.words port.new) }
     ensures len { length (P.words port.new) ≡ length (P.words port.old) }

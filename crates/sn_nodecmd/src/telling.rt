@@ -29,7 +29,7 @@ pub fn views_of(tree: &Tree<Held>, node: &NodeId) -> Result<Vec<(i32, NodeView)>
 }
 
 /// Tells of an event of a node that stands so.
-fn tell_of(
+pub fn tell_of(
     alloc: Global,
     flags: &Flags,
     event: NodeEvent,

@@ -1,5 +1,5 @@
 //! `/n_run`.
-ghost use Rattle.std.specs.Prelude.{◌≡◌, ◌+◌, ◌^◌, ◌<◌, List, ℕ, None, Some, OnOk, OnErr, length, map, take};
+ghost use Rattle.std.specs.Prelude.{◌≡◌, ◌+◌, ◌^◌, ◌<◌, List, ℕ, None, Some, OnOk, OnErr, length, map};
 ghost use Rattle.sn_osc.specs.Shape.{argument_of};
 ghost use Rattle.sn_tree.specs.Faults.{set_run_fault, fault_of};
 ghost use Rattle.sn_tree.specs.Steps.{running};
@@ -8,7 +8,7 @@ ghost use Rattle.sn_world.specs.World.{world_of, turn_of};
 ghost use Rattle.sn_world.specs.Pictures.{Pictures};
 ghost use Rattle.sn_world.specs.Rows.{steps};
 ghost use Rattle.sn_world.specs.RunFlags.{is_flagged, turning, judge_run, act_run, run_row};
-ghost use Rattle.sn_world.specs.Answers.{Follows, UnlessFollowed};
+ghost use Rattle.sn_world.specs.Answers.{Follows, UnlessFollowed, Continues};
 ghost use Rattle.sn_nodecmd.specs.Stepping.{Acts, HasSteps, IsTurned};
 
 use sn_osc::Arg;
@@ -46,7 +46,7 @@ fn turn(
     ensures act { (words : List ℕ) → Acts result (judge_run (world_of stage.old words) flag.now) (act_run flag.now (turn_of stage.old words replies.old)) (turn_of stage.new words replies.new) }
     ensures turned { (begun : Stage) → IsTurned begun stage.old → IsTurned begun stage.new }
     ensures room { (n : ℕ) → HasSteps (n + 1) stage.old.tree.journal → HasSteps n stage.new.tree.journal }
-    ensures earlier { take (length replies.old) replies.new ≡ replies.old }
+    ensures continues { Continues replies.old replies.new }
 {
     let Some(view) = stage.tree.node(flag.id) else {
         return Ok(Some(Reason::NoSuchNode));
@@ -73,6 +73,7 @@ fn turn(
 }
 
 /// Sets run flags one after the other, up to the first that is refused.
+#[tactic(auto, using(sn_world::proofs::Continuing::continues_then))]
 fn turn_all(
     alloc: Global,
     stage: &mut Stage,
@@ -82,7 +83,7 @@ fn turn_all(
     requires room { HasSteps (length flags.now) stage.old.tree.journal }
     ensures row { (words : List ℕ) → Follows result (steps judge_run act_run flags.now (turn_of stage.old words replies.old)) (turn_of stage.new words replies.new) }
     ensures turned { (begun : Stage) → IsTurned begun stage.old → IsTurned begun stage.new }
-    ensures earlier { take (length replies.old) replies.new ≡ replies.old }
+    ensures continues { Continues replies.old replies.new }
 {
     for flag in flags {
         let refused = turn(alloc, stage, flag, replies)?;

@@ -5,6 +5,7 @@ use Rattle.sn_osc.specs.Shape.{Argument, BodyShape, bare, arguments, foreign, Me
 use Rattle.sn_reply.specs.declared.reason.Reason.{Reason}
 use Rattle.sn_reply.specs.declared.reason.Reason.TheVariants.{UnknownCommand, ArgumentType}
 use Rattle.sn_reply.specs.Failing.{fail_message}
+use Rattle.sn_tree.specs.declared.node.Action.TheVariants.{Head, Tail, Before, After}
 use Rattle.sn_world.specs.declared.command.BusCommand.{BusCommand}
 use Rattle.sn_world.specs.declared.command.BusCommand.TheVariants as buses
 use Rattle.sn_world.specs.declared.command.NodeCommand.{NodeCommand}
@@ -23,8 +24,10 @@ use Rattle.sn_world.specs.Notifying.{notify_row}
 use Rattle.sn_world.specs.RunFlags.{run_row}
 use Rattle.sn_world.specs.Queries.{query_row}
 use Rattle.sn_world.specs.ControlRuns.{set_controls_row, set_runs_row, fill_runs_row}
+use Rattle.sn_world.specs.Mappings.{map_row}
 use Rattle.sn_world.specs.NewNodes.{group_row}
 use Rattle.sn_world.specs.Freeing.{free_row}
+use Rattle.sn_world.specs.Moving.{move_row}
 
 -- the command on control buses, on definitions or on the server itself with an address
 abbrev pub bus_command_of : List ℕ → Option BusCommand
@@ -77,9 +80,14 @@ node_command_of address =
     else if bytes_eq address (codes "/n_set") then Some nodes.SetControls
     else if bytes_eq address (codes "/n_setn") then Some nodes.SetRuns
     else if bytes_eq address (codes "/n_fill") then Some nodes.FillRuns
+    else if bytes_eq address (codes "/n_map") then Some nodes.MapControls
     else if bytes_eq address (codes "/g_new") then Some nodes.NewGroup
     else if bytes_eq address (codes "/n_free") then Some nodes.Free
     else if bytes_eq address (codes "/n_query") then Some nodes.Query
+    else if bytes_eq address (codes "/n_before") then Some (nodes.Move Before)
+    else if bytes_eq address (codes "/n_after") then Some (nodes.Move After)
+    else if bytes_eq address (codes "/g_head") then Some (nodes.Move Head)
+    else if bytes_eq address (codes "/g_tail") then Some (nodes.Move Tail)
     else None
 
 -- its row
@@ -90,9 +98,11 @@ node_row nodes.TurnNodes = run_row
 node_row nodes.SetControls = set_controls_row
 node_row nodes.SetRuns = set_runs_row
 node_row nodes.FillRuns = fill_runs_row
+node_row nodes.MapControls = map_row
 node_row nodes.NewGroup = group_row
 node_row nodes.Free = free_row
 node_row nodes.Query = query_row
+node_row (nodes.Move action) = move_row action
 
 -- A row takes the arguments, of which an address alone has none. Tags that are not read are refused before anything else is judged.
 abbrev pub with_arguments : BodyShape → (List Argument → Turn → Result Turn Reason) → Turn → Result Turn Reason

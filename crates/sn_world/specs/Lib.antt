@@ -21,5 +21,7 @@ pub mod RunFlags
 pub mod NewNodes
 pub mod Freeing
 pub mod Queries
+pub mod Mappings
+pub mod Moving
 pub mod Commands
 pub mod Answers

@@ -1,6 +1,5 @@
 -- `/s_new`: a synth is made.
-use Rattle.std.specs.Prelude.{◌≡◌, ℕ, ◌+◌, ℤ, pos, negsuc, Bool, true, false, not, if◌then◌else◌, nat_lt, nat_eq, List, [], ◌∷◌, map, length, replicate, slice_set, Option, Some, None, is_some, unwrap_or, Result, Ok, Err}
-use Rattle.std.specs.Ordering.{int_eq}
+use Rattle.std.specs.Prelude.{ℕ, ℤ, pos, negsuc, if◌then◌else◌, nat_lt, nat_eq, List, [], ◌∷◌, map, length, replicate, slice_set, Option, Some, None, Result, Ok, Err}
 use Rattle.std.specs.FinMap as finite
 use Rattle.sn_osc.specs.Shape.{Argument, int, string, blob}
 use Rattle.sn_mem.specs.declared.extents.Extent.{Extent}
@@ -12,14 +11,14 @@ use Rattle.sn_pool.specs.Regions.{least_place}
 use Rattle.sn_reply.specs.declared.reason.Reason.{Reason}
 use Rattle.sn_reply.specs.declared.reason.Reason.TheVariants as Reasons
 use Rattle.sn_tree.specs.declared.node.NodeKind.TheVariants as kinds
-use Rattle.sn_tree.specs.declared.node.Action.{Action}
-use Rattle.sn_tree.specs.declared.node.Action.TheVariants.{Head, Tail, Before, After}
-use Rattle.sn_tree.specs.Trees.{Nodes, put, leaf, holds, count}
-use Rattle.sn_tree.specs.Faults.{is_missing, is_in_synth, is_beside_root}
-use Rattle.sn_world.specs.Nodes.{Content, group, synth, live_in}
+use Rattle.sn_tree.specs.Trees.{put, leaf}
+use Rattle.sn_world.specs.declared.notices.NodeEvent.TheVariants.{Went}
+use Rattle.sn_world.specs.declared.repetition.NewNode.{NewNode}
+use Rattle.sn_world.specs.Nodes.{Content, synth, live_in}
+use Rattle.sn_world.specs.Notices.{told}
 use Rattle.sn_world.specs.World.{World, Turn}
-use Rattle.sn_world.specs.NewNodes.{add_action}
-use Rattle.sn_world.specs.Rows.{first_of, unless, pairs}
+use Rattle.sn_world.specs.NewNodes.{id_for, next_after, action_for, node_refusal, new_node}
+use Rattle.sn_world.specs.Rows.{unless, pairs}
 
 -- a control of a definition, by its number or by its name
 pub data ControlName : Type 0 where
@@ -33,9 +32,7 @@ pub record ControlValue : Type 0 where
 -- what `/s_new` asks for
 pub record NewSynth : Type 0 where
   pub name : List ℕ
-  pub id : ℤ
-  pub action : ℤ
-  pub target : ℤ
+  pub node : NewNode
   pub values : List ControlValue
 
 -- ---- its arguments: name id action target (control value)..
@@ -54,11 +51,6 @@ value_for None y = None
 abbrev pub control_value : Argument → Argument → Option ControlValue
 control_value x y = value_for (control_name x) y
 
--- An id is 0 or more, and the action is none that replaces its target: no ids are chosen and no node is replaced yet.
-abbrev pub is_asked : ℤ → ℤ → Bool
-is_asked (pos id) action = not (int_eq action (pos 4))
-is_asked (negsuc n) action = false
-
 abbrev pub text_of : Argument → Option (List ℕ)
 text_of (string s) = Some s
 text_of (int n) = None
@@ -69,13 +61,12 @@ int_of (int n) = Some n
 int_of (string s) = None
 int_of (blob b) = None
 
-abbrev pub asked_with : Option (List ℕ) → Option ℤ → Option ℤ → Option ℤ → Option (List ControlValue) → Option NewSynth
-asked_with (Some name) (Some id) (Some action) (Some target) (Some values) =
-    if is_asked id action then Some (record { name = name; id = id; action = action; target = target; values = values }) else None
-asked_with _ _ _ _ _ = None
+abbrev pub asked_with : Option (List ℕ) → Option NewNode → Option (List ControlValue) → Option NewSynth
+asked_with (Some name) (Some node) (Some values) = Some (record { name = name; node = node; values = values })
+asked_with _ _ _ = None
 
 abbrev pub new_synth : List Argument → Option NewSynth
-new_synth (name ∷ id ∷ action ∷ target ∷ rest) = asked_with (text_of name) (int_of id) (int_of action) (int_of target) (pairs control_value rest)
+new_synth (name ∷ id ∷ action ∷ target ∷ rest) = asked_with (text_of name) (new_node id action target) (pairs control_value rest)
 new_synth _ = None
 
 -- ---- its controls
@@ -98,11 +89,6 @@ with_values d (v ∷ vs) controls = with_values d vs (with_value (control_of d v
 abbrev pub defaults : Definition → List Control
 defaults d = map (λ p. record { value = p.default; bus = None }) d.controls
 
--- ---- its place in the tree
-
-abbrev pub action_of : NewSynth → Action
-action_of r = unwrap_or (add_action r.action) Head
-
 -- ---- its words
 
 -- the least place of the pool for so many words, where there is one; no words stand at the region's begin
@@ -110,16 +96,6 @@ abbrev pub place_for : World → ℕ → Option ℕ
 place_for w n = if nat_eq n 0 then Some w.region.at else least_place w.region (live_in w.nodes) n
 
 -- ---- what is against it, and what it does
-
-abbrev pub judge_new : World → NewSynth → Option Reason
-judge_new w r = first_of (
-    (holds r.id w.nodes, Reasons.IdInUse)
-    ∷ (not (is_some (add_action r.action)), Reasons.AddAction)
-    ∷ (is_missing r.target w.nodes, Reasons.NoSuchNode)
-    ∷ (is_in_synth (action_of r) r.target w.nodes, Reasons.NotGroup)
-    ∷ (is_beside_root (action_of r) r.target, Reasons.Root)
-    ∷ (nat_lt 4096 (count w.nodes + 1), Reasons.TooManyNodes)
-    ∷ [])
 
 -- the synth of a definition, its state words all 0 and at a place of the pool
 abbrev pub made : World → NewSynth → Definition → ℕ → Content
@@ -130,16 +106,22 @@ made w r d at = synth (record {
   extent = record { at = at; len = state_words w.rate d };
 })
 
-abbrev pub with_synth : NewSynth → Definition → ℕ → World → World
-with_synth r d at w = record w { nodes = put (action_of r) r.target (leaf r.id kinds.Synth (made w r d at)) w.nodes }
+-- the world with a synth of an id; one that was chosen is used up
+abbrev pub with_synth : NewSynth → Definition → ℤ → ℕ → World → World
+with_synth r d id at w = record w { nodes = put (action_for r.node.action) r.node.target (leaf id kinds.Synth (made w r d at)) w.nodes; next_id = next_after w.next_id r.node.id }
 
-abbrev pub new_at : NewSynth → Definition → Option ℕ → Turn → Result Turn Reason
-new_at r d None t = Err Reasons.PoolFull
-new_at r d (Some at) t = Ok (record t { world = with_synth r d at t.world })
+abbrev pub new_at : NewSynth → Definition → ℤ → Option ℕ → Turn → Result Turn Reason
+new_at r d id None t = Err Reasons.PoolFull
+new_at r d id (Some at) t = Ok (told Went id (record t { world = with_synth r d id at t.world }))
+
+-- with the id that it gets, where one is left
+abbrev pub new_with : NewSynth → Definition → Option ℤ → Turn → Result Turn Reason
+new_with r d None t = Err Reasons.IdInUse
+new_with r d (Some id) t = unless (node_refusal (Some id) r.node.action r.node.target t.world.nodes) (new_at r d id (place_for t.world (state_words t.world.rate d)) t)
 
 abbrev pub new_of : NewSynth → Option Definition → Turn → Result Turn Reason
 new_of r None t = Err Reasons.NoSuchDefinition
-new_of r (Some d) t = unless (judge_new t.world r) (new_at r d (place_for t.world (state_words t.world.rate d)) t)
+new_of r (Some d) t = new_with r d (id_for t.world.next_id r.node.id) t
 
 abbrev pub new_outcome : Option NewSynth → Turn → Result Turn Reason
 new_outcome None t = Err Reasons.Arguments

@@ -1,4 +1,5 @@
 use sn_reply::Reason;
+use sn_tree::Action;
 
 /// A command on control buses, on definitions or on the server itself.
 #[derive(Clone, Copy, Debug, PartialEq, Eq)]
@@ -42,12 +43,16 @@ pub enum NodeCommand {
     SetRuns,
     /// `/n_fill`
     FillRuns,
+    /// `/n_map`
+    MapControls,
     /// `/g_new`
     NewGroup,
     /// `/n_free`
     Free,
     /// `/n_query`
     Query,
+    /// `/n_before`, `/n_after`, `/g_head`, `/g_tail`
+    Move(Action),
 }
 
 /// What a crate of commands did with a message.

@@ -17,7 +17,7 @@ pub use command::{BusCommand, Handled, NodeCommand};
 pub use defs::Defs;
 pub use flags::Flags;
 pub use names::Names;
-pub use node_repetition::{NodeQuery, RunFlag};
+pub use node_repetition::{NodeMove, NodeQuery, RunFlag};
 pub use notices::{NodeEvent, event_message, notify};
 pub use repetition::{BusFill, BusNumber, BusValue, NewNode, NodeId, Run};
 pub use runs::{ValueRun, value_runs};

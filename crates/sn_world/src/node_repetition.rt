@@ -4,12 +4,21 @@ ghost use Rattle.sn_world.specs.Queries.{node_query};
 
 use crate::arguments::{Pair, Single};
 use sn_osc::Arg;
+use sn_tree::Action;
 
 /// A node and its run flag.
 #[derive(Clone, Copy, Debug, PartialEq, Eq)]
 pub struct RunFlag {
     pub id: i32,
     pub on: bool,
+}
+
+/// A node that is moved, and where it goes, seen from a target.
+#[derive(Clone, Copy, Debug, PartialEq, Eq)]
+pub struct NodeMove {
+    pub action: Action,
+    pub id: i32,
+    pub target: i32,
 }
 
 impl Pair for RunFlag {

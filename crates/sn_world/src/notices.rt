@@ -1,5 +1,5 @@
 //! What clients are told of what happens to nodes.
-ghost use Rattle.std.specs.Prelude.{◌≡◌, ◌++◌, ◌∷◌, [], IfOk, OnOk, drop, take, length};
+ghost use Rattle.std.specs.Prelude.{◌≡◌, ◌++◌, ◌∷◌, [], IfOk, OnOk, drop};
 ghost use Rattle.sn_osc.specs.Shape.{message_of};
 ghost use Rattle.sn_reply.specs.Answering.{IsAddress};
 ghost use Rattle.sn_reply.specs.Sending.{IsSendable};
@@ -101,7 +101,6 @@ fn notify_one(
 
 /// Tells each client whose flag is on of an event of a node. After want of memory some of them may have been told. No earlier reply is
 /// lost.
-#[tactic(auto, using(crate::proofs::Continuing::take_continues))]
 pub fn notify(
     alloc: Global,
     flags: &Flags,
@@ -112,7 +111,6 @@ pub fn notify(
 ) -> Result<(), NoMemory>
     ensures told { OnOk result (replies.new ≡ replies.old ++ notices 0 flags.now (event_message event id view.now)) }
     ensures continues { Continues replies.old replies.new }
-    ensures earlier { take (length replies.old) replies.new ≡ replies.old }
 {
     let mut client = 0;
     for on in flags.as_slice() {

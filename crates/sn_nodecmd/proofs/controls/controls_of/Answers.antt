@@ -1,4 +1,4 @@
-use Rattle.std.proofs.Common.{◌≡◌, ◌∙◌, ◌-◌, ap, sym, subst, unwrap_or, [], map, take, drop, length, arith}
+use Rattle.std.proofs.Common.{◌∙◌, ◌-◌, ap, sym, subst, unwrap_or, [], map, take, drop, length, arith}
 use Rattle.std.proofs.lemmas.List.{with_items_is}
 use Rattle.sn_osc.specs.Shape.{argument_of}
 use Rattle.sn_def.specs.Defs.{definition_of}

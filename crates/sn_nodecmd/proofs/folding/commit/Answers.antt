@@ -1,4 +1,4 @@
-use Rattle.std.proofs.Common.{◌≡◌, ◌∙◌, refl, sym, ap, arith}
+use Rattle.std.proofs.Common.{◌∙◌, refl, ap, arith}
 use Rattle.sn_pool.specs.Pools.{PoolState, times}
 use Rattle.sn_tree.specs.Trees.{none}
 use Rattle.sn_tree.specs.Model.{NodeTree}

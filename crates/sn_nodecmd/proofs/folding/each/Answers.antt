@@ -1,4 +1,4 @@
-use Rattle.std.proofs.Common.{◌≡◌, ◌-◌, ◌+◌, ◌∙◌, refl, sym, ap, subst, arith, length, List, ℕ, Ok}
+use Rattle.std.proofs.Common.{◌≡◌, ◌-◌, ◌+◌, ◌∙◌, sym, ap, subst, arith, length, Ok}
 use Rattle.sn_world.specs.declared.stage.Stage.{Stage}
 use Rattle.sn_world.specs.Pictures.{Pictures}
 use Rattle.sn_world.specs.Rows.{steps}
@@ -44,6 +44,13 @@ returns-in_default-clause-region g c =
     (underway_next c.args.repetitions.now c.loop-repetition.repetition-index c.in_ok-mark.mark c.args.stage.now c.loop-repetition.stage c.step.new.stage c.loop-repetition-test.true c.loop-repetition.invariant.underway c.step.ensures.keeps)
     c.requires.rest)
 
+pub returns-in_default-clause-clients : goal.returns-in_default-clause-clients
+returns-in_default-clause-clients g c =
+    ap (λ (s : Stage). s.notify)
+    (c.undo.ensures (length c.args.repetitions.now - (c.loop-repetition.repetition-index + 1)) c.args.stage.now
+    (underway_next c.args.repetitions.now c.loop-repetition.repetition-index c.in_ok-mark.mark c.args.stage.now c.loop-repetition.stage c.step.new.stage c.loop-repetition-test.true c.loop-repetition.invariant.underway c.step.ensures.keeps)
+    c.requires.rest)
+
 pub loop-repetition-preserved : goal.loop-repetition-preserved
 loop-repetition-preserved g c = record {
   underway = underway_next c.args.repetitions.now c.loop-repetition.repetition-index c.in_ok-mark.mark c.args.stage.now c.loop-repetition.stage c.step.new.stage c.loop-repetition-test.true c.loop-repetition.invariant.underway c.step.ensures.keeps;
@@ -61,3 +68,6 @@ returns-clause-row g c = λ words.
 
 pub returns-clause-pictures : goal.returns-clause-pictures
 returns-clause-pictures g c = λ words p. c.commit.ensures.pictures (length c.args.repetitions.now - c.loop-repetition.repetition-index) c.args.stage.now words c.loop-repetition.invariant.underway p
+
+pub returns-clause-clients : goal.returns-clause-clients
+returns-clause-clients g c = c.commit.ensures.clients ∙ c.loop-repetition.invariant.underway.notify

@@ -1,4 +1,4 @@
-use Rattle.std.proofs.Common.{◌≡◌, ◌∙◌, refl, sym, ap, arith}
+use Rattle.std.proofs.Common.{◌∙◌, ap, arith}
 use Rattle.sn_tree.specs.Trees.{count}
 use Rattle.sn_tree.specs.Model.{NodeTree}
 use Rattle.sn_world.specs.declared.stage.Held.{Held}

@@ -1,4 +1,4 @@
-use Rattle.std.proofs.Common.{◌≡◌, ap, arith}
+use Rattle.std.proofs.Common.{ap, arith}
 use Rattle.sn_pool.specs.Pools.{PoolState, room_of}
 use Rattle.sn_world.specs.Pictures.{held_extents}
 use Rattle.sn_nodecmd.proofs.Ending.{own_group, own_synth, own_self, own_amount, own_empty, room_given}

@@ -1,4 +1,4 @@
-use Rattle.std.proofs.Common.{◌≡◌, ◌∙◌, ap, sym, map, arith, Some, length}
+use Rattle.std.proofs.Common.{◌≡◌, ◌∙◌, ap, map, arith, Some}
 use Rattle.std.proofs.lemmas.List.{length-map}
 use Rattle.sn_osc.specs.Shape.{argument_of}
 use Rattle.sn_world.specs.Rows.{singles, some_of}

@@ -1,5 +1,3 @@
-use Rattle.std.proofs.Common.{◌≡◌, ◌∙◌, ap, sym, List, ℕ}
-use Rattle.sn_world.specs.declared.stage.Stage.{Stage}
 use Rattle.sn_world.specs.NewNodes.{next_after}
 use Rattle.sn_nodecmd.proofs.Stepping.{group_made, keeps_group}
 use Rattle.sn_nodecmd.proofs.ToldLemmas.{on_ok}

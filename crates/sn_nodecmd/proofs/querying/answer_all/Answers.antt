@@ -1,4 +1,4 @@
-use Rattle.std.proofs.Common.{◌≡◌, ◌∙◌}
+use Rattle.std.proofs.Common.{◌∙◌}
 use Rattle.sn_world.specs.World.{turn_of}
 use Rattle.sn_nodecmd.proofs.TurningLemmas.{earlier-more}
 use Rattle.sn_nodecmd.proofs.QueryLemmas.{query-step}

@@ -1,17 +1,21 @@
-use Rattle.std.proofs.Common.{subst, sym, map, List, ℕ, Result}
-use Rattle.sn_osc.specs.Shape.{Argument, argument_of}
+use Rattle.std.proofs.Common.{subst, sym, map}
+use Rattle.sn_osc.specs.Shape.{argument_of}
 use Rattle.sn_world.specs.declared.command.NodeCommand.{NodeCommand}
 use Rattle.sn_world.specs.World.{turn_of}
 use Rattle.sn_world.specs.Commands.{node_row}
 use Rattle.sn_world.specs.Answers.{Follows}
-use Rattle.sn_nodecmd.proofs.Repeating.{same_turn}
+use Rattle.sn_nodecmd.proofs.Repeating.{same_turn, same_outcome}
 use Rattle.sn_nodecmd.proofs.Underway.{at_rest}
 use Rattle.sn_nodecmd.proofs.running.run_row.Goals as goal
 
 pub returns-in-New-clause-row : goal.returns-in-New-clause-row
 returns-in-New-clause-row g c =
-    subst (λ (v : NodeCommand). Follows c.run_new.result (node_row v c.args.from (map argument_of c.args.arguments.now) (turn_of c.args.stage.now (g.P.Port.words c.args.port.now) c.args.replies.now)) (turn_of c.run_new.new.stage (g.P.Port.words c.run_new.new.port) c.args.replies.now))
-    (sym c.in-New.is) (c.run_new.ensures.row c.args.from c.args.replies.now)
+    subst (λ (v : NodeCommand). Follows c.run_new.result (node_row v c.args.from (map argument_of c.args.arguments.now) (turn_of c.args.stage.now (g.P.Port.words c.args.port.now) c.args.replies.now)) (turn_of c.run_new.new.stage (g.P.Port.words c.run_new.new.port) c.run_new.new.replies))
+    (sym c.in-New.is) (c.run_new.ensures.row c.args.from)
+
+pub returns-in-New-clause-unchanged : goal.returns-in-New-clause-unchanged
+returns-in-New-clause-unchanged g c =
+    same_outcome c.run_new.result c.args.stage.now c.run_new.new.stage (g.P.Port.words c.args.port.now) (g.P.Port.words c.run_new.new.port) c.args.replies.now c.run_new.new.replies c.run_new.ensures.unchanged c.run_new.ensures.untouched c.run_new.ensures.untold
 
 pub returns-in-Notify-clause-row : goal.returns-in-Notify-clause-row
 returns-in-Notify-clause-row g c =
@@ -37,6 +41,11 @@ pub returns-in-FillRuns-clause-row : goal.returns-in-FillRuns-clause-row
 returns-in-FillRuns-clause-row g c =
     subst (λ (v : NodeCommand). Follows c.run_set-in-FillRuns.result (node_row v c.args.from (map argument_of c.args.arguments.now) (turn_of c.args.stage.now (g.P.Port.words c.args.port.now) c.args.replies.now)) (turn_of c.run_set-in-FillRuns.new.stage (g.P.Port.words c.args.port.now) c.args.replies.now))
     (sym c.in-FillRuns.is) (c.run_set-in-FillRuns.ensures.row (g.P.Port.words c.args.port.now) c.args.replies.now)
+
+pub returns-in-MapControls-clause-row : goal.returns-in-MapControls-clause-row
+returns-in-MapControls-clause-row g c =
+    subst (λ (v : NodeCommand). Follows c.run_map.result (node_row v c.args.from (map argument_of c.args.arguments.now) (turn_of c.args.stage.now (g.P.Port.words c.args.port.now) c.args.replies.now)) (turn_of c.run_map.new.stage (g.P.Port.words c.args.port.now) c.args.replies.now))
+    (sym c.in-MapControls.is) (c.run_map.ensures.row (g.P.Port.words c.args.port.now) c.args.replies.now)
 
 pub returns-in-NewGroup-clause-row : goal.returns-in-NewGroup-clause-row
 returns-in-NewGroup-clause-row g c =
@@ -70,3 +79,17 @@ pub returns-in-Query-clause-row : goal.returns-in-Query-clause-row
 returns-in-Query-clause-row g c =
     subst (λ (v : NodeCommand). Follows c.run_query.result (node_row v c.args.from (map argument_of c.args.arguments.now) (turn_of c.args.stage.now (g.P.Port.words c.args.port.now) c.args.replies.now)) (turn_of c.args.stage.now (g.P.Port.words c.args.port.now) c.run_query.new.replies))
     (sym c.in-Query.is) (c.run_query.ensures.row (g.P.Port.words c.args.port.now))
+
+pub returns-in-Move-clause-row : goal.returns-in-Move-clause-row
+returns-in-Move-clause-row g c =
+    subst (λ (v : NodeCommand). Follows c.run_moves.result (node_row v c.args.from (map argument_of c.args.arguments.now) (turn_of c.args.stage.now (g.P.Port.words c.args.port.now) c.args.replies.now)) (turn_of c.run_moves.new.stage (g.P.Port.words c.args.port.now) c.run_moves.new.replies))
+    (sym c.in-Move.is) (c.run_moves.ensures.row c.args.from (g.P.Port.words c.args.port.now))
+
+pub returns-in-Move-clause-unchanged : goal.returns-in-Move-clause-unchanged
+returns-in-Move-clause-unchanged g c = same_turn c.run_moves.result c.args.stage.now c.run_moves.new.stage (g.P.Port.words c.args.port.now) c.args.replies.now c.run_moves.new.replies c.run_moves.ensures.unchanged c.run_moves.ensures.untold
+
+pub returns-in-Move-clause-pictures : goal.returns-in-Move-clause-pictures
+returns-in-Move-clause-pictures g c = c.run_moves.ensures.pictures (g.P.Port.words c.args.port.now) c.requires.pictures
+
+pub run_moves-requires-clause-rest : goal.run_moves-requires-clause-rest
+run_moves-requires-clause-rest g c = at_rest c.args.stage.now (g.P.Port.words c.args.port.now) c.requires.pictures

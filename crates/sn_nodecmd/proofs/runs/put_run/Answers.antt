@@ -1,4 +1,4 @@
-use Rattle.std.proofs.Common.{◌≡◌, ◌≤◌, ◌<◌, ◌∙◌, ◌+◌, ap, sym, set, length, length-set, None, w32, to_z, of_z, arith}
+use Rattle.std.proofs.Common.{◌≤◌, ◌∙◌, ◌+◌, ap, sym, set, length, None, w32, arith}
 use Rattle.std.proofs.lemmas.Int.{to_z-of_z}
 use Rattle.sn_def.specs.declared.control.Control.{Control}
 use Rattle.sn_world.specs.ControlRuns.{with_values_from}

@@ -1,8 +1,7 @@
-use Rattle.std.proofs.Common.{◌≡◌, ap, sym, subst, ◌∙◌, Option, Ok, Result}
+use Rattle.std.proofs.Common.{ap, sym, subst, ◌∙◌, Option, Ok}
 use Rattle.std.specs.Option.{option_map}
 use Rattle.sn_nodecmd.specs.Reworks.{request_of}
-use Rattle.sn_reply.specs.declared.reason.Reason.{Reason}
-use Rattle.sn_world.specs.World.{Turn, turn_of}
+use Rattle.sn_world.specs.World.{turn_of}
 use Rattle.sn_world.specs.ControlRuns.{ControlRun, ForNode, set_outcome}
 use Rattle.sn_world.specs.Answers.{Follows}
 use Rattle.sn_nodecmd.proofs.settings.run_set.Goals as goal

@@ -1,16 +1,14 @@
-use Rattle.std.proofs.Common.{◌≡◌, ◌∙◌, ap, sym, subst, map, List, Ok, Result, w32, to_z, of_z, rules}
+use Rattle.std.proofs.Common.{◌≡◌, ◌∙◌, ap, sym, subst, map, Ok, Result, w32, rules}
 use Rattle.std.specs.Prelude.{FitsSigned}
 use Rattle.std.proofs.lemmas.Int.{to_z-of_z}
 use Rattle.sn_reply.specs.declared.reason.Reason.{Reason}
 use Rattle.sn_tree.specs.Trees.{view_of}
 use Rattle.sn_tree.specs.Model.{NodeTree}
 use Rattle.sn_tree.specs.Reworking.{changed_below}
-use Rattle.sn_world.specs.declared.node_repetition.RunFlag.{RunFlag}
 use Rattle.sn_world.specs.declared.stage.Held.{Held}
 use Rattle.sn_world.specs.Pictures.{Pictures}
 use Rattle.sn_world.specs.World.{Turn, turn_of}
-use Rattle.sn_world.specs.ControlRuns.{ControlRun, with_runs}
-use Rattle.sn_nodecmd.specs.declared.runs.Run.{Run}
+use Rattle.sn_world.specs.ControlRuns.{with_runs}
 use Rattle.sn_nodecmd.specs.Runs.{run_of}
 use Rattle.sn_nodecmd.specs.Reworks.{held_with, request_of}
 use Rattle.sn_nodecmd.proofs.TurningLemmas.{with_tree, no_node, some_node}

@@ -1,5 +1,3 @@
-use Rattle.std.proofs.Common.{◌≡◌, List, ℕ}
-use Rattle.sn_world.specs.World.{turn_of}
 use Rattle.sn_nodecmd.proofs.ToldLemmas.{told_here, told_nowhere, on_ok}
 use Rattle.sn_nodecmd.proofs.telling.tell.Goals as goal
 

@@ -1,4 +1,4 @@
-use Rattle.std.proofs.Common.{◌≡◌, drop, List}
+use Rattle.std.proofs.Common.{◌≡◌, drop}
 use Rattle.sn_world.specs.Answers.{Continues}
 use Rattle.sn_world.specs.Freeing.{told_ends}
 use Rattle.sn_world.specs.World.{World, Turn}

@@ -1,5 +1,6 @@
-use Rattle.std.proofs.Common.{◌≡◌, ◌-◌, ℕ, List, length, take, drop}
+use Rattle.std.proofs.Common.{◌≡◌, ◌-◌, ℕ, List, length, drop}
 use Rattle.sn_world.specs.declared.stage.Stage.{Stage}
+use Rattle.sn_world.specs.Answers.{Continues}
 use Rattle.sn_world.specs.World.{turn_of}
 use Rattle.sn_world.specs.Rows.{steps}
 use Rattle.sn_world.specs.RunFlags.{judge_run, act_run}
@@ -11,5 +12,5 @@ invariant-loop-flag l = record {
   row : (words : List ℕ) → steps judge_run act_run (drop l.flag-index l.flags) (turn_of l.stage words l.replies) ≡ steps judge_run act_run l.flags (turn_of l.fn.stage words l.fn.replies);
   room : HasSteps (length l.flags - l.flag-index) l.stage.tree.journal;
   turned : (begun : Stage) → IsTurned begun l.fn.stage → IsTurned begun l.stage;
-  earlier : take (length l.fn.replies) l.replies ≡ l.fn.replies;
+  continues : Continues l.fn.replies l.replies;
 }

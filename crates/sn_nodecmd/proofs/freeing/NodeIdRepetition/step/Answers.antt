@@ -1,4 +1,4 @@
-use Rattle.std.proofs.Common.{◌≡◌, ◌∙◌, ap, sym, refl, List, ℕ}
+use Rattle.std.proofs.Common.{◌∙◌, sym}
 use Rattle.sn_nodecmd.proofs.Stepping.{free_refusal_in}
 use Rattle.sn_nodecmd.proofs.freeing.NodeIdRepetition.step.Goals as goal
 

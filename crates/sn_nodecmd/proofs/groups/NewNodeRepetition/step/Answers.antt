@@ -1,4 +1,4 @@
-use Rattle.std.proofs.Common.{◌≡◌, ◌∙◌, ap, sym, List, ℕ, ℤ, Option, Some}
+use Rattle.std.proofs.Common.{◌∙◌, ap, sym, ℤ, Option, Some}
 use Rattle.sn_tree.specs.declared.node.NodeKind.TheVariants as kinds
 use Rattle.sn_world.specs.NewNodes.{node_refusal, act_with}
 use Rattle.sn_world.specs.World.{world_of, turn_of}

@@ -1,10 +1,10 @@
-use Rattle.std.proofs.Common.{◌≡◌, ◌∙◌, ap, is_some}
+use Rattle.std.proofs.Common.{◌∙◌, ap, is_some}
 use Rattle.sn_tree.specs.declared.node.Spot.{Spot}
 use Rattle.sn_tree.specs.Faults.{insert_fault}
 use Rattle.sn_world.specs.NewNodes.{add_action}
 use Rattle.sn_nodecmd.specs.Judging.{reason_for}
 use Rattle.sn_nodecmd.proofs.Judged.{judged_node}
-use Rattle.sn_nodecmd.proofs.groups.refusal.Goals as goal
+use Rattle.sn_nodecmd.proofs.judging.refusal.Goals as goal
 
 pub returns : goal.returns
 returns c =

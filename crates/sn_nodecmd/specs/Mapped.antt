@@ -1,0 +1,35 @@
+-- Mappings of controls as they are read, and what is against them in the nodes of a stage.
+use Rattle.std.specs.Prelude.{Bool, false, not, List, [], ◌∷◌, map, Option}
+use Rattle.sn_def.specs.Defs.{definition_of}
+use Rattle.sn_reply.specs.declared.reason.Reason.{Reason}
+use Rattle.sn_reply.specs.declared.reason.Reason.TheVariants as Reasons
+use Rattle.sn_tree.specs.Trees.{Nodes}
+use Rattle.sn_world.specs.declared.stage.Held.{Held}
+use Rattle.sn_world.specs.declared.stage.Held.TheVariants as held
+use Rattle.sn_world.specs.Rows.{first_of}
+use Rattle.sn_world.specs.NewSynth.{ControlName, control_of}
+use Rattle.sn_world.specs.ControlRuns.{ForNode}
+use Rattle.sn_world.specs.Mappings.{is_followable, is_index_of, any_node}
+use Rattle.sn_world.specs.Mappings.{Mapping as AskedMapping}
+use Rattle.sn_nodecmd.specs.declared.mappings.Mapping.{Mapping}
+use Rattle.sn_nodecmd.specs.declared.mappings.AskedMappings.{AskedMappings}
+use Rattle.sn_nodecmd.specs.Runs.{name_of}
+
+abbrev pub mapping_of : Mapping → AskedMapping
+mapping_of m = record { control = name_of m.control; bus = m.bus }
+
+-- what is asked of a node
+abbrev pub request_of : AskedMappings → ForNode AskedMapping
+request_of a = record { id = a.id; all = map mapping_of a.mappings.items }
+
+-- whether a name is that of an index control of what a node holds
+abbrev pub takes_index : ControlName → Held → Bool
+takes_index c held.Group = false
+takes_index c (held.Synth def controls state) = is_index_of (definition_of def.value) (control_of (definition_of def.value) c)
+
+-- against a mapping in these nodes
+abbrev pub refusal_in : Nodes Held → AskedMapping → Option Reason
+refusal_in reached m = first_of (
+    (not (is_followable m.bus), Reasons.Bus)
+    ∷ (any_node (takes_index m.control) reached, Reasons.IndexControl)
+    ∷ [])

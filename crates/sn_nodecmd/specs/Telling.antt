@@ -1,0 +1,22 @@
+-- What clients are told of a node, beside what they were told before.
+use Rattle.std.specs.Prelude.{◌≡◌, ℤ, Bool, List, ◌++◌, Option, Some, None, Result, Ok, Err}
+use Rattle.sn_ports.specs.declared.failed.NoMemory.{NoMemory}
+use Rattle.sn_mem.specs.declared.extents.Extent.{Extent}
+use Rattle.sn_reply.specs.Replies.{ReplyShape}
+use Rattle.sn_tree.specs.declared.node.NodeView.{NodeView}
+use Rattle.sn_tree.specs.Trees.{view_of}
+use Rattle.sn_world.specs.declared.notices.NodeEvent.{NodeEvent}
+use Rattle.sn_world.specs.declared.notices.NodeEvent.TheVariants.{Went}
+use Rattle.sn_world.specs.declared.stage.Stage.{Stage}
+use Rattle.sn_world.specs.Notices.{event_message, notices}
+
+-- an event of a node that stands so; nothing of one that is not there
+abbrev pub said : NodeEvent → ℤ → Option NodeView → List Bool → List ReplyShape → List ReplyShape
+said event id None flags replies = replies
+said event id (Some view) flags replies = replies ++ notices 0 flags (event_message event id view)
+
+-- A synth that was put into a stage was told of, at its place there; else nothing was told.
+abbrev pub TellsOf : ℤ → Stage → List ReplyShape → List ReplyShape → Result (Option Extent) NoMemory → Type 0
+TellsOf id stage old new (Ok (Some e)) = new ≡ said Went id (view_of id stage.tree.attached) stage.notify old
+TellsOf id stage old new (Ok None) = new ≡ old
+TellsOf id stage old new (Err e) = new ≡ old

@@ -1,0 +1,180 @@
+//! Nodes that are moved.
+ghost use Rattle.std.specs.Prelude.{◌≡◌, ◌+◌, ◌*◌, ◌^◌, ◌<◌, map, length, OnOk, OnErr, IfOk, None, Some, List, ℕ};
+ghost use Rattle.std.specs.Option.{option_map};
+ghost use Rattle.sn_tree.specs.Faults.{fault_of, move_fault};
+ghost use Rattle.sn_tree.specs.Steps.{HasRoom, moved};
+ghost use Rattle.sn_world.specs.Notices.{told};
+ghost use Rattle.sn_world.specs.declared.notices.NodeEvent.TheVariants.{Moved};
+ghost use Rattle.sn_osc.specs.Shape.{argument_of};
+ghost use Rattle.sn_world.specs.World.{World, Turn, turn_of};
+ghost use Rattle.sn_world.specs.Rows.{pairs};
+ghost use Rattle.sn_world.specs.Moving.{move_refusal, node_move, move_from, move_row};
+ghost use Rattle.sn_world.specs.Answers.{Continues, Follows, UnlessFollowed};
+ghost use Rattle.sn_world.specs.Pictures.{Pictures};
+ghost use Rattle.sn_nodecmd.specs.Folding.{IsAtRest, Keeps};
+ghost use Rattle.sn_nodecmd.specs.Relocating.{reason_of, refused_by};
+
+use crate::folding::{Repetition, each};
+use crate::telling::tell;
+use sn_osc::Arg;
+use sn_ports::NoMemory;
+use sn_reply::{Reason, Replies};
+use sn_tree::{Action, Spot, Tree, TreeFault};
+use sn_world::{Held, NodeEvent, NodeId, NodeMove, Stage, some_of};
+use std::alloc::Global;
+
+fn node_move(action: Action, first: i32, second: i32) -> NodeMove
+    ensures { result ≡ node_move action first second }
+{
+    match action {
+        Action::Before | Action::After => NodeMove {
+            action,
+            id: first,
+            target: second,
+        },
+        Action::Head | Action::Tail => NodeMove {
+            action,
+            id: second,
+            target: first,
+        },
+    }
+}
+
+fn move_from(action: Action, first: &Arg, second: &Arg) -> Option<NodeMove>
+    ensures { result ≡ move_from action (argument_of first.now) (argument_of second.now) }
+{
+    match (first, second) {
+        (Arg::Int(first), Arg::Int(second)) => Some(node_move(action, *first, *second)),
+        _ => None,
+    }
+}
+
+/// Moves with an action, each of two arguments.
+fn moves_of(
+    alloc: Global,
+    action: Action,
+    arguments: &[Arg],
+) -> Result<Option<Vec<NodeMove>>, NoMemory>
+    ensures { IfOk result (λ found. option_map (λ v. v.items) found ≡ pairs (move_from action) (map argument_of arguments.now)) }
+{
+    let mut found = Vec::new(alloc);
+    let mut rest = arguments;
+    while let [first, second, after @ ..] = rest {
+        let Some(one) = move_from(action, first, second) else {
+            return Ok(None);
+        };
+        found.push(one)?;
+        rest = after;
+    }
+    if rest.is_empty() {
+        Ok(Some(found))
+    } else {
+        Ok(None)
+    }
+}
+
+/// The reason by the tree's.
+fn reason_of(fault: TreeFault) -> Reason
+    ensures { result ≡ reason_of fault }
+{
+    match fault {
+        TreeFault::InUse => Reason::IdInUse,
+        TreeFault::NoNode => Reason::NoSuchNode,
+        TreeFault::IsRoot => Reason::Root,
+        TreeFault::NotGroup => Reason::NotGroup,
+        TreeFault::Inside => Reason::InsideItself,
+        TreeFault::TooMany => Reason::TooManyNodes,
+    }
+}
+
+/// Where the node goes.
+fn spot_of(to: &NodeMove) -> Spot
+    ensures { result ≡ record { action = to.now.action; target = to.now.target } }
+{
+    Spot {
+        action: to.action,
+        target: to.target,
+    }
+}
+
+/// Moves a node in the tree, or gives the tree's fault.
+fn shift(tree: &mut Tree<Held>, to: &NodeMove) -> Result<(), TreeFault>
+    requires room { HasRoom tree.old.journal }
+    ensures fault { fault_of result ≡ move_fault to.now.id to.now.action to.now.target tree.old.attached }
+    ensures ok { OnOk result (tree.new ≡ moved to.now.id to.now.action to.now.target tree.old) }
+    ensures refused { OnErr result (tree.new ≡ tree.old) }
+{
+    tree.move_to(to.id, spot_of(to))
+}
+
+/// Moves a node in the tree, where nothing is against it.
+fn relocate(tree: &mut Tree<Held>, to: &NodeMove) -> Result<(), Reason>
+    requires room { HasRoom tree.old.journal }
+    ensures reason { refused_by result ≡ move_refusal to.now tree.old.attached }
+    ensures ok { OnOk result (tree.new ≡ moved to.now.id to.now.action to.now.target tree.old) }
+    ensures refused { OnErr result (tree.new ≡ tree.old) }
+{
+    match shift(tree, to) {
+        Ok(()) => Ok(()),
+        Err(fault) => Err(reason_of(fault)),
+    }
+}
+
+/// Tells clients where a node stands after its move.
+fn tell_move(
+    alloc: Global,
+    stage: &Stage,
+    to: &NodeMove,
+    replies: &mut Replies,
+) -> Result<(), NoMemory>
+    ensures told { OnOk result ((words : List ℕ) → turn_of stage.now words replies.new ≡ told Moved to.now.id (turn_of stage.now words replies.old)) }
+    ensures continues { Continues replies.old replies.new }
+{
+    let node = NodeId { id: to.id };
+    tell(alloc, stage, NodeEvent::Moved, &node, replies)
+}
+
+impl Repetition for NodeMove {
+    ghost use Rattle.sn_world.specs.Moving.{judge_move, act_move};
+
+    ghost judge = { judge_move };
+
+    ghost act = { act_move };
+
+    fn step(
+        &self,
+        alloc: Global,
+        stage: &mut Stage,
+        replies: &mut Replies,
+    ) -> Result<Option<Reason>, NoMemory> {
+        match relocate(&mut stage.tree, self) {
+            Ok(()) => {}
+            Err(reason) => return Ok(Some(reason)),
+        }
+        tell_move(alloc, stage, self, replies)?;
+        Ok(None)
+    }
+}
+
+/// `/n_before`, `/n_after` (id target).. and `/g_head`, `/g_tail` (group id)..
+pub fn run_moves(
+    alloc: Global,
+    stage: &mut Stage,
+    action: Action,
+    arguments: &[Arg],
+    replies: &mut Replies,
+) -> Result<Option<Reason>, NoMemory>
+    requires rest { IsAtRest stage.old }
+    requires few { 16 * length arguments.now + 2 ^ 20 < 2 ^ 31 }
+    ensures row { (from : ℕ) (words : List ℕ) → Follows result (move_row action from (map argument_of arguments.now) (turn_of stage.old words replies.old)) (turn_of stage.new words replies.new) }
+    ensures unchanged { UnlessFollowed result (stage.new ≡ stage.old) }
+    ensures untold { UnlessFollowed result (replies.new ≡ replies.old) }
+    ensures pictures { (words : List ℕ) → Pictures stage.old words → Pictures stage.new words }
+    ensures clients { length stage.new.notify ≡ length stage.old.notify }
+    ensures region { stage.new.pool.region ≡ stage.old.pool.region }
+{
+    let Some(moves) = some_of(moves_of(alloc, action, arguments)?) else {
+        return Ok(Some(Reason::Arguments));
+    };
+    each(alloc, stage, &moves, replies)
+}

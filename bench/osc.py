@@ -1,6 +1,6 @@
-"""A small OSC 1.0 encoder and decoder, the SCgf v2 writer and the int32 framing.
+"""OSC 1.0 and its frames, and the definitions of the workloads: as SCgf version 2 for scsynth, as text for snova.
 
-Standard library only. Used by gen.py.
+Standard library only.
 """
 import struct
 
@@ -11,10 +11,6 @@ def pad(b):
 
 def ostr(text):
     return pad((text if isinstance(text, bytes) else text.encode()) + b"\0")
-
-
-class F(float):
-    """A float argument (tag f)."""
 
 
 def msg(address, *args):
@@ -74,18 +70,6 @@ def decode(b):
             n = struct.unpack(">i", b[at:at + 4])[0]
             args.append(b[at + 4:at + 4 + n]); at += 4 + n + (-n % 4)
     return [(address, args)]
-
-
-def wav_data(path):
-    """The bytes of the data chunk. (Float files also hold a PEAK chunk with the time of day.)"""
-    b = open(path, "rb").read()
-    at = 12
-    while at + 8 <= len(b):
-        kind, n = b[at:at + 4], struct.unpack("<I", b[at + 4:at + 8])[0]
-        if kind == b"data":
-            return b[at + 8:at + 8 + n]
-        at += 8 + n + n % 2
-    return b""
 
 
 def at(block, rate=48000):
@@ -183,24 +167,20 @@ def sc_defs():
         s = [d.sig("BinaryOpUGen", AUDIO, [s[k], s[k + 1]], special=ADD) for k in range(0, len(s), 2)]
     d.ugen("Out", AUDIO, [0.0, s[0], s[0]], 0)
     out["mix8"] = d.scgf()
-    # noise: for determinism, WhiteNoise -> Out
-    d = Def("noise", out=0)
-    a = d.sig("WhiteNoise", AUDIO, [])
-    m = d.sig("BinaryOpUGen", AUDIO, [a, 0.01], special=MUL)
-    d.ugen("Out", AUDIO, [d["out"], m], 0)
-    out["noise"] = d.scgf()
     return out
 
 
-SNOVA_DEFS = {k: v.encode() for k, v in {
-    "tone": "snova 1\ndef tone\ncontrol freq 440000\ncontrol out 0\n"
-            "a = SinOsc freq 0\nOut.ar out a\nend\n",
-    "toneline": "snova 1\ndef toneline\ncontrol freq 440000\ncontrol out 0\ncontrol dur 10000\n"
-                "a = SinOsc freq 0\ne = Line 0.01 0 dur 0\nm = Mul a e\nOut.ar out m\nend\n",
-    "quiet": "snova 1\ndef quiet\ncontrol freq 440000\ncontrol out 0\n"
-             "a = SinOsc freq 0\nm = Mul a 16384\nOut.ar out m\nend\n",
-    "voice": "snova 1\ndef voice\ncontrol freq 440000\ncontrol out 16\n"
-             "a = SinOsc freq 0\ne = Line 0.25 0 500 2\nm = Mul a e\nOut.ar out m\nend\n",
-    "mix8": "snova 1\ndef mix8\na b c d e f g h = In.ar 16\ni = Add a b\nj = Add c d\n"
-            "k = Add e f\nl = Add g h\nm = Add i j\nn = Add k l\no = Add m n\nOut.ar 0 o o\nend\n",
-}.items()}
+def snova_defs():
+    """The same definitions as texts."""
+    return {name: f"snova 1\ndef {name}\n{text}end\n".encode() for name, text in {
+        "tone": "control freq 440000\ncontrol out 0\n"
+                "a = SinOsc freq 0\nOut.ar out a\n",
+        "toneline": "control freq 440000\ncontrol out 0\ncontrol dur 10000\n"
+                    "a = SinOsc freq 0\ne = Line 0.01 0 dur 0\nm = Mul a e\nOut.ar out m\n",
+        "quiet": "control freq 440000\ncontrol out 0\n"
+                 "a = SinOsc freq 0\nm = Mul a 16384\nOut.ar out m\n",
+        "voice": "control freq 440000\ncontrol out 16\n"
+                 "a = SinOsc freq 0\ne = Line 0.25 0 500 2\nm = Mul a e\nOut.ar out m\n",
+        "mix8": "a b c d e f g h = In.ar 16\ni = Add a b\nj = Add c d\n"
+                "k = Add e f\nl = Add g h\nm = Add i j\nn = Add k l\no = Add m n\nOut.ar 0 o o\n",
+    }.items()}

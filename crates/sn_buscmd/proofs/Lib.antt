@@ -7,3 +7,9 @@ pub mod RunningLemmas
 pub mod FreeingLemmas
 pub mod StatusLemmas
 pub mod TestLemmas
+pub mod SampleLemmas
+pub mod PlacingLemmas
+pub mod BufferLemmas
+pub mod MakingLemmas
+pub mod ResamplingLemmas
+pub mod QueryLemmas

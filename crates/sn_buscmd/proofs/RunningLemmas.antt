@@ -5,7 +5,7 @@ use Rattle.sn_reply.specs.declared.reason.Reason.{Reason}
 use Rattle.sn_world.specs.declared.command.Handled.{Handled}
 use Rattle.sn_world.specs.declared.command.BusCommand.{BusCommand}
 use Rattle.sn_world.specs.World.{Turn}
-use Rattle.sn_world.specs.declared.command.BusCommand.TheVariants.{Set, SetRuns, Fill, Get, GetRuns, Sync, Receive, Free, Status, ClearSched, Quit}
+use Rattle.sn_world.specs.declared.command.BusCommand.TheVariants.{Set, SetRuns, Fill, Get, GetRuns, AllocBuffer, FreeBuffer, ZeroBuffer, QueryBuffers, Sync, Receive, Free, Status, ClearSched, Quit}
 use Rattle.sn_world.specs.Commands.{with_arguments, bus_row, bus_outcome, next_of, done_with}
 use Rattle.sn_world.specs.Answers.{Handles, IsNext, UnlessDone}
 use Rattle.sn_buscmd.specs.Given.{ArgumentsOf}
@@ -29,6 +29,10 @@ handles-done SetRuns outcome after is = is
 handles-done Fill outcome after is = is
 handles-done Get outcome after is = is
 handles-done GetRuns outcome after is = is
+handles-done AllocBuffer outcome after is = is
+handles-done FreeBuffer outcome after is = is
+handles-done ZeroBuffer outcome after is = is
+handles-done QueryBuffers outcome after is = is
 handles-done Sync outcome after is = is
 handles-done Receive outcome after is = is
 handles-done Free outcome after is = is
@@ -42,6 +46,10 @@ next-done SetRuns = refl
 next-done Fill = refl
 next-done Get = refl
 next-done GetRuns = refl
+next-done AllocBuffer = refl
+next-done FreeBuffer = refl
+next-done ZeroBuffer = refl
+next-done QueryBuffers = refl
 next-done Sync = refl
 next-done Receive = refl
 next-done Free = refl
@@ -55,6 +63,10 @@ unless-done SetRuns P = tt
 unless-done Fill P = tt
 unless-done Get P = tt
 unless-done GetRuns P = tt
+unless-done AllocBuffer P = tt
+unless-done FreeBuffer P = tt
+unless-done ZeroBuffer P = tt
+unless-done QueryBuffers P = tt
 unless-done Sync P = tt
 unless-done Receive P = tt
 unless-done Free P = tt

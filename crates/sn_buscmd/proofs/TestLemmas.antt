@@ -10,6 +10,7 @@ use Rattle.sn_reply.specs.Sending.{IsAnswerable}
 use Rattle.sn_world.specs.declared.stage.Stage.{Stage}
 use Rattle.sn_world.specs.Opening.{IsOpening}
 use Rattle.sn_world.specs.Pictures.{Pictures, WritesWorld}
+use Rattle.sn_world.proofs.BufferLaws.{opening_are, opening_live, no-times}
 
 pub decoded_answerable : (m : MessageShape) (bytes : List ℕ) → length bytes ≤ 65536 → Spells (message m) bytes → IsAnswerable m
 decoded_answerable m bytes few spelled =
@@ -24,8 +25,9 @@ opening_pictured rate memory stage words o some small bounded fits = record {
   bounded = rw o.pool bounded;
   fits = rw o.pool fits;
   synths = rw o.tree (tt, (tt, tt));
-  live = λ e some. rw (o.pool, o.tree) refl;
-  apart = λ x. rw o.tree (omega arith);
+  buffers = opening_are stage.pool.region stage.buffers o.buffers;
+  live = λ e some. rw (o.pool, o.tree, opening_live stage.buffers o.buffers) (no-times e);
+  apart = λ x. rw (o.tree, opening_live stage.buffers o.buffers) (omega arith);
   attached = rw o.tree refl;
   settled = rw o.tree refl;
   closed = rw o.pool refl;

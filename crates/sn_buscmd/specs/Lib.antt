@@ -1,3 +1,4 @@
 pub mod Setting
 pub mod Given
 pub mod Census
+pub mod Samples

@@ -3,12 +3,18 @@
 
 mod asking;
 mod asking_runs;
+mod buffer_freeing;
+mod buffer_making;
+mod buffer_querying;
+mod buffer_zeroing;
+mod buffers;
 mod ending;
 mod filling;
 mod freeing;
 mod judging;
 mod receiving;
 mod running;
+mod samples;
 mod setting;
 mod setting_runs;
 mod status;

@@ -6,13 +6,17 @@ ghost use Rattle.sn_osc.specs.declared.packet.Arg.{Arg};
 ghost use Rattle.sn_osc.specs.Shape.{argument_of, body_of, message_of};
 ghost use Rattle.sn_reply.specs.Sending.{IsAnswerable};
 ghost use Rattle.sn_world.specs.World.{turn_of};
-ghost use Rattle.sn_world.specs.Pictures.{Pictures, WritesBuses, WritesWorld, KeepsOutside};
+ghost use Rattle.sn_world.specs.Pictures.{Pictures, WritesWorld, KeepsOutside};
 ghost use Rattle.sn_world.specs.Commands.{bus_command_of, bus_row, run_bus, next_of, done_with};
 ghost use Rattle.sn_world.specs.Answers.{Follows, UnlessFollowed, Handles, UnlessDone, IsNext};
 ghost use Rattle.sn_buscmd.specs.Given.{ArgumentsOf};
 
 use crate::asking::run_get;
 use crate::asking_runs::run_get_runs;
+use crate::buffer_freeing::run_buffer_free;
+use crate::buffer_making::run_buffer_alloc;
+use crate::buffer_querying::run_buffer_query;
+use crate::buffer_zeroing::run_buffer_zero;
 use crate::ending::{run_clear, run_quit};
 use crate::filling::run_fill;
 use crate::freeing::run_free;
@@ -46,6 +50,18 @@ fn bus_command_of(address: &[u8]) -> Option<BusCommand>
     if address == b"/c_getn".as_slice() {
         return Some(BusCommand::GetRuns);
     }
+    if address == b"/b_alloc".as_slice() {
+        return Some(BusCommand::AllocBuffer);
+    }
+    if address == b"/b_free".as_slice() {
+        return Some(BusCommand::FreeBuffer);
+    }
+    if address == b"/b_zero".as_slice() {
+        return Some(BusCommand::ZeroBuffer);
+    }
+    if address == b"/b_query".as_slice() {
+        return Some(BusCommand::QueryBuffers);
+    }
     if address == b"/sync".as_slice() {
         return Some(BusCommand::Sync);
     }
@@ -71,7 +87,7 @@ fn bus_command_of(address: &[u8]) -> Option<BusCommand>
 fn arguments_of(message: &Message) -> Option<&[Arg]>
     requires { IsAnswerable (message_of message.now) }
     ensures arguments { ArgumentsOf (body_of message.now.body) (option_map (λ (xs : Bor (List Arg)). map argument_of xs.now) result) }
-    ensures few { IfSome result (λ xs. 16 * length xs.now + 2 ^ 20 < 2 ^ 31) }
+    ensures few { IfSome result (λ xs. 20 * length xs.now + 2 ^ 20 < 2 ^ 31) }
 {
     match &message.body {
         Body::Bare => Some(&[]),
@@ -90,9 +106,9 @@ fn run_row<P: Port>(
     from: u32,
     replies: &mut Replies,
 ) -> Result<Option<Reason>, NoMemory>
-    requires few { 16 * length arguments.now + 2 ^ 20 < 2 ^ 31 }
+    requires few { 20 * length arguments.now + 2 ^ 20 < 2 ^ 31 }
     requires pictures { Pictures stage.old (P.words port.old) }
-    requires foot { WritesBuses (P.foot port.old) }
+    requires foot { WritesWorld (P.foot port.old) stage.old.pool.region }
     ensures row { Follows result (bus_row command from (map argument_of arguments.now) (turn_of stage.old (P.words port.old) replies.old)) (turn_of stage.new (P.words port.new) replies.new) }
     ensures unchanged { UnlessFollowed result (turn_of stage.new (P.words port.new) replies.new ≡ turn_of stage.old (P.words port.old) replies.old) }
     ensures pictures { Pictures stage.new (P.words port.new) }
@@ -108,6 +124,10 @@ fn run_row<P: Port>(
         BusCommand::Fill => run_fill(alloc, port, arguments),
         BusCommand::Get => run_get(alloc, port, arguments, from, replies),
         BusCommand::GetRuns => run_get_runs(alloc, port, arguments, from, replies),
+        BusCommand::AllocBuffer => run_buffer_alloc(alloc, stage, port, arguments, from, replies),
+        BusCommand::FreeBuffer => run_buffer_free(alloc, stage, arguments, from, replies),
+        BusCommand::ZeroBuffer => run_buffer_zero(alloc, stage, port, arguments, from, replies),
+        BusCommand::QueryBuffers => run_buffer_query(alloc, stage, arguments, from, replies),
         BusCommand::Sync => run_sync(alloc, arguments, from, replies),
         BusCommand::Receive => run_receive(alloc, stage, arguments, from, replies),
         BusCommand::Free => run_free(alloc, stage, arguments),
@@ -128,7 +148,7 @@ fn done_with(command: BusCommand) -> Handled
     }
 }
 
-/// Runs a message from a client, where it is a command on control buses, on definitions or on the server itself.
+/// Runs a message from a client, where it is a command on control buses, on buffers, on definitions or on the server itself.
 ///
 /// `Done` comes where the command was carried out, `Quit` and `ClearSched` where it was the command of that name, `Failed` with the first reason against it, and `NotMine` where the address is that of
 /// another command or of none. `Failed` and `NotMine` leave the world and the

@@ -8,7 +8,7 @@ use super::*;
 use sn_mem::PlainPort;
 use sn_osc::{Message, Packet, decode};
 use sn_ports::{NoMemory, Text};
-use sn_reply::{Reason, Replies, put_frames};
+use sn_reply::{Reason, Replies, send};
 use sn_world::{Handled, Stage};
 use std::alloc::Global;
 use std::test::Fail;
@@ -71,9 +71,9 @@ fn told(
     let message = decoded(alloc, bytes)?;
     let mut replies = Replies::new(alloc);
     let handled = run_bus_command(alloc, stage, port, &message, 0, &mut replies)?;
-    let mut frames = Text::new(alloc);
-    put_frames(alloc, &mut frames, 0, replies)?;
-    Ok((handled, frames))
+    let mut frames = vec![in alloc; Text::new(alloc)]?;
+    send(alloc, &mut frames, 0, replies)?;
+    Ok((handled, frames.pop().unwrap_or(Text::new(alloc))))
 }
 
 #[test]

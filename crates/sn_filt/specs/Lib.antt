@@ -1,6 +1,8 @@
 pub mod Arithmetic
+pub mod Lanes
 pub mod Poles
 pub mod Sections
 pub mod Held
 pub mod Rings
+pub mod Runs
 pub mod Filters

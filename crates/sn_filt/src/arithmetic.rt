@@ -1,54 +1,28 @@
 //! Units without a state.
-ghost use Rattle.std.specs.Prelude.{◌≡◌, ◌≤◌, true, length, pos, ◌-ℤ◌, ◌≤ℤ◌, cond};
+ghost use Rattle.std.specs.Prelude.{◌≡◌, ◌≤◌, true, length};
 ghost use Rattle.sn_def.specs.Units.{row_of};
-ghost use Rattle.sn_filt.specs.Arithmetic.{is_arithmetic, arithmetic, rightness, clipped};
+ghost use Rattle.sn_filt.specs.Arithmetic.{is_arithmetic, arithmetic};
 
+use crate::lanes::{
+    Lanes, Lanewise, differences, equal, greatest, least, leftness, nearest, products, push_lanes,
+    rightness, samples_at, scaled, scaled_products, sums, where_greater,
+};
 use sn_def::Kind;
-use sn_fixed::{ONE, add, mul, mul_add, sat, sub};
-use sn_mem::{Blocks, Pointwise, push_pointwise};
-
-fn one_where(holds: bool) -> i32
-    ensures { result ≡ cond holds (pos 16777216) (pos 0) }
-{
-    if holds { ONE } else { 0 }
-}
-
-/// The sample nearest to `x` from -1.0 to 1.0.
-pub(crate) fn clipped(x: i32) -> i32
-    ensures { result ≡ clipped x }
-{
-    x.min(ONE).max(-ONE)
-}
-
-/// How far to the right a position is: 0 is left, and 1.0 right.
-fn rightness(position: i32) -> i32
-    ensures value { result ≡ rightness position }
-    ensures low { pos 0 ≤ℤ result }
-    ensures high { result ≤ℤ pos 16777216 }
-{
-    (clipped(position) + ONE).div_euclid(2)
-}
-
-/// How far to the left a position is: 1.0 is left, and 0 right.
-fn leftness(position: i32) -> i32
-    ensures { result ≡ pos 16777216 -ℤ rightness position }
-{
-    ONE - rightness(position)
-}
+use sn_mem::Blocks;
 
 /// Add a b
 #[derive(Clone, Copy)]
 struct Add;
 
-impl Pointwise for Add {
+impl Lanewise for Add {
     ghost use Rattle.sn_filt.specs.Arithmetic.{add};
 
     ghost arity = { λ _. 2 };
 
     ghost value = { λ _. add };
 
-    fn value(&self, inputs: &Blocks, frame: usize) -> i32 {
-        add(inputs.at(0, frame), inputs.at(1, frame))
+    fn lanes(&self, inputs: &Blocks, frame: usize) -> Lanes {
+        nearest(sums(samples_at(inputs, 0, frame), samples_at(inputs, 1, frame)))
     }
 }
 
@@ -56,15 +30,15 @@ impl Pointwise for Add {
 #[derive(Clone, Copy)]
 struct Sub;
 
-impl Pointwise for Sub {
+impl Lanewise for Sub {
     ghost use Rattle.sn_filt.specs.Arithmetic.{sub};
 
     ghost arity = { λ _. 2 };
 
     ghost value = { λ _. sub };
 
-    fn value(&self, inputs: &Blocks, frame: usize) -> i32 {
-        sub(inputs.at(0, frame), inputs.at(1, frame))
+    fn lanes(&self, inputs: &Blocks, frame: usize) -> Lanes {
+        nearest(differences(samples_at(inputs, 0, frame), samples_at(inputs, 1, frame)))
     }
 }
 
@@ -72,15 +46,15 @@ impl Pointwise for Sub {
 #[derive(Clone, Copy)]
 struct Mul;
 
-impl Pointwise for Mul {
+impl Lanewise for Mul {
     ghost use Rattle.sn_filt.specs.Arithmetic.{mul};
 
     ghost arity = { λ _. 2 };
 
     ghost value = { λ _. mul };
 
-    fn value(&self, inputs: &Blocks, frame: usize) -> i32 {
-        mul(inputs.at(0, frame), inputs.at(1, frame))
+    fn lanes(&self, inputs: &Blocks, frame: usize) -> Lanes {
+        scaled_products(samples_at(inputs, 0, frame), samples_at(inputs, 1, frame))
     }
 }
 
@@ -88,19 +62,16 @@ impl Pointwise for Mul {
 #[derive(Clone, Copy)]
 struct MulAdd;
 
-impl Pointwise for MulAdd {
+impl Lanewise for MulAdd {
     ghost use Rattle.sn_filt.specs.Arithmetic.{mul_add};
 
     ghost arity = { λ _. 3 };
 
     ghost value = { λ _. mul_add };
 
-    fn value(&self, inputs: &Blocks, frame: usize) -> i32 {
-        mul_add(
-            inputs.at(0, frame),
-            inputs.at(1, frame),
-            inputs.at(2, frame),
-        )
+    fn lanes(&self, inputs: &Blocks, frame: usize) -> Lanes {
+        let products = scaled(products(samples_at(inputs, 0, frame), samples_at(inputs, 1, frame)));
+        nearest(sums(products, samples_at(inputs, 2, frame)))
     }
 }
 
@@ -108,15 +79,15 @@ impl Pointwise for MulAdd {
 #[derive(Clone, Copy)]
 struct Neg;
 
-impl Pointwise for Neg {
+impl Lanewise for Neg {
     ghost use Rattle.sn_filt.specs.Arithmetic.{neg};
 
     ghost arity = { λ _. 1 };
 
     ghost value = { λ _. neg };
 
-    fn value(&self, inputs: &Blocks, frame: usize) -> i32 {
-        sat(-i64::from(inputs.at(0, frame)))
+    fn lanes(&self, inputs: &Blocks, frame: usize) -> Lanes {
+        nearest(differences(equal(0), samples_at(inputs, 0, frame)))
     }
 }
 
@@ -124,15 +95,16 @@ impl Pointwise for Neg {
 #[derive(Clone, Copy)]
 struct Abs;
 
-impl Pointwise for Abs {
+impl Lanewise for Abs {
     ghost use Rattle.sn_filt.specs.Arithmetic.{abs};
 
     ghost arity = { λ _. 1 };
 
     ghost value = { λ _. abs };
 
-    fn value(&self, inputs: &Blocks, frame: usize) -> i32 {
-        sat(i64::from(inputs.at(0, frame).unsigned_abs()))
+    fn lanes(&self, inputs: &Blocks, frame: usize) -> Lanes {
+        let samples = samples_at(inputs, 0, frame);
+        nearest(greatest(samples, differences(equal(0), samples)))
     }
 }
 
@@ -140,15 +112,15 @@ impl Pointwise for Abs {
 #[derive(Clone, Copy)]
 struct Min;
 
-impl Pointwise for Min {
+impl Lanewise for Min {
     ghost use Rattle.sn_filt.specs.Arithmetic.{min};
 
     ghost arity = { λ _. 2 };
 
     ghost value = { λ _. min };
 
-    fn value(&self, inputs: &Blocks, frame: usize) -> i32 {
-        inputs.at(0, frame).min(inputs.at(1, frame))
+    fn lanes(&self, inputs: &Blocks, frame: usize) -> Lanes {
+        least(samples_at(inputs, 0, frame), samples_at(inputs, 1, frame))
     }
 }
 
@@ -156,15 +128,15 @@ impl Pointwise for Min {
 #[derive(Clone, Copy)]
 struct Max;
 
-impl Pointwise for Max {
+impl Lanewise for Max {
     ghost use Rattle.sn_filt.specs.Arithmetic.{max};
 
     ghost arity = { λ _. 2 };
 
     ghost value = { λ _. max };
 
-    fn value(&self, inputs: &Blocks, frame: usize) -> i32 {
-        inputs.at(0, frame).max(inputs.at(1, frame))
+    fn lanes(&self, inputs: &Blocks, frame: usize) -> Lanes {
+        greatest(samples_at(inputs, 0, frame), samples_at(inputs, 1, frame))
     }
 }
 
@@ -172,18 +144,18 @@ impl Pointwise for Max {
 #[derive(Clone, Copy)]
 struct Clip;
 
-impl Pointwise for Clip {
+impl Lanewise for Clip {
     ghost use Rattle.sn_filt.specs.Arithmetic.{clip};
 
     ghost arity = { λ _. 3 };
 
     ghost value = { λ _. clip };
 
-    fn value(&self, inputs: &Blocks, frame: usize) -> i32 {
-        inputs
-            .at(0, frame)
-            .max(inputs.at(1, frame))
-            .min(inputs.at(2, frame))
+    fn lanes(&self, inputs: &Blocks, frame: usize) -> Lanes {
+        least(
+            greatest(samples_at(inputs, 0, frame), samples_at(inputs, 1, frame)),
+            samples_at(inputs, 2, frame),
+        )
     }
 }
 
@@ -191,15 +163,15 @@ impl Pointwise for Clip {
 #[derive(Clone, Copy)]
 struct Gt;
 
-impl Pointwise for Gt {
+impl Lanewise for Gt {
     ghost use Rattle.sn_filt.specs.Arithmetic.{gt};
 
     ghost arity = { λ _. 2 };
 
     ghost value = { λ _. gt };
 
-    fn value(&self, inputs: &Blocks, frame: usize) -> i32 {
-        one_where(inputs.at(0, frame) > inputs.at(1, frame))
+    fn lanes(&self, inputs: &Blocks, frame: usize) -> Lanes {
+        where_greater(samples_at(inputs, 0, frame), samples_at(inputs, 1, frame))
     }
 }
 
@@ -207,15 +179,15 @@ impl Pointwise for Gt {
 #[derive(Clone, Copy)]
 struct Lt;
 
-impl Pointwise for Lt {
+impl Lanewise for Lt {
     ghost use Rattle.sn_filt.specs.Arithmetic.{lt};
 
     ghost arity = { λ _. 2 };
 
     ghost value = { λ _. lt };
 
-    fn value(&self, inputs: &Blocks, frame: usize) -> i32 {
-        one_where(inputs.at(0, frame) < inputs.at(1, frame))
+    fn lanes(&self, inputs: &Blocks, frame: usize) -> Lanes {
+        where_greater(samples_at(inputs, 1, frame), samples_at(inputs, 0, frame))
     }
 }
 
@@ -223,18 +195,16 @@ impl Pointwise for Lt {
 #[derive(Clone, Copy)]
 struct PanLeft;
 
-impl Pointwise for PanLeft {
+impl Lanewise for PanLeft {
     ghost use Rattle.sn_filt.specs.Arithmetic.{pan_left};
 
     ghost arity = { λ _. 3 };
 
     ghost value = { λ _. pan_left };
 
-    fn value(&self, inputs: &Blocks, frame: usize) -> i32 {
-        mul(
-            mul(inputs.at(0, frame), inputs.at(2, frame)),
-            leftness(inputs.at(1, frame)),
-        )
+    fn lanes(&self, inputs: &Blocks, frame: usize) -> Lanes {
+        let level = scaled_products(samples_at(inputs, 0, frame), samples_at(inputs, 2, frame));
+        scaled_products(level, leftness(samples_at(inputs, 1, frame)))
     }
 }
 
@@ -242,18 +212,16 @@ impl Pointwise for PanLeft {
 #[derive(Clone, Copy)]
 struct PanRight;
 
-impl Pointwise for PanRight {
+impl Lanewise for PanRight {
     ghost use Rattle.sn_filt.specs.Arithmetic.{pan_right};
 
     ghost arity = { λ _. 3 };
 
     ghost value = { λ _. pan_right };
 
-    fn value(&self, inputs: &Blocks, frame: usize) -> i32 {
-        mul(
-            mul(inputs.at(0, frame), inputs.at(2, frame)),
-            rightness(inputs.at(1, frame)),
-        )
+    fn lanes(&self, inputs: &Blocks, frame: usize) -> Lanes {
+        let level = scaled_products(samples_at(inputs, 0, frame), samples_at(inputs, 2, frame));
+        scaled_products(level, rightness(samples_at(inputs, 1, frame)))
     }
 }
 
@@ -266,20 +234,20 @@ pub(crate) fn run_arithmetic(kind: Kind, inputs: &Blocks, outputs: &mut Blocks)
 {
     outputs.clear();
     match kind {
-        Kind::Add => push_pointwise(&Add, inputs, outputs),
-        Kind::Sub => push_pointwise(&Sub, inputs, outputs),
-        Kind::Mul => push_pointwise(&Mul, inputs, outputs),
-        Kind::MulAdd => push_pointwise(&MulAdd, inputs, outputs),
-        Kind::Neg => push_pointwise(&Neg, inputs, outputs),
-        Kind::Abs => push_pointwise(&Abs, inputs, outputs),
-        Kind::Min => push_pointwise(&Min, inputs, outputs),
-        Kind::Max => push_pointwise(&Max, inputs, outputs),
-        Kind::Clip => push_pointwise(&Clip, inputs, outputs),
-        Kind::Gt => push_pointwise(&Gt, inputs, outputs),
-        Kind::Lt => push_pointwise(&Lt, inputs, outputs),
+        Kind::Add => push_lanes(&Add, inputs, outputs),
+        Kind::Sub => push_lanes(&Sub, inputs, outputs),
+        Kind::Mul => push_lanes(&Mul, inputs, outputs),
+        Kind::MulAdd => push_lanes(&MulAdd, inputs, outputs),
+        Kind::Neg => push_lanes(&Neg, inputs, outputs),
+        Kind::Abs => push_lanes(&Abs, inputs, outputs),
+        Kind::Min => push_lanes(&Min, inputs, outputs),
+        Kind::Max => push_lanes(&Max, inputs, outputs),
+        Kind::Clip => push_lanes(&Clip, inputs, outputs),
+        Kind::Gt => push_lanes(&Gt, inputs, outputs),
+        Kind::Lt => push_lanes(&Lt, inputs, outputs),
         Kind::Pan2 => {
-            push_pointwise(&PanLeft, inputs, outputs);
-            push_pointwise(&PanRight, inputs, outputs);
+            push_lanes(&PanLeft, inputs, outputs);
+            push_lanes(&PanRight, inputs, outputs);
         }
         _ => {}
     }

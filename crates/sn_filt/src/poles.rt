@@ -1,10 +1,17 @@
 //! Filters with one sample or two of memory.
 ghost use Rattle.std.specs.Prelude.{◌≡◌, ◌<◌, ◌≤ℤ◌, ◌-ℤ◌, pos, negsuc, unsigned_abs};
+ghost use Rattle.sn_filt.specs.Arithmetic.{clipped};
 ghost use Rattle.sn_filt.specs.Poles.{pole, nearer, lag_sample};
 
-use crate::arithmetic::clipped;
 use sn_fixed::{ONE, frames_of, line_at, mul_add, weighted};
 use sn_mem::{Blocks, Recurrence, Stored, sample_of, word_of};
+
+/// The sample nearest to `x` from -1.0 to 1.0.
+fn clipped(x: i32) -> i32
+    ensures { result ≡ clipped x }
+{
+    x.min(ONE).max(-ONE)
+}
 
 /// What `c` leaves of 1.0.
 fn rest(c: i32) -> i32

@@ -1,9 +1,12 @@
 ghost use Rattle.std.specs.Prelude.{◌≡◌, ◌≤◌, true, length, IfOk};
 ghost use Rattle.sn_def.specs.Units.{row_of};
 ghost use Rattle.sn_def.specs.StateWords.{words_of};
+ghost use Rattle.sn_filt.specs.Arithmetic.{is_arithmetic};
 ghost use Rattle.sn_filt.specs.Filters.{is_filter};
 ghost use Rattle.sn_filt.specs.Rings.{most_frames};
 
+use crate::arithmetic::run_arithmetic;
+use crate::plain::run_plain;
 use crate::run;
 use sn_def::{Kind, Now};
 use sn_fixed::frames_of;
@@ -284,6 +287,233 @@ fn delay_lines(rt: HostRuntime) -> Result<(), Fail> {
         &rt,
         &echoes,
         &[(0, 0), (1, ONE), (2, HALF), (20, 32), (21, 15), (22, 7)],
+    );
+    Ok(())
+}
+
+/// A block of samples without a pattern, with the limits of 32 bits among them.
+fn noise(seed: u32) -> Block {
+    let mut samples = [0; 64];
+    let mut number = seed;
+    for frame in 0..64 {
+        number = number.wrapping_mul(1_664_525).wrapping_add(1_013_904_223);
+        samples[frame] = match number % 8 {
+            0 => i32::MIN,
+            1 => i32::MAX,
+            2 => -1,
+            _ => (number ^ number / 65_536).cast_signed(),
+        };
+    }
+    samples
+}
+
+/// The unit gives the same eight frames at a time as it does frame by frame.
+fn assert_plain(
+    rt: &impl Abort,
+    kind: Kind,
+    inputs: &Blocks,
+    outputs: &mut Blocks,
+    plain: &mut Blocks,
+)
+    requires kind { is_arithmetic kind ≡ true }
+    requires inputs { length (row_of kind).inputs ≤ length inputs.now }
+{
+    run_arithmetic(kind, inputs, outputs);
+    run_plain(kind, inputs, plain);
+    assert!(rt; outputs.len() > 0);
+    assert_eq!(rt; outputs.len(), plain.len());
+    for number in 0..outputs.len() {
+        assert!(rt; number < plain.len());
+        for frame in 0..64 {
+            assert_eq!(rt;
+                outputs.at(number, frame),
+                plain.at(number, frame),
+                "at frame {frame}"
+            );
+        }
+    }
+}
+
+#[test]
+#[tactic(auto, unfolding(sn_def::specs::Units::row_of))]
+fn eight_frames_at_a_time(rt: HostRuntime) -> Result<(), Fail> {
+    let alloc = rt.alloc();
+    let mut outputs = Blocks::new(alloc)?;
+    let mut plain = Blocks::new(alloc)?;
+    let mut inputs = Blocks::new(alloc)?;
+    for turn in 0..20u32 {
+        inputs.clear();
+        inputs.push(&noise(3 * turn));
+        inputs.push(&noise(3 * turn + 1));
+        inputs.push(&noise(3 * turn + 2));
+        assert_plain(&rt, Kind::Add, &inputs, &mut outputs, &mut plain);
+        assert_plain(&rt, Kind::Sub, &inputs, &mut outputs, &mut plain);
+        assert_plain(&rt, Kind::Mul, &inputs, &mut outputs, &mut plain);
+        assert_plain(&rt, Kind::MulAdd, &inputs, &mut outputs, &mut plain);
+        assert_plain(&rt, Kind::Neg, &inputs, &mut outputs, &mut plain);
+        assert_plain(&rt, Kind::Abs, &inputs, &mut outputs, &mut plain);
+        assert_plain(&rt, Kind::Min, &inputs, &mut outputs, &mut plain);
+        assert_plain(&rt, Kind::Max, &inputs, &mut outputs, &mut plain);
+        assert_plain(&rt, Kind::Clip, &inputs, &mut outputs, &mut plain);
+        assert_plain(&rt, Kind::Gt, &inputs, &mut outputs, &mut plain);
+        assert_plain(&rt, Kind::Lt, &inputs, &mut outputs, &mut plain);
+        assert_plain(&rt, Kind::Pan2, &inputs, &mut outputs, &mut plain);
+    }
+    Ok(())
+}
+
+#[test]
+#[tactic(auto, unfolding(sn_def::specs::Units::row_of))]
+fn arithmetic_at_the_limits(rt: HostRuntime) -> Result<(), Fail> {
+    let alloc = rt.alloc();
+    let mut second = [i32::MAX; 64];
+    second[0] = i32::MIN;
+    second[1] = ONE;
+    second[2] = -ONE;
+    second[3] = 1;
+    second[4] = -1;
+    let inputs = signals(alloc, &[i32::MIN; 64], &second, [i32::MIN, 0, 0, 0])?;
+    let difference = two_blocks(alloc, Kind::Sub, 0, &inputs)?;
+    assert_samples(
+        &rt,
+        &difference,
+        &[(0, 0), (1, i32::MIN), (2, i32::MIN + ONE), (63, i32::MIN)],
+    );
+    let product = two_blocks(alloc, Kind::Mul, 0, &inputs)?;
+    assert_samples(
+        &rt,
+        &product,
+        &[
+            (0, i32::MAX),
+            (1, i32::MIN),
+            (2, i32::MAX),
+            (3, -128),
+            (4, 128),
+            (63, i32::MIN),
+            (64, i32::MAX),
+        ],
+    );
+    let sum = two_blocks(alloc, Kind::MulAdd, 0, &inputs)?;
+    assert_samples(
+        &rt,
+        &sum,
+        &[
+            (0, i32::MAX),
+            (1, i32::MIN),
+            (2, 0),
+            (3, i32::MIN),
+            (4, i32::MIN + 128),
+            (63, i32::MIN),
+        ],
+    );
+    let less = two_blocks(alloc, Kind::Lt, 0, &inputs)?;
+    assert_samples(&rt, &less, &[(0, 0), (1, ONE), (63, ONE), (64, 0)]);
+    let section = two_blocks(alloc, Kind::SOS, 4, &inputs)?;
+    assert_samples(&rt, &section, &[(0, i32::MAX)]);
+    let inputs = signals(alloc, &[i32::MIN; 64], &second, [-5, 0, 0, 0])?;
+    let clipped = two_blocks(alloc, Kind::Clip, 0, &inputs)?;
+    assert_samples(
+        &rt,
+        &clipped,
+        &[(0, i32::MIN), (1, -5), (2, -ONE), (63, -5)],
+    );
+    Ok(())
+}
+
+#[test]
+#[tactic(auto, unfolding(sn_def::specs::Units::row_of))]
+fn filters_at_the_limits(rt: HostRuntime) -> Result<(), Fail> {
+    let alloc = rt.alloc();
+    let mut second = [0; 64];
+    second[1] = i32::MAX;
+    second[2] = i32::MIN;
+    second[3] = HALF;
+    let inputs = signals(alloc, &[i32::MIN; 64], &second, [0; 4])?;
+    let smoothed = two_blocks(alloc, Kind::OnePole, 1, &inputs)?;
+    assert_samples(
+        &rt,
+        &smoothed,
+        &[(0, i32::MIN), (1, i32::MIN), (2, i32::MAX), (3, -1)],
+    );
+    second[1] = -ONE;
+    second[2] = 0;
+    second[3] = ONE;
+    let inputs = signals(alloc, &[i32::MIN; 64], &second, [0; 4])?;
+    let sum = two_blocks(alloc, Kind::Integrator, 1, &inputs)?;
+    assert_samples(
+        &rt,
+        &sum,
+        &[(0, i32::MIN), (1, 0), (2, i32::MIN), (3, i32::MIN)],
+    );
+    let mut jump = [i32::MAX; 64];
+    jump[0] = i32::MIN;
+    second[1] = 1;
+    second[2] = -1;
+    let inputs = signals(alloc, &jump, &second, [0; 4])?;
+    let lag = two_blocks(alloc, Kind::Lag, 2, &inputs)?;
+    assert_samples(
+        &rt,
+        &lag,
+        &[
+            (0, i32::MIN),
+            (1, -2_058_005_163),
+            (2, i32::MAX),
+            (64, i32::MIN),
+        ],
+    );
+    let mut impulse = [0; 64];
+    impulse[0] = i32::MAX;
+    let inputs = signals(alloc, &impulse, &[0; 64], [-1, -2 * ONE, 0, 0])?;
+    let frames = longest(&rt, &inputs);
+    let echoes = two_blocks(alloc, Kind::CombN, frames.max(1) + 2, &inputs)?;
+    assert_samples(
+        &rt,
+        &echoes,
+        &[
+            (0, 0),
+            (1, i32::MAX),
+            (2, i32::MIN),
+            (3, i32::MAX),
+            (64, i32::MIN),
+            (65, i32::MAX),
+        ],
+    );
+    Ok(())
+}
+
+#[test]
+#[tactic(auto, unfolding(sn_def::specs::Units::row_of))]
+fn triggers_at_a_border(rt: HostRuntime) -> Result<(), Fail> {
+    let alloc = rt.alloc();
+    let mut trigger = [0; 64];
+    trigger[0] = 1;
+    trigger[1] = -1;
+    trigger[63] = 1;
+    let mut signal = [7; 64];
+    signal[0] = 5;
+    signal[63] = 9;
+    let inputs = signals(alloc, &signal, &trigger, [0; 4])?;
+    let latched = two_blocks(alloc, Kind::Latch, 2, &inputs)?;
+    assert_samples(
+        &rt,
+        &latched,
+        &[(0, 5), (62, 5), (63, 9), (64, 9), (126, 9)],
+    );
+    let gated = two_blocks(alloc, Kind::Gate, 1, &inputs)?;
+    assert_samples(&rt, &gated, &[(62, 5), (63, 9), (64, 5), (65, 5)]);
+    let inputs = signals(
+        alloc,
+        &trigger,
+        &[-1; 64],
+        [i32::MIN, i32::MAX, i32::MAX, i32::MAX],
+    )?;
+    let count = two_blocks(alloc, Kind::PulseCount, 3, &inputs)?;
+    assert_samples(&rt, &count, &[(0, 1), (62, 1), (63, 2), (64, 2), (127, 3)]);
+    let steps = two_blocks(alloc, Kind::Stepper, 4, &inputs)?;
+    assert_samples(
+        &rt,
+        &steps,
+        &[(0, -2), (62, -2), (63, i32::MAX - 2), (64, i32::MAX - 2)],
     );
     Ok(())
 }

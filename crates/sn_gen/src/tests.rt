@@ -313,3 +313,136 @@ fn lines_and_envelopes(rt: HostRuntime) -> Result<(), Fail> {
     assert_eq!(rt; done, 1);
     Ok(())
 }
+
+#[test]
+#[tactic(auto, unfolding(sn_def::specs::Units::row_of))]
+fn negative_frequencies_and_limits(rt: HostRuntime) -> Result<(), Fail> {
+    let alloc = rt.alloc();
+    let now = at_48000(1000, 0);
+
+    let inputs = signals(alloc, [-440_000, 0, 0, 0, 0])?;
+    let (sine, _) = two_blocks(alloc, Kind::SinOsc, 1, &now, &inputs, &inputs)?;
+    assert_samples(
+        &rt,
+        &sine,
+        &[(0, 0), (1, -980_744), (63, 7_855_329), (64, 8_689_057)],
+    );
+    let inputs = signals(alloc, [i32::MAX, i32::MAX, 0, 0, 0])?;
+    let (saw, _) = two_blocks(alloc, Kind::LFSaw, 1, &now, &inputs, &inputs)?;
+    assert_samples(
+        &rt,
+        &saw,
+        &[
+            (0, 16_777_215),
+            (1, 8_027_651),
+            (63, 2_425_538),
+            (64, -6_324_027),
+        ],
+    );
+    let inputs = signals(alloc, [i32::MIN, i32::MIN, 0, 0, 0])?;
+    let (saw, _) = two_blocks(alloc, Kind::LFSaw, 1, &now, &inputs, &inputs)?;
+    assert_samples(
+        &rt,
+        &saw,
+        &[
+            (0, -16_777_216),
+            (1, -8_027_652),
+            (63, -2_425_584),
+            (64, 6_323_981),
+        ],
+    );
+    let inputs = signals(alloc, [-750_000, 0, 4_194_304, 0, 0])?;
+    let (pulse, _) = two_blocks(alloc, Kind::LFPulse, 1, &now, &inputs, &inputs)?;
+    assert_samples(
+        &rt,
+        &pulse,
+        &[
+            (0, 16_777_216),
+            (1, 0),
+            (48, 0),
+            (49, 16_777_216),
+            (63, 16_777_216),
+            (65, 0),
+        ],
+    );
+    let (triangle, _) = two_blocks(alloc, Kind::LFTri, 1, &now, &inputs, &inputs)?;
+    assert_samples(
+        &rt,
+        &triangle,
+        &[
+            (1, -1_048_576),
+            (16, -16_777_216),
+            (48, 16_777_216),
+            (63, 1_048_576),
+            (64, 0),
+        ],
+    );
+    let (impulses, _) = two_blocks(alloc, Kind::Impulse, 2, &now, &inputs, &inputs)?;
+    assert_samples(
+        &rt,
+        &impulses,
+        &[
+            (0, 16_777_216),
+            (1, 0),
+            (2, 16_777_216),
+            (64, 16_777_216),
+            (65, 0),
+        ],
+    );
+    Ok(())
+}
+
+#[test]
+#[tactic(auto, unfolding(sn_def::specs::Units::row_of))]
+fn negative_times_and_limits(rt: HostRuntime) -> Result<(), Fail> {
+    let alloc = rt.alloc();
+    let now = at_48000(1000, 0);
+
+    let inputs = signals(alloc, [0, i32::MAX, i32::MIN, i32::MAX, 0])?;
+    let (ramp, _) = two_blocks(alloc, Kind::Phasor, 3, &now, &inputs, &inputs)?;
+    assert_samples(
+        &rt,
+        &ramp,
+        &[
+            (0, i32::MIN),
+            (1, -1),
+            (2, i32::MAX - 1),
+            (3, i32::MIN),
+            (63, i32::MIN),
+            (64, -1),
+        ],
+    );
+    let inputs = signals(alloc, [i32::MIN, i32::MAX, 1, 2, 0])?;
+    let (line, done) = two_blocks(alloc, Kind::Line, 5, &now, &inputs, &inputs)?;
+    assert_samples(
+        &rt,
+        &line,
+        &[
+            (0, i32::MIN),
+            (1, -2_058_005_163),
+            (24, -1),
+            (47, 2_058_005_161),
+            (48, i32::MAX),
+            (127, i32::MAX),
+        ],
+    );
+    assert_eq!(rt; done, 1);
+    let inputs = signals(alloc, [i32::MIN, 7, -1, 2, 0])?;
+    let (line, done) = two_blocks(alloc, Kind::Line, 5, &now, &inputs, &inputs)?;
+    assert_samples(&rt, &line, &[(0, 7), (64, 7)]);
+    assert_eq!(rt; done, 1);
+
+    let opened = signals(alloc, [1, -1, i32::MIN, -1, 2])?;
+    let closed = signals(alloc, [-3, -1, i32::MIN, -1, 2])?;
+    let (envelope, done) = two_blocks(alloc, Kind::Linen, 7, &now, &opened, &closed)?;
+    assert_samples(
+        &rt,
+        &envelope,
+        &[(0, i32::MIN), (63, i32::MIN), (64, 0), (127, 0)],
+    );
+    assert_eq!(rt; done, 1);
+    let (envelope, done) = two_blocks(alloc, Kind::Linen, 7, &now, &closed, &opened)?;
+    assert_samples(&rt, &envelope, &[(0, 0), (63, 0), (64, i32::MIN)]);
+    assert_eq!(rt; done, 0);
+    Ok(())
+}

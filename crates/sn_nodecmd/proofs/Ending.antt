@@ -1,9 +1,9 @@
 -- Freed nodes that end, one after the other.
-use Rattle.std.proofs.Common.{◌≡◌, ◌≤◌, ◌+◌, ℕ, Bool, true, false, [], ◌∷◌, Option, Some, None, refl, ap, ◌∙◌, arith}
+use Rattle.std.proofs.Common.{◌≡◌, ◌≤◌, ◌<◌, ◌+◌, ℕ, Bool, true, false, [], ◌∷◌, Option, Some, None, refl, ap, ◌∙◌, arith}
 use Rattle.std.specs.Prelude.{if◌then◌else◌}
 use Rattle.std.specs.Option.{option_map}
 use Rattle.sn_mem.specs.declared.extents.Extent.{Extent}
-use Rattle.sn_pool.specs.Pools.{Journal, same_extent, times, room_of, one_given}
+use Rattle.sn_pool.specs.Pools.{Journal, same_extent, times, room_of, HasRoom, one_given}
 use Rattle.sn_pool.proofs.Counts.{same_itself, same_is}
 use Rattle.sn_tree.specs.Trees.{Label, Nodes, none, node, count, joined, first_label, without_first}
 use Rattle.sn_world.specs.declared.stage.Held.{Held}
@@ -39,6 +39,10 @@ own_empty h e state is empty some = own_synth h e state is ∙ at (same_extent e
     at : (b : Bool) → same_extent e state ≡ b → ◌≡◌ {A = ℕ} (if b then 1 else 0) 0
     at true same = absurd (omega (arith, empty, some, ap (λ (y : Extent). y.len) (same_is e state same)))
     at false other = refl
+
+pub has_room : (j : Option Journal) → 0 < room_of j → HasRoom j
+has_room None more = tt
+has_room (Some j) more = more
 
 pub room_given : (j : Option Journal) → room_of j ≤ 1 + room_of (one_given j)
 room_given None = omega arith

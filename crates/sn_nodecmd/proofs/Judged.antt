@@ -1,14 +1,19 @@
 -- The reason against a new node is the tree's.
-use Rattle.std.proofs.Common.{◌≡◌, ◌+◌, ℤ, pos, Bool, true, false, not, ◌&&◌, nat_lt, [], ◌∷◌, Some, None, refl, is_some}
+use Rattle.std.proofs.Common.{◌≡◌, ◌≤◌, ◌+◌, ℤ, pos, Bool, true, false, not, ◌&&◌, nat_lt, [], ◌∷◌, Some, None, refl, sym, ap, ◌∙◌, subst, ⊎_elim, arith, is_some}
+use Rattle.std.proofs.lemmas.Bool.{cases_Bool, le-ltb}
 use Rattle.std.specs.Ordering.{int_eq}
 use Rattle.sn_reply.specs.declared.reason.Reason.TheVariants as Reasons
-use Rattle.sn_tree.specs.declared.node.Action.{Action}
 use Rattle.sn_tree.specs.declared.node.TreeFault.TheVariants as faults
-use Rattle.sn_tree.specs.Trees.{Nodes, holds, label_of, count}
-use Rattle.sn_tree.specs.Faults.{first_fault, insert_fault, is_inside, labels_synth, is_missing, is_in_synth, is_beside_root}
+use Rattle.sn_tree.specs.Trees.{Nodes, holds, without, label_of, count}
+use Rattle.sn_tree.specs.Faults.{first_fault, insert_fault, replace_fault, is_inside, labels_synth, is_missing, is_in_synth, is_beside_root}
+use Rattle.std.proofs.lemmas.Bool.Decides.{Decides-int_eq}
+use Rattle.sn_world.specs.declared.repetition.NewNode.{NewNode}
+use Rattle.sn_world.specs.declared.stage.Held.{Held}
+use Rattle.sn_world.specs.declared.stage.Stage.{Stage}
 use Rattle.sn_world.specs.Rows.{first_of}
-use Rattle.sn_world.specs.NewNodes.{add_action, action_for, node_refusal}
-use Rattle.sn_nodecmd.specs.Judging.{reason_for}
+use Rattle.sn_world.specs.NewNodes.{add_action, action_for, replaces, left_by, node_refusal}
+use Rattle.sn_world.proofs.Replacing.{is_four, fewer}
+use Rattle.sn_nodecmd.specs.Judging.{reason_for, fault_by}
 
 -- a node is not both inside a synth and beside the root
 by_tests : (known used missing inside synth root many : Bool)
@@ -30,14 +35,50 @@ by_tests false false false false synth true many = refl
 by_tests false false false false synth false true = refl
 by_tests false false false false synth false false = refl
 
--- no fault: the target is there
-pub spotted : {P : Type 0} (id : ℤ) (action : Action) (target : ℤ) (t : Nodes P) → insert_fault id action target t ≡ None → holds target t ≡ true
-spotted id action target t h = at (holds id t) (holds target t) (is_beside_root action target) (is_in_synth action target t) (nat_lt 4096 (count t + 1)) h
-  where
-    at : (used there root synth many : Bool) → first_fault ((used, faults.InUse) ∷ (not there, faults.NoNode) ∷ (root, faults.IsRoot) ∷ (synth, faults.NotGroup) ∷ (many, faults.TooMany) ∷ []) ≡ None → there ≡ true
-    at true there root synth many h = absurd cc
-    at false true root synth many h = refl
-    at false false root synth many h = absurd cc
+-- nothing is against a new node: its target is there, and has another id
+pub record IsPlaceable (id : ℤ) (r : NewNode) (stage : Stage) : Type 0 where
+  pub there : holds r.target stage.tree.attached ≡ true
+  pub other : int_eq id r.target ≡ false
 
-pub judged_node : {P : Type 0} (id action target : ℤ) (t : Nodes P) → reason_for (is_some (add_action action)) (insert_fault id (action_for action) target t) ≡ node_refusal (Some id) action target t
-judged_node id action target t = by_tests (is_some (add_action action)) (holds id t) (is_missing target t) (is_inside (action_for action)) (labels_synth (label_of target t)) (int_eq target (pos 0)) (nat_lt 4096 (count t + 1))
+pub placeable : (id : ℤ) (r : NewNode) (stage : Stage) → None ≡ node_refusal (Some id) r.action r.target stage.tree.attached → IsPlaceable id r stage
+placeable id r stage h = at (holds id stage.tree.attached) (is_some (add_action r.action)) (holds r.target stage.tree.attached) (is_in_synth (action_for r.action) r.target stage.tree.attached) (is_beside_root (action_for r.action) r.target) (nat_lt 4096 (count (left_by (replaces r.action) r.target stage.tree.attached) + 1)) refl refl (sym h)
+  where
+    apart : (b : Bool) → int_eq id r.target ≡ b → holds id stage.tree.attached ≡ false → holds r.target stage.tree.attached ≡ true → b ≡ false
+    apart false e free there = refl
+    apart true e free there =
+        let same : id ≡ r.target = (Decides-int_eq id r.target).0 e in
+        let bad : true ≡ false = sym there ∙ ap (λ n. holds n stage.tree.attached) (sym same) ∙ free in
+        absurd cc
+
+    at : (used known there inside root many : Bool) → holds id stage.tree.attached ≡ used → holds r.target stage.tree.attached ≡ there
+        → first_of ((used, Reasons.IdInUse) ∷ (not known, Reasons.AddAction) ∷ (not there, Reasons.NoSuchNode) ∷ (inside, Reasons.NotGroup) ∷ (root, Reasons.Root) ∷ (many, Reasons.TooManyNodes) ∷ []) ≡ None → IsPlaceable id r stage
+    at true known there inside root many a b h = absurd cc
+    at false false there inside root many a b h = absurd cc
+    at false true false inside root many a b h = absurd cc
+    at false true true inside root many a b h = record { there = b; other = apart (int_eq id r.target) refl a b }
+
+replace_tests : (used there root many : Bool) → (there ≡ true → many ≡ false)
+    → reason_for true (first_fault ((used, faults.InUse) ∷ (not there, faults.NoNode) ∷ (root, faults.IsRoot) ∷ []))
+    ≡ first_of ((used, Reasons.IdInUse) ∷ (false, Reasons.AddAction) ∷ (not there, Reasons.NoSuchNode) ∷ (false, Reasons.NotGroup) ∷ (root, Reasons.Root) ∷ (many, Reasons.TooManyNodes) ∷ [])
+replace_tests true there root many few = refl
+replace_tests false false root many few = refl
+replace_tests false true true many few = refl
+replace_tests false true false many few = let no : many ≡ false = few refl in rw no refl
+
+judged_replace : {P : Type 0} (id target : ℤ) (t : Nodes P) → count t ≤ 4096 → reason_for true (replace_fault id target t) ≡ node_refusal (Some id) (pos 4) target t
+judged_replace id target t few = replace_tests (holds id t) (holds target t) (int_eq target (pos 0)) (nat_lt 4096 (count (without target t) + 1)) (λ there. le-ltb 4096 (count (without target t) + 1) (omega (arith, few, fewer target t there)))
+
+judged_insert : {P : Type 0} (id action target : ℤ) (t : Nodes P) → replaces action ≡ false → reason_for (is_some (add_action action)) (fault_by (replaces action) id (action_for action) target t) ≡ node_refusal (Some id) action target t
+judged_insert id action target t stays =
+    subst
+    (λ (b : Bool). reason_for (is_some (add_action action)) (fault_by b id (action_for action) target t)
+    ≡ first_of ((holds id t, Reasons.IdInUse) ∷ (not (is_some (add_action action)), Reasons.AddAction) ∷ (is_missing target t, Reasons.NoSuchNode) ∷ (is_in_synth (action_for action) target t, Reasons.NotGroup) ∷ (is_beside_root (action_for action) target, Reasons.Root) ∷ (nat_lt 4096 (count (left_by b target t) + 1), Reasons.TooManyNodes) ∷ []))
+    (sym stays)
+    (by_tests (is_some (add_action action)) (holds id t) (is_missing target t) (is_inside (action_for action)) (labels_synth (label_of target t)) (int_eq target (pos 0)) (nat_lt 4096 (count t + 1)))
+
+pub judged_node : {P : Type 0} (id action target : ℤ) (t : Nodes P) → count t ≤ 4096 → reason_for (is_some (add_action action)) (fault_by (replaces action) id (action_for action) target t) ≡ node_refusal (Some id) action target t
+judged_node id action target t few =
+    ⊎_elim
+    (λ (n : replaces action ≡ true). subst (λ a. reason_for (is_some (add_action a)) (fault_by (replaces a) id (action_for a) target t) ≡ node_refusal (Some id) a target t) (sym (is_four action n)) (judged_replace id target t few))
+    (λ (n : replaces action ≡ false). judged_insert id action target t n)
+    (cases_Bool (replaces action))

@@ -10,9 +10,15 @@ pub mod ReworkLemmas
 pub mod Ending
 pub mod Underway
 pub mod Repeating
+pub mod EmptyingLemmas
 pub mod Stepping
 pub mod Relocating
 pub mod ToldLemmas
 pub mod QueryLemmas
 pub mod MappingLemmas
+pub mod OrderLemmas
 mod Inserted
+pub mod Replacing
+pub mod NameLemmas
+pub mod DescribingLemmas
+pub mod GettingLemmas

@@ -3,25 +3,23 @@ use Rattle.std.proofs.Common.{◌≡◌, ◌≤◌, ◌<◌, ◌+◌, ◌||◌, 
 use Rattle.std.proofs.lemmas.Bool.{or_left}
 use Rattle.sn_mem.specs.Words.{covers, everything}
 use Rattle.sn_mem.proofs.Meetings.{covered}
-use Rattle.std.specs.Prelude.{codes}
+use Rattle.std.specs.Prelude.{codes, replicate}
 use Rattle.sn_osc.specs.Shape.{MessageShape, arguments, int, string}
 use Rattle.sn_reply.specs.Sending.{IsAnswerable}
-use Rattle.sn_pool.specs.Pools.{PoolState, times}
+use Rattle.sn_pool.specs.Pools.{PoolState}
 use Rattle.sn_tree.specs.declared.node.NodeKind.TheVariants as kinds
 use Rattle.sn_tree.specs.Trees.{none, leaf}
 use Rattle.sn_tree.specs.Model.{NodeTree}
 use Rattle.sn_world.specs.declared.stage.Held.{Held}
 use Rattle.sn_world.specs.declared.stage.Held.TheVariants as held
 use Rattle.sn_world.specs.declared.stage.Stage.{Stage}
-use Rattle.sn_world.specs.Pictures.{live_held, overlaps, AreHeld, Pictures, WritesWorld}
+use Rattle.sn_world.specs.Pictures.{AreHeld, Pictures, WritesWorld}
+use Rattle.sn_world.proofs.BufferLaws.{opening_are, opening_live, no-times}
 
 module _ (rate memory : ℕ) (stage : Stage) (words : List ℕ)
     (tree : stage.tree ≡ record { attached = leaf (pos 0) kinds.Group held.Group; detached = none; journal = None })
     (pool : stage.pool ≡ record { region = record { at = 10368; len = memory }; live = []; journal = None })
-    (frames : stage.rate ≡ rate) (some : 0 < rate) (few : rate ≤ 96000) (small : memory ≤ 16777216) (long : length words ≡ 10368 + memory) where
-  none_live : (x : ℕ) → overlaps x (live_held stage.tree.attached) ≡ 0
-  none_live x = ap (λ (t : NodeTree Held). overlaps x (live_held t.attached)) tree
-
+    (buffers : stage.buffers ≡ replicate 1024 None) (frames : stage.rate ≡ rate) (some : 0 < rate) (few : rate ≤ 96000) (small : memory ≤ 16777216) (long : length words ≡ 10368 + memory) where
   pub opened_pictures : Pictures stage words
   opened_pictures = record {
     rate = omega (arith, frames, some);
@@ -30,8 +28,9 @@ module _ (rate memory : ℕ) (stage : Stage) (words : List ℕ)
     bounded = omega (arith, ap (λ (p : PoolState). p.region.len) pool, small);
     fits = omega (arith, ap (λ (p : PoolState). p.region.len) pool, long);
     synths = subst (λ (t : NodeTree Held). AreHeld stage.rate stage.pool.region t.attached) (sym tree) (tt, (tt, tt));
-    live = λ e _. ap (λ (p : PoolState). times e p.live) pool ∙ sym (ap (λ (t : NodeTree Held). times e (live_held t.attached)) tree);
-    apart = λ x. omega (arith, none_live x);
+    buffers = opening_are stage.pool.region stage.buffers buffers;
+    live = λ e _. rw (pool, tree, opening_live stage.buffers buffers) (no-times e);
+    apart = λ x. rw (tree, opening_live stage.buffers buffers) (omega arith);
     attached = ap (λ (t : NodeTree Held). t.detached) tree;
     settled = ap (λ (t : NodeTree Held). t.journal) tree;
     closed = ap (λ (p : PoolState). p.journal) pool;

@@ -29,7 +29,8 @@ use Rattle.sn_world.proofs.Counting.{amount-put, amount-without}
 use Rattle.sn_world.proofs.Inserting.{held-put}
 use Rattle.sn_nodecmd.specs.Folding.{KeepsTree, Keeps}
 use Rattle.sn_nodecmd.specs.Relocating.{reason_of}
-use Rattle.sn_nodecmd.proofs.Stepping.{count-put, saved_followed, room_followed, held-without, keeps_with}
+use Rattle.sn_world.proofs.Replacing.{held-without}
+use Rattle.sn_nodecmd.proofs.Stepping.{count-put, saved_followed, room_followed, keeps_with}
 
 -- ---- a subtree that is taken out, and what is left
 

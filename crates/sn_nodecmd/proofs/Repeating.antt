@@ -87,6 +87,9 @@ short_some (Some (r ∷ rs)) n h = h
 pub few_singles : {R : Type 0} (p : Argument → Option R) (xs : List Argument) (rs : List R) → Some rs ≡ some_of (singles p xs) → length rs ≤ length xs
 few_singles {R} p xs rs is = subst (λ (o : Option (List R)). IsShort o (length xs)) (sym is) (short_some (singles p xs) (length xs) (short_singles p xs))
 
+pub few_each : {R : Type 0} (p : Argument → Option R) (xs : List Argument) (rs : List R) → Some rs ≡ singles p xs → length rs ≤ length xs
+few_each {R} p xs rs is = subst (λ (o : Option (List R)). IsShort o (length xs)) (sym is) (short_singles p xs)
+
 pub few_triples : {R : Type 0} (p : Argument → Argument → Argument → Option R) (xs : List Argument) (rs : List R) → Some rs ≡ some_of (triples p xs) → length rs ≤ length xs
 few_triples {R} p xs rs is = subst (λ (o : Option (List R)). IsShort o (length xs)) (sym is) (short_some (triples p xs) (length xs) (short_triples p xs))
 

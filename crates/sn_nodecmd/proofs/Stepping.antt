@@ -23,15 +23,18 @@ use Rattle.sn_world.specs.declared.repetition.NewNode.{NewNode}
 use Rattle.sn_world.specs.declared.stage.Held.{Held}
 use Rattle.sn_world.specs.declared.stage.Held.TheVariants as held
 use Rattle.sn_world.specs.declared.stage.Stage.{Stage}
-use Rattle.sn_world.specs.Nodes.{Content, content_of}
+use Rattle.sn_world.specs.Nodes.{Content, group, content_of}
 use Rattle.sn_world.specs.Notices.{told}
 use Rattle.sn_world.specs.Freeing.{told_ends, freed, free_refusal}
-use Rattle.sn_world.specs.NewNodes.{is_used, next_after, add_action, action_for, node_refusal, act_with}
+use Rattle.sn_world.specs.NewNodes.{is_used, next_after, add_action, action_for, replaces, left_by, placed, told_if, told_replaced, node_refusal, with_group, act_with}
 use Rattle.sn_world.specs.Pictures.{live_held, amount, AreHeld}
 use Rattle.sn_world.specs.Rows.{first_of}
 use Rattle.sn_world.specs.World.{World, Turn, world_of, turn_of}
 use Rattle.sn_world.proofs.Counting.{amount-put, amount-leaf, amount-joined, amount-without}
 use Rattle.sn_world.proofs.Inserting.{held-put}
+use Rattle.sn_world.proofs.Replacing.{goes_before, held-without, fewer, left-payloads, count-left}
+use Rattle.sn_tree.proofs.Replacing.{still_held}
+use Rattle.sn_nodecmd.specs.Adding.{added}
 use Rattle.sn_nodecmd.specs.Folding.{room_in, saved_in, KeepsTree, Keeps}
 
 -- ---- how many nodes
@@ -77,17 +80,6 @@ saved_followed cost step (Some journal) = refl
 pub room_followed : (cost : ℕ) (step : Sides (Option ℕ) → Sides (Option ℕ)) (j : Option (Journal Held)) → room_in (followed cost step j) ≡ room_in j - cost
 room_followed cost step None = omega arith
 room_followed cost step (Some journal) = refl
-
--- ---- nodes that stay
-
-pub held-without : (rate : ℕ) (region : Extent) (id : ℤ) (t : Nodes Held) → AreHeld rate region t → AreHeld rate region (without id t)
-held-without rate region id none h = h
-held-without rate region id (node l below after) h =
-    cond_both (int_eq l.id id) after (if holds id below then node l (without id below) after else node l below (without id after)) (AreHeld rate region)
-    (λ _. h.1.1)
-    (λ _. cond_both (holds id below) (node l (without id below) after) (node l below (without id after)) (AreHeld rate region)
-    (λ _. (h.0, (held-without rate region id below h.1.0, h.1.1)))
-    (λ _. (h.0, (h.1.0, held-without rate region id after h.1.1))))
 
 -- ---- steps
 
@@ -154,15 +146,15 @@ freed_is stage new id old_replies new_replies is told words =
     ∙ sym (ap (λ (s : Stage). turn_of s words new_replies) is)
 
 pub keeps_stage : (old new : Stage) → new ≡ old → Keeps old new
-keeps_stage old new is = record { tree = subst (KeepsTree old.tree) (sym (ap (λ (s : Stage). s.tree) is)) (keeps_same old.tree); pool = ap (λ (s : Stage). s.pool) is; defs = ap (λ (s : Stage). s.defs) is; notify = ap (λ (s : Stage). s.notify) is; rate = ap (λ (s : Stage). s.rate) is }
+keeps_stage old new is = record { tree = subst (KeepsTree old.tree) (sym (ap (λ (s : Stage). s.tree) is)) (keeps_same old.tree); pool = ap (λ (s : Stage). s.pool) is; buffers = ap (λ (s : Stage). s.buffers) is; defs = ap (λ (s : Stage). s.defs) is; notify = ap (λ (s : Stage). s.notify) is; rate = ap (λ (s : Stage). s.rate) is }
 
 pub keeps_with : (old new : Stage) (tree : NodeTree Held) (next : Option ℤ) → KeepsTree old.tree tree → new ≡ record old { tree = tree; next_id = next } → Keeps old new
-keeps_with old new tree next keeps is = record { tree = subst (KeepsTree old.tree) (sym (ap (λ (s : Stage). s.tree) is)) keeps; pool = ap (λ (s : Stage). s.pool) is; defs = ap (λ (s : Stage). s.defs) is; notify = ap (λ (s : Stage). s.notify) is; rate = ap (λ (s : Stage). s.rate) is }
+keeps_with old new tree next keeps is = record { tree = subst (KeepsTree old.tree) (sym (ap (λ (s : Stage). s.tree) is)) keeps; pool = ap (λ (s : Stage). s.pool) is; buffers = ap (λ (s : Stage). s.buffers) is; defs = ap (λ (s : Stage). s.defs) is; notify = ap (λ (s : Stage). s.notify) is; rate = ap (λ (s : Stage). s.rate) is }
 
 -- ---- making
 
 target_there : (id : Option ℤ) (action target : ℤ) (t : Nodes Held) → node_refusal id action target t ≡ None → holds target t ≡ true
-target_there id action target t = at (is_used id t) (is_some (add_action action)) (holds target t) (is_in_synth (action_for action) target t) (is_beside_root (action_for action) target) (nat_lt 4096 (count t + 1))
+target_there id action target t = at (is_used id t) (is_some (add_action action)) (holds target t) (is_in_synth (action_for action) target t) (is_beside_root (action_for action) target) (nat_lt 4096 (count (left_by (replaces action) target t) + 1))
   where
     at : (used known there inside root many : Bool) → first_of ((used, Reasons.IdInUse) ∷ (not known, Reasons.AddAction) ∷ (not there, Reasons.NoSuchNode) ∷ (inside, Reasons.NotGroup) ∷ (root, Reasons.Root) ∷ (many, Reasons.TooManyNodes) ∷ []) ≡ None → there ≡ true
     at true known there inside root many h = absurd cc
@@ -177,7 +169,7 @@ node_refusal_in stage words id action target = λ i. first_of (
     ∷ (not (holds-payloads f target t i), Reasons.NoSuchNode)
     ∷ (is_inside (action_for action) && synth-payloads f target t i, Reasons.NotGroup)
     ∷ (is_beside_root (action_for action) target, Reasons.Root)
-    ∷ (nat_lt 4096 (count-payloads f t i + 1), Reasons.TooManyNodes)
+    ∷ (nat_lt 4096 (count-left f (replaces action) target t i + 1), Reasons.TooManyNodes)
     ∷ [])
   where
     t : Nodes Held
@@ -190,16 +182,45 @@ node_refusal_in stage words id action target = λ i. first_of (
     used None = refl
     used (Some x) = holds-payloads f x t
 
-pub keeps_group : (old new : Stage) (id action target : ℤ) (next : Option ℤ) → node_refusal (Some id) action target old.tree.attached ≡ None
-    → new ≡ record old { tree = inserted id kinds.Group (action_for action) target held.Group old.tree; next_id = next } → Keeps old new
-keeps_group old new id action target next allowed is =
-    keeps_with old new (inserted id kinds.Group (action_for action) target held.Group old.tree) next (keeps_inserted id kinds.Group (action_for action) target old.tree (target_there (Some id) action target old.tree.attached allowed)) is
+-- with the nodes that are replaced
+pub added_attached : (b : Bool) (id : ℤ) (kind : NodeKind) (action : Action) (target : ℤ) (h : Held) (tree : NodeTree Held) → (added b id kind action target h tree).attached ≡ left_by b target (put action target (leaf id kind h) tree.attached)
+added_attached true id kind action target h tree = refl
+added_attached false id kind action target h tree = refl
 
-pub group_made : (old new : Stage) (r : NewNode) (id : ℤ) (old_replies new_replies : List ReplyShape) → new ≡ record old { tree = inserted id kinds.Group (action_for r.action) r.target held.Group old.tree; next_id = next_after old.next_id r.id }
-    → ((words : List ℕ) → turn_of new words new_replies ≡ told Went id (turn_of new words old_replies))
+keeps_added : (b : Bool) (id : ℤ) (kind : NodeKind) (action : Action) (target : ℤ) (tree : NodeTree Held) → (b ≡ true → action ≡ Before) → holds target tree.attached ≡ true → KeepsTree tree (added b id kind action target held.Group tree)
+keeps_added false id kind action target tree before there = keeps_inserted id kind action target tree there
+keeps_added true id kind action target tree before there =
+    let one : KeepsTree tree (inserted id kind action target held.Group tree) = keeps_inserted id kind action target tree there in
+    let two = keeps_detached target (inserted id kind action target held.Group tree) in
+    let stays : holds target (put action target (leaf id kind held.Group) tree.attached) ≡ true =
+    subst (λ (a : Action). holds target (put a target (leaf id kind held.Group) tree.attached) ≡ true) (sym (before refl)) (still_held id target kind held.Group tree.attached there) in
+    record {
+      saved = two.saved ∙ one.saved;
+      room = omega (arith, one.room, room_followed 1 (detaching target) (inserted id kind action target held.Group tree).journal, fewer target (put action target (leaf id kind held.Group) tree.attached) stays, count-put action target (leaf id kind held.Group) tree.attached, room_followed 0 (inserting id kind action target None) tree.journal);
+      extents = λ weight. two.extents weight ∙ one.extents weight;
+      held = λ rate region h. two.held rate region (one.held rate region h);
+    }
+
+pub keeps_group : (old new : Stage) (id action target : ℤ) (next : Option ℤ) → node_refusal (Some id) action target old.tree.attached ≡ None
+    → new ≡ record old { tree = added (replaces action) id kinds.Group (action_for action) target held.Group old.tree; next_id = next } → Keeps old new
+keeps_group old new id action target next allowed is =
+    keeps_with old new (added (replaces action) id kinds.Group (action_for action) target held.Group old.tree) next (keeps_added (replaces action) id kinds.Group (action_for action) target old.tree (goes_before action) (target_there (Some id) action target old.tree.attached allowed)) is
+
+pub group_made : (old new : Stage) (r : NewNode) (id : ℤ) (old_replies mid_replies new_replies : List ReplyShape)
+    → ((w : World) → w.notify ≡ old.notify → told_if (replaces r.action) (views_below r.target old.tree.attached) (let t : Turn = record { world = w; replies = old_replies } in t) ≡ record { world = w; replies = mid_replies })
+    → new ≡ record old { tree = added (replaces r.action) id kinds.Group (action_for r.action) r.target held.Group old.tree; next_id = next_after old.next_id r.id }
+    → ((words : List ℕ) → turn_of new words new_replies ≡ told Went id (turn_of new words mid_replies))
     → (words : List ℕ) → act_with kinds.Group r (Some id) (turn_of old words old_replies) ≡ turn_of new words new_replies
-group_made old new r id old_replies new_replies is told_now words =
-    ap (λ (n : Nodes Content). told Went id (let t : Turn = record { world = record (world_of old words) { nodes = n; next_id = next_after old.next_id r.id }; replies = old_replies } in t))
-    (put-payloads (content_of words) (action_for r.action) r.target (leaf id kinds.Group held.Group) old.tree.attached)
-    ∙ ap (λ (s : Stage). told Went id (turn_of s words old_replies)) (sym is)
+group_made old new r id old_replies mid_replies new_replies tells is told_now words =
+    let w = world_of old words in
+    let f = content_of words in
+    let views : views_below r.target w.nodes ≡ views_below r.target old.tree.attached = views-payloads f (negsuc 0) (negsuc 0) r.target old.tree.attached in
+    let ends : told_replaced r (turn_of old words old_replies) ≡ turn_of old words mid_replies = ap (λ (vs : List (ℤ × NodeView)). told_if (replaces r.action) vs (turn_of old words old_replies)) views ∙ tells w refl in
+    let nodes : placed r (leaf id kinds.Group group) w.nodes ≡ with_payloads f (added (replaces r.action) id kinds.Group (action_for r.action) r.target held.Group old.tree).attached =
+    ap (left_by (replaces r.action) r.target) (put-payloads f (action_for r.action) r.target (leaf id kinds.Group held.Group) old.tree.attached)
+    ∙ left-payloads f (replaces r.action) r.target (put (action_for r.action) r.target (leaf id kinds.Group held.Group) old.tree.attached)
+    ∙ ap (with_payloads f) (sym (added_attached (replaces r.action) id kinds.Group (action_for r.action) r.target held.Group old.tree)) in
+    ap (λ (t : Turn). told Went id (let u : Turn = record { world = with_group kinds.Group r id w; replies = t.replies } in u)) ends
+    ∙ ap (λ (n : Nodes Content). told Went id (let t : Turn = record { world = record w { nodes = n; next_id = next_after old.next_id r.id }; replies = mid_replies } in t)) nodes
+    ∙ ap (λ (s : Stage). told Went id (turn_of s words mid_replies)) (sym is)
     ∙ sym (told_now words)

@@ -22,6 +22,7 @@ use Rattle.sn_world.specs.declared.node_repetition.RunFlag.{RunFlag}
 use Rattle.sn_world.specs.declared.stage.Held.{Held}
 use Rattle.sn_world.specs.declared.stage.Stage.{Stage}
 use Rattle.sn_world.specs.Nodes.{Content, content_of}
+use Rattle.sn_world.specs.Buffers.{live_places}
 use Rattle.sn_world.specs.Pictures.{Pictures, held_extents, live_held, overlaps, AreHeld}
 use Rattle.sn_world.specs.World.{Turn, world_of, turn_of}
 use Rattle.sn_world.specs.Notices.{told_at, told}
@@ -184,8 +185,9 @@ pictures-tree old tree words held live aside settled p = record {
   bounded = p.bounded;
   fits = p.fits;
   synths = held old.rate old.pool.region p.synths;
-  live = λ e some. p.live e some ∙ ap (times e) (sym live);
-  apart = λ x. subst (λ es. overlaps x es ≤ 1) (sym live) (p.apart x);
+  buffers = p.buffers;
+  live = λ e some. p.live e some ∙ ap (λ (es : List Extent). times e es + times e (live_places old.buffers)) (sym live);
+  apart = λ x. subst (λ (es : List Extent). overlaps x es + overlaps x (live_places old.buffers) ≤ 1) (sym live) (p.apart x);
   attached = aside ∙ p.attached;
   settled = settled;
   closed = p.closed;

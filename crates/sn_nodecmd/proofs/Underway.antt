@@ -5,11 +5,13 @@ use Rattle.sn_mem.specs.declared.extents.Extent.{Extent}
 use Rattle.sn_mem.specs.Words.{covers}
 use Rattle.sn_pool.specs.Pools.{PoolState, same_extent, times, mark_of, saved_of, room_of}
 use Rattle.sn_pool.specs.declared.pool.Mark.{Mark}
+use Rattle.sn_pool.specs.declared.places.BufferPlace.{BufferPlace}
 use Rattle.sn_tree.specs.Trees.{Nodes, Sides, none, count}
 use Rattle.sn_tree.specs.Model.{Journal, NodeTree}
 use Rattle.sn_tree.specs.Steps.{IsOpen, IsOpened, HasRoom, undone, restored}
 use Rattle.sn_world.specs.declared.stage.Held.{Held}
 use Rattle.sn_world.specs.declared.stage.Stage.{Stage}
+use Rattle.sn_world.specs.Buffers.{live_places, AreBuffers}
 use Rattle.sn_world.specs.Pictures.{live_held, amount, overlaps, AreHeld, Pictures}
 use Rattle.sn_world.proofs.Counting.{times-amount, overlaps-amount, few_extents, amount-none}
 use Rattle.sn_nodecmd.specs.Folding.{room_in, saved_in, IsAtRest, CanStep, Keeps, IsUnderway}
@@ -69,9 +71,10 @@ module _ (left : ℕ) (mark : Mark) (old now : Stage) (is : IsUnderway left mark
 
   -- what is left is a picture again
   pub underway_pictures : (new : Stage) (words : List ℕ) → Pictures old words → new.tree ≡ record { attached = now.tree.attached; detached = none; journal = None }
-      → ((e : Extent) → 1 ≤ e.len → times e now.pool.live ≡ times e (live_held now.tree.detached) + times e new.pool.live) → new.pool.region ≡ now.pool.region → new.pool.journal ≡ None → new.rate ≡ now.rate → Pictures new words
-  underway_pictures new words p tree live region closed rate =
+      → ((e : Extent) → 1 ≤ e.len → times e now.pool.live ≡ times e (live_held now.tree.detached) + times e new.pool.live) → new.pool.region ≡ now.pool.region → new.pool.journal ≡ None → new.rate ≡ now.rate → new.buffers ≡ now.buffers → Pictures new words
+  underway_pictures new words p tree live region closed rate buffers =
       let same_region : new.pool.region ≡ old.pool.region = region ∙ ap (λ (q : PoolState). q.region) is.pool in
+      let same_buffers : new.buffers ≡ old.buffers = buffers ∙ is.buffers in
       let attached : new.tree.attached ≡ now.tree.attached = ap (λ (t : NodeTree Held). t.attached) tree in
       record {
         rate = omega (arith, rate, is.rate, p.rate);
@@ -81,8 +84,9 @@ module _ (left : ℕ) (mark : Mark) (old now : Stage) (is : IsUnderway left mark
         fits = omega (arith, ap (λ (e : Extent). e.len) same_region, p.fits);
         synths = subst (λ (r : ℕ). AreHeld r new.pool.region new.tree.attached) (sym (rate ∙ is.rate)) (subst (λ (g : Extent). AreHeld old.rate g new.tree.attached) (sym same_region)
             (subst (λ (t : Nodes Held). AreHeld old.rate old.pool.region t) (sym attached) (is.held old.rate old.pool.region p.synths)));
-        live = λ e some. omega (arith, live e some, total_times e, p.live e some, nothing_times p.attached e, ap (λ (q : PoolState). times e q.live) is.pool, ap (λ (t : Nodes Held). times e (live_held t)) attached);
-        apart = λ x. omega (arith, total_overlaps x, p.apart x, nothing_overlaps p.attached x, ap (λ (t : Nodes Held). overlaps x (live_held t)) attached);
+        buffers = subst (λ (g : Extent). AreBuffers g new.buffers) (sym same_region) (subst (AreBuffers old.pool.region) (sym same_buffers) p.buffers);
+        live = λ e some. omega (arith, ap (λ (ps : List (Option BufferPlace)). times e (live_places ps)) same_buffers, live e some, total_times e, p.live e some, nothing_times p.attached e, ap (λ (q : PoolState). times e q.live) is.pool, ap (λ (t : Nodes Held). times e (live_held t)) attached);
+        apart = λ x. omega (arith, ap (λ (ps : List (Option BufferPlace)). overlaps x (live_places ps)) same_buffers, total_overlaps x, p.apart x, nothing_overlaps p.attached x, ap (λ (t : Nodes Held). overlaps x (live_held t)) attached);
         attached = ap (λ (t : NodeTree Held). t.detached) tree;
         settled = ap (λ (t : NodeTree Held). t.journal) tree;
         closed = closed;
@@ -96,6 +100,7 @@ underway_more left mark old now new is keeps = record {
   room = omega (arith, is.room, keeps.tree.room);
   extents = λ weight. keeps.tree.extents weight ∙ is.extents weight;
   held = λ rate region h. keeps.tree.held rate region (is.held rate region h);
+  buffers = keeps.buffers ∙ is.buffers;
   defs = keeps.defs ∙ is.defs;
   notify = keeps.notify ∙ is.notify;
   rate = keeps.rate ∙ is.rate;
@@ -115,6 +120,7 @@ underway_first steps mark old new tree rest begun is =
       room = omega (arith, ap (λ (t : NodeTree Held). room_in t.journal) tree_is, begun.room, ap (λ (t : NodeTree Held). count t.attached) tree_is);
       extents = λ weight. ap (λ (t : NodeTree Held). amount weight (live_held t.attached) + amount weight (live_held t.detached)) tree_is;
       held = λ rate region h. subst (λ (t : NodeTree Held). AreHeld rate region t.attached) (sym tree_is) h;
+      buffers = ap (λ (s : Stage). s.buffers) is;
       defs = ap (λ (s : Stage). s.defs) is;
       notify = ap (λ (s : Stage). s.notify) is;
       rate = ap (λ (s : Stage). s.rate) is;

@@ -9,6 +9,7 @@ use Rattle.sn_tree.specs.Trees.{Sides, none, count}
 use Rattle.sn_tree.specs.Model.{Journal, NodeTree}
 use Rattle.sn_world.specs.declared.stage.Held.{Held}
 use Rattle.sn_world.specs.declared.stage.Stage.{Stage}
+use Rattle.sn_world.specs.Buffers.{live_places}
 use Rattle.sn_world.specs.Pictures.{live_held, amount, AreHeld}
 use Rattle.sn_world.specs.World.{Turn}
 
@@ -21,9 +22,9 @@ abbrev pub saved_in : Option (Journal Held) → Option (Sides Held)
 saved_in None = None
 saved_in (Some journal) = Some (record { attached = journal.attached; detached = journal.detached })
 
--- no journal is open, and nothing is detached; each extent with a word is live as often as it is that of a synth
+-- no journal is open, and nothing is detached; each extent with a word is live as often as it is that of a synth or a buffer
 pub record IsAtRest (stage : Stage) : Type 0 where
-  pub live : (e : Extent) → 1 ≤ e.len → times e stage.pool.live ≡ times e (live_held stage.tree.attached)
+  pub live : (e : Extent) → 1 ≤ e.len → times e stage.pool.live ≡ times e (live_held stage.tree.attached) + times e (live_places stage.buffers)
   pub detached : stage.tree.detached ≡ none
   pub settled : stage.tree.journal ≡ None
   pub closed : stage.pool.journal ≡ None
@@ -44,6 +45,7 @@ pub record KeepsTree (old new : NodeTree Held) : Type 0 where
 pub record Keeps (old new : Stage) : Type 0 where
   pub tree : KeepsTree old.tree new.tree
   pub pool : new.pool ≡ old.pool
+  pub buffers : new.buffers ≡ old.buffers
   pub defs : new.defs ≡ old.defs
   pub notify : new.notify ≡ old.notify
   pub rate : new.rate ≡ old.rate
@@ -61,6 +63,7 @@ pub record IsUnderway (left : ℕ) (mark : Mark) (old now : Stage) : Type 0 wher
   pub room : left + count now.tree.attached ≤ room_in now.tree.journal
   pub extents : (weight : Extent → ℕ) → amount weight (live_held now.tree.attached) + amount weight (live_held now.tree.detached) ≡ amount weight (live_held old.tree.attached) + amount weight (live_held old.tree.detached)
   pub held : (rate : ℕ) (region : Extent) → AreHeld rate region old.tree.attached → AreHeld rate region now.tree.attached
+  pub buffers : now.buffers ≡ old.buffers
   pub defs : now.defs ≡ old.defs
   pub notify : now.notify ≡ old.notify
   pub rate : now.rate ≡ old.rate

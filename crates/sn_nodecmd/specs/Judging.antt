@@ -1,9 +1,12 @@
 -- The reason against a new synth, by the tree's.
-use Rattle.std.specs.Prelude.{Bool, true, false, Option, Some, None}
+use Rattle.std.specs.Prelude.{ℤ, Bool, true, false, Option, Some, None}
 use Rattle.sn_reply.specs.declared.reason.Reason.{Reason}
 use Rattle.sn_reply.specs.declared.reason.Reason.TheVariants as Reasons
+use Rattle.sn_tree.specs.declared.node.Action.{Action}
 use Rattle.sn_tree.specs.declared.node.TreeFault.{TreeFault}
 use Rattle.sn_tree.specs.declared.node.TreeFault.TheVariants as faults
+use Rattle.sn_tree.specs.Trees.{Nodes}
+use Rattle.sn_tree.specs.Faults.{insert_fault, replace_fault}
 
 abbrev pub if_known : Bool → Option Reason → Option Reason
 if_known true reason = reason
@@ -18,3 +21,8 @@ reason_for known (Some faults.NotGroup) = if_known known (Some Reasons.NotGroup)
 reason_for known (Some faults.IsRoot) = if_known known (Some Reasons.Root)
 reason_for known (Some faults.Inside) = if_known known (Some Reasons.InsideItself)
 reason_for known (Some faults.TooMany) = if_known known (Some Reasons.TooManyNodes)
+
+-- the tree's fault against a new node, which takes the place of its target or is put beside others
+abbrev pub fault_by : {P : Type 0} → Bool → ℤ → Action → ℤ → Nodes P → Option TreeFault
+fault_by true id action target nodes = replace_fault id target nodes
+fault_by false id action target nodes = insert_fault id action target nodes

@@ -8,5 +8,10 @@ pub mod Stepping
 pub mod Reworks
 pub mod Mapped
 pub mod Folding
+pub mod Sparing
 pub mod Relocating
+pub mod Ordering
 pub mod Telling
+pub mod Adding
+pub mod Describing
+pub mod Getting

@@ -5,18 +5,26 @@ use Rattle.sn_mem.specs.declared.extents.Extent.{Extent}
 use Rattle.sn_reply.specs.Replies.{ReplyShape}
 use Rattle.sn_tree.specs.declared.node.NodeView.{NodeView}
 use Rattle.sn_tree.specs.Trees.{view_of}
+use Rattle.sn_tree.specs.Views.{views_below}
 use Rattle.sn_world.specs.declared.notices.NodeEvent.{NodeEvent}
 use Rattle.sn_world.specs.declared.notices.NodeEvent.TheVariants.{Went}
 use Rattle.sn_world.specs.declared.stage.Stage.{Stage}
 use Rattle.sn_world.specs.Notices.{event_message, notices}
+use Rattle.sn_world.specs.declared.repetition.NewNode.{NewNode}
+use Rattle.sn_world.specs.NewNodes.{replaces, told_if}
+use Rattle.sn_world.specs.World.{World, Turn}
 
 -- an event of a node that stands so; nothing of one that is not there
 abbrev pub said : NodeEvent → ℤ → Option NodeView → List Bool → List ReplyShape → List ReplyShape
 said event id None flags replies = replies
 said event id (Some view) flags replies = replies ++ notices 0 flags (event_message event id view)
 
--- A synth that was put into a stage was told of, at its place there; else nothing was told.
-abbrev pub TellsOf : ℤ → Stage → List ReplyShape → List ReplyShape → Result (Option Extent) NoMemory → Type 0
-TellsOf id stage old new (Ok (Some e)) = new ≡ said Went id (view_of id stage.tree.attached) stage.notify old
-TellsOf id stage old new (Ok None) = new ≡ old
-TellsOf id stage old new (Err e) = new ≡ old
+-- The nodes that are replaced were told to end, and then a new node was told to be there, at its place. What is told rests on the flags.
+abbrev pub Tells : Bool → List (ℤ × NodeView) → ℤ → Option NodeView → List Bool → List ReplyShape → List ReplyShape → Type 0
+Tells b gone id view flags old new = (w : World) → w.notify ≡ flags → new ≡ said Went id view flags (told_if b gone (record { world = w; replies = old })).replies
+
+-- A synth that was put into a stage was told of; else nothing was told.
+abbrev pub TellsOf : ℤ → NewNode → Stage → Stage → List ReplyShape → List ReplyShape → Result (Option Extent) NoMemory → Type 0
+TellsOf id r before stage old new (Ok (Some e)) = Tells (replaces r.action) (views_below r.target before.tree.attached) id (view_of id stage.tree.attached) stage.notify old new
+TellsOf id r before stage old new (Ok None) = new ≡ old
+TellsOf id r before stage old new (Err e) = new ≡ old

@@ -46,12 +46,13 @@ pub trait Repetition {
 }
 
 /// Gives the words of a freed node back.
-fn give_back(pool: &mut Pool, held: &Held)
+pub fn give_back(pool: &mut Pool, held: &Held)
     requires live { (e : Extent) → 1 ≤ e.len → times e (held_extents held.now) ≤ times e pool.old.live }
     requires room { amount (λ e. 1) (held_extents held.now) ≤ room_of pool.old.journal }
     ensures live { (e : Extent) → 1 ≤ e.len → times e pool.old.live ≡ times e (held_extents held.now) + times e pool.new.live }
     ensures room { room_of pool.old.journal ≤ amount (λ e. 1) (held_extents held.now) + room_of pool.new.journal }
     ensures mark { mark_of pool.new.journal ≡ mark_of pool.old.journal }
+    ensures saved { saved_of pool.new.journal ≡ saved_of pool.old.journal }
     ensures region { pool.new.region ≡ pool.old.region }
 {
     match held {

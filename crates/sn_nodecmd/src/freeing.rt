@@ -8,6 +8,7 @@ ghost use Rattle.sn_world.specs.Freeing.{free_row, free_refusal, freed};
 ghost use Rattle.sn_world.specs.Answers.{Continues, Follows, UnlessFollowed};
 ghost use Rattle.sn_world.specs.Pictures.{Pictures};
 ghost use Rattle.sn_nodecmd.specs.Folding.{IsAtRest, Keeps};
+ghost use Rattle.sn_nodecmd.specs.Sparing.{SparesRoom};
 
 use crate::folding::{Repetition, each};
 use crate::telling::{tell_ends, view_of, views_of};
@@ -18,8 +19,9 @@ use sn_tree::Tree;
 use sn_world::{Held, NodeId, Stage, singles, some_of};
 use std::alloc::Global;
 
+/// Whether a node is in the tree.
 #[tactic(auto, using(crate::proofs::Stepping::is_seen))]
-fn is_attached(tree: &Tree<Held>, node: &NodeId) -> bool
+pub fn is_attached(tree: &Tree<Held>, node: &NodeId) -> bool
     ensures { result ≡ holds node.now.id tree.now.attached }
 {
     view_of(tree, node).is_some()
@@ -51,7 +53,7 @@ fn detach(tree: &mut Tree<Held>, node: &NodeId)
 }
 
 /// Frees a node and all below it, and tells of each of them.
-fn free_node(
+pub fn free_node(
     alloc: Global,
     stage: &mut Stage,
     node: &NodeId,
@@ -61,6 +63,7 @@ fn free_node(
     requires room { HasRoom stage.old.tree.journal }
     ensures row { OnOk result ((words : List ℕ) → freed node.now.id (turn_of stage.old words replies.old) ≡ turn_of stage.new words replies.new) }
     ensures keeps { Keeps stage.old stage.new }
+    ensures spares { SparesRoom stage.old.tree stage.new.tree }
     ensures continues { Continues replies.old replies.new }
 {
     let views = views_of(&stage.tree, node)?;

@@ -1,35 +1,24 @@
 //! Groups that are made.
-ghost use Rattle.std.specs.Prelude.{◌≡◌, ◌+◌, ◌*◌, ◌^◌, ◌<◌, map, length, OnOk, OnErr, Some, None, List, ℕ};
+ghost use Rattle.std.specs.Prelude.{◌≡◌, ◌+◌, ◌*◌, ◌^◌, ◌<◌, map, length, OnOk, Some, None, List, ℕ};
 ghost use Rattle.sn_tree.specs.declared.node.NodeKind.TheVariants as kinds;
-ghost use Rattle.sn_tree.specs.Steps.{inserted};
-ghost use Rattle.sn_world.specs.declared.stage.Held.TheVariants as held;
+ghost use Rattle.sn_tree.specs.Steps.{HasRoom};
 ghost use Rattle.sn_osc.specs.Shape.{argument_of};
 ghost use Rattle.sn_world.specs.World.{World, Turn, turn_of};
-ghost use Rattle.sn_world.specs.NewNodes.{group_row, action_for, node_refusal, act_with};
+ghost use Rattle.sn_world.specs.NewNodes.{group_row, node_refusal, act_with};
 ghost use Rattle.sn_world.specs.Answers.{Continues, Follows, UnlessFollowed};
 ghost use Rattle.sn_world.specs.Pictures.{Pictures};
 ghost use Rattle.sn_nodecmd.specs.Folding.{IsAtRest, Keeps};
 
+use crate::adding::{add, tell_replaced};
 use crate::folding::{Repetition, each};
-use crate::judging::{id_for, next_after, refusal, spot_of};
+use crate::judging::{id_for, next_after, refusal};
 use crate::telling::tell;
 use sn_osc::Arg;
 use sn_ports::NoMemory;
 use sn_reply::{Reason, Replies};
-use sn_tree::{NodeKind, Tree};
+use sn_tree::NodeKind;
 use sn_world::{Held, NewNode, NodeEvent, NodeId, Stage, some_of, triples};
 use std::alloc::Global;
-
-/// Puts a group into the tree.
-fn add_group(tree: &mut Tree<Held>, node: &NodeId, new: &NewNode) -> Result<(), NoMemory>
-    ensures ok { OnOk result (tree.new ≡ inserted node.now.id kinds.Group (action_for new.now.action) new.now.target held.Group tree.old) }
-    ensures err { OnErr result (tree.new ≡ tree.old) }
-{
-    match tree.insert(node.id, NodeKind::Group, spot_of(new), Held::Group) {
-        Ok(()) => Ok(()),
-        Err(_) => Err(NoMemory),
-    }
-}
 
 /// Makes a group that nothing is against, and tells of it.
 fn make_group(
@@ -40,11 +29,13 @@ fn make_group(
     replies: &mut Replies,
 ) -> Result<(), NoMemory>
     requires allowed { node_refusal (Some node.now.id) new.now.action new.now.target stage.old.tree.attached ≡ None }
+    requires room { HasRoom stage.old.tree.journal }
     ensures row { OnOk result ((words : List ℕ) → act_with kinds.Group new.now (Some node.now.id) (turn_of stage.old words replies.old) ≡ turn_of stage.new words replies.new) }
     ensures keeps { Keeps stage.old stage.new }
     ensures continues { Continues replies.old replies.new }
 {
-    add_group(&mut stage.tree, node, new)?;
+    tell_replaced(alloc, &stage.tree, &stage.notify, new, replies)?;
+    add(&mut stage.tree, node, NodeKind::Group, new, Held::Group)?;
     stage.next_id = next_after(stage.next_id, new);
     tell(alloc, stage, NodeEvent::Went, node, replies)
 }

@@ -1,9 +1,9 @@
 //! The id of a new node, its place, and what is against it.
 ghost use Rattle.std.specs.Prelude.{◌≡◌, is_some, Some};
 ghost use Rattle.std.specs.Option.{option_map};
-ghost use Rattle.sn_tree.specs.Faults.{insert_fault};
-ghost use Rattle.sn_world.specs.NewNodes.{id_for, one_below, next_after, add_action, action_for, node_refusal};
-ghost use Rattle.sn_nodecmd.specs.Judging.{reason_for};
+ghost use Rattle.sn_tree.specs.Faults.{insert_fault, replace_fault};
+ghost use Rattle.sn_world.specs.NewNodes.{id_for, one_below, next_after, add_action, action_for, replaces, node_refusal};
+ghost use Rattle.sn_nodecmd.specs.Judging.{reason_for, fault_by};
 
 use sn_reply::Reason;
 use sn_tree::{Action, Spot, Tree, TreeFault};
@@ -41,16 +41,24 @@ pub fn next_after(next_id: Option<i32>, new: &NewNode) -> Option<i32>
     one_below(next_id)
 }
 
-fn add_action(new: &NewNode) -> Option<Action>
-    ensures { result ≡ add_action new.now.action }
+/// The add action with a number.
+pub fn add_action(action: i32) -> Option<Action>
+    ensures { result ≡ add_action action }
 {
-    match new.action {
+    match action {
         0 => Some(Action::Head),
         1 => Some(Action::Tail),
-        2 => Some(Action::Before),
+        2 | 4 => Some(Action::Before),
         3 => Some(Action::After),
         _ => None,
     }
+}
+
+/// Whether the node takes the place of its target.
+pub fn replaces(new: &NewNode) -> bool
+    ensures { result ≡ replaces new.now.action }
+{
+    new.action == 4
 }
 
 /// Where the node goes, at the head where no add action has the number.
@@ -58,7 +66,7 @@ pub fn spot_of(new: &NewNode) -> Spot
     ensures { result ≡ record { action = action_for new.now.action; target = new.now.target } }
 {
     Spot {
-        action: add_action(new).unwrap_or(Action::Head),
+        action: add_action(new.action).unwrap_or(Action::Head),
         target: new.target,
     }
 }
@@ -67,7 +75,7 @@ pub fn spot_of(new: &NewNode) -> Spot
 fn is_known(new: &NewNode) -> bool
     ensures { result ≡ is_some (add_action new.now.action) }
 {
-    add_action(new).is_some()
+    add_action(new.action).is_some()
 }
 
 /// The reason by the tree's, and by whether an add action has the number.
@@ -86,16 +94,35 @@ fn reason_for(known: bool, fault: Option<TreeFault>) -> Option<Reason>
     }
 }
 
-/// Why the tree refuses a new node, but for want of memory.
-fn fault_of(tree: &Tree<Held>, node: &NodeId, spot: Spot) -> Option<TreeFault>
+/// Why the tree refuses a new node that is put beside others, but for want of memory.
+fn fault_of_insert(tree: &Tree<Held>, node: &NodeId, spot: Spot) -> Option<TreeFault>
     ensures { result ≡ insert_fault node.now.id spot.action spot.target tree.now.attached }
 {
     tree.refusal(node.id, spot)
+}
+
+/// Why the tree refuses a new node in the place of its target, but for want of memory.
+fn fault_of_replace(tree: &Tree<Held>, node: &NodeId, new: &NewNode) -> Option<TreeFault>
+    ensures { result ≡ replace_fault node.now.id new.now.target tree.now.attached }
+{
+    tree.refusal_to_replace(node.id, new.target)
+}
+
+/// Why the tree refuses a new node, but for want of memory.
+fn fault_of(tree: &Tree<Held>, node: &NodeId, new: &NewNode) -> Option<TreeFault>
+    ensures { result ≡ fault_by (replaces new.now.action) node.now.id (action_for new.now.action) new.now.target tree.now.attached }
+{
+    match replaces(new) {
+        true => fault_of_replace(tree, node, new),
+        false => fault_of_insert(tree, node, spot_of(new)),
+    }
 }
 
 /// The first reason against a new node.
 pub fn refusal(tree: &Tree<Held>, node: &NodeId, new: &NewNode) -> Option<Reason>
     ensures { result ≡ node_refusal (Some node.now.id) new.now.action new.now.target tree.now.attached }
 {
-    reason_for(is_known(new), fault_of(tree, node, spot_of(new)))
+    // A tree has at most 4,096 nodes, so there is room for one more in the place of another.
+    let _nodes = tree.len();
+    reason_for(is_known(new), fault_of(tree, node, new))
 }

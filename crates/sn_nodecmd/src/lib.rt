@@ -1,10 +1,14 @@
 //! The commands on nodes.
 #![tactic(auto)]
 
+mod adding;
 mod asked;
 mod controls;
+mod describing;
+mod emptying;
 mod folding;
 mod freeing;
+mod getting;
 mod groups;
 mod judging;
 mod making;
@@ -12,6 +16,7 @@ mod mappings;
 mod moving;
 mod names;
 mod notifying;
+mod ordering;
 mod placing;
 mod querying;
 mod running;

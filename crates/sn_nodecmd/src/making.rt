@@ -10,7 +10,7 @@ ghost use Rattle.sn_nodecmd.specs.Asking.{request_of, AreValues};
 
 use crate::asked::{Asked, asked_by};
 use crate::controls::controls_of;
-use crate::judging::{id_for, next_after, refusal, spot_of};
+use crate::judging::{id_for, next_after, refusal};
 use crate::placing::{add_synth, clear};
 use sn_def::Def;
 use sn_mem::Port;
@@ -53,7 +53,7 @@ fn make<P: Port>(
         return Ok(Some(reason));
     }
     let controls = controls_of(alloc, &def, asked.values)?;
-    let Some(state) = add_synth(alloc, stage, &node, spot_of(new), def, controls, replies)? else {
+    let Some(state) = add_synth(alloc, stage, &node, new, def, controls, replies)? else {
         return Ok(Some(Reason::PoolFull));
     };
     clear(port, state);

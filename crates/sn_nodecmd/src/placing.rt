@@ -1,28 +1,34 @@
 //! A synth that is put into a stage, and its words.
 ghost use Rattle.std.specs.Prelude.{◌≡◌, ◌≤◌, ◌<◌, ◌+◌, ◌^◌, ℕ, None, true, IfOk, IfErr, OnOk, OnErr};
+ghost use Rattle.sn_mem.specs.declared.extents.Extent.{Extent};
 ghost use Rattle.sn_mem.specs.Words.{writes};
 ghost use Rattle.sn_def.specs.Defs.{definition_of};
 ghost use Rattle.sn_def.specs.StateWords.{state_words};
-ghost use Rattle.sn_pool.specs.Pools.{GivesPlace};
+ghost use Rattle.sn_pool.specs.Pools.{GivesPlace, times, mark_of, saved_of, room_of};
 ghost use Rattle.sn_pool.specs.Regions.{IsFree};
 ghost use Rattle.sn_tree.specs.declared.node.NodeKind.TheVariants as kinds;
-ghost use Rattle.sn_tree.specs.Faults.{insert_fault};
-ghost use Rattle.sn_tree.specs.Steps.{IsOpen, inserted, undone};
-ghost use Rattle.sn_tree.specs.Trees.{view_of};
+ghost use Rattle.sn_tree.specs.Steps.{IsOpen, HasRoom, undone};
+ghost use Rattle.sn_tree.specs.Trees.{none, leaf, subtree, view_of};
+ghost use Rattle.sn_tree.specs.Views.{views_below};
 ghost use Rattle.sn_world.specs.Answers.{Continues};
-ghost use Rattle.sn_world.specs.declared.notices.NodeEvent.TheVariants.{Went};
+ghost use Rattle.sn_world.specs.NewNodes.{action_for, replaces, gone_by, placed};
+ghost use Rattle.sn_world.specs.Pictures.{live_held, amount};
 ghost use Rattle.sn_world.specs.declared.stage.Held.TheVariants as held;
+ghost use Rattle.sn_nodecmd.specs.Adding.{added};
 ghost use Rattle.sn_nodecmd.specs.Placing.{place_in, taken, Adds, cleared};
-ghost use Rattle.sn_nodecmd.specs.Telling.{said, TellsOf};
+ghost use Rattle.sn_nodecmd.specs.Telling.{Tells, TellsOf};
 
+use crate::adding::{add, tell_replaced};
+use crate::folding::give_back;
+use crate::judging::replaces;
 use crate::telling::{tell_of, view_of};
 use sn_def::{Controls, Def};
 use sn_mem::{Extent, Port};
 use sn_pool::{POOL_BASE, Pool, Untaken};
 use sn_ports::NoMemory;
 use sn_reply::Replies;
-use sn_tree::{NodeKind, Spot, Tree};
-use sn_world::{Flags, Held, NodeEvent, NodeId, Stage};
+use sn_tree::{NodeKind, Tree};
+use sn_world::{Flags, Held, NewNode, NodeEvent, NodeId, Stage};
 use std::alloc::Global;
 use std::sync::Arc;
 
@@ -43,63 +49,92 @@ fn place(pool: &mut Pool, words: u32) -> Result<Extent, Untaken>
     pool.take(words)
 }
 
-/// Puts a synth into the tree.
-fn insert(tree: &mut Tree<Held>, node: &NodeId, spot: Spot, held: Held) -> Result<(), NoMemory>
-    ensures ok { OnOk result (tree.new ≡ inserted node.now.id kinds.Synth spot.action spot.target held tree.old) }
-    ensures err { OnErr result (tree.new ≡ tree.old) }
+/// Gives back the words of the target of a new node, and of all nodes below it.
+fn give_back_below(tree: &Tree<Held>, new: &NewNode, pool: &mut Pool)
+    requires live { (e : Extent) → 1 ≤ e.len → times e (live_held (subtree new.now.target tree.now.attached)) ≤ times e pool.old.live }
+    requires room { amount (λ e. 1) (live_held (subtree new.now.target tree.now.attached)) ≤ room_of pool.old.journal }
+    ensures live { (e : Extent) → 1 ≤ e.len → times e pool.old.live ≡ times e (live_held (subtree new.now.target tree.now.attached)) + times e pool.new.live }
+    ensures mark { mark_of pool.new.journal ≡ mark_of pool.old.journal }
+    ensures saved { saved_of pool.new.journal ≡ saved_of pool.old.journal }
+    ensures region { pool.new.region ≡ pool.old.region }
 {
-    match tree.insert(node.id, NodeKind::Synth, spot, held) {
-        Ok(()) => Ok(()),
-        Err(_) => Err(NoMemory),
+    for member in tree.members(new.target) {
+        give_back(pool, member.payload);
     }
 }
 
-/// Puts a synth into the tree, and tells of it at its place there. After want of memory it may be in the tree, and some clients may have
-/// been told.
-fn insert_and_tell(
+/// Gives back the words of the nodes that a new one replaces.
+fn give_back_replaced(tree: &Tree<Held>, new: &NewNode, pool: &mut Pool)
+    requires live { (e : Extent) → 1 ≤ e.len → times e (live_held (gone_by (replaces new.now.action) new.now.target tree.now.attached)) ≤ times e pool.old.live }
+    requires room { amount (λ e. 1) (live_held (gone_by (replaces new.now.action) new.now.target tree.now.attached)) ≤ room_of pool.old.journal }
+    ensures live { (e : Extent) → 1 ≤ e.len → times e pool.old.live ≡ times e (live_held (gone_by (replaces new.now.action) new.now.target tree.now.attached)) + times e pool.new.live }
+    ensures mark { mark_of pool.new.journal ≡ mark_of pool.old.journal }
+    ensures saved { saved_of pool.new.journal ≡ saved_of pool.old.journal }
+    ensures region { pool.new.region ≡ pool.old.region }
+{
+    if replaces(new) {
+        give_back_below(tree, new, pool);
+    }
+}
+
+/// Adds a synth to the tree, and tells of it at its place there, after the ends of the nodes that it replaces. After want of memory it may
+/// be in the tree, and some clients may have been told.
+fn add_and_tell(
     alloc: Global,
     tree: &mut Tree<Held>,
     flags: &Flags,
     node: &NodeId,
-    spot: Spot,
+    new: &NewNode,
     held: Held,
     replies: &mut Replies,
 ) -> Result<(), NoMemory>
-    requires { IsOpen tree.old.journal }
-    ensures ok { OnOk result (tree.new ≡ inserted node.now.id kinds.Synth spot.action spot.target held tree.old) }
-    ensures told { OnOk result (replies.new ≡ said Went node.now.id (view_of node.now.id tree.new.attached) flags.now replies.old) }
+    requires still { IsOpen tree.old.journal }
+    requires room { HasRoom tree.old.journal }
+    ensures ok { OnOk result (tree.new ≡ added (replaces new.now.action) node.now.id kinds.Synth (action_for new.now.action) new.now.target held tree.old) }
+    ensures told { OnOk result (Tells (replaces new.now.action) (views_below new.now.target tree.old.attached) node.now.id (view_of node.now.id tree.new.attached) flags.now replies.old replies.new) }
     ensures still { IsOpen tree.new.journal }
     ensures kept { undone tree.new ≡ undone tree.old }
     ensures continues { Continues replies.old replies.new }
 {
-    insert(tree, node, spot, held)?;
+    tell_replaced(alloc, tree, flags, new, replies)?;
+    add(tree, node, NodeKind::Synth, new, held)?;
     let Some(view) = view_of(tree, node) else {
         return Ok(());
     };
     tell_of(alloc, flags, NodeEvent::Went, node, &view, replies)
 }
 
-/// Puts a synth into the tree, and tells of it at its place there. After want of memory the tree and the replies are as they were.
-fn insert_told(
+/// Ends the detached nodes, whose words were given back before.
+fn drop_detached(tree: &mut Tree<Held>)
+    requires closed { tree.old.journal ≡ None }
+    ensures { tree.new ≡ record tree.old { detached = none } }
+{
+    while let Some(_ended) = tree.free() {}
+}
+
+/// Adds a synth to the tree, and tells of it at its place there, after the ends of the nodes that it replaces. After want of memory the tree
+/// and the replies are as they were.
+fn add_told(
     alloc: Global,
     tree: &mut Tree<Held>,
     flags: &Flags,
     node: &NodeId,
-    spot: Spot,
+    new: &NewNode,
     held: Held,
     replies: &mut Replies,
 ) -> Result<(), NoMemory>
     requires settled { tree.old.journal ≡ None }
-    ensures ok { OnOk result (tree.new ≡ inserted node.now.id kinds.Synth spot.action spot.target held tree.old) }
-    ensures told { OnOk result (replies.new ≡ said Went node.now.id (view_of node.now.id tree.new.attached) flags.now replies.old) }
+    ensures ok { OnOk result (tree.new ≡ record { attached = placed new.now (leaf node.now.id kinds.Synth held) tree.old.attached; detached = none; journal = None }) }
+    ensures told { OnOk result (Tells (replaces new.now.action) (views_below new.now.target tree.old.attached) node.now.id (view_of node.now.id tree.new.attached) flags.now replies.old replies.new) }
     ensures err { OnErr result (tree.new ≡ tree.old) }
     ensures untold { OnErr result (replies.new ≡ replies.old) }
 {
     let told = replies.len();
-    tree.begin(0)?;
-    match insert_and_tell(alloc, tree, flags, node, spot, held, replies) {
+    tree.begin(1)?;
+    match add_and_tell(alloc, tree, flags, node, new, held, replies) {
         Ok(()) => {
             tree.commit();
+            drop_detached(tree);
             Ok(())
         }
         Err(fault) => {
@@ -110,13 +145,13 @@ fn insert_told(
     }
 }
 
-/// Puts a synth into the tree, tells of it, and answers where its words are: `None` where the pool has no place for them. But for a synth
-/// that is there nothing has changed, and nothing was told.
+/// Puts a synth into the tree, tells of it, and answers where its words are: `None` where the pool has no place for them, also once the
+/// nodes that the synth replaces have given theirs back. But for a synth that is there nothing has changed, and nothing was told.
 pub fn add_synth(
     alloc: Global,
     stage: &mut Stage,
     node: &NodeId,
-    spot: Spot,
+    new: &NewNode,
     def: Arc<Def, Global>,
     controls: Controls,
     replies: &mut Replies,
@@ -125,12 +160,13 @@ pub fn add_synth(
     requires settled { stage.old.tree.journal ≡ None }
     requires closed { stage.old.pool.journal ≡ None }
     requires rate { stage.old.rate ≤ 96000 }
-    requires allowed { insert_fault node.now.id spot.action spot.target stage.old.tree.attached ≡ None }
-    ensures adds { Adds node.now.id spot (λ state. held.Synth def controls state) (state_words stage.old.rate (definition_of def.value)) stage.old stage.new result }
-    ensures told { TellsOf node.now.id stage.new replies.old replies.new result }
+    requires live { (e : Extent) → 1 ≤ e.len → times e (live_held stage.old.tree.attached) ≤ times e stage.old.pool.live }
+    ensures adds { Adds node.now.id new.now (λ state. held.Synth def controls state) (state_words stage.old.rate (definition_of def.value)) stage.old stage.new result }
+    ensures told { TellsOf node.now.id new.now stage.old stage.new replies.old replies.new result }
 {
     let words = def.state_words(stage.rate);
-    let mark = stage.pool.begin(0)?;
+    let mark = stage.pool.begin(stage.tree.len())?;
+    give_back_replaced(&stage.tree, new, &mut stage.pool);
     let state = match place(&mut stage.pool, words) {
         Ok(state) => state,
         Err(fault) => {
@@ -146,12 +182,12 @@ pub fn add_synth(
         controls,
         state,
     };
-    match insert_told(
+    match add_told(
         alloc,
         &mut stage.tree,
         &stage.notify,
         node,
-        spot,
+        new,
         held,
         replies,
     ) {

@@ -4,19 +4,24 @@ ghost use Rattle.std.specs.Option.{option_map};
 ghost use Rattle.std.specs.Borrow.{Bor};
 ghost use Rattle.sn_osc.specs.declared.packet.Arg.{Arg};
 ghost use Rattle.sn_osc.specs.Shape.{argument_of, body_of, message_of};
+ghost use Rattle.sn_osc.specs.Bytes.{arguments_bytes};
 ghost use Rattle.sn_reply.specs.Sending.{IsAnswerable};
 ghost use Rattle.sn_world.specs.World.{turn_of};
 ghost use Rattle.sn_world.specs.Pictures.{Pictures, WritesWorld, KeepsOutside};
 ghost use Rattle.sn_world.specs.Commands.{node_command_of, node_row, run_node};
-ghost use Rattle.sn_world.specs.Answers.{Follows, UnlessFollowed, Handles, UnlessDone};
+ghost use Rattle.sn_world.specs.Answers.{Follows, UnlessFollowed, Handles, UnlessDone, AsksNothing};
 ghost use Rattle.sn_nodecmd.specs.Given.{ArgumentsOf};
 
+use crate::describing::run_tree_query;
+use crate::emptying::{run_deep_free, run_free_all};
 use crate::freeing::run_free;
+use crate::getting::run_get;
 use crate::groups::run_new_groups;
 use crate::making::run_new;
 use crate::mappings::run_map;
 use crate::moving::run_moves;
 use crate::notifying::run_notify;
+use crate::ordering::run_order;
 use crate::querying::run_query;
 use crate::runs::RunForm;
 use crate::settings::run_set;
@@ -59,8 +64,20 @@ fn node_command_of(address: &[u8]) -> Option<NodeCommand>
     if address == b"/n_free".as_slice() {
         return Some(NodeCommand::Free);
     }
+    if address == b"/g_freeAll".as_slice() {
+        return Some(NodeCommand::FreeAll);
+    }
+    if address == b"/g_deepFree".as_slice() {
+        return Some(NodeCommand::DeepFree);
+    }
     if address == b"/n_query".as_slice() {
         return Some(NodeCommand::Query);
+    }
+    if address == b"/g_queryTree".as_slice() {
+        return Some(NodeCommand::QueryTree);
+    }
+    if address == b"/s_get".as_slice() {
+        return Some(NodeCommand::GetControls);
     }
     if address == b"/n_before".as_slice() {
         return Some(NodeCommand::Move(Action::Before));
@@ -74,6 +91,9 @@ fn node_command_of(address: &[u8]) -> Option<NodeCommand>
     if address == b"/g_tail".as_slice() {
         return Some(NodeCommand::Move(Action::Tail));
     }
+    if address == b"/n_order".as_slice() {
+        return Some(NodeCommand::Order);
+    }
     None
 }
 
@@ -82,6 +102,7 @@ fn arguments_of(message: &Message) -> Option<&[Arg]>
     requires { IsAnswerable (message_of message.now) }
     ensures arguments { ArgumentsOf (body_of message.now.body) (option_map (λ (xs : Bor (List Arg)). map argument_of xs.now) result) }
     ensures few { IfSome result (λ xs. 16 * length xs.now + 2 ^ 20 < 2 ^ 31) }
+    ensures short { IfSome result (λ xs. 4 * length (arguments_bytes (map argument_of xs.now)) + 2 ^ 20 < 2 ^ 31) }
 {
     match &message.body {
         Body::Bare => Some(&[]),
@@ -101,6 +122,7 @@ fn run_row<P: Port>(
     replies: &mut Replies,
 ) -> Result<Option<Reason>, NoMemory>
     requires few { 16 * length arguments.now + 2 ^ 20 < 2 ^ 31 }
+    requires short { 4 * length (arguments_bytes (map argument_of arguments.now)) + 2 ^ 20 < 2 ^ 31 }
     requires pictures { Pictures stage.old (P.words port.old) }
     requires foot { WritesWorld (P.foot port.old) stage.old.pool.region }
     ensures row { Follows result (node_row command from (map argument_of arguments.now) (turn_of stage.old (P.words port.old) replies.old)) (turn_of stage.new (P.words port.new) replies.new) }
@@ -123,8 +145,13 @@ fn run_row<P: Port>(
         NodeCommand::MapControls => run_map(alloc, stage, arguments),
         NodeCommand::NewGroup => run_new_groups(alloc, stage, arguments, replies),
         NodeCommand::Free => run_free(alloc, stage, arguments, replies),
+        NodeCommand::FreeAll => run_free_all(alloc, stage, arguments, replies),
+        NodeCommand::DeepFree => run_deep_free(alloc, stage, arguments, replies),
         NodeCommand::Query => run_query(alloc, stage, arguments, from, replies),
+        NodeCommand::QueryTree => run_tree_query(alloc, stage, arguments, from, replies),
+        NodeCommand::GetControls => run_get(alloc, stage, port, arguments, from, replies),
         NodeCommand::Move(action) => run_moves(alloc, stage, action, arguments, replies),
+        NodeCommand::Order => run_order(alloc, stage, arguments, replies),
     }
 }
 
@@ -144,6 +171,7 @@ pub fn run_node_command<P: Port>(
     requires pictures { Pictures stage.old (P.words port.old) }
     requires foot { WritesWorld (P.foot port.old) stage.old.pool.region }
     ensures row { Handles result (run_node from (message_of message.now) (turn_of stage.old (P.words port.old) replies.old)) (turn_of stage.new (P.words port.new) replies.new) }
+    ensures nothing { AsksNothing result }
     ensures unchanged { UnlessDone result (turn_of stage.new (P.words port.new) replies.new ≡ turn_of stage.old (P.words port.old) replies.old) }
     ensures pictures { Pictures stage.new (P.words port.new) }
     ensures clients { length stage.new.notify ≡ length stage.old.notify }

@@ -2,7 +2,7 @@ ghost use Rattle.std.specs.Prelude.{◌≡◌, IsTrue};
 ghost use Rattle.sn_pcm.specs.Allowed.{is_rate, is_width, is_within};
 
 /// How to render. Each field always holds a value that a run allows.
-#[derive(Debug, Drop)]
+#[derive(Clone, Copy, Debug)]
 pub struct Settings {
     /// Frames a second: 44,100, 48,000 or 96,000.
     pub rate: u32,

@@ -1,5 +1,5 @@
 -- What a contract sees of a pool.
-use Rattle.std.specs.Prelude.{◌≡◌, ℕ, ◌+◌, ◌-◌, ◌≤◌, Bool, true, ◌&&◌, nat_eq, nat_lt, if◌then◌else◌, List, [], ◌∷◌, Option, Some, None, Result, Ok, Err}
+use Rattle.std.specs.Prelude.{◌≡◌, ℕ, ◌+◌, ◌-◌, ◌≤◌, ◌<◌, Bool, true, ◌&&◌, nat_eq, nat_lt, if◌then◌else◌, List, [], ◌∷◌, Option, Some, None, Result, Ok, Err}
 use Rattle.sn_mem.specs.declared.extents.Extent.{Extent}
 use Rattle.sn_mem.specs.Words.{covers}
 use Rattle.sn_pool.specs.declared.pool.Mark.{Mark}
@@ -61,6 +61,11 @@ saved_of (Some j) = j.saved
 abbrev pub room_of : Option Journal → ℕ
 room_of None = 0
 room_of (Some j) = j.room
+
+-- An open journal has room for a call of `give_back`.
+abbrev pub HasRoom : Option Journal → Type 0
+HasRoom None = Unit {0}
+HasRoom (Some j) = 0 < j.room
 
 -- The journal with room for one call fewer.
 abbrev pub one_given : Option Journal → Option Journal

@@ -1,7 +1,7 @@
 //! The pool.
 ghost use Rattle.std.specs.Prelude.{◌≡◌, ◌≢◌, ◌<◌, ◌≤◌, ◌+◌, ◌^◌, ◌↔◌, if◌then◌else◌, [], IfOk, IfErr, IsErrOf, AllPairs, Some, None, true, ℕ, List, length, remove};
 ghost use Rattle.sn_mem.specs.declared.extents.Extent.{Extent};
-ghost use Rattle.sn_pool.specs.Pools.{AreLaidOut, with_extent, without_extent, times, same_extent, mark_of, saved_of, room_of, one_given as one_given_of, LiesIn, AreDisjoint, GivesPlace};
+ghost use Rattle.sn_pool.specs.Pools.{AreLaidOut, with_extent, without_extent, times, same_extent, mark_of, saved_of, HasRoom, one_given as one_given_of, LiesIn, AreDisjoint, GivesPlace};
 ghost use Rattle.sn_pool.specs.Represents.{journal_of};
 ghost use Rattle.sn_pool.specs.declared.pool.Untaken.TheVariants.{NoMemory};
 ghost use Rattle.sn_pool.specs.Regions.{LeastPlace, IsLongestRun, count_free, least_place};
@@ -149,11 +149,11 @@ impl Pool {
         Ok(extent)
     }
 
-    /// Gives back a live extent, for which the open journal has room. It takes no memory.
+    /// Gives back a live extent, for which an open journal has room. It takes no memory.
     #[tactic(auto, using(crate::proofs::Counts::times_without))]
     pub fn give_back(&mut self, extent: Extent)
         requires live { 0 < times extent self.old.live }
-        requires room { 0 < room_of self.old.journal }
+        requires room { HasRoom self.old.journal }
         ensures counted { (e : Extent) → times e self.old.live ≡ (if same_extent e extent then 1 else 0) + times e self.new.live }
         ensures given { self.new ≡ record self.old { live = without_extent extent self.old.live; journal = one_given_of self.old.journal } }
     {

@@ -65,6 +65,7 @@ impl Text {
     pub fn append(&mut self, piece: &[u8]) -> Result<(), NoMemory>
         ensures ok { OnOk result (self.new.bytes ≡ self.old.bytes ++ piece.now) }
         ensures err { OnErr result (self.new.bytes ≡ self.old.bytes) }
+        ensures room { self.old.spare ≤ self.new.spare + length piece.now }
     {
         self.items.extend_from_slice(piece)?;
         Ok(())
@@ -90,5 +91,13 @@ impl Text {
             Ok(()) => {}
             Err(_) => unreachable!(),
         }
+    }
+
+    /// Drops all bytes, and keeps their room.
+    pub fn clear(&mut self)
+        ensures bytes { self.new.bytes ≡ [] }
+        ensures room { self.old.spare ≤ self.new.spare }
+    {
+        self.items.clear();
     }
 }

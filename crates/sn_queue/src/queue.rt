@@ -67,7 +67,8 @@ impl Queue {
         self.puts
     }
 
-    fn is_full(&self) -> bool
+    /// Whether as many entries wait as may.
+    pub fn is_full(&self) -> bool
         ensures { IsTrue result ↔ (self.now.limit ≡ Some (length self.now.waiting)) }
     {
         match self.limit {

@@ -121,6 +121,17 @@ answerable-address m a =
 pub few-arguments_of : (m : MessageShape) (xs : List Argument) → m.body ≡ arguments xs → IsAnswerable m → 16 * length xs + 2 ^ 20 < 2 ^ 31
 few-arguments_of m xs is a = few-arguments m.address xs (subst (λ (b : BodyShape). IsAnswerable (record { address = m.address; body = b })) is a)
 
+-- the bytes of a message's arguments
+short-arguments : (address : List ℕ) (xs : List Argument) → IsAnswerable (record { address = address; body = arguments xs }) → 4 * length (arguments_bytes xs) + 2 ^ 20 < 2 ^ 31
+short-arguments address xs a =
+    let whole = length-append (string_bytes address) (tags_bytes (map tag_of xs) ++ arguments_bytes xs) in
+    let body = length-append (tags_bytes (map tag_of xs)) (arguments_bytes xs) in
+    let short = a.short in
+    omega arith
+
+pub short-arguments_of : (m : MessageShape) (xs : List Argument) → m.body ≡ arguments xs → IsAnswerable m → 4 * length (arguments_bytes xs) + 2 ^ 20 < 2 ^ 31
+short-arguments_of m xs is a = short-arguments m.address xs (subst (λ (b : BodyShape). IsAnswerable (record { address = m.address; body = b })) is a)
+
 -- ---- replies of numbers and short names
 
 pub short-int : (n : ℤ) → fits_int n ≡ true → IsShort (int n)
@@ -141,8 +152,8 @@ few-bytes : (xs : List Argument) → AreShort xs → length (arguments_bytes xs)
 few-bytes [] all = omega arith
 few-bytes (x ∷ xs) all = omega (arith, length-append (argument_bytes x) (arguments_bytes xs), all.0.short, few-bytes xs all.1)
 
-pub sendable_answer : (address : List ℕ) (xs : List Argument) → IsAddress address → AreShort xs → length xs < 2 ^ 24 → IsSendable (record { address = address; body = arguments xs })
-sendable_answer address xs is all few = record {
+pub sendable_long : (address : List ℕ) (xs : List Argument) → IsAddress address → AreShort xs → length (arguments_bytes xs) + length xs + 256 < 2 ^ 31 → IsSendable (record { address = address; body = arguments xs })
+sendable_long address xs is all few = record {
   valid = both (begins_with 47 address && has_no_null address) (list_all is_argument xs) (both (begins_with 47 address) (has_no_null address) is.begins is.clean) (all-valid xs all);
   short =
       let tags = 44 ∷ map tag_of xs in
@@ -151,7 +162,9 @@ sendable_answer address xs is all few = record {
       let front = length-string_bytes address in
       let padded = length-string_bytes tags in
       let names : length (map tag_of xs) ≡ length xs = length-map xs tag_of in
-      let bytes = few-bytes xs all in
       let short = is.short in
       omega arith;
 }
+
+pub sendable_answer : (address : List ℕ) (xs : List Argument) → IsAddress address → AreShort xs → length xs < 2 ^ 24 → IsSendable (record { address = address; body = arguments xs })
+sendable_answer address xs is all few = sendable_long address xs is all (omega (arith, few-bytes xs all))

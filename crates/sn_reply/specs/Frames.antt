@@ -1,5 +1,6 @@
 -- Replies as the bytes that a client is sent.
-use Rattle.std.specs.Prelude.{ℕ, Bool, true, false, ◌==◌, if◌then◌else◌, List, [], ◌∷◌, ◌++◌}
+use Rattle.std.specs.Prelude.{ℕ, ◌+◌, ◌≤◌, Bool, true, false, ◌==◌, if◌then◌else◌, List, [], ◌∷◌, ◌++◌}
+use Rattle.sn_ports.specs.Octets.{Octets}
 use Rattle.sn_osc.specs.Bytes.{message_bytes, frame_bytes}
 use Rattle.sn_reply.specs.Replies.{ReplyShape}
 use Rattle.sn_reply.specs.declared.replies.To.{To}
@@ -18,3 +19,18 @@ frame_to client r = if goes_to client r.to then frame_bytes (message_bytes r.mes
 abbrev pub frames_to : ℕ → List ReplyShape → List ℕ
 frames_to client [] = []
 frames_to client (r ∷ rs) = frame_to client r ++ frames_to client rs
+
+-- what is still to be sent to the clients from a number on, with the frame of one more reply
+abbrev pub with_frame : ℕ → ReplyShape → List (List ℕ) → List (List ℕ)
+with_frame client r [] = []
+with_frame client r (bytes ∷ others) = (bytes ++ frame_to client r) ∷ with_frame (client + 1) r others
+
+-- with the frames of more replies, one after another
+abbrev pub with_frames : ℕ → List ReplyShape → List (List ℕ) → List (List ℕ)
+with_frames client [] out = out
+with_frames client (r ∷ rs) out = with_frames client rs (with_frame client r out)
+
+-- what is to be sent to each client has room for so many bytes more
+abbrev pub EachHasRoom : ℕ → List Octets → Type 0
+EachHasRoom n [] = Unit {0}
+EachHasRoom n (t ∷ ts) = (n ≤ t.spare) × EachHasRoom n ts

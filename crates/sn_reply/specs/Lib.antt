@@ -3,3 +3,4 @@ pub mod Failing
 pub mod Sending
 pub mod Answering
 pub mod Frames
+pub mod Events

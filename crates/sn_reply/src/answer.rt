@@ -1,7 +1,7 @@
 //! Replies of numbers and short names, argument by argument.
-ghost use Rattle.std.specs.Prelude.{◌≡◌, ◌≤◌, ◌<◌, ◌^◌, ◌∷◌, ◌++◌, [], true, length, OnOk, OnErr, IfOk};
+ghost use Rattle.std.specs.Prelude.{◌≡◌, ◌≤◌, ◌<◌, ◌+◌, ◌^◌, ◌∷◌, ◌++◌, [], true, length, OnOk, OnErr, IfOk};
 ghost use Rattle.sn_osc.specs.Shape.{int, string, arguments, message_of};
-ghost use Rattle.sn_osc.specs.Bytes.{has_no_null};
+ghost use Rattle.sn_osc.specs.Bytes.{has_no_null, arguments_bytes};
 ghost use Rattle.sn_reply.specs.Sending.{IsSendable};
 ghost use Rattle.sn_reply.specs.Answering.{IsAddress};
 
@@ -73,6 +73,18 @@ impl Answer {
     pub fn into_message(self, address: &[u8]) -> Result<Message, NoMemory>
         requires address { IsAddress address.now }
         requires few { length self < 2 ^ 24 }
+        ensures message { IfOk result (λ m. message_of m ≡ record { address = address.now; body = arguments self }) }
+        ensures sendable { IfOk result (λ m. IsSendable (message_of m)) }
+    {
+        Ok(Message {
+            address: Text::from_slice(self.alloc, address)?,
+            body: Body::Args(Args::from_vec(self.items)),
+        })
+    }
+    /// The message with these arguments, where their bytes are few enough.
+    pub fn into_long_message(self, address: &[u8]) -> Result<Message, NoMemory>
+        requires address { IsAddress address.now }
+        requires few { length (arguments_bytes self) + length self + 256 < 2 ^ 31 }
         ensures message { IfOk result (λ m. message_of m ≡ record { address = address.now; body = arguments self }) }
         ensures sendable { IfOk result (λ m. IsSendable (message_of m)) }
     {

@@ -1,11 +1,14 @@
-ghost use Rattle.std.specs.Prelude.{◌≡◌, ◌++◌, OnOk};
+//! What is still to be sent to each client: frames of replies.
+ghost use Rattle.std.specs.Prelude.{◌≡◌, ◌+◌, ◌++◌, ◌≤◌, ◌<◌, ◌^◌, map, length, IfOk, OnOk};
 ghost use Rattle.sn_osc.specs.Shape.{message_of};
-ghost use Rattle.sn_reply.specs.Frames.{goes_to, frame_to, frames_to};
-ghost use Rattle.sn_reply.specs.Replies.{reply_of};
+ghost use Rattle.sn_osc.specs.Bytes.{message_bytes, frame_bytes};
+ghost use Rattle.sn_ports.specs.Octets.{bytes_of};
+ghost use Rattle.sn_reply.specs.Frames.{goes_to, frame_to, with_frame, with_frames, EachHasRoom};
+ghost use Rattle.sn_reply.specs.Replies.{ReplyShape, reply_of};
 ghost use Rattle.sn_reply.specs.Sending.{IsSendable};
 
 use crate::replies::{Replies, Reply, To};
-use sn_osc::{Packet, encode};
+use sn_osc::{Message, Packet, encode};
 use sn_ports::{NoMemory, Text};
 use std::alloc::Global;
 
@@ -19,30 +22,72 @@ fn goes_to(client: u32, to: To) -> bool
     }
 }
 
-/// Appends the frame of a reply, where it goes to the client.
-fn put_frame(alloc: Global, out: &mut Text, client: u32, reply: Reply) -> Result<(), NoMemory>
-    requires { IsSendable (message_of reply.message) }
-    ensures { OnOk result (out.new.bytes ≡ out.old.bytes ++ frame_to client (reply_of reply)) }
+/// The frame of a message: its int32 size, and its spelling.
+fn frame(alloc: Global, message: Message) -> Result<Text, NoMemory>
+    requires { IsSendable (message_of message) }
+    ensures bytes { IfOk result (λ t. t.bytes ≡ frame_bytes (message_bytes (message_of message))) }
+    ensures short { IfOk result (λ t. length t.bytes < 2 ^ 31 + 4) }
 {
-    if !goes_to(client, reply.to) {
-        return Ok(());
-    }
-    let bytes = encode(alloc, &Packet::Message(reply.message))?;
-    out.append(&(bytes.len() as u32).to_be_bytes())?;
-    out.append(bytes.as_slice())
+    let bytes = encode(alloc, &Packet::Message(message))?;
+    let mut frame = Text::from_slice(alloc, &(bytes.len() as u32).to_be_bytes())?;
+    frame.append(bytes.as_slice())?;
+    Ok(frame)
 }
 
-/// Appends the frames of the replies that go to a client, in order: each is the int32 size and the spelling of its message.
-pub fn put_frames(
-    alloc: Global,
-    out: &mut Text,
-    client: u32,
-    replies: Replies,
-) -> Result<(), NoMemory>
-    ensures { OnOk result (out.new.bytes ≡ out.old.bytes ++ frames_to client replies) }
+/// Appends a reply's frame to what a client is sent, where it goes to that client. Room for so many more bytes stays.
+fn put_own(out: &mut Text, room: u32, client: u32, to: To, frame: &[u8]) -> Result<(), NoMemory>
+    requires few { room + length frame.now < 2 ^ 32 }
+    ensures frame { (r : ReplyShape) → r.to ≡ to → frame_bytes (message_bytes r.message) ≡ frame.now → OnOk result (out.new.bytes ≡ out.old.bytes ++ frame_to client r) }
+    ensures room { room ≤ out.old.spare → room ≤ out.new.spare }
+{
+    if !goes_to(client, to) {
+        return Ok(());
+    }
+    out.reserve(room + frame.len() as u32)?;
+    out.append_within(frame);
+    Ok(())
+}
+
+/// Appends a reply's frame to what each client that it goes to is sent, from a client on. Room for so many more bytes stays.
+fn put_frame(out: &mut [Text], room: u32, client: u32, to: To, frame: &[u8]) -> Result<(), NoMemory>
+    requires few { room + length frame.now < 2 ^ 32 }
+    requires clients { client + length out.old < 2 ^ 32 }
+    ensures len { length out.new ≡ length out.old }
+    ensures frames { (r : ReplyShape) → r.to ≡ to → frame_bytes (message_bytes r.message) ≡ frame.now → OnOk result (map bytes_of out.new ≡ with_frame client r (map bytes_of out.old)) }
+    ensures room { EachHasRoom room out.old → EachHasRoom room out.new }
+{
+    let Some((first, rest)) = out.split_first_mut() else {
+        return Ok(());
+    };
+    put_own(first, room, client, to, frame)?;
+    put_frame(rest, room, client + 1, to, frame)
+}
+
+/// Appends a reply's frame to what each client that it goes to is sent. Room for so many more bytes stays.
+fn put_reply(alloc: Global, out: &mut [Text], room: u32, reply: Reply) -> Result<(), NoMemory>
+    requires room { room < 2 ^ 30 }
+    requires clients { length out.old < 2 ^ 32 }
+    requires sendable { IsSendable (message_of reply.message) }
+    ensures len { length out.new ≡ length out.old }
+    ensures frames { OnOk result (map bytes_of out.new ≡ with_frame 0 (reply_of reply) (map bytes_of out.old)) }
+    ensures room { EachHasRoom room out.old → EachHasRoom room out.new }
+{
+    let to = reply.to;
+    let frame = frame(alloc, reply.message)?;
+    put_frame(out, room, 0, to, frame.as_slice())
+}
+
+/// Appends the frames of replies to what each client that they go to is sent, in order. Where each had room for so many bytes more, it
+/// still has.
+pub fn send(alloc: Global, out: &mut [Text], room: u32, replies: Replies) -> Result<(), NoMemory>
+    requires room { room < 2 ^ 30 }
+    requires clients { length out.old < 2 ^ 32 }
+    ensures len { length out.new ≡ length out.old }
+    ensures frames { OnOk result (map bytes_of out.new ≡ with_frames 0 replies (map bytes_of out.old)) }
+    ensures room { EachHasRoom room out.old → EachHasRoom room out.new }
 {
     for reply in replies.into_vec() {
-        put_frame(alloc, out, client, reply)?;
+        put_reply(alloc, out, room, reply)?;
     }
     Ok(())
 }

@@ -2,13 +2,15 @@
 #![tactic(auto)]
 
 mod answer;
+mod events;
 mod failing;
 mod framing;
 mod reason;
 mod replies;
 
 pub use answer::Answer;
+pub use events::{Notice, Place, event_frame};
 pub use failing::fail;
-pub use framing::put_frames;
+pub use framing::send;
 pub use reason::Reason;
 pub use replies::{Replies, Reply, To};

@@ -16,14 +16,21 @@ use Rattle.sn_queue.specs.Waiting.{WaitingList}
 use Rattle.sn_reply.specs.Frames.{frames_to}
 use Rattle.std.specs.Prelude.{slice_index_or}
 use Rattle.sn_mem.specs.Buses.{heard, silent}
-use Rattle.sn_server.proofs.HearingLemmas.{frames_made}
+use Rattle.sn_engine.proofs.HearingLemmas.{frames_made}
 use Rattle.sn_world.specs.World.{World}
 use Rattle.sn_world.specs.Walk.{walk}
+use Rattle.sn_world.specs.Settling.{settled}
 use Rattle.sn_world.specs.Opening.{opening}
 use Rattle.sn_osc.specs.Shape.{Shape}
-use Rattle.sn_server.specs.Play.{Session, boundary, play_block, blocks, frame_of, frames_of, outputs, turn_at, arrived, begun, last_of, played, sound_of, replies_of}
-use Rattle.sn_server.specs.Running.{Running, at_boundary, with_block, turn_due}
-use Rattle.sn_server.specs.Going.{session_of, IsGoing, IsWritten, IsBlock, IsEnd, IsEnded}
+use Rattle.sn_engine.specs.Boundary.{unsaid, turn_at, waiting_at}
+use Rattle.sn_engine.specs.Outputs.{frame_of, frames_of, outputs}
+use Rattle.sn_engine.specs.declared.standing.Standing.TheVariants.{Settled}
+use Rattle.sn_reply.specs.Replies.{ReplyShape}
+use Rattle.sn_reply.specs.Frames.{with_frames}
+use Rattle.sn_reply.proofs.FrameLaws.{first_sent, as_many}
+use Rattle.sn_server.specs.Play.{Session, boundary, play_block, settle, blocks, arrived, begun, last_of, played, sound_of, replies_of}
+use Rattle.sn_engine.specs.Running.{Running, at_boundary, with_block, turn_settled}
+use Rattle.sn_server.specs.Going.{to_first, session_of, after_block, IsAtBoundary, IsGoing, IsWritten, IsBlock, IsEnd, IsEnded}
 
 pub pcm-append : (s : Settings) (a b : List ℤ) → pcm s (a ++ b) ≡ pcm s a ++ pcm s b
 unfolding pcm
@@ -32,17 +39,24 @@ pcm-append s (x ∷ a) b = ap (λ (t : List ℕ). sample_bytes s x ++ t) (pcm-ap
 
 -- ---- an engine that holds what a session does
 
-same_turn : (p : Session) (r : Running) → r.world ≡ p.world → r.waiting ≡ p.waiting → turn_due r ≡ turn_at r.block p
-same_turn p r world waiting = ap (λ (w : World). turn_due (record r { world = w })) world ∙ ap (λ (q : WaitingList). turn_due (record r { world = p.world; waiting = q })) waiting
+-- of the client in front
+first_more : (rs : List ReplyShape) (out : List (List ℕ)) → length out ≡ 1 → to_first (with_frames 0 rs out) ≡ to_first out ++ frames_to 0 rs
+first_more rs [] alone = absurd cc
+first_more rs (t ∷ ts) alone = ap to_first (first_sent 0 rs t ts)
+
+abbrev same_turn : (p : Session) (r : Running) → r.world ≡ p.world → r.waiting ≡ p.waiting → turn_at r.block r.waiting r.world ≡ turn_at r.block p.waiting p.world
+same_turn p r world waiting = λ i. turn_at r.block (waiting i) (world i)
 
 boundary_waiting : (p : Session) (r : Running) → r.world ≡ p.world → r.waiting ≡ p.waiting → (at_boundary r).waiting ≡ (boundary r.block p).waiting
-boundary_waiting p r world waiting = ap (λ (w : World). (at_boundary (record r { world = w })).waiting) world ∙ ap (λ (q : WaitingList). (at_boundary (record r { world = p.world; waiting = q })).waiting) waiting
+boundary_waiting p r world waiting = λ i. waiting_at r.block (waiting i) (world i)
 
-boundary_replies : (p : Session) (r : Running) (out : List ℕ) → r.world ≡ p.world → r.waiting ≡ p.waiting → out ++ r.replies ≡ p.replies → out ++ (at_boundary r).replies ≡ (boundary r.block p).replies
-boundary_replies p r out world waiting so_far =
-    ap (λ t. out ++ (r.replies ++ frames_to 0 t.replies)) (same_turn p r world waiting)
-    ∙ sym (append_assoc out r.replies (frames_to 0 (turn_at r.block p).replies))
-    ∙ ap (λ (t : List ℕ). t ++ frames_to 0 (turn_at r.block p).replies) so_far
+boundary_replies : (p : Session) (r : Running) (out : List ℕ) → length r.replies ≡ 1 → r.world ≡ p.world → r.waiting ≡ p.waiting → out ++ to_first r.replies ≡ p.replies
+    → out ++ to_first (at_boundary r).replies ≡ (boundary r.block p).replies
+boundary_replies p r out alone world waiting so_far =
+    ap (λ (t : List ℕ). out ++ t) (first_more (turn_at r.block r.waiting r.world).replies r.replies alone)
+    ∙ ap (λ t. out ++ (to_first r.replies ++ frames_to 0 t.replies)) (same_turn p r world waiting)
+    ∙ sym (append_assoc out (to_first r.replies) (frames_to 0 (turn_at r.block p.waiting p.world).replies))
+    ∙ ap (λ (t : List ℕ). t ++ frames_to 0 (turn_at r.block p.waiting p.world).replies) so_far
 
 -- ---- what was written
 
@@ -61,14 +75,15 @@ written_more out before after old mid new taken w = Appends-trans _ _ _ _ _ take
 
 -- ---- from block to block
 
-pub begins : (s : Settings) (total : ℕ) (so ro : Option (List ℕ)) (r : Running) → IsGoing s r total total so so ro ro r
+pub begins : (s : Settings) (total : ℕ) (so ro : Option (List ℕ)) (r : Running) → IsAtBoundary s r → IsGoing s r total total so so ro ro r
 unfolding pcm
-begins s total so ro r = record {
+begins s total so ro r stands = record {
   session = session_of r;
   sound_out = [];
   replies_out = [];
   plays = refl;
   count = refl;
+  stands = stands;
   world = refl;
   waiting = refl;
   sound = sym (append-nil r.sound);
@@ -77,38 +92,64 @@ begins s total so ro r = record {
   replies_taken = nothing_more ro;
 }
 
-same_blocks : (s : Settings) (p : Session) (r : Running) (out : List ℕ) (begun : List ℕ) → r.world ≡ p.world → r.waiting ≡ p.waiting → out ++ r.sound ≡ begun ++ pcm s p.samples
-    → out ++ (with_block s (at_boundary r)).sound ≡ begun ++ pcm s (play_block s r.block (boundary r.block p)).samples
-same_blocks s p r out begun world waiting so_far =
+same_blocks : (s : Settings) (p : Session) (r : Running) (out : List ℕ) (begun : List ℕ) → r.settings ≡ s → r.world ≡ p.world → r.waiting ≡ p.waiting → out ++ r.sound ≡ begun ++ pcm s p.samples
+    → out ++ (after_block r).sound ≡ begun ++ pcm s (settle r.block (play_block s r.block (boundary r.block p))).samples
+same_blocks s p r out begun settings world waiting so_far =
     let samples = outputs s r.block (walk r.block (boundary r.block p).world) in
-    ap (λ t. out ++ (r.sound ++ pcm s (outputs s r.block (walk r.block t.world)))) (same_turn p r world waiting)
+    (λ i. out ++ (r.sound ++ pcm (settings i) (outputs (settings i) r.block (walk r.block (same_turn p r world waiting i).world))))
     ∙ sym (append_assoc out r.sound (pcm s samples))
     ∙ ap (λ (t : List ℕ). t ++ pcm s samples) so_far
     ∙ append_assoc begun (pcm s p.samples) (pcm s samples)
     ∙ ap (λ (t : List ℕ). begun ++ t) (sym (pcm-append s p.samples samples))
 
+-- the world that is settled is that of the session after its block
+settled_world : (p : Session) (r : Running) → r.world ≡ p.world → r.waiting ≡ p.waiting → turn_settled (with_block (at_boundary r)) ≡ settled r.block (unsaid (walk r.block (boundary r.block p).world))
+settled_world p r world waiting =
+    ap (λ (b : ℕ). settled b (unsaid (walk r.block (at_boundary r).world))) (omega arith)
+    ∙ ap (λ t. settled r.block (unsaid (walk r.block t.world))) (same_turn p r world waiting)
+
+-- an engine of one client after a boundary
+pub still_alone : (r : Running) → length r.replies ≡ 1 → length (at_boundary r).replies ≡ 1
+still_alone r alone = as_many 0 (turn_at r.block r.waiting r.world).replies r.replies ∙ alone
+
+pub settled_alone : (r : Running) → length r.replies ≡ 1 → length (after_block r).replies ≡ 1
+settled_alone r alone = as_many 0 (turn_settled (with_block (at_boundary r))).replies (at_boundary r).replies ∙ still_alone r alone
+
+block_replies : (s : Settings) (p : Session) (r : Running) (out : List ℕ) → length r.replies ≡ 1 → r.world ≡ p.world → r.waiting ≡ p.waiting → out ++ to_first r.replies ≡ p.replies
+    → out ++ to_first (after_block r).replies ≡ (settle r.block (play_block s r.block (boundary r.block p))).replies
+block_replies s p r out alone world waiting so_far =
+    let rs = (turn_settled (with_block (at_boundary r))).replies in
+    ap (λ (t : List ℕ). out ++ t) (first_more rs (at_boundary r).replies (still_alone r alone))
+    ∙ sym (append_assoc out (to_first (at_boundary r).replies) (frames_to 0 rs))
+    ∙ (λ i. boundary_replies p r out alone world waiting so_far i ++ frames_to 0 (settled_world p r world waiting i).replies)
+
 pub goes_on : (s : Settings) (begun : Running) (total left : ℕ) (so sm sn ro rm rn : Option (List ℕ)) (old new : Running)
-    → IsGoing s begun total (suc left) so sm ro rm old → IsBlock s sm sn rm rn old new → IsGoing s begun total left so sn ro rn new
+    → IsGoing s begun total (suc left) so sm ro rm old → IsBlock sm sn rm rn old new → IsGoing s begun total left so sn ro rn new
 goes_on s begun total left so sm sn ro rm rn old new g b =
     let p = g.session in
-    let next = play_block s old.block (boundary old.block p) in
-    let world : new.world ≡ next.world = b.world ∙ ap (λ t. walk old.block t.world) (same_turn p old g.world g.waiting) in
+    let next = settle old.block (play_block s old.block (boundary old.block p)) in
+    let world : new.world ≡ next.world = b.world ∙ ap (λ t. t.world) (settled_world p old g.world g.waiting) in
     record {
       session = next;
       sound_out = g.sound_out ++ b.sound.piece;
       replies_out = g.replies_out ++ b.replies.piece;
       plays = ap (λ (n : ℕ). blocks s left n next) b.block ∙ g.plays;
       count = omega (arith, g.count, b.block);
+      stands = record {
+        settings = b.settings ∙ g.stands.settings;
+        standing = b.standing;
+        alone = b.clients ∙ settled_alone old g.stands.alone;
+      };
       world = world;
       waiting = b.waiting ∙ boundary_waiting p old g.world g.waiting;
       sound =
           append_assoc g.sound_out b.sound.piece new.sound
           ∙ ap (λ (t : List ℕ). g.sound_out ++ t) (sym b.sound.parts)
-          ∙ same_blocks s p old g.sound_out begun.sound g.world g.waiting g.sound;
+          ∙ same_blocks s p old g.sound_out begun.sound g.stands.settings g.world g.waiting g.sound;
       replies =
-          append_assoc g.replies_out b.replies.piece new.replies
+          append_assoc g.replies_out b.replies.piece (to_first new.replies)
           ∙ ap (λ (t : List ℕ). g.replies_out ++ t) (sym b.replies.parts)
-          ∙ boundary_replies p old g.replies_out g.world g.waiting g.replies;
+          ∙ block_replies s p old g.replies_out g.stands.alone g.world g.waiting g.replies;
       sound_taken = written_more _ _ _ _ _ _ g.sound_taken b.sound;
       replies_taken = written_more _ _ _ _ _ _ g.replies_taken b.replies;
     }
@@ -119,9 +160,10 @@ goes_on s begun total left so sm sn ro rm rn old new g b =
 samples_made : (s : Settings) (n b : ℕ) (p : Session) → length (blocks s n b p).samples ≡ length p.samples + n * (64 * s.channels)
 samples_made s zero b p = omega arith
 samples_made s (suc n) b p =
-    let next = play_block s b (boundary b p) in
-    let made : length (outputs s b next.world) ≡ 64 * s.channels = frames_made s.channels b next.world 64 in
-    let more : length next.samples ≡ length p.samples + 64 * s.channels = omega (arith, length-append p.samples (outputs s b next.world), made) in
+    let next = settle b (play_block s b (boundary b p)) in
+    let walked = play_block s b (boundary b p) in
+    let made : length (outputs s b walked.world) ≡ 64 * s.channels = frames_made s.channels b walked.world 64 in
+    let more : length next.samples ≡ length p.samples + 64 * s.channels = omega (arith, length-append p.samples (outputs s b walked.world), made) in
     let rest : length (blocks s (suc n) b p).samples ≡ length next.samples + n * (64 * s.channels) = samples_made s n (b + 1) next in
     omega (arith, more, rest)
 
@@ -173,19 +215,19 @@ ended s begun total so sm sn ro rm rn r g e =
     let at : r.block ≡ begun.block + total = omega (arith, g.count) in
     record {
       sound = subst (Appends so sn) (g.sound ∙ ap (λ (p : Session). begun.sound ++ pcm s p.samples) g.plays) (Appends-trans _ _ _ _ _ g.sound_taken e.sound);
-      replies = subst (Appends ro rn) (boundary_replies g.session r g.replies_out g.world g.waiting g.replies ∙ ap (λ (p : Session). (boundary r.block p).replies) g.plays ∙ ap (λ (n : ℕ). (boundary n final).replies) at) (Appends-trans _ _ _ _ _ g.replies_taken e.replies);
+      replies = subst (Appends ro rn) (boundary_replies g.session r g.replies_out g.stands.alone g.world g.waiting g.replies ∙ ap (λ (p : Session). (boundary r.block p).replies) g.plays ∙ ap (λ (n : ℕ). (boundary n final).replies) at) (Appends-trans _ _ _ _ _ g.replies_taken e.replies);
     }
 
 abbrev make : World → WaitingList → List ℤ → List ℕ → Session
 make world waiting samples replies = record { world = world; waiting = waiting; samples = samples; replies = replies }
 
--- an engine that opened and was offered all packets
+-- an engine that opened and was offered all packets, with the head of the sound
 pub record IsOpened (s : Settings) (packets : List Shape) (r : Running) : Type 0 where
   pub world : r.world ≡ opening s.rate s.memory 1
   pub waiting : r.waiting ≡ arrived s packets
   pub block : r.block ≡ 0
   pub sound : r.sound ≡ header_bytes s (data_len s (last_of s packets))
-  pub replies : r.replies ≡ []
+  pub replies : to_first r.replies ≡ []
 
 -- has played them
 pub all_played : (s : Settings) (packets : List Shape) (r : Running) (so sn ro rn : Option (List ℕ)) → IsOpened s packets r → IsEnded s r (last_of s packets) so sn ro rn
@@ -210,6 +252,24 @@ pub on_ok : {T E A B : Type 0} (r : Result T E) → (A → B) → OnOk r A → O
 on_ok (Ok x) f h = f h
 on_ok (Err e) f h = tt
 
--- the head of the sound was put where none was
-pub with_sound : (old new : Running) (head put : List ℕ) → old.sound ≡ [] → put ≡ head → new ≡ record old { sound = old.sound ++ put } → new ≡ record old { sound = head }
-with_sound old new head put none is becomes = becomes ∙ ap (λ (t : List ℕ). record old { sound = t ++ put }) none ∙ ap (λ (t : List ℕ). record old { sound = t }) is
+-- the head of the sound was written before the rest of it
+pub headed : (s : Settings) (r : Running) (total : ℕ) (head : List ℕ) (so sm sn ro rn : Option (List ℕ)) → r.sound ≡ [] → Appends so sm head → IsEnded s r total sm sn ro rn
+    → IsEnded s (record r { sound = head }) total so sn ro rn
+headed s r total head so sm sn ro rn silent taken e = record {
+  sound = subst (λ (t : List ℕ). Appends so sn (head ++ (t ++ pcm s (blocks s total r.block (session_of r)).samples))) silent (Appends-trans _ _ _ _ _ taken e.sound);
+  replies = e.replies;
+}
+
+-- a block whose bytes were written
+pub block_done : (so sn ro rn : Option (List ℕ)) (old settled wrote new : Running) → settled ≡ after_block old → wrote ≡ record settled { sound = wrote.sound } → new ≡ record wrote { replies = new.replies }
+    → length old.replies ≡ 1 → length new.replies ≡ 1 → IsWritten settled.sound wrote.sound so sn → IsWritten (to_first wrote.replies) (to_first new.replies) ro rn → IsBlock so sn ro rn old new
+block_done so sn ro rn old settled wrote new done sounded replied alone alone' sound replies = record {
+  settings = ap (λ r. r.settings) replied ∙ ap (λ r. r.settings) sounded ∙ ap (λ r. r.settings) done;
+  standing = ap (λ r. r.standing) replied ∙ ap (λ r. r.standing) sounded ∙ ap (λ r. r.standing) done;
+  clients = alone' ∙ sym (settled_alone old alone);
+  world = ap (λ r. r.world) replied ∙ ap (λ r. r.world) sounded ∙ ap (λ r. r.world) done;
+  waiting = ap (λ r. r.waiting) replied ∙ ap (λ r. r.waiting) sounded ∙ ap (λ r. r.waiting) done;
+  block = ap (λ r. r.block) replied ∙ ap (λ r. r.block) sounded ∙ ap (λ r. r.block) done;
+  sound = subst (λ (t : List ℕ). IsWritten t new.sound so sn) (ap (λ r. r.sound) done) (subst (λ (t : List ℕ). IsWritten settled.sound t so sn) (sym (ap (λ r. r.sound) replied)) sound);
+  replies = subst (λ (t : List (List ℕ)). IsWritten (to_first t) (to_first new.replies) ro rn) (ap (λ r. r.replies) sounded ∙ ap (λ r. r.replies) done) replies;
+}

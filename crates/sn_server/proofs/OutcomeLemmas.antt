@@ -1,5 +1,5 @@
 -- A stream has one answer, and what was played is what it gives.
-use Rattle.std.proofs.Common.{◌≡◌, ℕ, ◌+◌, ◌<◌, ◌≤◌, ◌⊎◌, List, [], ◌∷◌, ◌++◌, length, Option, Some, None, refl, sym, ap, subst, ◌∙◌, arith, inl, inr}
+use Rattle.std.proofs.Common.{◌≡◌, Bool, true, false, IsTrue, ℕ, ◌+◌, ◌<◌, ◌≤◌, ◌⊎◌, List, [], ◌∷◌, ◌++◌, length, Option, Some, None, refl, sym, ap, subst, ◌∙◌, arith, inl, inr}
 use Rattle.std.specs.Prelude.{IfSome}
 use Rattle.std.specs.Io.KnownBytes.{Appends}
 use Rattle.sn_osc.specs.Shape.{Shape}
@@ -11,8 +11,7 @@ use Rattle.sn_osc.specs.declared.fault.StreamFault.{StreamFault}
 use Rattle.sn_server.specs.Going.{IsEnded}
 use Rattle.sn_server.specs.Outcomes.{IsTooLong, HasAnswer, IsAnswer, Played}
 use Rattle.sn_server.specs.Play.{last_of, sound_of, replies_of, arrived}
-use Rattle.sn_world.specs.Opening.{opening}
-use Rattle.sn_server.specs.Running.{Running}
+use Rattle.sn_engine.specs.Running.{Running, opened}
 use Rattle.sn_osc.specs.Frames.{Frames, StreamFaultAt}
 use Rattle.sn_osc.proofs.Streams.{one_list, excluded, one_stream_fault}
 use Rattle.sn_server.proofs.GoingLemmas.{all_played}
@@ -86,7 +85,7 @@ complete s stream ReplyFault answer bytes is some has read sound reply = absurd 
 
 -- an engine at which all packets arrived
 abbrev pub arrived_engine : Settings → List Shape → Running
-arrived_engine s packets = record { world = opening s.rate s.memory 1; waiting = arrived s packets; block = 0; sound = []; replies = [] }
+arrived_engine s packets = record (opened s 0 None 1) { waiting = arrived s packets }
 
 done_is : (m n : ℕ) → Done m ≡ Done n → m ≡ n
 done_is m n e = cc
@@ -106,3 +105,19 @@ pub long_answer : (s : Settings) (stream : Option (List ℕ)) (bytes : List ℕ)
     → blocks ≡ last_of s packets → IsTooLong s blocks → IfSome stream (λ xs. HasAnswer s xs (LongSound blocks))
 long_answer s None bytes packets blocks are size frames last long = tt
 long_answer s (Some xs) bytes packets blocks are size frames last long = (subst (λ ys. length ys ≤ 16777216) are size, (packets, subst (Frames packets) are frames, last, long))
+
+-- the answer of a stream that is played
+pub done_answer : (s : Settings) (stream : Option (List ℕ)) (bytes : List ℕ) (packets : List Shape) (blocks : ℕ) → IfSome stream (λ xs. bytes ≡ xs) → length bytes ≤ 16777216 → Frames packets bytes
+    → blocks ≡ last_of s packets → (IsTooLong s blocks → ⊥) → IfSome stream (λ xs. HasAnswer s xs (Done blocks))
+done_answer s None bytes packets blocks are size frames last short = tt
+done_answer s (Some xs) bytes packets blocks are size frames last short = (subst (λ ys. length ys ≤ 16777216) are size, (packets, subst (Frames packets) are frames, last, short))
+
+-- and of one whose playing was cut by a fault
+pub faulty_answer : (s : Settings) (stream : Option (List ℕ)) (bytes : List ℕ) (packets : List Shape) (blocks : ℕ) → IfSome stream (λ xs. bytes ≡ xs) → length bytes ≤ 16777216 → Frames packets bytes
+    → blocks ≡ last_of s packets → (IsTooLong s blocks → ⊥) → IfSome stream (λ xs. (n : ℕ) × HasAnswer s xs (Done n))
+faulty_answer s None bytes packets blocks are size frames last short = tt
+faulty_answer s (Some xs) bytes packets blocks are size frames last short = (blocks, done_answer s (Some xs) bytes packets blocks are size frames last short)
+
+pub not_long : (b : Bool) (P : Type 0) → (P → IsTrue b) → b ≡ false → P → ⊥
+not_long true P tells is h = absurd cc
+not_long false P tells is h = let t : IsTrue false = tells h in absurd cc

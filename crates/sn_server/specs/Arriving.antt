@@ -1,10 +1,18 @@
 -- Packets whose entries can be put and answered.
-use Rattle.std.specs.Prelude.{◌≤◌, ◌+◌, ◌^◌, ℕ, List, [], ◌∷◌, length}
+use Rattle.std.specs.Prelude.{◌≡◌, ◌≤◌, ◌+◌, ◌^◌, ℕ, List, [], ◌∷◌, length, None}
 use Rattle.sn_osc.specs.Shape.{Shape}
-use Rattle.sn_server.specs.Answerable.{AreAnswerable}
-use Rattle.sn_server.specs.Entries.{entries_of}
+use Rattle.sn_engine.specs.Arriving.{IsSpelled}
+use Rattle.sn_engine.specs.Running.{Running}
+use Rattle.sn_engine.specs.declared.standing.Standing.TheVariants.{Settled}
+use Rattle.sn_engine.specs.Entries.{entries_of}
 
--- the messages of each can be answered, and with so many entries put before, no count wraps
+-- each is spelled, and with so many entries put before, no count wraps
 abbrev pub ArePut : List Shape → ℕ → Type 0
 ArePut [] puts = Unit {0}
-ArePut (x ∷ xs) puts = AreAnswerable (entries_of x) × (puts + length (entries_of x) ≤ 2 ^ 62) × ArePut xs (puts + length (entries_of x))
+ArePut (x ∷ xs) puts = IsSpelled x × (puts + length (entries_of x) ≤ 2 ^ 62) × ArePut xs (puts + length (entries_of x))
+
+-- an engine at boundary 0, in which any number of entries may wait
+pub record IsBegun (r : Running) : Type 0 where
+  pub block : r.block ≡ 0
+  pub standing : r.standing ≡ Settled
+  pub unlimited : r.waiting.limit ≡ None

@@ -1,9 +1,5 @@
-pub mod Entries
-pub mod Stacks
 pub mod Stream
-pub mod Answerable
-pub mod Arriving
 pub mod Play
-pub mod Running
+pub mod Arriving
 pub mod Going
 pub mod Outcomes

@@ -1,15 +1,10 @@
 //! Bytes in, bytes out: a stream of commands is read, decoded and played.
 #![tactic(auto)]
 
-mod acting;
-mod engine;
-mod entry;
-mod offering;
 mod outcome;
 mod rendering;
 mod running;
 mod stream;
-mod walking;
 
 pub use outcome::Outcome;
 pub use running::render;

@@ -1,14 +1,14 @@
-ghost use Rattle.std.specs.Prelude.{◌≡◌, ◌<◌, ◌≤◌, ◌+◌, ◌*◌, ◌^◌, ℕ, pos, zero, List, map, length, replicate, IfOk, OnOk};
-ghost use Rattle.sn_osc.specs.Shape.{shape};
+ghost use Rattle.std.specs.Prelude.{◌≡◌, ◌<◌, ◌≤◌, ◌^◌, length, OnOk};
 ghost use Rattle.sn_ports.specs.Causes.{Rose};
-ghost use Rattle.sn_server.specs.Going.{IsBlock, IsEnd, IsEnded, IsWritten};
-ghost use Rattle.sn_server.specs.Running.{Running, at_boundary};
+ghost use Rattle.sn_server.specs.Going.{IsAtBoundary, IsBlock, IsEnd, IsEnded, IsWritten, to_first};
+ghost use Rattle.sn_engine.specs.Running.{Running};
+ghost use Rattle.sn_engine.specs.declared.standing.Standing.TheVariants.{Settled};
 ghost use Rattle.sn_server.specs.declared.rendering.Stop.TheVariants as stops;
 
-use crate::engine::Engine;
-use sn_pcm::Settings;
-use sn_ports::{NoMemory, Sink};
+use sn_engine::Engine;
+use sn_ports::{Gate, NoMemory, Sink};
 use std::alloc::{AllocError, Global};
+use std::thread::Threads;
 
 /// How many bytes are gathered before they are written.
 const PIECE: usize = 16384;
@@ -38,12 +38,7 @@ impl From<NoMemory> for Stop {
 }
 
 /// Writes the sound that was gathered, where it has `least` bytes.
-fn write_sound<O: Sink>(
-    alloc: Global,
-    engine: &mut Engine,
-    least: usize,
-    sink: &mut O,
-) -> Result<(), Stop>
+fn write_sound<O: Sink>(engine: &mut Engine, least: usize, sink: &mut O) -> Result<(), Stop>
     ensures written { OnOk result (IsWritten engine.old.sound engine.new.sound (O.taken sink.old) (O.taken sink.new)) }
     ensures kept { OnOk result (engine.new ≡ record engine.old { sound = engine.new.sound }) }
     ensures memory { result ≡ Err Stop.NoMemory → ⊥ }
@@ -54,54 +49,56 @@ fn write_sound<O: Sink>(
     if engine.sound_len() < least {
         return Ok(());
     }
-    match engine.drain_sound(alloc, sink) {
+    match engine.drain_sound(sink) {
         Ok(()) => Ok(()),
         Err(_) => Err(Stop::SoundFault),
     }
 }
 
 /// Writes the replies that were gathered, where they have `least` bytes.
-fn write_replies<R: Sink>(
-    alloc: Global,
-    engine: &mut Engine,
-    least: usize,
-    sink: &mut R,
-) -> Result<(), Stop>
-    ensures written { OnOk result (IsWritten engine.old.replies engine.new.replies (R.taken sink.old) (R.taken sink.new)) }
+fn write_replies<R: Sink>(engine: &mut Engine, least: usize, sink: &mut R) -> Result<(), Stop>
+    requires alone { length engine.old.replies ≡ 1 }
+    ensures written { OnOk result (IsWritten (to_first engine.old.replies) (to_first engine.new.replies) (R.taken sink.old) (R.taken sink.new)) }
+    ensures alone { length engine.new.replies ≡ 1 }
     ensures kept { OnOk result (engine.new ≡ record engine.old { replies = engine.new.replies }) }
     ensures memory { result ≡ Err Stop.NoMemory → ⊥ }
     ensures sound { result ≡ Err Stop.SoundFault → ⊥ }
     ensures cause { result ≡ Err Stop.ReplyFault → Rose (R.faults sink.old) (R.faults sink.new) }
     ensures later { R.faults sink.old ≤ R.faults sink.new }
 {
-    if engine.replies_len() < least {
+    if engine.replies_len(0) < least {
         return Ok(());
     }
-    match engine.drain_replies(alloc, sink) {
+    match engine.drain_replies(0, sink) {
         Ok(()) => Ok(()),
         Err(_) => Err(Stop::ReplyFault),
     }
 }
 
-/// A boundary, a block, and what of the bytes is enough for a piece.
-fn render_block<O: Sink, R: Sink>(
+/// A boundary, its block and its settling, and what of the bytes is enough for a piece.
+fn render_block<H: Threads + Sync, O: Sink, R: Sink, G: Gate>(
+    rt: &H,
     alloc: Global,
-    settings: &Settings,
     engine: &mut Engine,
     sound: &mut O,
     replies: &mut R,
+    gate: &G,
 ) -> Result<(), Stop>
     requires block { engine.old.block < 2 ^ 62 }
-    ensures block { OnOk result (IsBlock settings.now (O.taken sound.old) (O.taken sound.new) (R.taken replies.old) (R.taken replies.new) engine.old engine.new) }
+    requires settled { engine.old.standing ≡ Settled }
+    requires alone { length engine.old.replies ≡ 1 }
+    ensures block { OnOk result (IsBlock (O.taken sound.old) (O.taken sound.new) (R.taken replies.old) (R.taken replies.new) engine.old engine.new) }
     ensures sound { result ≡ Err Stop.SoundFault → Rose (O.faults sound.old) (O.faults sound.new) }
     ensures reply { result ≡ Err Stop.ReplyFault → Rose (R.faults replies.old) (R.faults replies.new) }
     ensures sound_later { O.faults sound.old ≤ O.faults sound.new }
     ensures reply_later { R.faults replies.old ≤ R.faults replies.new }
 {
     engine.boundary(alloc)?;
-    engine.block(settings)?;
-    write_sound(alloc, engine, PIECE, sound)?;
-    write_replies(alloc, engine, PIECE, replies)
+    engine.blocks(rt, 1, gate);
+    engine.settle();
+    write_sound(engine, PIECE, sound)?;
+    write_replies(engine, PIECE, replies)?;
+    Ok(())
 }
 
 /// The boundary after the last block, and all bytes that are still to be written.
@@ -111,6 +108,8 @@ fn render_end<O: Sink, R: Sink>(
     sound: &mut O,
     replies: &mut R,
 ) -> Result<(), Stop>
+    requires settled { engine.old.standing ≡ Settled }
+    requires alone { length engine.old.replies ≡ 1 }
     ensures end { OnOk result (IsEnd (O.taken sound.old) (O.taken sound.new) (R.taken replies.old) (R.taken replies.new) engine.old) }
     ensures sound { result ≡ Err Stop.SoundFault → Rose (O.faults sound.old) (O.faults sound.new) }
     ensures reply { result ≡ Err Stop.ReplyFault → Rose (R.faults replies.old) (R.faults replies.new) }
@@ -118,33 +117,35 @@ fn render_end<O: Sink, R: Sink>(
     ensures reply_later { R.faults replies.old ≤ R.faults replies.new }
 {
     engine.boundary(alloc)?;
-    match engine.drain_sound(alloc, sound) {
+    match engine.drain_sound(sound) {
         Ok(()) => {}
         Err(_) => return Err(Stop::SoundFault),
     }
-    match engine.drain_replies(alloc, replies) {
+    match engine.drain_replies(0, replies) {
         Ok(()) => Ok(()),
         Err(_) => Err(Stop::ReplyFault),
     }
 }
 
 /// Renders so many blocks, and the boundary after the last one.
-pub fn render_blocks<O: Sink, R: Sink>(
+pub fn render_blocks<H: Threads + Sync, O: Sink, R: Sink, G: Gate>(
+    rt: &H,
     alloc: Global,
-    settings: &Settings,
     blocks: u64,
     mut engine: Engine,
     sound: &mut O,
     replies: &mut R,
+    gate: &G,
 ) -> Result<(), Stop>
     requires begun { engine.block ≡ 0 }
+    requires stands { IsAtBoundary engine.settings engine }
     requires blocks { blocks < 2 ^ 62 }
-    ensures ended { OnOk result (IsEnded settings.now engine blocks (O.taken sound.old) (O.taken sound.new) (R.taken replies.old) (R.taken replies.new)) }
+    ensures ended { OnOk result (IsEnded engine.settings engine blocks (O.taken sound.old) (O.taken sound.new) (R.taken replies.old) (R.taken replies.new)) }
     ensures sound { result ≡ Err Stop.SoundFault → Rose (O.faults sound.old) (O.faults sound.new) }
     ensures reply { result ≡ Err Stop.ReplyFault → Rose (R.faults replies.old) (R.faults replies.new) }
 {
     for number in 0..blocks {
-        render_block(alloc, settings, &mut engine, sound, replies)?;
+        render_block(rt, alloc, &mut engine, sound, replies, gate)?;
     }
     render_end(alloc, &mut engine, sound, replies)
 }

@@ -1,38 +1,37 @@
 ghost use Rattle.std.specs.Prelude.{◌≡◌, ◌⊎◌, ◌↔◌, ◌<◌, ◌≤◌, ◌+◌, ◌^◌, ℕ, List, [], Some, None, IfSome, IfOk, OnOk, length, map, unwrap_or};
-ghost use Rattle.std.specs.Io.KnownBytes.{IsAtEnd, Keeps};
+ghost use Rattle.std.specs.Io.KnownBytes.{Appends, IsAtEnd};
 ghost use Rattle.sn_osc.specs.Shape.{shape};
 ghost use Rattle.sn_pcm.specs.Sound.{data_len, header_bytes};
 ghost use Rattle.sn_ports.specs.Causes.{Rose};
-ghost use Rattle.sn_server.specs.Arriving.{ArePut};
-ghost use Rattle.sn_server.specs.Going.{IsEnded};
+ghost use Rattle.sn_server.specs.Arriving.{ArePut, IsBegun};
+ghost use Rattle.sn_server.specs.Going.{IsAtBoundary, IsEnded};
 ghost use Rattle.sn_server.specs.Outcomes.{Played, IsTooLong, IsAnswer, HasAnswer, IsUntouched};
-ghost use Rattle.sn_server.specs.Play.{last_of, arrive, nothing_waits, arrived};
-ghost use Rattle.sn_world.specs.Opening.{opening};
-ghost use Rattle.sn_server.specs.Running.{Running};
+ghost use Rattle.sn_server.specs.Play.{arrive, arrived};
+ghost use Rattle.sn_engine.specs.Running.{opened};
 ghost use Rattle.sn_osc.specs.Frames.{Frames, StreamFaultAt};
 ghost use Rattle.sn_server.specs.declared.outcome.Outcome.{Outcome};
 
-use crate::engine::Engine;
 use crate::outcome::Outcome;
 use crate::rendering::{Stop, render_blocks};
 use crate::stream::{Unframed, Unread, decode_stream, read_stream};
+use sn_engine::Engine;
 use sn_osc::{Elements, Packet};
 use sn_pcm::{Settings, header, too_long};
-use sn_ports::{Gate, NoMemory, Sink, Source, Text};
+use sn_ports::{Gate, NoMemory, Sink, Source, write_all};
 use std::alloc::Global;
 use std::thread::Threads;
 
 /// The most bytes of a stream.
 const MOST_BYTES: u64 = 16777216;
 
-/// Offers packets that arrive at boundary 0, in order.
+/// Offers packets that arrive at boundary 0 from client 0, in order.
 fn offer_all(alloc: Global, engine: &mut Engine, packets: Elements) -> Result<(), NoMemory>
-    requires block { engine.old.block ≡ 0 }
+    requires begun { IsBegun engine.old }
     requires put { ArePut (map shape packets.items) engine.old.waiting.puts }
     ensures { OnOk result (engine.new ≡ record engine.old { waiting = arrive (map shape packets.items) engine.old.waiting }) }
 {
     for packet in packets {
-        engine.offer(alloc, packet)?;
+        engine.offer(alloc, packet, 0)?;
     }
     Ok(())
 }
@@ -40,40 +39,60 @@ fn offer_all(alloc: Global, engine: &mut Engine, packets: Elements) -> Result<()
 /// An engine at boundary 0, at which all packets have arrived.
 fn opened(alloc: Global, settings: &Settings, packets: Elements) -> Result<Engine, NoMemory>
     requires { ArePut (map shape packets.items) 0 }
-    ensures { IfOk result (λ e. e ≡ record { world = opening settings.now.rate settings.now.memory 1; waiting = arrived settings.now (map shape packets.items); block = 0; sound = []; replies = [] }) }
+    ensures { IfOk result (λ e. e ≡ record (opened settings.now 0 None 1) { waiting = arrived settings.now (map shape packets.items) }) }
 {
-    let mut engine = Engine::open(alloc, settings)?;
+    let mut engine = Engine::open(alloc, settings, 0, None, 1)?;
     offer_all(alloc, &mut engine, packets)?;
     Ok(engine)
 }
 
+/// Writes the header of the sound.
+fn write_header<O: Sink>(settings: &Settings, blocks: u64, sound: &mut O) -> Result<(), Stop>
+    requires short { IsTooLong settings.now blocks → ⊥ }
+    ensures written { OnOk result (Appends (O.taken sound.old) (O.taken sound.new) (header_bytes settings.now (data_len settings.now blocks))) }
+    ensures memory { result ≡ Err Stop.NoMemory → ⊥ }
+    ensures reply { result ≡ Err Stop.ReplyFault → ⊥ }
+    ensures cause { result ≡ Err Stop.SoundFault → Rose (O.faults sound.old) (O.faults sound.new) }
+    ensures later { O.faults sound.old ≤ O.faults sound.new }
+{
+    match write_all(sound, &header(settings, blocks)) {
+        Ok(()) => Ok(()),
+        Err(_) => Err(Stop::SoundFault),
+    }
+}
+
 /// Writes the header and all blocks, and all replies.
-fn play<O: Sink, R: Sink>(
+fn play<H: Threads + Sync, O: Sink, R: Sink, G: Gate>(
+    rt: &H,
     alloc: Global,
     settings: &Settings,
     blocks: u64,
-    mut engine: Engine,
+    engine: Engine,
     sound: &mut O,
     replies: &mut R,
+    gate: &G,
 ) -> Result<(), Stop>
     requires begun { engine.block ≡ 0 }
     requires silent { engine.sound ≡ [] }
+    requires stands { IsAtBoundary settings.now engine }
     requires short { IsTooLong settings.now blocks → ⊥ }
     ensures ended { OnOk result (IsEnded settings.now (record engine { sound = header_bytes settings.now (data_len settings.now blocks) }) blocks (O.taken sound.old) (O.taken sound.new) (R.taken replies.old) (R.taken replies.new)) }
     ensures sound { result ≡ Err Stop.SoundFault → Rose (O.faults sound.old) (O.faults sound.new) }
     ensures reply { result ≡ Err Stop.ReplyFault → Rose (R.faults replies.old) (R.faults replies.new) }
 {
-    engine.put_sound(&header(settings, blocks))?;
-    render_blocks(alloc, settings, blocks, engine, sound, replies)
+    write_header(settings, blocks, sound)?;
+    render_blocks(rt, alloc, blocks, engine, sound, replies, gate)
 }
 
 /// Reads, decodes and plays a stream.
-fn run_stream<S: Source, O: Sink, R: Sink>(
+fn run_stream<H: Threads + Sync, S: Source, O: Sink, R: Sink, G: Gate>(
+    rt: &H,
     alloc: Global,
     settings: &Settings,
     source: &mut S,
     sound: &mut O,
     replies: &mut R,
+    gate: &G,
 ) -> Outcome
     ensures answer { IsAnswer settings.now (S.left source.old) result }
     ensures done { (n : ℕ) → result ≡ Outcome.Done n → Played settings.now (S.left source.old) n
@@ -110,7 +129,7 @@ fn run_stream<S: Source, O: Sink, R: Sink>(
     if too_long(settings, blocks) {
         return Outcome::LongSound { blocks };
     }
-    match play(alloc, settings, blocks, engine, sound, replies) {
+    match play(rt, alloc, settings, blocks, engine, sound, replies, gate) {
         Ok(()) => Outcome::Done { blocks },
         Err(Stop::NoMemory) => Outcome::NoMemory,
         Err(Stop::SoundFault) => Outcome::SoundFault,
@@ -122,13 +141,13 @@ fn run_stream<S: Source, O: Sink, R: Sink>(
 ///
 /// The first refusal in this order is the answer. Before rendering begins neither sink has taken a byte.
 pub fn render<H: Threads + Sync, S: Source, O: Sink, R: Sink, G: Gate>(
-    _rt: &H,
+    rt: &H,
     alloc: Global,
     settings: &Settings,
     source: &mut S,
     sound: &mut O,
     replies: &mut R,
-    _gate: &G,
+    gate: &G,
 ) -> Outcome
     // What was done is the sequential walk of the stream, where the objects tell their bytes.
     ensures done { (n : ℕ) → result ≡ Outcome.Done n → Played settings.now (S.left source.old) n
@@ -145,5 +164,5 @@ pub fn render<H: Threads + Sync, S: Source, O: Sink, R: Sink, G: Gate>(
     // A refusal takes nothing.
     ensures untouched { IsUntouched result (O.taken sound.old) (O.taken sound.new) (R.taken replies.old) (R.taken replies.new) }
 {
-    run_stream(alloc, settings, source, sound, replies)
+    run_stream(rt, alloc, settings, source, sound, replies, gate)
 }

@@ -10,7 +10,7 @@ use sn_def::Control;
 use sn_mem::{Places, Port, Values, sample_of};
 
 /// The value of a control: that of the control bus that it follows, or its own.
-fn value_of<P: Port>(port: &mut P, control: Control) -> i32
+pub fn control_value<P: Port>(port: &mut P, control: Control) -> i32
     requires bus { IsFollowed control.bus }
     requires reads { MayReadControl (P.foot port.old) control.bus }
     ensures value { result ≡ control_value (control_buses (P.words port.old)) control }
@@ -38,6 +38,6 @@ pub(crate) fn read_controls<P: Port>(port: &mut P, controls: &[Control], values:
 {
     values.clear();
     for control in controls {
-        values.push(value_of(port, *control));
+        values.push(control_value(port, *control));
     }
 }

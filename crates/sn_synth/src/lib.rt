@@ -6,6 +6,7 @@ mod inputs;
 mod synth;
 mod units;
 
+pub use controls::control_value;
 pub use synth::run_synth;
 
 #[cfg(test)]

@@ -85,11 +85,16 @@ count_is es n s = omega (arith, s.cut, length-take n es, few (take n es) s.flat)
 cut_list : (at : ℕ) (ts zs es : List Entry) (mid : List Entry) → es ≡ ts ++ zs → at ≤ length ts → take at es ++ (mid ++ drop at es) ≡ take at ts ++ (mid ++ (drop at ts ++ zs))
 cut_list at ts zs es mid e h = λ i. (ap (take at) e ∙ take-append-le at ts zs h) i ++ (mid ++ (ap (drop at) e ∙ drop-append-le at ts zs h) i)
 
-pub put_shows : (es : List Entry) (n : ℕ) (action : Action) (target : ℤ) (place : Place) (new : Nodes Key) (out : List Entry) → IsArranged es n
-    → IsPlace (flat (arranged es n).attached) action target place → n + count new ≤ 4096
+-- the list, and how many nodes it has
+pub record IsPutList (out : List Entry) (n : ℕ) (t d : Nodes Key) : Type 0 where
+  pub list : out ≡ flat t ++ reverse (flat d)
+  pub long : n ≡ count t
+
+pub put_list : (es : List Entry) (n : ℕ) (action : Action) (target : ℤ) (place : Place) (new : Nodes Key) (out : List Entry) → IsArranged es n
+    → IsPlace (flat (arranged es n).attached) action target place
     → out ≡ lifted place (count new) (take place.at es ++ (flat new ++ drop place.at es))
-    → Shows out (n + count new) (put action target new (arranged es n).attached) (arranged es n).detached
-put_shows es n action target place new out s p l e =
+    → IsPutList out (n + count new) (put action target new (arranged es n).attached) (arranged es n).detached
+put_list es n action target place new out s p e =
     let t : Nodes Key = (arranged es n).attached in
     let zs : List Entry = reverse (flat (arranged es n).detached) in
     let same : tree_of (flat t) ≡ t = tree_of-flat t in
@@ -97,7 +102,15 @@ put_shows es n action target place new out s p l e =
     e ∙ (ap (lifted place (count new)) (cut_list place.at (flat t) zs es (flat new) (list_is es n s) p.at)
     ∙ (sym (p.puts zs new) ∙ ap (λ u. flat (put action target new u) ++ zs) same)) in
     let grown : count (put action target new t) ≡ count t + count new = subst (λ u. count (put action target new u) ≡ count u + count new) same (p.grows new) in
-    shows_of out (n + count new) (put action target new t) (arranged es n).detached list (omega (arith, grown, count_is es n s)) l
+    record { list = list; long = omega (arith, grown, count_is es n s) }
+
+pub put_shows : (es : List Entry) (n : ℕ) (action : Action) (target : ℤ) (place : Place) (new : Nodes Key) (out : List Entry) → IsArranged es n
+    → IsPlace (flat (arranged es n).attached) action target place → n + count new ≤ 4096
+    → out ≡ lifted place (count new) (take place.at es ++ (flat new ++ drop place.at es))
+    → Shows out (n + count new) (put action target new (arranged es n).attached) (arranged es n).detached
+put_shows es n action target place new out s p l e =
+    let r : IsPutList out (n + count new) (put action target new (arranged es n).attached) (arranged es n).detached = put_list es n action target place new out s p e in
+    shows_of out (n + count new) (put action target new (arranged es n).attached) (arranged es n).detached r.list r.long l
 
 -- the entries in front of a place are small, where the new ones are
 pub small_put : (es : List Entry) (n : ℕ) (action : Action) (target : ℤ) (place : Place) (mid : List Entry) → IsArranged es n
@@ -119,20 +132,25 @@ small_put es n action target place mid s p m =
 
 -- a subtree taken out
 
+-- of a list of attached nodes t and detached ones d
+pub taken_shows : (es : List Entry) (n : ℕ) (t d : Nodes Key) (id : ℤ) (out : List Entry) (k : ℕ) → drop n es ≡ reverse (flat d)
+    → out ≡ (flat (without id t) ++ reverse (flat (subtree id t))) ++ drop n es
+    → count (without id t) + k ≡ n → n - k ≤ 4096
+    → Shows out (n - k) (without id t) (joined d (subtree id t))
+taken_shows es n t d id out k behind e h few =
+    let sub : Nodes Key = subtree id t in
+    let list : out ≡ flat (without id t) ++ reverse (flat (joined d sub)) =
+    e ∙ (append_assoc (flat (without id t)) (reverse (flat sub)) (drop n es)
+    ∙ (ap (λ l. flat (without id t) ++ (reverse (flat sub) ++ l)) behind
+    ∙ ap (λ l. flat (without id t) ++ l) (sym (ap reverse (flat-joined d sub) ∙ reverse-append (flat d) (flat sub))))) in
+    shows_of out (n - k) (without id t) (joined d sub) list (omega arith) few
+
 pub detach_shows : (es : List Entry) (n : ℕ) (id : ℤ) (out : List Entry) (k : ℕ) → IsArranged es n → k ≡ count (subtree id (arranged es n).attached)
     → out ≡ (flat (without id (arranged es n).attached) ++ reverse (flat (subtree id (arranged es n).attached))) ++ drop n es
     → count (without id (arranged es n).attached) + k ≡ n
     → Shows out (n - k) (without id (arranged es n).attached) (joined (arranged es n).detached (subtree id (arranged es n).attached))
 detach_shows es n id out k s c e h =
-    let t : Nodes Key = (arranged es n).attached in
-    let d : Nodes Key = (arranged es n).detached in
-    let sub : Nodes Key = subtree id t in
-    let behind : drop n es ≡ reverse (flat d) = sym (reverse-reverse (drop n es)) ∙ ap reverse s.aside in
-    let list : out ≡ flat (without id t) ++ reverse (flat (joined d sub)) =
-    e ∙ (append_assoc (flat (without id t)) (reverse (flat sub)) (drop n es)
-    ∙ (ap (λ l. flat (without id t) ++ (reverse (flat sub) ++ l)) behind
-    ∙ ap (λ l. flat (without id t) ++ l) (sym (ap reverse (flat-joined d sub) ∙ reverse-append (flat d) (flat sub))))) in
-    shows_of out (n - k) (without id t) (joined d sub) list (omega arith) (omega (arith, s.few))
+    taken_shows es n (arranged es n).attached (arranged es n).detached id out k (sym (reverse-reverse (drop n es)) ∙ ap reverse s.aside) e h (omega (arith, s.few))
 
 pub shrunk : (es : List Entry) (id : ℤ) (p : ℕ) (s : Spotted es id p) → count (without id (tree_of es)) + (1 + count s.place.below) ≡ count (tree_of es)
 shrunk es id p s = s.place.shrinks

@@ -19,10 +19,10 @@ use Rattle.sn_tree.specs.Order.{Key}
 use Rattle.sn_tree.specs.Arranged.{Arranged}
 use Rattle.sn_tree.specs.Saving.{SavedNodes, HasSpare, spent, noted, forgotten}
 use Rattle.sn_tree.specs.Model.{NodeTree}
-use Rattle.sn_tree.specs.Steps.{occurrences, HasRoom, followed, stepped, inserted, inserting, detaching, moving, setting, detached, moved, running}
+use Rattle.sn_tree.specs.Steps.{occurrences, HasRoom, followed, stepped, inserted, inserting, detaching, attaching, moving, setting, detached, attached, moved, running}
 use Rattle.sn_tree.specs.Kept.{same_key, uses, payload_of, filled, IsRooted, IsSaved, IsKept, mark_of, origin, journal_shown, shown}
-use Rattle.sn_tree.proofs.Distinct.{occurs-put, occurs-parts, occurs-set, distinct_leaf}
-use Rattle.sn_tree.proofs.Keeping.{agree, uses-put, used_detaching, used_moving, used_setting, inserting_map, detaching_map, moving_map, setting_map}
+use Rattle.sn_tree.proofs.Distinct.{occurs-put, occurs-parts, occurs-set, distinct_leaf, each_detached, each_left, last_distinct, distinct_attached}
+use Rattle.sn_tree.proofs.Keeping.{agree, uses-put, used_detaching, used_attaching, used_moving, used_setting, inserting_map, detaching_map, attaching_map, moving_map, setting_map}
 
 -- the root stays where it is
 
@@ -98,6 +98,10 @@ pub attach_beside : {P : Type 0} (id : ℤ) (action : Action) (target : ℤ) (t 
 attach_beside id action target t d h =
     (none_holds ((shares (last_top id d) t, InUse) ∷ (not (has_top id d), NoNode) ∷ (is_missing target t, NoNode) ∷ (is_beside_root action target, IsRoot) ∷ (is_in_synth action target t, NotGroup) ∷ (nat_lt 4096 (count t + count (last_top id d)), TooMany) ∷ []) h).1.1.1.0
 
+pub attach_apart : {P : Type 0} (id : ℤ) (action : Action) (target : ℤ) (t d : Nodes P) → attach_fault id action target t d ≡ None → shares (last_top id d) t ≡ false
+attach_apart id action target t d h =
+    (none_holds ((shares (last_top id d) t, InUse) ∷ (not (has_top id d), NoNode) ∷ (is_missing target t, NoNode) ∷ (is_beside_root action target, IsRoot) ∷ (is_in_synth action target t, NotGroup) ∷ (nat_lt 4096 (count t + count (last_top id d)), TooMany) ∷ []) h).0
+
 -- an open journal follows
 
 pub spare : {P : Type 0} (root : P) (slots : List (Option P)) (nodes : Arranged) (saved : Option SavedNodes) (tree : NodeTree P) → shown root slots nodes saved ≡ tree → HasRoom tree.journal → HasSpare saved
@@ -141,7 +145,7 @@ module _ {P : Type 0} (root : P) (slots : List (Option P)) (nodes nodes' : Arran
     detach_keeps z = whole
       where
         there : IsKept slots (detaching id nodes) (spent 1 saved)
-        there = record { now = record { keys = λ key. omega (arith, used_detaching key id nodes, kept.now.keys key) }; rooted = rooted_without id nodes.attached z kept.rooted; distinct = λ x. omega (arith, occurs-parts x id nodes.attached, kept.distinct x); before = spent_before slots 1 saved kept.before }
+        there = record { now = record { keys = λ key. omega (arith, used_detaching key id nodes, kept.now.keys key) }; rooted = rooted_without id nodes.attached z kept.rooted; distinct = λ x. omega (arith, occurs-parts x id nodes.attached, kept.distinct x); aside = each_detached id nodes.attached nodes.detached kept.distinct kept.aside; before = spent_before slots 1 saved kept.before }
 
         whole : IsKept slots nodes' saved'
         whole = subst (λ s. IsKept slots nodes' s) (sym less) (subst (λ n. IsKept slots n (spent 1 saved)) (sym is) there)
@@ -156,7 +160,7 @@ module _ {P : Type 0} (root : P) (slots : List (Option P)) (nodes nodes' : Arran
     run_keeps = subst (λ s. IsKept slots nodes' s) (sym less) (subst (λ n. IsKept slots n (spent 1 saved)) (sym is) there)
       where
         there : IsKept slots (setting id on nodes) (spent 1 saved)
-        there = record { now = record { keys = λ key. omega (arith, used_setting key id on nodes, kept.now.keys key) }; rooted = rooted_set id on nodes.attached kept.rooted; distinct = λ x. omega (arith, occurs-set x id on nodes.attached, kept.distinct x); before = spent_before slots 1 saved kept.before }
+        there = record { now = record { keys = λ key. omega (arith, used_setting key id on nodes, kept.now.keys key) }; rooted = rooted_set id on nodes.attached kept.rooted; distinct = λ x. omega (arith, occurs-set x id on nodes.attached, kept.distinct x); aside = kept.aside; before = spent_before slots 1 saved kept.before }
 
   module _ (id : ℤ) (action : Action) (target : ℤ) where
     module _ (is : nodes' ≡ moving id action target nodes) where
@@ -173,6 +177,25 @@ module _ {P : Type 0} (root : P) (slots : List (Option P)) (nodes nodes' : Arran
             now = record { keys = λ key. omega (arith, used_moving key id action target nodes, kept.now.keys key) };
             rooted = rooted_put action target (subtree id nodes.attached) (without id nodes.attached) b (rooted_without id nodes.attached z kept.rooted);
             distinct = λ x. omega (arith, occurs-parts x id nodes.attached, occurs-put x action target (subtree id nodes.attached) (without id nodes.attached), kept.distinct x);
+            aside = kept.aside;
+            before = spent_before slots 1 saved kept.before;
+          }
+
+    module _ (is : nodes' ≡ attaching id action target nodes) where
+      pub attach_gives : shown root slots nodes' saved' ≡ attached id action target tree
+      attach_gives =
+          (λ i. shown root slots (is i) (less i))
+          ∙ (step_shown root slots nodes (attaching id action target nodes) saved (attaching id action target) (attaching id action target) (attaching_map (payload_of root slots) nodes id action target) (λ h. attaching_map h nodes id action target) ∙ ap (attached id action target) view)
+
+      pub attach_keeps : attach_fault id action target nodes.attached nodes.detached ≡ None → IsKept slots nodes' saved'
+      attach_keeps z = subst (λ s. IsKept slots nodes' s) (sym less) (subst (λ n. IsKept slots n (spent 1 saved)) (sym is) there)
+        where
+          there : IsKept slots (attaching id action target nodes) (spent 1 saved)
+          there = record {
+            now = record { keys = λ key. omega (arith, used_attaching key id action target nodes, kept.now.keys key) };
+            rooted = rooted_put action target (last_top id nodes.detached) nodes.attached (attach_beside id action target nodes.attached nodes.detached z) kept.rooted;
+            distinct = distinct_attached action target (last_top id nodes.detached) nodes.attached (attach_apart id action target nodes.attached nodes.detached z) (last_distinct id nodes.detached kept.aside) kept.distinct;
+            aside = each_left id nodes.detached kept.aside;
             before = spent_before slots 1 saved kept.before;
           }
 
@@ -216,12 +239,13 @@ module _ {P : Type 0} (root : P) (slots slots' : List (Option P)) (new : ℕ) (p
       now = record { keys = λ key. omega (arith, uses-put key action target (leaf id kind (Some new)) nodes.attached, kept.now.keys key, more_filled key) };
       rooted = rooted_put action target (leaf id kind (Some new)) nodes.attached b kept.rooted;
       distinct = distinct_leaf id kind action target (Some new) nodes.attached free kept.distinct;
+      aside = kept.aside;
       before = before saved kept.before;
     }
       where
         before : (s : Option SavedNodes) → IsSaved slots s → IsSaved slots' (noted new s)
         before None h = tt
-        before (Some s) h = (λ key. omega (arith, h.0 key, more_filled key), h.1, h.2)
+        before (Some s) h = (λ key. omega (arith, h.0 key, more_filled key), h.1, h.2, h.3)
 
     inserted_journal : (s : Option SavedNodes) → IsSaved slots s
         → journal_shown root slots' (inserting id kind action target (Some new) nodes) (noted new s) ≡ followed 0 (inserting id kind action target None) (journal_shown root slots nodes s)
@@ -268,7 +292,7 @@ insert_gives root s0 s1 s2 nodes nodes' saved saved' tree id kind spot' spot pay
 -- the root alone
 
 pub root_kept : {P : Type 0} (slots : List (Option P)) (nodes : Arranged) → nodes ≡ (record { attached = leaf (pos 0) Group None; detached = none }) → IsKept slots nodes None
-root_kept slots nodes e = subst (λ n. IsKept slots n None) (sym e) (record { now = record { keys = alone }; rooted = record { label = record { id = pos 0; kind = Group; running = true; payload = None }; below = none; is = refl; id = refl; kind = refl; key = refl }; distinct = once; before = tt })
+root_kept slots nodes e = subst (λ n. IsKept slots n None) (sym e) (record { now = record { keys = alone }; rooted = record { label = record { id = pos 0; kind = Group; running = true; payload = None }; below = none; is = refl; id = refl; kind = refl; key = refl }; distinct = once; aside = tt; before = tt })
   where
     once : (x : ℤ) → occurrences int_eq x (ids (leaf {P = Key} (pos 0) Group None)) ≤ 1
     once x = ⊎_elim (λ (n : int_eq (pos 0) x ≡ true). rw n (omega arith)) (λ (n : int_eq (pos 0) x ≡ false). rw n (omega arith)) (cases_Bool (int_eq (pos 0) x))

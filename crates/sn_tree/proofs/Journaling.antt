@@ -13,7 +13,7 @@ use Rattle.sn_tree.specs.Steps.{IsOpened, occurrences, payloads_of, undone, comm
 use Rattle.sn_tree.specs.Kept.{same_key, uses, times, payload_of, filled, IsRooted, IsKept, mark_of, origin, shown}
 use Rattle.sn_tree.proofs.PayloadLaws.{without_first-payloads, first_label-payloads}
 use Rattle.sn_tree.proofs.Keeping.{same_key-refl, agree, uses-joined, labelled, option_label}
-use Rattle.sn_tree.proofs.Distinct.{occurrences-append}
+use Rattle.sn_tree.proofs.Distinct.{occurrences-append, each_freed}
 use Rattle.sn_tree.proofs.Following.{same_kept}
 use Rattle.sn_tree.proofs.Writing.{at_most_one, mark_test}
 
@@ -48,7 +48,7 @@ origin_here nodes key h = ap (λ b. if b then Some (mark_of key) else None) (lt-
 
 module _ {P : Type 0} (root : P) (slots : List (Option P)) (nodes : Arranged) (kept : IsKept slots nodes None) (steps : ℕ) where
   opened_keeps : IsKept slots nodes (Some (saved_of nodes steps))
-  opened_keeps = record { now = kept.now; rooted = kept.rooted; distinct = kept.distinct; before = (λ key. omega (arith, kept.now.keys key), kept.rooted, kept.distinct) }
+  opened_keeps = record { now = kept.now; rooted = kept.rooted; distinct = kept.distinct; aside = kept.aside; before = (λ key. omega (arith, kept.now.keys key), kept.rooted, kept.distinct, kept.aside) }
 
   opened_shows : IsOpened steps (shown root slots nodes None) (shown root slots nodes (Some (saved_of nodes steps)))
   opened_shows = record {
@@ -105,7 +105,7 @@ module _ {P : Type 0} (root : P) (slots slots' : List (Option P)) (nodes : Arran
   same_filled (Some key) u = ap (λ o. if is_some o then 1 else 0) (same key (not_made (Some key) u))
 
   pub undone_keeps : IsKept slots' s.nodes None
-  undone_keeps = record { now = record { keys = λ key. ⊎_elim (λ (u : 0 < uses key s.nodes.attached + uses key s.nodes.detached). omega (arith, kept.before.0 key, same_filled key u)) (λ (z : uses key s.nodes.attached + uses key s.nodes.detached ≤ 0). omega arith) (cases_lt 0 (uses key s.nodes.attached + uses key s.nodes.detached)) }; rooted = kept.before.1; distinct = kept.before.2; before = tt }
+  undone_keeps = record { now = record { keys = λ key. ⊎_elim (λ (u : 0 < uses key s.nodes.attached + uses key s.nodes.detached). omega (arith, kept.before.0 key, same_filled key u)) (λ (z : uses key s.nodes.attached + uses key s.nodes.detached ≤ 0). omega arith) (cases_lt 0 (uses key s.nodes.attached + uses key s.nodes.detached)) }; rooted = kept.before.1; distinct = kept.before.2; aside = kept.before.3; before = tt }
 
   pub undone_shows : shown root slots' s.nodes None ≡ undone (shown root slots nodes (Some s))
   undone_shows = λ i. record {
@@ -131,7 +131,7 @@ pub committed_shows : {P : Type 0} (root : P) (slots : List (Option P)) (nodes :
 committed_shows root slots nodes saved = refl
 
 pub committed_keeps : {P : Type 0} (slots : List (Option P)) (nodes : Arranged) (saved : Option SavedNodes) → IsKept slots nodes saved → IsKept slots nodes None
-committed_keeps slots nodes saved k = record { now = k.now; rooted = k.rooted; distinct = k.distinct; before = tt }
+committed_keeps slots nodes saved k = record { now = k.now; rooted = k.rooted; distinct = k.distinct; aside = k.aside; before = tt }
 
 -- a detached node is ended
 
@@ -173,6 +173,7 @@ module _ {P : Type 0} (root : P) (slots slots' : List (Option P)) (nodes nodes' 
         now = record { keys = λ key. ⊎_elim (λ (u : 0 < uses key nodes.attached + uses key (without_first nodes.detached)). omega (arith, gone key, (slot_same key u).1)) (λ (z : uses key nodes.attached + uses key (without_first nodes.detached) ≤ 0). omega arith) (cases_lt 0 (uses key nodes.attached + uses key (without_first nodes.detached))) };
         rooted = kept.rooted;
         distinct = kept.distinct;
+        aside = each_freed nodes.detached kept.aside;
         before = tt;
       }
 

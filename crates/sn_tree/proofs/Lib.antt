@@ -9,9 +9,13 @@ pub mod Walking
 pub mod Writing
 pub mod Journaling
 pub mod Moving
+pub mod Replacing
 pub mod Distinct
 pub mod Viewing
 pub mod Agreeing
 pub mod Reworking
 pub mod Listing
 pub mod Tallying
+pub mod Attaching
+pub mod Sharing
+pub mod Gathering

@@ -9,7 +9,7 @@ use Rattle.sn_tree.specs.declared.node.NodeView.{NodeView}
 use Rattle.sn_tree.specs.declared.node.TreeFault.TheVariants.{NoNode, InUse, NotGroup, IsRoot, Inside, TooMany}
 use Rattle.sn_tree.specs.Trees.{Label, Nodes, none, node, holds, label_of, children, count, ids, subtree, without, joined, beside, put, changed, first_id, last_id, first_of, view_from, with_payloads, has_top, last_top, without_last, shares, first_label, without_first}
 use Rattle.sn_tree.specs.Views.{seen, views_from, views_at}
-use Rattle.sn_tree.specs.Faults.{labels_synth, is_inside, is_beside_root, spot_fault, insert_fault, detach_fault, set_run_fault, move_fault, attach_fault, first_fault}
+use Rattle.sn_tree.specs.Faults.{labels_synth, is_inside, is_beside_root, spot_fault, insert_fault, replace_fault, detach_fault, set_run_fault, move_fault, attach_fault, first_fault}
 
 -- a label with its payload changed
 abbrev pub relabelled : {P Q : Type 0} → (P → Q) → Label P → Label Q
@@ -178,6 +178,9 @@ module _ {P Q : Type 0} (f : P → Q) where
       ∷ (is_inside action && synth-payloads target t i, NotGroup)
       ∷ (nat_lt 4096 (count-payloads t i + 1), TooMany)
       ∷ [])
+
+  pub replace_fault-payloads : (id target : ℤ) (t : Nodes P) → replace_fault id target (with_payloads f t) ≡ replace_fault id target t
+  replace_fault-payloads id target t = λ i. first_fault ((holds-payloads id t i, InUse) ∷ (not (holds-payloads target t i), NoNode) ∷ (int_eq target (pos 0), IsRoot) ∷ [])
 
   pub detach_fault-payloads : (id : ℤ) (t : Nodes P) → detach_fault id (with_payloads f t) ≡ detach_fault id t
   detach_fault-payloads id t = λ i. first_fault ((not (holds-payloads id t i), NoNode) ∷ (int_eq id (pos 0), IsRoot) ∷ [])

@@ -4,13 +4,13 @@ use Rattle.std.specs.Option.{option_map}
 use Rattle.sn_tree.specs.declared.node.Action.{Action}
 use Rattle.sn_tree.specs.Trees.{Label, label_of, children, count, ids, next_after, first_of, view_of}
 use Rattle.sn_tree.specs.Views.{views_below}
-use Rattle.sn_tree.specs.Faults.{insert_fault, detach_fault, set_run_fault, move_fault, attach_fault}
+use Rattle.sn_tree.specs.Faults.{insert_fault, replace_fault, detach_fault, set_run_fault, move_fault, attach_fault}
 use Rattle.sn_tree.specs.Order.{Key}
 use Rattle.sn_tree.specs.Arranged.{Arranged}
 use Rattle.sn_tree.specs.Saving.{SavedNodes}
 use Rattle.sn_tree.specs.Model.{NodeTree}
 use Rattle.sn_tree.specs.Kept.{payload_of, shown}
-use Rattle.sn_tree.proofs.PayloadLaws.{views-payloads, view-payloads, count-payloads, ids-payloads, children-payloads, first-payloads, insert_fault-payloads, detach_fault-payloads, set_run_fault-payloads, move_fault-payloads, attach_fault-payloads}
+use Rattle.sn_tree.proofs.PayloadLaws.{views-payloads, view-payloads, count-payloads, ids-payloads, children-payloads, first-payloads, insert_fault-payloads, replace_fault-payloads, detach_fault-payloads, set_run_fault-payloads, move_fault-payloads, attach_fault-payloads}
 use Rattle.sn_tree.proofs.Keeping.{payload_is}
 
 module _ {P : Type 0} (root : P) (slots : List (Option P)) (nodes : Arranged) (saved : Option SavedNodes) (tree : NodeTree P) (e : shown root slots nodes saved ≡ tree) where
@@ -35,6 +35,10 @@ module _ {P : Type 0} (root : P) (slots : List (Option P)) (nodes : Arranged) (s
   pub insert_fault_shown : (id : ℤ) (action : Action) (target : ℤ) → insert_fault id action target nodes.attached ≡ insert_fault id action target tree.attached
   insert_fault_shown id action target =
       sym (insert_fault-payloads (payload_of root slots) id action target nodes.attached) ∙ ap (λ (t : NodeTree P). insert_fault id action target t.attached) e
+
+  pub replace_fault_shown : (id target : ℤ) → replace_fault id target nodes.attached ≡ replace_fault id target tree.attached
+  replace_fault_shown id target =
+      sym (replace_fault-payloads (payload_of root slots) id target nodes.attached) ∙ ap (λ (t : NodeTree P). replace_fault id target t.attached) e
 
   pub detach_fault_shown : (id : ℤ) → detach_fault id nodes.attached ≡ detach_fault id tree.attached
   detach_fault_shown id = sym (detach_fault-payloads (payload_of root slots) id nodes.attached) ∙ ap (λ (t : NodeTree P). detach_fault id t.attached) e

@@ -202,11 +202,11 @@ module _ {P : Type 0} (root : P) (slots : List (Option P)) (nodes : Arranged) (s
         (eqb_tells other key)
 
     pub slot_keeps : IsKept (slice_set slots key (Some w)) nodes saved
-    slot_keeps = record { now = record { keys = λ other. omega (arith, is_filled.keys other, still_filled other) }; rooted = is_kept.rooted; distinct = is_kept.distinct; before = before saved is_kept.before }
+    slot_keeps = record { now = record { keys = λ other. omega (arith, is_filled.keys other, still_filled other) }; rooted = is_kept.rooted; distinct = is_kept.distinct; aside = is_kept.aside; before = before saved is_kept.before }
       where
         before : (s : Option SavedNodes) → IsSaved slots s → IsSaved (slice_set slots key (Some w)) s
         before None q = tt
-        before (Some s) q = (λ other. omega (arith, q.0 other, still_filled other), q.1, q.2)
+        before (Some s) q = (λ other. omega (arith, q.0 other, still_filled other), q.1, q.2, q.3)
 
 -- there is no such node
 

@@ -62,6 +62,14 @@ module _ {P : Type 0} where
       ∷ (nat_lt 4096 (count nodes + 1), TooMany)
       ∷ [])
 
+  -- The target gives its place to the new node, so there is always room.
+  abbrev pub replace_fault : ℤ → ℤ → Nodes P → Option TreeFault
+  replace_fault id target nodes = first_fault (
+      (holds id nodes, InUse)
+      ∷ (is_missing target nodes, NoNode)
+      ∷ (int_eq target (pos 0), IsRoot)
+      ∷ [])
+
   abbrev pub detach_fault : ℤ → Nodes P → Option TreeFault
   detach_fault id nodes = first_fault (
       (is_missing id nodes, NoNode)

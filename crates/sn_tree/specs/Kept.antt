@@ -35,6 +35,11 @@ abbrev pub filled : {P : Type 0} → List (Option P) → Key → ℕ
 filled slots None = 1
 filled slots (Some key) = if is_some (slice_index_or slots key None) then 1 else 0
 
+-- no id is twice in a subtree of these
+abbrev pub EachDistinct : {P : Type 0} → Nodes P → Type 0
+EachDistinct none = Unit {0}
+EachDistinct (node label below after) = AllDistinct int_eq (ids (node label below none)) × EachDistinct after
+
 -- the root is a group with id 0, and all else lies below it
 pub record IsRooted (nodes : Nodes Key) : Type 0 where
   pub label : Label Key
@@ -53,12 +58,13 @@ abbrev pub IsSaved : {P : Type 0} → List (Option P) → Option SavedNodes → 
 IsSaved slots None = Unit {0}
 IsSaved slots (Some saved) =
     ((key : Key) → uses key saved.nodes.attached + (uses key saved.nodes.detached + times key saved.made) ≤ filled slots key)
-    × IsRooted saved.nodes.attached × AllDistinct int_eq (ids saved.nodes.attached)
+    × IsRooted saved.nodes.attached × AllDistinct int_eq (ids saved.nodes.attached) × EachDistinct saved.nodes.detached
 
 pub record IsKept {P : Type 0} (slots : List (Option P)) (nodes : Arranged) (saved : Option SavedNodes) : Type 0 where
   pub now : IsFilled slots nodes
   pub rooted : IsRooted nodes.attached
   pub distinct : AllDistinct int_eq (ids nodes.attached)
+  pub aside : EachDistinct nodes.detached
   pub before : IsSaved slots saved
 
 -- keys as marks

@@ -13,4 +13,6 @@ pub mod Reaching
 pub mod Reworking
 pub mod Members
 pub mod Lends
+pub mod Aside
 pub mod Tallies
+pub mod Below

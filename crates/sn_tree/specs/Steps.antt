@@ -2,6 +2,7 @@
 use Rattle.std.specs.Prelude.{◌≡◌, ℕ, ◌+◌, ◌-◌, ◌<◌, ◌≤◌, ◌==◌, ℤ, Bool, if◌then◌else◌, List, [], ◌∷◌, ◌++◌, Option, Some, None}
 use Rattle.sn_tree.specs.declared.node.NodeKind.{NodeKind}
 use Rattle.sn_tree.specs.declared.node.Action.{Action}
+use Rattle.sn_tree.specs.declared.node.Action.TheVariants.{Before}
 use Rattle.sn_tree.specs.Trees.{Label, Nodes, Sides, none, node, put, leaf, without, subtree, joined, changed, with_running, with_payload, with_payloads, with_payloads_of, label_of, last_top, without_last, without_first}
 use Rattle.sn_tree.specs.Model.{Journal, NodeTree}
 
@@ -28,6 +29,10 @@ module _ {P : Type 0} where
   -- a subtree is put behind those that were detached before
   abbrev pub detaching : ℤ → Sides P → Sides P
   detaching id sides = record { attached = without id sides.attached; detached = joined sides.detached (subtree id sides.attached) }
+
+  -- a new node is put just before the target, and the target's subtree is detached
+  abbrev pub replacing : ℤ → NodeKind → ℤ → P → Sides P → Sides P
+  replacing id kind target payload sides = detaching target (inserting id kind Before target payload sides)
 
   -- the subtree with this top that was detached last is put in
   abbrev pub attaching : ℤ → Action → ℤ → Sides P → Sides P
@@ -70,6 +75,9 @@ module _ {P : Type 0} where
 
   abbrev pub detached : ℤ → NodeTree P → NodeTree P
   detached id tree = stepped 1 (detaching id) (detaching id) tree
+
+  abbrev pub replaced : ℤ → NodeKind → ℤ → P → NodeTree P → NodeTree P
+  replaced id kind target payload tree = detached target (inserted id kind Before target payload tree)
 
   abbrev pub attached : ℤ → Action → ℤ → NodeTree P → NodeTree P
   attached id action target tree = stepped 1 (attaching id action target) (attaching id action target) tree

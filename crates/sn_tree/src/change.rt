@@ -141,7 +141,7 @@ pub fn move_from(
 /// Moves a node and all below it behind the rest, in reverse order, and tells how many these are.
 fn detach_in(entries: &mut [Entry], id: i32) -> Result<usize, TreeFault>
     requires flat { IsFlat entries.old }
-    requires few { length entries.old ≤ 4096 }
+    requires few { length entries.old ≤ 4097 }
     ensures { MatchResult result (λ n. IsDetached entries.old entries.new id n) (λ fault. (entries.new ≡ entries.old) × (detach_fault id (tree_of entries.old) ≡ Some fault)) }
 {
     let position = match detachable(entries, id) {
@@ -157,7 +157,7 @@ fn detach_in(entries: &mut [Entry], id: i32) -> Result<usize, TreeFault>
 pub fn detach_from(entries: &mut [Entry], attached: usize, id: i32) -> Result<usize, TreeFault>
     requires cut { attached ≤ length entries.old }
     requires flat { IsFlat (take attached entries.old) }
-    requires few { attached ≤ 4096 }
+    requires few { attached ≤ 4097 }
     ensures { MatchResult result (λ n. (fronts : List Entry) × IsDetached (take attached entries.old) fronts id n × (entries.new ≡ fronts ++ drop attached entries.old)) (λ fault. (entries.new ≡ entries.old) × (detach_fault id (tree_of (take attached entries.old)) ≡ Some fault)) }
 {
     detach_in(&mut entries[..attached], id)

@@ -1,6 +1,8 @@
 //! The tree of synths and groups: an id, a kind, a run flag and a payload for each node.
 #![tactic(auto)]
 
+mod aside;
+mod below;
 mod change;
 mod entry;
 mod members;
@@ -9,6 +11,7 @@ mod node;
 mod order;
 mod payloads;
 mod saved;
+mod scratch;
 mod search;
 mod tally;
 #[cfg(test)]

@@ -10,7 +10,7 @@ use crate::node::{Spot, TreeFault};
 use crate::search::{holds, place_of, position_of};
 
 /// So many entries from a position on.
-fn part(entries: &[Entry], position: usize, count: u32) -> &[Entry]
+pub fn part(entries: &[Entry], position: usize, count: u32) -> &[Entry]
     requires within { position + count ≤ length entries.now }
     ensures { result.now ≡ take count (drop position entries.now) }
 {

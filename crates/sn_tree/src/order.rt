@@ -5,16 +5,21 @@ ghost use Rattle.std.specs.Option.{option_map};
 ghost use Rattle.sn_tree.specs.declared.entry.Entry.{Entry};
 ghost use Rattle.sn_tree.specs.declared.node.NodeKind.TheVariants.{Group};
 ghost use Rattle.sn_tree.specs.Trees.{none, holds, count, ids, next_after, first_of, children, label_of, put, leaf, without, subtree, joined, changed, with_running, first_label, without_first};
-ghost use Rattle.sn_tree.specs.Faults.{insert_fault, detach_fault, move_fault, set_run_fault, fault_of};
-ghost use Rattle.sn_tree.specs.Steps.{moving};
+ghost use Rattle.sn_tree.specs.Faults.{insert_fault, replace_fault, attach_fault, detach_fault, move_fault, set_run_fault, fault_of};
+ghost use Rattle.sn_tree.specs.Steps.{attaching, moving, replacing};
+ghost use Rattle.sn_tree.specs.Aside.{brought};
+ghost use Rattle.sn_tree.specs.declared.node.Action.TheVariants.{Before};
 ghost use Rattle.sn_tree.specs.Order.{IsFlat, flat, tree_of};
 ghost use Rattle.sn_tree.specs.Places.{IsPlace, IsSmall, IsDetached, IsMoved, IsSetRunning, lifted};
 
+use crate::aside::{Part, attachable, put_part};
+use crate::below::entries_below;
 use crate::change::{detach_from, lift, move_from, set_running_from};
 use crate::entry::{Entry, Place};
 use crate::moves::subtree_of;
 use crate::node::{NodeKind, Spot, TreeFault};
-use crate::search::{first_in, key_in, next_of, place_for_new};
+use crate::scratch::Scratch;
+use crate::search::{first_in, key_in, next_of, place_for_new, place_to_replace};
 use sn_ports::NoMemory;
 use std::alloc::Global;
 use std::marker::Model;
@@ -53,7 +58,7 @@ fn put_entry(entries: &mut Vec<Entry>, place: Place, entry: Entry) -> Result<(),
 fn detach_vec(entries: &mut Vec<Entry>, attached: usize, id: i32) -> Result<usize, TreeFault>
     requires cut { attached ≤ length entries.old.items }
     requires flat { IsFlat (take attached entries.old.items) }
-    requires few { attached ≤ 4096 }
+    requires few { attached ≤ 4097 }
     ensures { MatchResult result (λ n. (fronts : List Entry) × IsDetached (take attached entries.old.items) fronts id n × (entries.new.items ≡ fronts ++ drop attached entries.old.items)) (λ fault. (entries.new.items ≡ entries.old.items) × (detach_fault id (tree_of (take attached entries.old.items)) ≡ Some fault)) }
 {
     detach_from(entries, attached, id)
@@ -79,6 +84,17 @@ fn set_running_vec(
     ensures { MatchResult result (λ _. (fronts : List Entry) × IsSetRunning (take attached entries.old.items) fronts id on × (entries.new.items ≡ fronts ++ drop attached entries.old.items)) (λ fault. (entries.new.items ≡ entries.old.items) × (set_run_fault id (tree_of (take attached entries.old.items)) ≡ Some fault)) }
 {
     set_running_from(entries, attached, id, on)
+}
+
+fn put_part_vec(entries: &mut Vec<Entry>, place: Place, part: Part)
+    requires at { place.at ≤ part.from }
+    requires within { part.from + part.count ≤ length entries.old.items }
+    requires target { place.target + 1 ≤ length entries.old.items }
+    requires few { IsSmall (take (place.target + 1) (brought place.at part entries.old.items)) }
+    requires by { part.count ≤ 4096 }
+    ensures { entries.new.items ≡ lifted place part.count (brought place.at part entries.old.items) }
+{
+    put_part(entries, place, part);
 }
 
 /// Takes the last entry off, and gives its key.
@@ -153,6 +169,14 @@ impl Order {
         subtree_of(&self.entries[..self.attached], id)
     }
 
+    /// The entries of all nodes below an attached one.
+    pub fn entries_below(&self, id: i32) -> &[Entry]
+        ensures flat { IsFlat result.now }
+        ensures value { tree_of result.now ≡ children id self.now.attached }
+    {
+        entries_below(&self.entries[..self.attached], id)
+    }
+
     /// How many nodes are attached.
     pub fn len(&self) -> usize
         ensures value { result ≡ count self.now.attached }
@@ -212,6 +236,41 @@ impl Order {
         Ok(())
     }
 
+    /// Where a new node goes that takes the place of another, or why it can't.
+    pub fn place_to_replace(&self, id: i32, target: i32) -> Result<Place, TreeFault>
+        ensures { MatchResult result (λ place. (replace_fault id target self.now.attached ≡ None) × (place.spot ≡ record { action = Before; target = target }) × IsPlace (flat self.now.attached) Before target place) (λ fault. replace_fault id target self.now.attached ≡ Some fault) }
+    {
+        place_to_replace(&self.entries[..self.attached], id, target)
+    }
+
+    /// Puts a new node, whose payload has this key, in the place of another. That one is taken out with all below it, and kept aside.
+    pub fn replace(
+        &mut self,
+        place: Place,
+        id: i32,
+        kind: NodeKind,
+        key: usize,
+    ) -> Result<(), NoMemory>
+        requires place { IsPlace (flat self.old.attached) Before place.spot.target place }
+        requires allowed { replace_fault id place.spot.target self.old.attached ≡ None }
+        ensures ok { OnOk result (self.new ≡ replacing id kind place.spot.target (Some key) self.old) }
+        ensures err { OnErr result (self.new ≡ self.old) }
+    {
+        let entry = Entry {
+            id,
+            kind,
+            running: true,
+            key: Some(key),
+            below: 0,
+        };
+        put_entry(&mut self.entries, place, entry)?;
+        match detach_vec(&mut self.entries, self.attached + 1, place.spot.target) {
+            Ok(count) => self.attached = self.attached + 1 - count,
+            Err(_) => unreachable!(),
+        }
+        Ok(())
+    }
+
     /// Takes a subtree out, and keeps it aside.
     pub fn detach(&mut self, id: i32) -> Result<(), TreeFault>
         ensures fault { fault_of result ≡ detach_fault id self.old.attached }
@@ -223,6 +282,27 @@ impl Order {
             Err(fault) => return Err(fault),
         };
         self.attached -= count;
+        Ok(())
+    }
+
+    /// Puts the subtree with this top that was detached last in at a spot.
+    pub fn attach(&mut self, id: i32, spot: Spot, scratch: &mut Scratch) -> Result<(), TreeFault>
+        ensures fault { fault_of result ≡ attach_fault id spot.action spot.target self.old.attached self.old.detached }
+        ensures ok { OnOk result (self.new ≡ attaching id spot.action spot.target self.old) }
+        ensures err { OnErr result (self.new ≡ self.old) }
+    {
+        let attached = self.attached;
+        let (front, aside) = self.entries.split_at(attached);
+        let (place, part) = match attachable(front, aside, id, spot, scratch) {
+            Ok(found) => found,
+            Err(fault) => return Err(fault),
+        };
+        let moved = Part {
+            from: attached + part.from,
+            count: part.count,
+        };
+        put_part_vec(&mut self.entries, place, moved);
+        self.attached += part.count;
         Ok(())
     }
 

@@ -4,7 +4,8 @@ ghost use Rattle.std.specs.List.{position};
 ghost use Rattle.std.specs.Ordering.{int_eq};
 ghost use Rattle.sn_tree.specs.Trees.{holds, ids, next_after, first_of, children, label_of};
 ghost use Rattle.std.specs.Option.{option_map};
-ghost use Rattle.sn_tree.specs.Faults.{first_fault, spot_fault, insert_fault, detach_fault, is_beside_root, is_inside, is_synth};
+ghost use Rattle.sn_tree.specs.Faults.{first_fault, spot_fault, insert_fault, replace_fault, detach_fault, is_beside_root, is_inside, is_synth};
+ghost use Rattle.sn_tree.specs.declared.node.Action.TheVariants.{Before};
 ghost use Rattle.sn_tree.specs.declared.node.TreeFault.TheVariants.{IsRoot, NotGroup};
 ghost use Rattle.sn_tree.specs.Order.{IsFlat, tree_of};
 ghost use Rattle.sn_tree.specs.Places.{IsPlace, Spotted, place_for};
@@ -39,7 +40,7 @@ pub fn holds(entries: &[Entry], id: i32) -> bool
     }
 }
 
-fn is_synth(kind: NodeKind) -> bool
+pub fn is_synth(kind: NodeKind) -> bool
     ensures { result ≡ is_synth kind }
 {
     match kind {
@@ -164,6 +165,22 @@ pub fn place_for_new(entries: &[Entry], id: i32, spot: Spot) -> Result<Place, Tr
         return Err(TreeFault::TooMany);
     }
     Ok(place)
+}
+
+/// Where a new node goes that takes the place of the target: just before it. Or why it can't.
+pub fn place_to_replace(entries: &[Entry], id: i32, target: i32) -> Result<Place, TreeFault>
+    requires flat { IsFlat entries.now }
+    requires few { length entries.now ≤ 4096 }
+    ensures { MatchResult result (λ place. (replace_fault id target (tree_of entries.now) ≡ None) × (place.spot ≡ record { action = Before; target = target }) × IsPlace entries.now Before target place) (λ fault. replace_fault id target (tree_of entries.now) ≡ Some fault) }
+{
+    let spot = Spot {
+        action: Action::Before,
+        target,
+    };
+    match holds(entries, id) {
+        true => Err(TreeFault::InUse),
+        false => place_of(entries, spot),
+    }
 }
 
 /// The position of a node that can be taken out.

@@ -1,6 +1,7 @@
-ghost use Rattle.std.specs.Prelude.{◌+◌, min};
+ghost use Rattle.std.specs.Prelude.{◌≡◌, ◌+◌, min, None, IfOk};
 
-use crate::{Action, ChangePayload, NodeKind, Spot, Tree, TreeFault, Uninserted};
+use crate::{Action, ChangePayload, NodeKind, NodeView, Spot, Tree, TreeFault, Uninserted};
+use std::alloc::Global;
 use std::test::Fail;
 
 fn spot(action: Action, target: i32) -> Spot {
@@ -45,22 +46,94 @@ fn a_detached_subtree_leaves_the_walk(rt: HostRuntime) -> Result<(), Fail> {
     Ok(())
 }
 
-#[test]
-fn a_tree_has_4096_nodes_at_most(rt: HostRuntime) -> Result<(), Fail> {
-    let mut tree = Tree::new(rt.alloc(), 0u32)?;
+/// The root and 4,095 groups, each in the one before; the payload of each is its id.
+fn nested(alloc: Global) -> Result<Tree<i32>, Uninserted<i32>>
+    ensures { IfOk result (λ t. t.journal ≡ None) }
+{
+    let mut tree = match Tree::new(alloc, 0) {
+        Ok(tree) => tree,
+        Err(_) => return Err(Uninserted::NoMemory(0)),
+    };
     let mut last = 0;
     for id in 1..4096 {
-        tree.insert(id, NodeKind::Group, spot(Action::Head, last), 0)?;
+        tree.insert(id, NodeKind::Group, spot(Action::Head, last), id)?;
         last = id;
     }
+    Ok(tree)
+}
+
+#[test]
+fn a_node_takes_the_place_of_a_subtree(rt: HostRuntime) -> Result<(), Fail> {
+    let mut tree = Tree::new(rt.alloc(), 0u32)?;
+    tree.insert(1, NodeKind::Group, spot(Action::Tail, 0), 11)?;
+    tree.insert(2, NodeKind::Group, spot(Action::Tail, 0), 12)?;
+    tree.insert(3, NodeKind::Synth, spot(Action::Tail, 2), 13)?;
+    tree.insert(4, NodeKind::Synth, spot(Action::Tail, 0), 14)?;
+    let refused = tree.replace(3, NodeKind::Synth, 2, 5);
+    assert!(rt; matches!(refused, Err(Uninserted::Fault(TreeFault::InUse, 5))));
+    let refused = tree.replace(5, NodeKind::Synth, 9, 5);
+    assert!(rt; matches!(refused, Err(Uninserted::Fault(TreeFault::NoNode, 5))));
+    assert_eq!(rt; tree.refusal_to_replace(5, 0), Some(TreeFault::IsRoot));
+    tree.replace(5, NodeKind::Synth, 2, 15)?;
+    assert_eq!(rt; tree.len(), 4);
+    assert_eq!(rt; tree.next_in_walk(1), Some(5));
+    assert_eq!(rt; tree.next_in_walk(5), Some(4));
+    assert_eq!(rt; tree.payload(5).copied(), Some(15));
+    assert_eq!(rt; tree.free(), Some(12));
+    assert_eq!(rt; tree.free(), Some(13));
+    assert_eq!(rt; tree.free(), None);
+    Ok(())
+}
+
+#[test]
+fn a_tree_has_4096_nodes_at_most(rt: HostRuntime) -> Result<(), Fail> {
+    let mut tree = nested(rt.alloc())?;
     assert_eq!(rt; tree.len(), 4096);
     let refused = tree.insert(4096, NodeKind::Group, spot(Action::Tail, 0), 5);
     assert!(rt; matches!(refused, Err(Uninserted::Fault(TreeFault::TooMany, 5))));
+    tree.replace(4096, NodeKind::Group, 4095, 0)?;
+    tree.replace(4095, NodeKind::Group, 4096, 0)?;
+    assert_eq!(rt; tree.len(), 4096);
     let mut node = 0;
     for id in 1..4096 {
         assert_eq!(rt; tree.next_in_walk(node), Some(id));
         node = id;
     }
+    Ok(())
+}
+
+#[test]
+fn nested_groups_are_moved_and_freed(rt: HostRuntime) -> Result<(), Fail> {
+    let mut tree = nested(rt.alloc())?;
+    assert_eq!(rt; tree.move_to(2, spot(Action::Head, 0)), Ok(()));
+    assert_eq!(rt; tree.next_in_walk(0), Some(2));
+    assert_eq!(rt; tree.next_in_walk(4095), Some(1));
+    assert_eq!(rt; tree.detach(1), Ok(()));
+    assert_eq!(rt; tree.detach(2), Ok(()));
+    assert_eq!(rt; tree.len(), 1);
+    for id in 1..4096 {
+        assert_eq!(rt; tree.free(), Some(id));
+    }
+    assert_eq!(rt; tree.free(), None);
+    Ok(())
+}
+
+#[test]
+fn a_full_tree_takes_no_subtree_back(rt: HostRuntime) -> Result<(), Fail> {
+    let mut tree = nested(rt.alloc())?;
+    tree.detach(4095)?;
+    tree.insert(4096, NodeKind::Synth, spot(Action::Tail, 0), 5)?;
+    assert_eq!(rt;
+        tree.attach(4095, spot(Action::Tail, 4096)),
+        Err(TreeFault::NotGroup)
+    );
+    assert_eq!(rt;
+        tree.attach(4095, spot(Action::Tail, 0)),
+        Err(TreeFault::TooMany)
+    );
+    tree.detach(4096)?;
+    tree.attach(4095, spot(Action::Tail, 0))?;
+    assert_eq!(rt; tree.len(), 4096);
     Ok(())
 }
 
@@ -183,5 +256,120 @@ fn payloads_change_below_a_group_alone(rt: HostRuntime) -> Result<(), Fail> {
         payloads.push(*member.payload)?;
     }
     assert_eq!(rt; payloads.as_slice(), [10, 111, 112, 13].as_slice());
+    Ok(())
+}
+
+#[test]
+fn the_subtree_that_was_detached_last_is_put_back(rt: HostRuntime) -> Result<(), Fail> {
+    let mut tree = Tree::new(rt.alloc(), 10u32)?;
+    tree.insert(1, NodeKind::Group, spot(Action::Tail, 0), 11)?;
+    tree.insert(2, NodeKind::Group, spot(Action::Tail, 0), 12)?;
+    tree.insert(3, NodeKind::Synth, spot(Action::Tail, 2), 13)?;
+    tree.insert(4, NodeKind::Synth, spot(Action::Tail, 2), 14)?;
+    tree.detach(2)?;
+    tree.insert(2, NodeKind::Group, spot(Action::Tail, 0), 22)?;
+    tree.insert(5, NodeKind::Synth, spot(Action::Tail, 2), 25)?;
+    tree.detach(2)?;
+    tree.attach(2, spot(Action::Head, 1))?;
+    assert_eq!(rt; tree.next_in_walk(1), Some(2));
+    assert_eq!(rt; tree.next_in_walk(2), Some(5));
+    assert_eq!(rt; tree.next_in_walk(5), None);
+    assert_eq!(rt; tree.payload(2).copied(), Some(22));
+    tree.detach(2)?;
+    assert_eq!(rt; tree.free(), Some(12));
+    tree.attach(3, spot(Action::Before, 1))?;
+    assert_eq!(rt; tree.first(0), Some(3));
+    Ok(())
+}
+
+#[test]
+fn an_attached_node_is_not_put_back(rt: HostRuntime) -> Result<(), Fail> {
+    let mut tree = Tree::new(rt.alloc(), 10u32)?;
+    tree.insert(1, NodeKind::Group, spot(Action::Tail, 0), 11)?;
+    assert_eq!(rt;
+        tree.attach(1, spot(Action::Tail, 0)),
+        Err(TreeFault::NoNode)
+    );
+    assert_eq!(rt; tree.len(), 2);
+    Ok(())
+}
+
+#[test]
+fn used_ids_are_not_put_back(rt: HostRuntime) -> Result<(), Fail> {
+    let mut tree = Tree::new(rt.alloc(), 10u32)?;
+    tree.insert(1, NodeKind::Group, spot(Action::Tail, 0), 11)?;
+    tree.insert(2, NodeKind::Synth, spot(Action::Tail, 1), 12)?;
+    tree.detach(1)?;
+    tree.insert(2, NodeKind::Synth, spot(Action::Tail, 0), 22)?;
+    assert_eq!(rt;
+        tree.attach(1, spot(Action::Tail, 9)),
+        Err(TreeFault::InUse)
+    );
+    tree.detach(2)?;
+    assert_eq!(rt;
+        tree.attach(1, spot(Action::Tail, 9)),
+        Err(TreeFault::NoNode)
+    );
+    Ok(())
+}
+
+#[test]
+fn a_subtree_is_not_put_back_beside_the_root(rt: HostRuntime) -> Result<(), Fail> {
+    let mut tree = Tree::new(rt.alloc(), 10u32)?;
+    tree.insert(2, NodeKind::Synth, spot(Action::Tail, 0), 22)?;
+    tree.detach(2)?;
+    assert_eq!(rt;
+        tree.attach(2, spot(Action::Before, 0)),
+        Err(TreeFault::IsRoot)
+    );
+    tree.attach(2, spot(Action::Head, 0))?;
+    assert_eq!(rt; tree.payload(2).copied(), Some(22));
+    Ok(())
+}
+
+#[test]
+fn an_undone_attach_leaves_the_subtree_detached(rt: HostRuntime) -> Result<(), Fail> {
+    let mut tree = Tree::new(rt.alloc(), 10u32)?;
+    tree.insert(1, NodeKind::Synth, spot(Action::Tail, 0), 11)?;
+    assert_eq!(rt; tree.detach(1), Ok(()));
+    tree.begin(1)?;
+    assert_eq!(rt; tree.attach(1, spot(Action::Tail, 0)), Ok(()));
+    tree.undo();
+    assert_eq!(rt; tree.len(), 1);
+    assert_eq!(rt; tree.free(), Some(11));
+    Ok(())
+}
+
+#[test]
+fn nodes_are_viewed_in_their_places(rt: HostRuntime) -> Result<(), Fail> {
+    let mut tree = Tree::new(rt.alloc(), 10u32)?;
+    tree.insert(1, NodeKind::Parallel, spot(Action::Tail, 0), 11)?;
+    tree.insert(2, NodeKind::Synth, spot(Action::Tail, 1), 12)?;
+    tree.insert(3, NodeKind::Synth, spot(Action::Tail, 1), 13)?;
+    assert_eq!(rt; tree.set_run(3, false), Ok(()));
+    let group = NodeView {
+        kind: NodeKind::Parallel,
+        running: true,
+        parent: 0,
+        previous: -1,
+        next: -1,
+        head: 2,
+        tail: 3,
+    };
+    let last = NodeView {
+        kind: NodeKind::Synth,
+        running: false,
+        parent: 1,
+        previous: 2,
+        next: -1,
+        head: -1,
+        tail: -1,
+    };
+    assert_eq!(rt; tree.node(3), Some(last));
+    assert_eq!(rt; tree.node(4), None);
+    let views = tree.views(1)?;
+    assert_eq!(rt; views.len(), 3);
+    assert_eq!(rt; views.first().copied(), Some((1, group)));
+    assert_eq!(rt; views.last().copied(), Some((3, last)));
     Ok(())
 }

@@ -1,26 +1,29 @@
 //! The tree of nodes.
-ghost use Rattle.std.specs.Prelude.{◌≡◌, ◌≤◌, ℕ, reverse, None, Some, IfOk, IfErr, OnOk, OnErr, ℤ, pos};
+ghost use Rattle.std.specs.Prelude.{◌≡◌, ◌≤◌, ℕ, reverse, None, Some, IfOk, IfErr, OnOk, OnErr, ℤ, pos, false};
 ghost use Rattle.std.specs.Option.{option_map, option_copied, option_copied_mut};
 ghost use Rattle.std.specs.Borrow.{sem};
 ghost use Rattle.sn_tree.specs.declared.node.NodeKind.TheVariants.{Group};
-ghost use Rattle.sn_tree.specs.Trees.{none, count, ids, next_after, first_of, children, label_of, leaf, running_labels, first_label, subtree, view_of};
-ghost use Rattle.sn_tree.specs.Faults.{insert_fault, insert_fault_of, returned, detach_fault, move_fault, set_run_fault, fault_of};
+ghost use Rattle.sn_tree.specs.Trees.{none, count, holds, ids, next_after, first_of, children, label_of, leaf, running_labels, first_label, subtree, view_of};
+ghost use Rattle.sn_tree.specs.Faults.{attach_fault, insert_fault, insert_fault_of, replace_fault, returned, detach_fault, move_fault, set_run_fault, fault_of};
 ghost use Rattle.std.specs.List.{All};
 ghost use Rattle.std.specs.Ordering.{int_eq};
 ghost use Rattle.sn_tree.specs.declared.node.NodeView.{NodeView};
-ghost use Rattle.sn_tree.specs.Steps.{AllDistinct, HasRoom, IsOpen, IsOpened, inserted, detached, moved, running, undone, committed, freed};
+ghost use Rattle.sn_tree.specs.Steps.{AllDistinct, HasRoom, IsOpen, IsOpened, inserted, replaced, detached, attached, moved, running, undone, committed, freed};
 ghost use Rattle.sn_tree.specs.Kept.{times};
 ghost use Rattle.sn_tree.specs.Views.{views_below};
 ghost use Rattle.sn_tree.specs.Members.{members};
+ghost use Rattle.sn_tree.specs.Below.{top_ids, synth_ids};
 ghost use Rattle.sn_tree.specs.Reworking.{changed_below};
 ghost use Rattle.sn_tree.specs.Tallies.{gathered, payloads};
 ghost use Rattle.slab.specs.Slab.{get};
 
+use crate::below::{synths_in, tops_in};
 use crate::members::Members;
 use crate::node::{NodeKind, NodeView, Spot, TreeFault, Uninserted};
 use crate::order::Order;
 use crate::payloads::{ChangePayload, change_all};
 use crate::saved::{Saved, forget, note, spend};
+use crate::scratch::Scratch;
 use crate::tally::{Tally, tally_entries};
 use crate::views::{view_in, views_in};
 use crate::walk::{Walk, payload_at};
@@ -35,6 +38,7 @@ pub struct Tree<P> {
     root: P,
     payloads: Slab<P>,
     order: Order,
+    scratch: Scratch,
     // What the open journal keeps, if there is one.
     saved: Option<Saved>,
 }
@@ -71,11 +75,13 @@ impl<P: Drop> Tree<P> {
         ensures { IfOk result (λ t. t ≡ record { attached = leaf (pos 0) Group root; detached = none; journal = None }) }
     {
         let order = Order::new(alloc)?;
+        let scratch = Scratch::new(alloc)?;
         let payloads = Slab::new(alloc);
         Ok(Tree {
             root,
             payloads,
             order,
+            scratch,
             saved: None,
         })
     }
@@ -127,6 +133,56 @@ impl<P: Drop> Tree<P> {
         Ok(())
     }
 
+    /// Why a new node can't take the place of another, or `None` where want of memory alone can refuse it.
+    pub fn refusal_to_replace(&self, id: i32, target: i32) -> Option<TreeFault>
+        ensures { result ≡ replace_fault id target self.now.attached }
+    {
+        match self.order.place_to_replace(id, target) {
+            Ok(_) => None,
+            Err(refused) => Some(refused),
+        }
+    }
+
+    /// Puts a new node, which runs, in the place of the target. That one is taken out with all below it and kept aside, behind
+    /// what was detached before. A refusal changes nothing and hands the payload back.
+    pub fn replace(
+        &mut self,
+        id: i32,
+        kind: NodeKind,
+        target: i32,
+        payload: P,
+    ) -> Result<(), Uninserted<P>>
+        requires room { HasRoom self.old.journal }
+        ensures fault { insert_fault_of result ≡ replace_fault id target self.old.attached }
+        ensures ok { OnOk result (self.new ≡ replaced id kind target payload self.old) }
+        ensures refused { OnErr result (self.new ≡ self.old) }
+        ensures returned { IfErr result (λ u. returned u ≡ payload) }
+    {
+        let place = match self.order.place_to_replace(id, target) {
+            Ok(place) => place,
+            Err(refused) => return Err(Uninserted::Fault(refused, payload)),
+        };
+        match self.payloads.reserve(1) {
+            Ok(()) => {}
+            Err(_) => return Err(Uninserted::NoMemory(payload)),
+        }
+        let key = self.payloads.vacant_key();
+        match note(&mut self.saved, key) {
+            Ok(()) => {}
+            Err(_) => return Err(Uninserted::NoMemory(payload)),
+        }
+        match self.order.replace(place, id, kind, key) {
+            Ok(()) => {}
+            Err(_) => {
+                forget(&mut self.saved);
+                return Err(Uninserted::NoMemory(payload));
+            }
+        }
+        spend(&mut self.saved);
+        let _ = self.payloads.insert_reserved(payload);
+        Ok(())
+    }
+
     /// Takes a node and all below it out of the tree, and keeps them aside, behind what was detached before.
     /// It takes no memory. A refusal changes nothing.
     pub fn detach(&mut self, id: i32) -> Result<(), TreeFault>
@@ -136,6 +192,22 @@ impl<P: Drop> Tree<P> {
         ensures refused { OnErr result (self.new ≡ self.old) }
     {
         match self.order.detach(id) {
+            Ok(()) => {}
+            Err(fault) => return Err(fault),
+        }
+        spend(&mut self.saved);
+        Ok(())
+    }
+
+    /// Puts the detached node with this id that was detached last back in at a spot, with all below it. It takes no memory.
+    /// A refusal changes nothing.
+    pub fn attach(&mut self, id: i32, spot: Spot) -> Result<(), TreeFault>
+        requires room { HasRoom self.old.journal }
+        ensures fault { fault_of result ≡ attach_fault id spot.action spot.target self.old.attached self.old.detached }
+        ensures ok { OnOk result (self.new ≡ attached id spot.action spot.target self.old) }
+        ensures refused { OnErr result (self.new ≡ self.old) }
+    {
+        match self.order.attach(id, spot, &mut self.scratch) {
             Ok(()) => {}
             Err(fault) => return Err(fault),
         }
@@ -315,6 +387,20 @@ impl<P: Drop> Tree<P> {
         self.order.first_in(group)
     }
 
+    /// The ids of the nodes just below an attached one, from the head on.
+    pub fn children(&self, id: i32) -> Result<Vec<i32>, NoMemory>
+        ensures { IfOk result (λ found. found.items ≡ top_ids (children id self.now.attached)) }
+    {
+        tops_in(self.order.alloc(), self.order.entries_below(id))
+    }
+
+    /// The ids of all synths below an attached node, in the order of the walk.
+    pub fn synths_below(&self, id: i32) -> Result<Vec<i32>, NoMemory>
+        ensures { IfOk result (λ found. found.items ≡ synth_ids (children id self.now.attached)) }
+    {
+        synths_in(self.order.alloc(), self.order.entries_below(id))
+    }
+
     /// The node after an attached one in the order of the walk: a node comes before those below it, and these before those after it.
     pub fn next_in_walk(&self, id: i32) -> Option<i32>
         ensures { result ≡ next_after id (ids self.now.attached) }
@@ -325,6 +411,13 @@ impl<P: Drop> Tree<P> {
     /// A law: no two attached nodes have the same id.
     pub fn ids_are_distinct(&self)
         ensures { AllDistinct int_eq (ids self.now.attached) }
+    {
+        let _ = &self.order;
+    }
+
+    /// A law: the root lies below no node.
+    pub fn root_is_on_top(&self, id: i32)
+        ensures { holds (pos 0) (children id self.now.attached) ≡ false }
     {
         let _ = &self.order;
     }

@@ -14,6 +14,7 @@ use Rattle.sn_tree.specs.Trees.{Label, Nodes, none, node, count, holds, joined, 
 use Rattle.sn_world.specs.declared.stage.Held.{Held}
 use Rattle.sn_world.specs.declared.stage.Held.TheVariants as held
 use Rattle.sn_world.specs.declared.stage.Stage.{Stage}
+use Rattle.sn_world.specs.Buffers.{live_places}
 use Rattle.sn_world.specs.Pictures.{held_extents, live_held, overlaps, amount, Pictures}
 
 third : (p q r : Bool) → (p || (q || r)) ≡ true → p ≡ false → q ≡ false → r ≡ true
@@ -156,6 +157,11 @@ has-same es fs same x = at (has es x) (has fs x) (has-counted es fs same x) (has
     at false true to from = from refl
     at false false to from = refl
 
--- the words that are live in the pool are those of the synths
-pub live_words : (stage : Stage) (ws : List ℕ) → Pictures stage ws → (x : ℕ) → has stage.pool.live x ≡ has (live_held stage.tree.attached) x
-live_words stage ws p x = has-same stage.pool.live (live_held stage.tree.attached) p.live x
+pub times-append : (e : Extent) (es fs : List Extent) → times e (es ++ fs) ≡ times e es + times e fs
+unfolding times
+times-append e [] fs = omega arith
+times-append e (y ∷ ys) fs = omega (arith, times-append e ys fs)
+
+-- the words that are live in the pool are those of the synths and of the buffers
+pub live_words : (stage : Stage) (ws : List ℕ) → Pictures stage ws → (x : ℕ) → has stage.pool.live x ≡ has (live_held stage.tree.attached ++ live_places stage.buffers) x
+live_words stage ws p x = has-same stage.pool.live (live_held stage.tree.attached ++ live_places stage.buffers) (λ e some. p.live e some ∙ sym (times-append e (live_held stage.tree.attached) (live_places stage.buffers))) x

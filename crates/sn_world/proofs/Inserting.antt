@@ -7,6 +7,7 @@ use Rattle.sn_mem.specs.declared.extents.Extent.{Extent}
 use Rattle.sn_mem.specs.Words.{covers, has}
 use Rattle.sn_mem.specs.Buses.{AudioBus, ControlBus}
 use Rattle.sn_mem.proofs.BusLaws.{audio_same, control_same}
+use Rattle.sn_pool.specs.declared.places.BufferPlace.{BufferPlace}
 use Rattle.sn_pool.specs.Pools.{with_extent, times}
 use Rattle.sn_pool.specs.Regions.{are_free, first_free, least_place}
 use Rattle.sn_tree.specs.declared.node.NodeKind.{NodeKind}
@@ -14,17 +15,18 @@ use Rattle.sn_tree.specs.declared.node.Action.{Action}
 use Rattle.sn_tree.specs.declared.node.Action.TheVariants.{Head, Tail, Before, After}
 use Rattle.sn_tree.specs.Trees.{Label, Nodes, none, node, holds, joined, beside, put, leaf, with_payloads}
 use Rattle.sn_tree.specs.Model.{NodeTree}
-use Rattle.sn_tree.specs.Steps.{inserted, inserting, followed}
-use Rattle.sn_tree.proofs.PayloadLaws.{put-payloads}
 use Rattle.sn_world.specs.declared.stage.Held.{Held}
 use Rattle.sn_world.specs.declared.stage.Held.TheVariants as held
 use Rattle.sn_world.specs.declared.stage.Stage.{Stage}
+use Rattle.sn_world.specs.Buffers.{Buffer, buffers_of, live_places, AreBuffers}
 use Rattle.sn_world.specs.Definitions.{Definitions, definitions_of}
 use Rattle.sn_world.specs.Nodes.{Content, content_of, extents_of, live_in}
 use Rattle.sn_world.specs.Pictures.{held_extents, live_held, overlaps, IsHeld, AreHeld, Pictures}
-use Rattle.sn_world.specs.World.{World, world_of}
-use Rattle.sn_world.proofs.Counting.{overlaps-put, times-put, times-leaf, live_words}
-use Rattle.sn_world.proofs.Walking.{parts_of, same_nodes, held_from, AgreesOn}
+use Rattle.sn_world.specs.World.{World, world_of, live_of}
+use Rattle.sn_world.specs.NewNodes.{left_by, gone_by}
+use Rattle.sn_world.proofs.Walking.{overlaps-append, parts_of, held_from, AgreesOn}
+use Rattle.sn_world.proofs.BufferLaws.{live_buffers-of, same_buffers}
+use Rattle.sn_world.proofs.Replacing.{overlaps-left, times-left, overlaps-placed, times-placed, held-left, same_placed}
 
 -- ---- words in extents
 
@@ -73,6 +75,10 @@ pub live_in-payloads : (t : Nodes Held) (ws : List ℕ) → live_in (with_payloa
 live_in-payloads none ws = refl
 live_in-payloads (node l below after) ws = λ i. own_extents l.payload ws i ++ (live_in-payloads below ws i ++ live_in-payloads after ws i)
 
+-- the words of all synths and of all buffers
+pub live_of-stage : (stage : Stage) (ws : List ℕ) → live_of (world_of stage ws) ≡ live_held stage.tree.attached ++ live_places stage.buffers
+live_of-stage stage ws = λ i. live_in-payloads stage.tree.attached ws i ++ live_buffers-of stage.buffers ws i
+
 module _ (rate : ℕ) (region : Extent) where
   held-joined : (s t : Nodes Held) → AreHeld rate region s → AreHeld rate region t → AreHeld rate region (joined s t)
   held-joined none t hs ht = ht
@@ -95,13 +101,21 @@ module _ (rate : ℕ) (region : Extent) where
 
 -- ---- a stage and its words after a node was put
 
--- The node's words were free, no other word has changed, and its words are live.
-pub record IsPut (id : ℤ) (kind : NodeKind) (action : Action) (target : ℤ) (h : Held) (old : Stage) (ws : List ℕ) (new : Stage) (us : List ℕ) : Type 0 where
+-- what stays live of a stage where the target is replaced
+abbrev pub left_live : Bool → ℤ → Stage → List Extent
+left_live b target s = live_held (left_by b target s.tree.attached) ++ live_places s.buffers
+
+-- Where the node takes the place of its target, that one is gone with all below it. The node's words were free then, no other word has
+-- changed, and its words are live.
+pub record IsPut (b : Bool) (id : ℤ) (kind : NodeKind) (action : Action) (target : ℤ) (h : Held) (old : Stage) (ws : List ℕ) (new : Stage) (us : List ℕ) : Type 0 where
+  pub before : b ≡ true → action ≡ Before
   pub there : holds target old.tree.attached ≡ true
+  pub other : int_eq id target ≡ false
   pub held : IsHeld old.rate old.pool.region h
-  pub free : (x : ℕ) → 0 < overlaps x (held_extents h) → has old.pool.live x ≡ false
-  pub tree : new.tree ≡ inserted id kind action target h old.tree
-  pub live : (e : Extent) → 1 ≤ e.len → times e new.pool.live ≡ times e (held_extents h) + times e old.pool.live
+  pub free : (x : ℕ) → 0 < overlaps x (held_extents h) → overlaps x (left_live b target old) ≡ 0
+  pub buffers : new.buffers ≡ old.buffers
+  pub tree : new.tree ≡ record { attached = left_by b target (put action target (leaf id kind h) old.tree.attached); detached = none; journal = None }
+  pub live : (e : Extent) → 1 ≤ e.len → times e new.pool.live + times e (live_held (gone_by b target old.tree.attached)) ≡ times e (held_extents h) + times e old.pool.live
   pub region : new.pool.region ≡ old.pool.region
   pub journal : new.pool.journal ≡ None
   pub rate : new.rate ≡ old.rate
@@ -126,33 +140,30 @@ own_of_leaf id kind h x = omega (arith, parts_of (record { id = id; kind = kind;
 moved : (r r' : ℕ) (g g' : Extent) (t t' : Nodes Held) → r' ≡ r → g' ≡ g → t' ≡ t → AreHeld r g t → AreHeld r' g' t'
 moved r r' g g' t t' p q s h = subst (λ n. AreHeld n g' t') (sym p) (subst (λ e. AreHeld r e t') (sym q) (subst (AreHeld r g) (sym s) h))
 
-module _ (id : ℤ) (kind : NodeKind) (action : Action) (target : ℤ) (h : Held) (old : Stage) (ws : List ℕ) (new : Stage) (us : List ℕ) (is : IsPut id kind action target h old ws new us) (before : Pictures old ws) where
-  attached : new.tree.attached ≡ put action target (leaf id kind h) old.tree.attached
+module _ (b : Bool) (id : ℤ) (kind : NodeKind) (action : Action) (target : ℤ) (h : Held) (old : Stage) (ws : List ℕ) (new : Stage) (us : List ℕ) (is : IsPut b id kind action target h old ws new us) (before : Pictures old ws) where
+  attached : new.tree.attached ≡ left_by b target (put action target (leaf id kind h) old.tree.attached)
   attached = ap (λ (t : NodeTree Held). t.attached) is.tree
 
-  now_live : (x : ℕ) → overlaps x (live_held new.tree.attached) ≡ overlaps x (held_extents h) + overlaps x (live_held old.tree.attached)
+  now_live : (x : ℕ) → overlaps x (live_held new.tree.attached) ≡ overlaps x (held_extents h) + overlaps x (live_held (left_by b target old.tree.attached))
   now_live x =
       ap (λ (t : Nodes Held). overlaps x (live_held t)) attached
-      ∙ overlaps-put action target (leaf id kind h) old.tree.attached x is.there
-      ∙ ap (λ n. n + overlaps x (live_held old.tree.attached)) (own_of_leaf id kind h x)
+      ∙ overlaps-placed b action target id kind h old.tree.attached is.before is.there is.other x
 
-  -- no word of the node is that of another
-  pub put_apart : (x : ℕ) → 0 < overlaps x (held_extents h) → overlaps x (live_held old.tree.attached) ≡ 0
-  put_apart x some = at (overlaps x (live_held old.tree.attached)) (sym (has-overlaps (live_held old.tree.attached) x) ∙ sym (live_words old ws before x) ∙ is.free x some)
-    where
-      at : (n : ℕ) → nat_lt 0 n ≡ false → n ≡ 0
-      at zero e = refl
-      at (suc n) e = let more : nat_lt 0 (suc n) ≡ true = lt-ltb 0 (suc n) (omega arith) in absurd cc
+  both_left : (x : ℕ) → overlaps x (left_live b target old) ≡ overlaps x (live_held (left_by b target old.tree.attached)) + overlaps x (live_places old.buffers)
+  both_left x = overlaps-append x (live_held (left_by b target old.tree.attached)) (live_places old.buffers)
 
-  put_once : (x : ℕ) → overlaps x (live_held new.tree.attached) ≤ 1
+  same_places : (x : ℕ) → overlaps x (live_places new.buffers) ≡ overlaps x (live_places old.buffers)
+  same_places x = ap (λ (ps : List (Option BufferPlace)). overlaps x (live_places ps)) is.buffers
+
+  put_once : (x : ℕ) → overlaps x (live_held new.tree.attached) + overlaps x (live_places new.buffers) ≤ 1
   put_once x = at (overlaps x (held_extents h)) refl
     where
-      at : (n : ℕ) → overlaps x (held_extents h) ≡ n → overlaps x (live_held new.tree.attached) ≤ 1
-      at zero e = omega (arith, now_live x, before.apart x, e)
-      at (suc n) e = omega (arith, now_live x, put_apart x (omega (arith, e)), own_once h x)
+      at : (n : ℕ) → overlaps x (held_extents h) ≡ n → overlaps x (live_held new.tree.attached) + overlaps x (live_places new.buffers) ≤ 1
+      at zero e = omega (arith, now_live x, before.apart x, same_places x, overlaps-left x b target old.tree.attached, e)
+      at (suc n) e = omega (arith, now_live x, is.free x (omega (arith, e)), both_left x, same_places x, own_once h x)
 
-  put_live : (e : Extent) → 1 ≤ e.len → times e new.pool.live ≡ times e (live_held new.tree.attached)
-  put_live e some = omega (arith, is.live e some, before.live e some, ap (λ (t : Nodes Held). times e (live_held t)) attached, times-put action target (leaf id kind h) old.tree.attached e is.there, times-leaf id kind h e)
+  put_live : (e : Extent) → 1 ≤ e.len → times e new.pool.live ≡ times e (live_held new.tree.attached) + times e (live_places new.buffers)
+  put_live e some = omega (arith, is.live e some, before.live e some, ap (λ (ps : List (Option BufferPlace)). times e (live_places ps)) is.buffers, ap (λ (t : Nodes Held). times e (live_held t)) attached, times-placed b action target id kind h old.tree.attached is.before is.there is.other e, times-left e b target old.tree.attached)
 
   -- the pictures stay
   pub put_pictures : Pictures new us
@@ -162,11 +173,12 @@ module _ (id : ℤ) (kind : NodeKind) (action : Action) (target : ℤ) (h : Held
     base = ap (λ (e : Extent). e.at) is.region ∙ before.base;
     bounded = omega (arith, ap (λ (e : Extent). e.len) is.region, before.bounded);
     fits = omega (arith, ap (λ (e : Extent). e.len) is.region, before.fits, is.length);
-    synths = moved old.rate new.rate old.pool.region new.pool.region _ _ is.rate is.region attached (held-put old.rate old.pool.region action target (leaf id kind h) old.tree.attached (is.held, (tt, tt)) before.synths);
+    synths = moved old.rate new.rate old.pool.region new.pool.region _ _ is.rate is.region attached (held-left old.rate old.pool.region b target (put action target (leaf id kind h) old.tree.attached) (held-put old.rate old.pool.region action target (leaf id kind h) old.tree.attached (is.held, (tt, tt)) before.synths));
+    buffers = subst (λ (g : Extent). AreBuffers g new.buffers) (sym is.region) (subst (AreBuffers old.pool.region) (sym is.buffers) before.buffers);
     live = put_live;
     apart = put_once;
-    attached = ap (λ (t : NodeTree Held). t.detached) is.tree ∙ before.attached;
-    settled = ap (λ (t : NodeTree Held). t.journal) is.tree ∙ ap (followed 0 (inserting id kind action target None)) before.settled;
+    attached = ap (λ (t : NodeTree Held). t.detached) is.tree;
+    settled = ap (λ (t : NodeTree Held). t.journal) is.tree;
     closed = is.journal;
   }
 
@@ -177,26 +189,31 @@ module _ (id : ℤ) (kind : NodeKind) (action : Action) (target : ℤ) (h : Held
       at zero e = refl
       at (suc n) e = absurd (omega (arith, low, before.base, held_from old.rate old.pool.region (leaf id kind h) x (is.held, (tt, tt)) (omega (arith, own_of_leaf id kind h x, e))))
 
-  put_agrees : AgreesOn (live_held old.tree.attached) us ws
+  put_agrees : AgreesOn (left_live b target old) us ws
   unfolding AgreesOn
   put_agrees = λ x more. is.others x (at x more (overlaps x (held_extents h)) refl)
     where
-      at : (x : ℕ) → 0 < overlaps x (live_held old.tree.attached) → (n : ℕ) → overlaps x (held_extents h) ≡ n → overlaps x (held_extents h) ≡ 0
+      at : (x : ℕ) → 0 < overlaps x (left_live b target old) → (n : ℕ) → overlaps x (held_extents h) ≡ n → overlaps x (held_extents h) ≡ 0
       at x more zero e = e
-      at x more (suc n) e = absurd (omega (arith, more, put_apart x (omega (arith, e))))
+      at x more (suc n) e = absurd (omega (arith, more, is.free x (omega (arith, e))))
 
-  put_nodes : with_payloads (content_of us) new.tree.attached ≡ put action target (leaf id kind (content_of us h)) (with_payloads (content_of ws) old.tree.attached)
-  put_nodes =
-      ap (with_payloads (content_of us)) attached
-      ∙ sym (put-payloads (content_of us) action target (leaf id kind h) old.tree.attached)
-      ∙ ap (put action target (leaf id kind (content_of us h))) (same_nodes old.tree.attached us ws put_agrees)
+  nodes_agree : AgreesOn (live_held (left_by b target old.tree.attached)) us ws
+  unfolding AgreesOn
+  nodes_agree = λ x more. put_agrees x (omega (arith, both_left x, more))
 
-  abbrev world_with : Nodes Content → Definitions → List AudioBus → List ControlBus → List Bool → Option ℤ → ℕ → Extent → World
-  world_with nodes definitions audio control notify next rate region = record { nodes = nodes; definitions = definitions; audio_buses = audio; control_buses = control; notify = notify; next_id = next; rate = rate; region = region }
+  put_buffers : buffers_of us new.buffers ≡ buffers_of ws old.buffers
+  unfolding AgreesOn
+  put_buffers = ap (buffers_of us) is.buffers ∙ same_buffers old.buffers us ws (λ x more. put_agrees x (omega (arith, both_left x, more)))
+
+  put_nodes : with_payloads (content_of us) new.tree.attached ≡ left_by b target (put action target (leaf id kind (content_of us h)) (with_payloads (content_of ws) old.tree.attached))
+  put_nodes = ap (with_payloads (content_of us)) attached ∙ same_placed us ws id target kind h b action old.tree.attached is.before is.there is.other nodes_agree
+
+  abbrev world_with : Nodes Content → Definitions → List AudioBus → List ControlBus → List (Option Buffer) → List Bool → Option ℤ → ℕ → Extent → World
+  world_with nodes definitions audio control buffers notify next rate region = record { nodes = nodes; definitions = definitions; audio_buses = audio; control_buses = control; buffers = buffers; notify = notify; next_id = next; rate = rate; region = region }
 
   -- the world with the node
-  pub put_world : world_of new us ≡ record (world_of old ws) { nodes = put action target (leaf id kind (content_of us h)) (world_of old ws).nodes }
+  pub put_world : world_of new us ≡ record (world_of old ws) { nodes = left_by b target (put action target (leaf id kind (content_of us h)) (world_of old ws).nodes) }
   put_world = λ i. world_with (put_nodes i) (definitions_of (is.defs i))
       (audio_same us ws (λ j low. is.others j (behind j (omega arith))) i)
       (control_same us ws (λ j from low. is.others j (behind j low)) i)
-      (is.notify i) (is.next i) (is.rate i) (is.region i)
+      (put_buffers i) (is.notify i) (is.next i) (is.rate i) (is.region i)

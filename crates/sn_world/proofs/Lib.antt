@@ -5,7 +5,14 @@ pub mod Continuing
 pub mod Meanings
 pub mod Counting
 pub mod Walking
+pub mod BufferLaws
+pub mod WalkedStage
+pub mod BufferSteps
 pub mod Changes
 pub mod DefsLemmas
 pub mod OpeningLaws
 pub mod Inserting
+pub mod Replacing
+pub mod OwnWords
+pub mod SettleLaws
+pub mod SettleWalks

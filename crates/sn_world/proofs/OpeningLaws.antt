@@ -1,5 +1,5 @@
 -- Words that are all 0 stand for the opening world.
-use Rattle.std.proofs.Common.{◌≡◌, ◌≤◌, ◌<◌, ◌+◌, ◌*◌, ℕ, zero, suc, ℤ, pos, List, [], ◌∷◌, ◌++◌, get_or, replicate, refl, ap, sym, subst, ◌∙◌, arith}
+use Rattle.std.proofs.Common.{◌≡◌, ◌≤◌, ◌<◌, ◌+◌, ◌*◌, ℕ, zero, suc, ℤ, pos, List, [], ◌∷◌, ◌++◌, get_or, replicate, refl, ap, sym, subst, ◌∙◌, arith, Option}
 use Rattle.std.specs.Prelude.{slice_index}
 use Rattle.sn_mem.specs.Blocks.{table, sample_in, samples_at}
 use Rattle.sn_mem.specs.Buses.{AudioBus, ControlBus, audio_bus, control_bus, audio_buses, control_buses}
@@ -9,6 +9,7 @@ use Rattle.sn_world.specs.declared.stage.Stage.{Stage}
 use Rattle.sn_world.specs.World.{World, world_of}
 use Rattle.sn_world.specs.Opening.{opening, silent_audio, silent_control, IsOpening}
 use Rattle.sn_world.specs.Pictures.{Pictures}
+use Rattle.sn_world.proofs.BufferLaws.{opening_live, opening_buffers, opening_are, no-times}
 
 more : {A : Type 0} (n : ℕ) (x : A) → replicate n x ++ x ∷ [] ≡ replicate (suc n) x
 more zero x = refl
@@ -42,7 +43,7 @@ control_silent n = all_same (control_bus (replicate n 0)) silent_control 1024 (�
 
 pub opens : (rate memory clients n : ℕ) (stage : Stage) → IsOpening rate memory clients stage → world_of stage (replicate n 0) ≡ opening rate memory clients
 unfolding opening
-opens rate memory clients n stage o = rw (o.tree, o.definitions, o.pool, o.frames, o.notify, o.next, audio_silent n, control_silent n) refl
+opens rate memory clients n stage o = rw (o.tree, o.definitions, o.pool, o.frames, o.notify, o.next, audio_silent n, control_silent n, opening_buffers stage.buffers (replicate n 0) o.buffers) refl
 
 pub opens_pictured : (rate memory clients n : ℕ) (stage : Stage) → IsOpening rate memory clients stage → 0 < rate → rate ≤ 96000 → 10368 + memory < 4294967296 → 10368 + memory ≤ n → Pictures stage (replicate n 0)
 opens_pictured rate memory clients n stage o some small bounded fits = record {
@@ -52,8 +53,9 @@ opens_pictured rate memory clients n stage o some small bounded fits = record {
   bounded = rw o.pool bounded;
   fits = rw o.pool (omega (arith, fits, length-replicate {A = ℕ} n 0));
   synths = rw o.tree (tt, (tt, tt));
-  live = λ e some. rw (o.pool, o.tree) refl;
-  apart = λ x. rw o.tree (omega arith);
+  buffers = opening_are stage.pool.region stage.buffers o.buffers;
+  live = λ e some. rw (o.pool, o.tree, opening_live stage.buffers o.buffers) (no-times e);
+  apart = λ x. rw (o.tree, opening_live stage.buffers o.buffers) (omega arith);
   attached = rw o.tree refl;
   settled = rw o.tree refl;
   closed = rw o.pool refl;

@@ -19,11 +19,9 @@ use Rattle.sn_tree.specs.Trees.{Label, Nodes, none, node, running_labels, with_p
 use Rattle.sn_world.specs.declared.stage.Held.{Held}
 use Rattle.sn_world.specs.declared.stage.Held.TheVariants as held
 use Rattle.sn_world.specs.Nodes.{Content, Synth, group, synth, content_of}
-use Rattle.sn_world.specs.declared.stage.Stage.{Stage}
-use Rattle.sn_world.specs.World.{world_of}
-use Rattle.sn_world.specs.Walk.{Walked, walk_nodes, content_after, walk, with_walked}
+use Rattle.sn_world.specs.Walk.{Walked, walk_nodes, content_after}
 use Rattle.sn_world.specs.WalkWords.{held_words, walk_words}
-use Rattle.sn_world.specs.Pictures.{held_extents, live_held, overlaps, IsHeld, AreHeld, IsSynthOf, Pictures}
+use Rattle.sn_world.specs.Pictures.{held_extents, live_held, overlaps, IsHeld, AreHeld, IsSynthOf}
 
 -- ---- extents and the words in them
 
@@ -51,14 +49,14 @@ pub same_window : (e : Extent) (us ws : List ℕ) → AgreesOn (e ∷ []) us ws 
 unfolding AgreesOn
 same_window e us ws agree = window_same us ws e.at e.len (λ k lt. agree (e.at + k) (omega (arith, in_extent e (e.at + k) (omega arith) (omega arith))))
 
-same_content : (h : Held) (us ws : List ℕ) → AgreesOn (held_extents h) us ws → content_of us h ≡ content_of ws h
+pub same_content : (h : Held) (us ws : List ℕ) → AgreesOn (held_extents h) us ws → content_of us h ≡ content_of ws h
 same_content held.Group us ws agree = refl
 same_content (held.Synth def controls state) us ws agree = same_synth (definition_of def.value) controls state _ _ (same_window state us ws agree)
 
-same_label : (l : Label Held) (c c' : Content) → c ≡ c' → ◌≡◌ {A = Label Content} (record { id = l.id; kind = l.kind; running = l.running; payload = c }) (record { id = l.id; kind = l.kind; running = l.running; payload = c' })
+pub same_label : (l : Label Held) (c c' : Content) → c ≡ c' → ◌≡◌ {A = Label Content} (record { id = l.id; kind = l.kind; running = l.running; payload = c }) (record { id = l.id; kind = l.kind; running = l.running; payload = c' })
 same_label l c c' p = ap (λ (t : Content). record { id = l.id; kind = l.kind; running = l.running; payload = t }) p
 
-same_node : (l l' : Label Content) (b b' a a' : Nodes Content) → l ≡ l' → b ≡ b' → a ≡ a' → node l b a ≡ node l' b' a'
+pub same_node : (l l' : Label Content) (b b' a a' : Nodes Content) → l ≡ l' → b ≡ b' → a ≡ a' → node l b a ≡ node l' b' a'
 same_node l l' b b' a a' p q r = ap (λ (t : Label Content). node t b a) p ∙ ap (λ (t : Nodes Content). node l' t a) q ∙ ap (λ (t : Nodes Content). node l' b' t) r
 
 pub parts_of : (l : Label Held) (below after : Nodes Held) (x : ℕ) → overlaps x (live_held (node l below after)) ≡ overlaps x (held_extents l.payload) + (overlaps x (live_held below) + overlaps x (live_held after))
@@ -95,7 +93,7 @@ pub record CanWalk (rate : ℕ) (region : Extent) (t : Nodes Held) (ws : List �
   pub fits : 10368 + region.len ≤ length ws
   pub bounded : 10368 + region.len < 4294967296
 
-outside : (e : Extent) (x : ℕ) → overlaps x (e ∷ []) ≡ 0 → (x < e.at) ⊎ (e.at + e.len ≤ x)
+pub outside : (e : Extent) (x : ℕ) → overlaps x (e ∷ []) ≡ 0 → (x < e.at) ⊎ (e.at + e.len ≤ x)
 outside e x free = elim (leb_tells e.at x) [
   | inl p ↦ (elim (leb_tells (e.at + e.len) x) [
     | inl q ↦ inr q.1
@@ -104,7 +102,7 @@ outside e x free = elim (leb_tells e.at x) [
   | inr p ↦ inl p.1
 ]
 
-covered_from : (e : Extent) (x : ℕ) → 0 < overlaps x (e ∷ []) → e.at ≤ x
+pub covered_from : (e : Extent) (x : ℕ) → 0 < overlaps x (e ∷ []) → e.at ≤ x
 covered_from e x more = elim (leb_tells e.at x) [
   | inl p ↦ p.1
   | inr p ↦ absurd (omega (arith, more, zero_of (covers e x) (before e x p.1)))
@@ -200,12 +198,12 @@ two rate b l below after ws us ran own_kept below_kept =
     ∙ same_walked _ _ _ (same_node _ _ _ _ _ _ (same_label l _ _ own_kept) below_kept refl)
 
 -- words that stay where some extents are
-kept_on : (es fs : List Extent) (ws us : List ℕ) → IsKept fs ws us → ((x : ℕ) → 0 < overlaps x es → 10368 ≤ x) → ((x : ℕ) → overlaps x es + overlaps x fs ≤ 1) → AgreesOn es ws us
+pub kept_on : (es fs : List Extent) (ws us : List ℕ) → IsKept fs ws us → ((x : ℕ) → 0 < overlaps x es → 10368 ≤ x) → ((x : ℕ) → overlaps x es + overlaps x fs ≤ 1) → AgreesOn es ws us
 unfolding AgreesOn
 kept_on es fs ws us kept from apart = λ x more. sym (kept.others x (from x more) (omega (arith, more, apart x)))
 
 -- what is left of the conditions for a part of the nodes, after other parts ran
-can_go_on : (rate : ℕ) (region : Extent) (t part : Nodes Held) (ws us : List ℕ) → CanWalk rate region t ws → length us ≡ length ws → AreHeld rate region part → ((x : ℕ) → overlaps x (live_held part) ≤ overlaps x (live_held t)) → CanWalk rate region part us
+pub can_go_on : (rate : ℕ) (region : Extent) (t part : Nodes Held) (ws us : List ℕ) → CanWalk rate region t ws → length us ≡ length ws → AreHeld rate region part → ((x : ℕ) → overlaps x (live_held part) ≤ overlaps x (live_held t)) → CanWalk rate region part us
 can_go_on rate region t part ws us can len held within = record {
   held = held;
   apart = λ x. omega (arith, can.apart x, within x);
@@ -293,20 +291,6 @@ walked rate b region (node l below after) ws can = at (λ w c. walked rate b reg
         let last = walk_after ws (can_go_on rate region (node l below after) after ws ws can refl can.held.1.1 part_after) in
         let ends : walk_words rate b (running_labels (node l below after)) ws ≡ us = ap (λ ls. walk_words rate b ls ws) (running_off l below after off) in
         subst (IsWalked rate b (node l below after) ws) (sym ends) (walked_paused rate b region l below after ws us can last off)
-
--- ---- a stage and its words
-
-can_walk : (stage : Stage) (ws : List ℕ) → Pictures stage ws → CanWalk stage.rate stage.pool.region stage.tree.attached ws
-can_walk stage ws p = record { held = p.synths; apart = p.apart; base = p.base; bounded = p.bounded; fits = p.fits }
-
-walked_stage : (stage : Stage) (b : ℕ) (ws : List ℕ) → Pictures stage ws → IsWalked stage.rate b stage.tree.attached ws (walk_words stage.rate b (running_labels stage.tree.attached) ws)
-walked_stage stage b ws p = walked stage.rate b stage.pool.region stage.tree.attached ws (can_walk stage ws p)
-
-pub length_walked : (stage : Stage) (b : ℕ) (ws us : List ℕ) → Pictures stage ws → us ≡ walk_words stage.rate b (running_labels stage.tree.attached) ws → length us ≡ length ws
-length_walked stage b ws us p is = ap length is ∙ (walked_stage stage b ws p).kept.length
-
-pub world_walked : (stage : Stage) (b : ℕ) (ws us : List ℕ) → Pictures stage ws → us ≡ walk_words stage.rate b (running_labels stage.tree.attached) ws → world_of stage us ≡ walk b (world_of stage ws)
-world_walked stage b ws us p is = ap (world_of stage) is ∙ sym (ap (with_walked (world_of stage ws)) (walked_stage stage b ws p).walked)
 
 -- each of the labels has what a node holds
 abbrev pub HoldEach : ℕ → Extent → List (Label Held) → Type 0

@@ -1,5 +1,5 @@
 -- What the answer of a command says.
-use Rattle.std.specs.Prelude.{◌≡◌, Bool, true, false, List, ◌++◌, Option, Some, None, Result, Ok, Err}
+use Rattle.std.specs.Prelude.{◌≡◌, List, ◌++◌, Option, Some, None, Result, Ok, Err}
 use Rattle.sn_ports.specs.declared.failed.NoMemory.{NoMemory}
 use Rattle.sn_reply.specs.declared.reason.Reason.{Reason}
 use Rattle.sn_reply.specs.Replies.{ReplyShape}
@@ -36,14 +36,23 @@ IsNext (Ok (Failed reason)) n = Unit {0}
 IsNext (Ok NotMine) n = Unit {0}
 IsNext (Err e) n = Unit {0}
 
--- whether the message clears what waits
-abbrev pub TellsClear : Result Handled NoMemory → Bool → Type 0
-TellsClear (Ok Done) b = b ≡ false
-TellsClear (Ok Quit) b = b ≡ false
-TellsClear (Ok ClearSched) b = b ≡ true
-TellsClear (Ok (Failed reason)) b = b ≡ false
-TellsClear (Ok NotMine) b = b ≡ false
-TellsClear (Err e) b = Unit {0}
+-- what is done besides, nothing where the message was not carried out
+abbrev pub TellsNext : Result Handled NoMemory → Next → Type 0
+TellsNext (Ok Done) n = n ≡ nothing
+TellsNext (Ok Quit) n = n ≡ quitting
+TellsNext (Ok ClearSched) n = n ≡ clearing
+TellsNext (Ok (Failed reason)) n = n ≡ nothing
+TellsNext (Ok NotMine) n = n ≡ nothing
+TellsNext (Err e) n = Unit {0}
+
+-- nothing is done besides
+abbrev pub AsksNothing : Result Handled NoMemory → Type 0
+AsksNothing (Ok Done) = Unit {0}
+AsksNothing (Ok Quit) = ⊥
+AsksNothing (Ok ClearSched) = ⊥
+AsksNothing (Ok (Failed reason)) = Unit {0}
+AsksNothing (Ok NotMine) = Unit {0}
+AsksNothing (Err e) = Unit {0}
 
 -- the same of one row: done, or refused for a reason
 abbrev pub Follows : Result (Option Reason) NoMemory → Result Turn Reason → Turn → Type 0

@@ -1,5 +1,5 @@
 -- What a message does, whichever command it is.
-use Rattle.std.specs.Prelude.{ℕ, Bool, false, List, [], Option, Some, None, Result, Ok, Err, if◌then◌else◌, codes}
+use Rattle.std.specs.Prelude.{ℕ, List, [], Option, Some, None, Result, Ok, Err, if◌then◌else◌, codes}
 use Rattle.std.specs.Str.{bytes_eq}
 use Rattle.sn_osc.specs.Shape.{Argument, BodyShape, bare, arguments, foreign, MessageShape}
 use Rattle.sn_reply.specs.declared.reason.Reason.{Reason}
@@ -13,23 +13,28 @@ use Rattle.sn_world.specs.declared.command.NodeCommand.TheVariants as nodes
 use Rattle.sn_world.specs.World.{Turn, replied}
 use Rattle.sn_world.specs.Buses.{set_row, fill_row, get_row, sync_row}
 use Rattle.sn_world.specs.Runs.{setn_row, getn_row}
+use Rattle.sn_world.specs.BufferCommands as buffers
 use Rattle.sn_world.specs.Recv.{recv_row}
 use Rattle.sn_world.specs.Free.{free_row as forget_row}
 use Rattle.sn_world.specs.Status.{status_row}
-use Rattle.sn_world.specs.Ending.{quit_row, clear_row, Next, nothing, quitting, clearing, is_clearing}
+use Rattle.sn_world.specs.Ending.{quit_row, clear_row, Next, nothing, quitting, clearing}
 use Rattle.sn_world.specs.declared.command.Handled.{Handled}
 use Rattle.sn_world.specs.declared.command.Handled.TheVariants as answers
 use Rattle.sn_world.specs.NewSynth.{new_row}
 use Rattle.sn_world.specs.Notifying.{notify_row}
 use Rattle.sn_world.specs.RunFlags.{run_row}
 use Rattle.sn_world.specs.Queries.{query_row}
+use Rattle.sn_world.specs.TreeQueries.{tree_row}
+use Rattle.sn_world.specs.SynthQueries.{values_row}
 use Rattle.sn_world.specs.ControlRuns.{set_controls_row, set_runs_row, fill_runs_row}
 use Rattle.sn_world.specs.Mappings.{map_row}
 use Rattle.sn_world.specs.NewNodes.{group_row}
 use Rattle.sn_world.specs.Freeing.{free_row}
+use Rattle.sn_world.specs.Emptying.{free_all_row, deep_free_row}
 use Rattle.sn_world.specs.Moving.{move_row}
+use Rattle.sn_world.specs.NodeOrder.{order_row}
 
--- the command on control buses, on definitions or on the server itself with an address
+-- the command on control buses, on buffers, on definitions or on the server itself with an address
 abbrev pub bus_command_of : List ℕ → Option BusCommand
 bus_command_of address =
     if bytes_eq address (codes "/c_set") then Some buses.Set
@@ -37,6 +42,10 @@ bus_command_of address =
     else if bytes_eq address (codes "/c_fill") then Some buses.Fill
     else if bytes_eq address (codes "/c_get") then Some buses.Get
     else if bytes_eq address (codes "/c_getn") then Some buses.GetRuns
+    else if bytes_eq address (codes "/b_alloc") then Some buses.AllocBuffer
+    else if bytes_eq address (codes "/b_free") then Some buses.FreeBuffer
+    else if bytes_eq address (codes "/b_zero") then Some buses.ZeroBuffer
+    else if bytes_eq address (codes "/b_query") then Some buses.QueryBuffers
     else if bytes_eq address (codes "/sync") then Some buses.Sync
     else if bytes_eq address (codes "/d_recv") then Some buses.Receive
     else if bytes_eq address (codes "/d_free") then Some buses.Free
@@ -52,6 +61,10 @@ bus_row buses.SetRuns = setn_row
 bus_row buses.Fill = fill_row
 bus_row buses.Get = get_row
 bus_row buses.GetRuns = getn_row
+bus_row buses.AllocBuffer = buffers.alloc_row
+bus_row buses.FreeBuffer = buffers.free_row
+bus_row buses.ZeroBuffer = buffers.zero_row
+bus_row buses.QueryBuffers = buffers.query_row
 bus_row buses.Sync = sync_row
 bus_row buses.Receive = recv_row
 bus_row buses.Free = forget_row
@@ -83,11 +96,16 @@ node_command_of address =
     else if bytes_eq address (codes "/n_map") then Some nodes.MapControls
     else if bytes_eq address (codes "/g_new") then Some nodes.NewGroup
     else if bytes_eq address (codes "/n_free") then Some nodes.Free
+    else if bytes_eq address (codes "/g_freeAll") then Some nodes.FreeAll
+    else if bytes_eq address (codes "/g_deepFree") then Some nodes.DeepFree
     else if bytes_eq address (codes "/n_query") then Some nodes.Query
+    else if bytes_eq address (codes "/g_queryTree") then Some nodes.QueryTree
+    else if bytes_eq address (codes "/s_get") then Some nodes.GetControls
     else if bytes_eq address (codes "/n_before") then Some (nodes.Move Before)
     else if bytes_eq address (codes "/n_after") then Some (nodes.Move After)
     else if bytes_eq address (codes "/g_head") then Some (nodes.Move Head)
     else if bytes_eq address (codes "/g_tail") then Some (nodes.Move Tail)
+    else if bytes_eq address (codes "/n_order") then Some nodes.Order
     else None
 
 -- its row
@@ -101,8 +119,13 @@ node_row nodes.FillRuns = fill_runs_row
 node_row nodes.MapControls = map_row
 node_row nodes.NewGroup = group_row
 node_row nodes.Free = free_row
+node_row nodes.FreeAll = free_all_row
+node_row nodes.DeepFree = deep_free_row
 node_row nodes.Query = query_row
+node_row nodes.QueryTree = tree_row
+node_row nodes.GetControls = values_row
 node_row (nodes.Move action) = move_row action
+node_row nodes.Order = order_row
 
 -- A row takes the arguments, of which an address alone has none. Tags that are not read are refused before anything else is judged.
 abbrev pub with_arguments : BodyShape → (List Argument → Turn → Result Turn Reason) → Turn → Result Turn Reason
@@ -144,12 +167,12 @@ answered from address t (Err reason) = replied from (fail_message address reason
 abbrev pub command : ℕ → MessageShape → Turn → Turn
 command from m t = answered from m.address t (or_unknown (either (run_node from m t) (run_bus from m t)))
 
--- Whether a message is an accepted `/clearSched`: the outcomes of the commands on nodes and of the others, and what is done besides.
-abbrev pub clear_in : Option (Result Turn Reason) → Option (Result Turn Reason) → Next → Bool
-clear_in (Some r) other n = false
-clear_in None None n = false
-clear_in None (Some (Err reason)) n = false
-clear_in None (Some (Ok t)) n = is_clearing n
+-- What is done besides by a message, of the outcomes of the commands on nodes and of the others: nothing where it is refused.
+abbrev pub next_in : Option (Result Turn Reason) → Option (Result Turn Reason) → Next → Next
+next_in (Some r) other n = nothing
+next_in None None n = nothing
+next_in None (Some (Err reason)) n = nothing
+next_in None (Some (Ok t)) n = n
 
-abbrev pub clears : ℕ → MessageShape → Turn → Bool
-clears from m t = clear_in (run_node from m t) (run_bus from m t) (next_of (bus_command_of m.address))
+abbrev pub next_after : ℕ → MessageShape → Turn → Next
+next_after from m t = next_in (run_node from m t) (run_bus from m t) (next_of (bus_command_of m.address))

@@ -26,3 +26,8 @@ abbrev pub is_clearing : Next → Bool
 is_clearing nothing = false
 is_clearing quitting = false
 is_clearing clearing = true
+
+abbrev pub is_quitting : Next → Bool
+is_quitting nothing = false
+is_quitting quitting = true
+is_quitting clearing = false

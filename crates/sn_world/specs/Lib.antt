@@ -1,5 +1,6 @@
 pub mod Definitions
 pub mod Nodes
+pub mod Buffers
 pub mod World
 pub mod Walk
 pub mod WalkWords
@@ -13,6 +14,9 @@ pub mod Recv
 pub mod Names
 pub mod Free
 pub mod Status
+pub mod BufferNumbers
+pub mod BufferCommands
+pub mod BufferSamples
 pub mod Ending
 pub mod NewSynth
 pub mod ControlRuns
@@ -20,8 +24,15 @@ pub mod Notifying
 pub mod RunFlags
 pub mod NewNodes
 pub mod Freeing
+pub mod Emptying
 pub mod Queries
+pub mod TreeQueries
+pub mod SynthQueries
 pub mod Mappings
 pub mod Moving
+pub mod NodeOrder
 pub mod Commands
 pub mod Answers
+pub mod Settling
+pub mod SettleWords
+pub mod Noted

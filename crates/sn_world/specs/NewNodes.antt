@@ -8,10 +8,13 @@ use Rattle.sn_tree.specs.declared.node.NodeKind.{NodeKind}
 use Rattle.sn_tree.specs.declared.node.NodeKind.TheVariants as kinds
 use Rattle.sn_tree.specs.declared.node.Action.{Action}
 use Rattle.sn_tree.specs.declared.node.Action.TheVariants.{Head, Tail, Before, After}
-use Rattle.sn_tree.specs.Trees.{Nodes, put, leaf, holds, count}
+use Rattle.sn_tree.specs.declared.node.NodeView.{NodeView}
+use Rattle.sn_tree.specs.Trees.{Nodes, none, put, leaf, subtree, without, holds, count}
+use Rattle.sn_tree.specs.Views.{views_below}
 use Rattle.sn_tree.specs.Faults.{is_missing, is_in_synth, is_beside_root}
 use Rattle.sn_world.specs.declared.notices.NodeEvent.TheVariants.{Went}
 use Rattle.sn_world.specs.declared.repetition.NewNode.{NewNode}
+use Rattle.sn_world.specs.Freeing.{told_ends}
 use Rattle.sn_world.specs.Nodes.{Content, group}
 use Rattle.sn_world.specs.Notices.{told}
 use Rattle.sn_world.specs.World.{World, Turn}
@@ -40,16 +43,43 @@ next_after next id = if int_eq id (negsuc 0) then one_below next else next
 
 -- ---- places
 
+-- Action 4 puts the node just before its target, which is freed then: the node takes its place.
 abbrev pub add_action : ℤ → Option Action
 add_action n =
     if int_eq n (pos 0) then Some Head
     else if int_eq n (pos 1) then Some Tail
     else if int_eq n (pos 2) then Some Before
     else if int_eq n (pos 3) then Some After
+    else if int_eq n (pos 4) then Some Before
     else None
 
 abbrev pub action_for : ℤ → Action
 action_for action = unwrap_or (add_action action) Head
+
+abbrev pub replaces : ℤ → Bool
+replaces action = int_eq action (pos 4)
+
+-- the nodes without a target that is replaced, and without all below it
+abbrev pub left_by : {P : Type 0} → Bool → ℤ → Nodes P → Nodes P
+left_by true target nodes = without target nodes
+left_by false target nodes = nodes
+
+-- the nodes that go with it
+abbrev pub gone_by : {P : Type 0} → Bool → ℤ → Nodes P → Nodes P
+gone_by true target nodes = subtree target nodes
+gone_by false target nodes = none
+
+-- the nodes with a new one
+abbrev pub placed : {P : Type 0} → NewNode → Nodes P → Nodes P → Nodes P
+placed r new nodes = left_by (replaces r.action) r.target (put (action_for r.action) r.target new nodes)
+
+-- the nodes that are replaced end, each at the place where it stands
+abbrev pub told_if : Bool → List (ℤ × NodeView) → Turn → Turn
+told_if true views t = told_ends views t
+told_if false views t = t
+
+abbrev pub told_replaced : NewNode → Turn → Turn
+told_replaced r t = told_if (replaces r.action) (views_below r.target t.world.nodes) t
 
 -- the first reason against a new node with an id, at a place
 abbrev pub node_refusal : {P : Type 0} → Option ℤ → ℤ → ℤ → Nodes P → Option Reason
@@ -59,18 +89,18 @@ node_refusal id action target nodes = first_of (
     ∷ (is_missing target nodes, Reasons.NoSuchNode)
     ∷ (is_in_synth (action_for action) target nodes, Reasons.NotGroup)
     ∷ (is_beside_root (action_for action) target, Reasons.Root)
-    ∷ (nat_lt 4096 (count nodes + 1), Reasons.TooManyNodes)
+    ∷ (nat_lt 4096 (count (left_by (replaces action) target nodes) + 1), Reasons.TooManyNodes)
     ∷ [])
 
 -- ---- `/g_new` (id action target)..
 
--- An id is -1 or more. The action is none that replaces its target: no node is replaced yet.
-abbrev pub is_asked : ℤ → ℤ → Bool
-is_asked (pos id) action = not (int_eq action (pos 4))
-is_asked (negsuc n) action = int_eq (negsuc n) (negsuc 0) && not (int_eq action (pos 4))
+-- an id is -1 or more
+abbrev pub is_asked : ℤ → Bool
+is_asked (pos id) = true
+is_asked (negsuc n) = int_eq (negsuc n) (negsuc 0)
 
 abbrev pub new_node : Argument → Argument → Argument → Option NewNode
-new_node (int id) (int action) (int target) = if is_asked id action then Some (record { id = id; action = action; target = target }) else None
+new_node (int id) (int action) (int target) = if is_asked id then Some (record { id = id; action = action; target = target }) else None
 new_node (int id) (int action) (string s) = None
 new_node (int id) (int action) (blob b) = None
 new_node (int id) (string s) z = None
@@ -83,11 +113,11 @@ judge_group w r = node_refusal (id_for w.next_id r.id) r.action r.target w.nodes
 
 -- the world with an empty group; an id that was chosen is used up
 abbrev pub with_group : NodeKind → NewNode → ℤ → World → World
-with_group kind r id w = record w { nodes = put (action_for r.action) r.target (leaf id kind group) w.nodes; next_id = next_after w.next_id r.id }
+with_group kind r id w = record w { nodes = placed r (leaf id kind group) w.nodes; next_id = next_after w.next_id r.id }
 
 abbrev pub act_with : NodeKind → NewNode → Option ℤ → Turn → Turn
 act_with kind r None t = t
-act_with kind r (Some id) t = told Went id (record t { world = with_group kind r id t.world })
+act_with kind r (Some id) t = told Went id (record (told_replaced r t) { world = with_group kind r id t.world })
 
 abbrev pub act_group : NewNode → Turn → Turn
 act_group r t = act_with kinds.Group r (id_for t.world.next_id r.id) t

@@ -11,13 +11,13 @@ use Rattle.sn_pool.specs.Regions.{least_place}
 use Rattle.sn_reply.specs.declared.reason.Reason.{Reason}
 use Rattle.sn_reply.specs.declared.reason.Reason.TheVariants as Reasons
 use Rattle.sn_tree.specs.declared.node.NodeKind.TheVariants as kinds
-use Rattle.sn_tree.specs.Trees.{put, leaf}
+use Rattle.sn_tree.specs.Trees.{leaf}
 use Rattle.sn_world.specs.declared.notices.NodeEvent.TheVariants.{Went}
 use Rattle.sn_world.specs.declared.repetition.NewNode.{NewNode}
-use Rattle.sn_world.specs.Nodes.{Content, synth, live_in}
+use Rattle.sn_world.specs.Nodes.{Content, synth}
 use Rattle.sn_world.specs.Notices.{told}
-use Rattle.sn_world.specs.World.{World, Turn}
-use Rattle.sn_world.specs.NewNodes.{id_for, next_after, action_for, node_refusal, new_node}
+use Rattle.sn_world.specs.World.{World, Turn, live_of}
+use Rattle.sn_world.specs.NewNodes.{id_for, next_after, replaces, left_by, placed, told_replaced, node_refusal, new_node}
 use Rattle.sn_world.specs.Rows.{unless, pairs}
 
 -- a control of a definition, by its number or by its name
@@ -93,7 +93,11 @@ defaults d = map (λ p. record { value = p.default; bus = None }) d.controls
 
 -- the least place of the pool for so many words, where there is one; no words stand at the region's begin
 abbrev pub place_for : World → ℕ → Option ℕ
-place_for w n = if nat_eq n 0 then Some w.region.at else least_place w.region (live_in w.nodes) n
+place_for w n = if nat_eq n 0 then Some w.region.at else least_place w.region (live_of w) n
+
+-- the world as it is when a new node takes its words: the nodes that it replaces have given theirs back
+abbrev pub made_free : NewNode → World → World
+made_free r w = record w { nodes = left_by (replaces r.action) r.target w.nodes }
 
 -- ---- what is against it, and what it does
 
@@ -108,16 +112,16 @@ made w r d at = synth (record {
 
 -- the world with a synth of an id; one that was chosen is used up
 abbrev pub with_synth : NewSynth → Definition → ℤ → ℕ → World → World
-with_synth r d id at w = record w { nodes = put (action_for r.node.action) r.node.target (leaf id kinds.Synth (made w r d at)) w.nodes; next_id = next_after w.next_id r.node.id }
+with_synth r d id at w = record w { nodes = placed r.node (leaf id kinds.Synth (made w r d at)) w.nodes; next_id = next_after w.next_id r.node.id }
 
 abbrev pub new_at : NewSynth → Definition → ℤ → Option ℕ → Turn → Result Turn Reason
 new_at r d id None t = Err Reasons.PoolFull
-new_at r d id (Some at) t = Ok (told Went id (record t { world = with_synth r d id at t.world }))
+new_at r d id (Some at) t = Ok (told Went id (record (told_replaced r.node t) { world = with_synth r d id at t.world }))
 
 -- with the id that it gets, where one is left
 abbrev pub new_with : NewSynth → Definition → Option ℤ → Turn → Result Turn Reason
 new_with r d None t = Err Reasons.IdInUse
-new_with r d (Some id) t = unless (node_refusal (Some id) r.node.action r.node.target t.world.nodes) (new_at r d id (place_for t.world (state_words t.world.rate d)) t)
+new_with r d (Some id) t = unless (node_refusal (Some id) r.node.action r.node.target t.world.nodes) (new_at r d id (place_for (made_free r.node t.world) (state_words t.world.rate d)) t)
 
 abbrev pub new_of : NewSynth → Option Definition → Turn → Result Turn Reason
 new_of r None t = Err Reasons.NoSuchDefinition

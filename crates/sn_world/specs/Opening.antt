@@ -18,13 +18,14 @@ abbrev pub silent_control : ControlBus
 silent_control = record { written = 0; value = pos 0 }
 
 -- At so many frames a second, with so many words in the pool, and for so many clients: the root group alone, no definitions, silent
--- buses, and nobody is notified. The pool's words come behind those of the buses. The id that is chosen first is -2.
+-- buses, no buffers, and nobody is notified. The pool's words come behind those of the buses. The id that is chosen first is -2.
 unfoldable pub opening : ℕ → ℕ → ℕ → World
 opening rate memory clients = record {
   nodes = leaf (pos 0) kinds.Group group;
   definitions = finite.empty;
   audio_buses = replicate 128 silent_audio;
   control_buses = replicate 1024 silent_control;
+  buffers = replicate 1024 None;
   notify = replicate clients false;
   next_id = Some (negsuc 1);
   rate = rate;
@@ -36,6 +37,7 @@ pub record IsOpening (rate memory clients : ℕ) (stage : Stage) : Type 0 where
   pub tree : stage.tree ≡ record { attached = leaf (pos 0) kinds.Group held.Group; detached = none; journal = None }
   pub definitions : definitions_of stage.defs ≡ finite.empty
   pub pool : stage.pool ≡ record { region = record { at = 10368; len = memory }; live = []; journal = None }
+  pub buffers : stage.buffers ≡ replicate 1024 None
   pub notify : stage.notify ≡ replicate clients false
   pub next : stage.next_id ≡ Some (negsuc 1)
   pub frames : stage.rate ≡ rate

@@ -13,6 +13,7 @@ use Rattle.sn_tree.specs.Trees.{Nodes, none, node}
 use Rattle.sn_world.specs.declared.stage.Held.{Held}
 use Rattle.sn_world.specs.declared.stage.Held.TheVariants as held
 use Rattle.sn_world.specs.declared.stage.Stage.{Stage}
+use Rattle.sn_world.specs.Buffers.{AreBuffers, live_places}
 
 -- where the pool keeps the words of what a node holds, and of all nodes in the order of the walk
 abbrev pub held_extents : Held → List Extent
@@ -47,8 +48,8 @@ abbrev pub AreHeld : ℕ → Extent → Nodes Held → Type 0
 AreHeld rate region none = Unit {0}
 AreHeld rate region (node label below after) = IsHeld rate region label.payload × (AreHeld rate region below × AreHeld rate region after)
 
--- The pool gives from the words behind the buses. Each extent with a word is live in it as often as it is that of a synth, and no word is
--- that of two synths.
+-- The pool gives from the words behind the buses. Each extent with a word is live in it as often as it is that of a synth or a buffer,
+-- and no word is that of two of them.
 pub record Pictures (stage : Stage) (words : List ℕ) : Type 0 where
   pub rate : 0 < stage.rate
   pub rate_fits : stage.rate ≤ 96000
@@ -56,8 +57,9 @@ pub record Pictures (stage : Stage) (words : List ℕ) : Type 0 where
   pub bounded : 10368 + stage.pool.region.len < 4294967296
   pub fits : 10368 + stage.pool.region.len ≤ length words
   pub synths : AreHeld stage.rate stage.pool.region stage.tree.attached
-  pub live : (e : Extent) → 1 ≤ e.len → times e stage.pool.live ≡ times e (live_held stage.tree.attached)
-  pub apart : (x : ℕ) → overlaps x (live_held stage.tree.attached) ≤ 1
+  pub buffers : AreBuffers stage.pool.region stage.buffers
+  pub live : (e : Extent) → 1 ≤ e.len → times e stage.pool.live ≡ times e (live_held stage.tree.attached) + times e (live_places stage.buffers)
+  pub apart : (x : ℕ) → overlaps x (live_held stage.tree.attached) + overlaps x (live_places stage.buffers) ≤ 1
   pub attached : stage.tree.detached ≡ none
   pub settled : stage.tree.journal ≡ None
   pub closed : stage.pool.journal ≡ None

@@ -11,9 +11,10 @@ use Rattle.sn_reply.specs.Replies.{ReplyShape}
 use Rattle.sn_tree.specs.Trees.{Nodes, with_payloads}
 use Rattle.sn_world.specs.declared.stage.Stage.{Stage}
 use Rattle.sn_world.specs.Definitions.{Definitions, definitions_of}
-use Rattle.sn_world.specs.Nodes.{Content, content_of}
+use Rattle.sn_world.specs.Nodes.{Content, content_of, live_in}
+use Rattle.sn_world.specs.Buffers.{Buffer, buffers_of, live_buffers}
 
--- The tree of nodes, the definitions, the 128 audio buses and the 1,024 control buses; for each client whether it is notified of what
+-- The tree of nodes, the definitions, the 128 audio buses, the 1,024 control buses, and what is at each of the 1,024 numbers of buffers; for each client whether it is notified of what
 -- happens to nodes; the id that is chosen next, where one is left; and, which nothing changes, the frames a second and the words from
 -- which the pool gives.
 pub record World : Type 0 where
@@ -21,10 +22,15 @@ pub record World : Type 0 where
   pub definitions : Definitions
   pub audio_buses : List AudioBus
   pub control_buses : List ControlBus
+  pub buffers : List (Option Buffer)
   pub notify : List Bool
   pub next_id : Option ℤ
   pub rate : ℕ
   pub region : Extent
+
+-- where the pool keeps the words of all synths and of all buffers
+abbrev pub live_of : World → List Extent
+live_of w = live_in w.nodes ++ live_buffers w.buffers
 
 -- a world, and the replies so far
 pub record Turn : Type 0 where
@@ -42,6 +48,7 @@ world_of stage words = record {
   definitions = definitions_of stage.defs;
   audio_buses = audio_buses words;
   control_buses = control_buses words;
+  buffers = buffers_of words stage.buffers;
   notify = stage.notify;
   next_id = stage.next_id;
   rate = stage.rate;

@@ -116,13 +116,11 @@ impl Triple for NewNode {
 
     fn from_three(id: &Arg, action: &Arg, target: &Arg) -> Option<NewNode> {
         match (id, action, target) {
-            (Arg::Int(id), Arg::Int(action), Arg::Int(target)) if *id >= -1 && *action != 4 => {
-                Some(NewNode {
-                    id: *id,
-                    action: *action,
-                    target: *target,
-                })
-            }
+            (Arg::Int(id), Arg::Int(action), Arg::Int(target)) if *id >= -1 => Some(NewNode {
+                id: *id,
+                action: *action,
+                target: *target,
+            }),
             _ => None,
         }
     }

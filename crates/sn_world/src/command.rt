@@ -1,7 +1,7 @@
 use sn_reply::Reason;
 use sn_tree::Action;
 
-/// A command on control buses, on definitions or on the server itself.
+/// A command on control buses, on buffers, on definitions or on the server itself.
 #[derive(Clone, Copy, Debug, PartialEq, Eq)]
 pub enum BusCommand {
     /// `/c_set`
@@ -14,6 +14,14 @@ pub enum BusCommand {
     Get,
     /// `/c_getn`
     GetRuns,
+    /// `/b_alloc`
+    AllocBuffer,
+    /// `/b_free`
+    FreeBuffer,
+    /// `/b_zero`
+    ZeroBuffer,
+    /// `/b_query`
+    QueryBuffers,
     /// `/sync`
     Sync,
     /// `/d_recv`
@@ -49,10 +57,20 @@ pub enum NodeCommand {
     NewGroup,
     /// `/n_free`
     Free,
+    /// `/g_freeAll`
+    FreeAll,
+    /// `/g_deepFree`
+    DeepFree,
     /// `/n_query`
     Query,
+    /// `/g_queryTree`
+    QueryTree,
+    /// `/s_get`
+    GetControls,
     /// `/n_before`, `/n_after`, `/g_head`, `/g_tail`
     Move(Action),
+    /// `/n_order`
+    Order,
 }
 
 /// What a crate of commands did with a message.

@@ -2,23 +2,37 @@
 #![tactic(auto)]
 
 mod arguments;
+mod buffer_repetition;
+mod buffers;
 mod command;
 mod defs;
+mod emptying;
+mod endings;
 mod flags;
 mod names;
 mod node_repetition;
 mod notices;
+mod ordering;
 mod repetition;
 mod runs;
 mod stage;
+mod tree_query;
 
 pub use arguments::{Pair, Single, Triple, pairs, singles, some_of, triples};
+pub use buffer_repetition::{
+    BufferNumber, NewBuffer, SampleFill, SampleIndex, SampleRun, SampleValue,
+};
+pub use buffers::{BUFFERS, Buffers};
 pub use command::{BusCommand, Handled, NodeCommand};
 pub use defs::Defs;
+pub use emptying::{DeepFree, FreeAll};
+pub use endings::{Ending, Endings};
 pub use flags::Flags;
 pub use names::Names;
 pub use node_repetition::{NodeMove, NodeQuery, RunFlag};
 pub use notices::{NodeEvent, event_message, notify};
+pub use ordering::NodePlace;
 pub use repetition::{BusFill, BusNumber, BusValue, NewNode, NodeId, Run};
 pub use runs::{ValueRun, value_runs};
 pub use stage::{Held, Stage};
+pub use tree_query::TreeQuery;

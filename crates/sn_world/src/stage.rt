@@ -2,6 +2,7 @@
 ghost use Rattle.std.specs.Prelude.{◌≤◌, IfOk};
 ghost use Rattle.sn_world.specs.Opening.{IsOpening};
 
+use crate::buffers::Buffers;
 use crate::defs::Defs;
 use crate::flags::Flags;
 use sn_def::{Controls, Def};
@@ -24,12 +25,14 @@ pub enum Held {
     },
 }
 
-/// The nodes, the definitions, the pool from which the synths' states come, and what the server keeps of its clients.
+/// The nodes, the definitions, the pool from which the words of synths and buffers come, the buffers, and what the server keeps of its clients.
 #[derive(Drop)]
 pub struct Stage {
     pub tree: Tree<Held>,
     pub defs: Defs,
     pub pool: Pool,
+    /// Where the buffers are.
+    pub buffers: Buffers,
     /// Which clients are notified of what happens to nodes.
     pub notify: Flags,
     /// The id that is chosen next: -2 or less, or `None` once -2147483648 was chosen.
@@ -39,7 +42,7 @@ pub struct Stage {
 }
 
 impl Stage {
-    /// The root group alone, no definitions, a pool of `memory` words behind those of the buses, and `clients` clients, none of them notified.
+    /// The root group alone, no definitions, no buffers, a pool of `memory` words behind those of the buses, and `clients` clients, none of them notified.
     pub fn new(alloc: Global, rate: u32, memory: u32, clients: u32) -> Result<Stage, NoMemory>
         requires memory { memory ≤ 16777216 }
         requires clients { clients ≤ 4 }
@@ -49,6 +52,7 @@ impl Stage {
             tree: Tree::new(alloc, Held::Group)?,
             defs: Defs::new(alloc),
             pool: Pool::new(alloc, POOL_BASE, memory)?,
+            buffers: Buffers::new(alloc)?,
             notify: Flags::new(alloc, clients)?,
             next_id: Some(-2),
             rate,

@@ -215,8 +215,10 @@ fn a_source_that_fails(rt: HostRuntime) -> Result<(), Fail> {
 #[test]
 fn a_sink_for_sound_that_fails(rt: HostRuntime) -> Result<(), Fail> {
     assert_eq!(rt; fault_of(&rt, [&[], &[0], &[]])?, Outcome::SoundFault);
+    // The header, and what one call takes of the first blocks.
     let ran = played(&rt, &QUESTION, 16, [&[], &[2], &[]])?;
-    assert_eq!(rt; ran.sound.taken().len(), 2000);
+    assert_eq!(rt; ran.outcome, Outcome::SoundFault);
+    assert_eq!(rt; ran.sound.taken().len(), 1044);
     Ok(())
 }
 

@@ -23,3 +23,4 @@ returns-clause-pictures c = λ left old words is p.
     (ap (λ (q : PoolState). q.region) c.commit-2.ensures ∙ c.end_freed.ensures.region)
     (ap (λ (q : PoolState). q.journal) c.commit-2.ensures)
     refl
+    refl

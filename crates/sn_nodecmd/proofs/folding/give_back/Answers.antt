@@ -1,7 +1,7 @@
 use Rattle.std.proofs.Common.{ap, arith}
 use Rattle.sn_pool.specs.Pools.{PoolState, room_of}
 use Rattle.sn_world.specs.Pictures.{held_extents}
-use Rattle.sn_nodecmd.proofs.Ending.{own_group, own_synth, own_self, own_amount, own_empty, room_given}
+use Rattle.sn_nodecmd.proofs.Ending.{own_group, own_synth, own_self, own_amount, own_empty, has_room, room_given}
 use Rattle.sn_nodecmd.proofs.folding.give_back.Goals as goal
 
 pub give_back-requires-clause-live : goal.give_back-requires-clause-live
@@ -9,7 +9,7 @@ give_back-requires-clause-live c =
     omega (arith, own_self c.args.held.now c.in-Synth.state (ap held_extents c.in-Synth.is), c.requires.live c.in-Synth.state (omega (arith, c.if-state-gt0.true)))
 
 pub give_back-requires-clause-room : goal.give_back-requires-clause-room
-give_back-requires-clause-room c = omega (arith, own_amount c.args.held.now c.in-Synth.state (ap held_extents c.in-Synth.is), c.requires.room)
+give_back-requires-clause-room c = has_room c.args.pool.now.journal (omega (arith, own_amount c.args.held.now c.in-Synth.state (ap held_extents c.in-Synth.is), c.requires.room))
 
 pub returns-in-Group-clause-live : goal.returns-in-Group-clause-live
 returns-in-Group-clause-live c = λ e some. omega (arith, own_group c.args.held.now e (ap held_extents c.in-Group.is))

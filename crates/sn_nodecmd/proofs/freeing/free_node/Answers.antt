@@ -7,6 +7,7 @@ use Rattle.sn_world.specs.declared.stage.Stage.{Stage}
 use Rattle.sn_world.specs.Freeing.{told_ends}
 use Rattle.sn_world.specs.World.{Turn}
 use Rattle.sn_nodecmd.proofs.Stepping.{freed_is, keeps_with, keeps_detached}
+use Rattle.sn_nodecmd.proofs.EmptyingLemmas.{spares_detached, spares_tree}
 use Rattle.sn_nodecmd.proofs.freeing.free_node.Goals as goal
 
 pub returns-clause-row : goal.returns-clause-row
@@ -19,3 +20,7 @@ pub returns-clause-keeps : goal.returns-clause-keeps
 returns-clause-keeps c =
     keeps_with c.args.stage.now _ (detached c.args.node.now.id c.args.stage.now.tree) c.args.stage.now.next_id (keeps_detached c.args.node.now.id c.args.stage.now.tree)
     (ap (λ (t : NodeTree Held). let s : Stage = record c.args.stage.now { tree = t } in s) c.detach.ensures)
+
+pub returns-clause-spares : goal.returns-clause-spares
+returns-clause-spares c =
+    spares_tree c.args.stage.now.tree c.detach.new.tree (detached c.args.node.now.id c.args.stage.now.tree) c.detach.ensures (spares_detached c.args.node.now.id c.args.stage.now.tree c.requires.allowed)

@@ -75,10 +75,48 @@ returns-in-Free-clause-pictures g c = c.run_free.ensures.pictures (g.P.Port.word
 pub run_free-requires-clause-rest : goal.run_free-requires-clause-rest
 run_free-requires-clause-rest g c = at_rest c.args.stage.now (g.P.Port.words c.args.port.now) c.requires.pictures
 
+pub returns-in-FreeAll-clause-row : goal.returns-in-FreeAll-clause-row
+returns-in-FreeAll-clause-row g c =
+    subst (λ (v : NodeCommand). Follows c.run_free_all.result (node_row v c.args.from (map argument_of c.args.arguments.now) (turn_of c.args.stage.now (g.P.Port.words c.args.port.now) c.args.replies.now)) (turn_of c.run_free_all.new.stage (g.P.Port.words c.args.port.now) c.run_free_all.new.replies))
+    (sym c.in-FreeAll.is) (c.run_free_all.ensures.row c.args.from (g.P.Port.words c.args.port.now))
+
+pub returns-in-FreeAll-clause-unchanged : goal.returns-in-FreeAll-clause-unchanged
+returns-in-FreeAll-clause-unchanged g c = same_turn c.run_free_all.result c.args.stage.now c.run_free_all.new.stage (g.P.Port.words c.args.port.now) c.args.replies.now c.run_free_all.new.replies c.run_free_all.ensures.unchanged c.run_free_all.ensures.untold
+
+pub returns-in-FreeAll-clause-pictures : goal.returns-in-FreeAll-clause-pictures
+returns-in-FreeAll-clause-pictures g c = c.run_free_all.ensures.pictures (g.P.Port.words c.args.port.now) c.requires.pictures
+
+pub run_free_all-requires-clause-rest : goal.run_free_all-requires-clause-rest
+run_free_all-requires-clause-rest g c = at_rest c.args.stage.now (g.P.Port.words c.args.port.now) c.requires.pictures
+
+pub returns-in-DeepFree-clause-row : goal.returns-in-DeepFree-clause-row
+returns-in-DeepFree-clause-row g c =
+    subst (λ (v : NodeCommand). Follows c.run_deep_free.result (node_row v c.args.from (map argument_of c.args.arguments.now) (turn_of c.args.stage.now (g.P.Port.words c.args.port.now) c.args.replies.now)) (turn_of c.run_deep_free.new.stage (g.P.Port.words c.args.port.now) c.run_deep_free.new.replies))
+    (sym c.in-DeepFree.is) (c.run_deep_free.ensures.row c.args.from (g.P.Port.words c.args.port.now))
+
+pub returns-in-DeepFree-clause-unchanged : goal.returns-in-DeepFree-clause-unchanged
+returns-in-DeepFree-clause-unchanged g c = same_turn c.run_deep_free.result c.args.stage.now c.run_deep_free.new.stage (g.P.Port.words c.args.port.now) c.args.replies.now c.run_deep_free.new.replies c.run_deep_free.ensures.unchanged c.run_deep_free.ensures.untold
+
+pub returns-in-DeepFree-clause-pictures : goal.returns-in-DeepFree-clause-pictures
+returns-in-DeepFree-clause-pictures g c = c.run_deep_free.ensures.pictures (g.P.Port.words c.args.port.now) c.requires.pictures
+
+pub run_deep_free-requires-clause-rest : goal.run_deep_free-requires-clause-rest
+run_deep_free-requires-clause-rest g c = at_rest c.args.stage.now (g.P.Port.words c.args.port.now) c.requires.pictures
+
 pub returns-in-Query-clause-row : goal.returns-in-Query-clause-row
 returns-in-Query-clause-row g c =
     subst (λ (v : NodeCommand). Follows c.run_query.result (node_row v c.args.from (map argument_of c.args.arguments.now) (turn_of c.args.stage.now (g.P.Port.words c.args.port.now) c.args.replies.now)) (turn_of c.args.stage.now (g.P.Port.words c.args.port.now) c.run_query.new.replies))
     (sym c.in-Query.is) (c.run_query.ensures.row (g.P.Port.words c.args.port.now))
+
+pub returns-in-QueryTree-clause-row : goal.returns-in-QueryTree-clause-row
+returns-in-QueryTree-clause-row g c =
+    subst (λ (v : NodeCommand). Follows c.run_tree_query.result (node_row v c.args.from (map argument_of c.args.arguments.now) (turn_of c.args.stage.now (g.P.Port.words c.args.port.now) c.args.replies.now)) (turn_of c.args.stage.now (g.P.Port.words c.args.port.now) c.run_tree_query.new.replies))
+    (sym c.in-QueryTree.is) (c.run_tree_query.ensures.row (g.P.Port.words c.args.port.now))
+
+pub returns-in-GetControls-clause-row : goal.returns-in-GetControls-clause-row
+returns-in-GetControls-clause-row g c =
+    subst (λ (v : NodeCommand). Follows c.run_get.result (node_row v c.args.from (map argument_of c.args.arguments.now) (turn_of c.args.stage.now (g.P.Port.words c.args.port.now) c.args.replies.now)) (turn_of c.args.stage.now (g.P.Port.words c.run_get.new.port) c.run_get.new.replies))
+    (sym c.in-GetControls.is) c.run_get.ensures.row
 
 pub returns-in-Move-clause-row : goal.returns-in-Move-clause-row
 returns-in-Move-clause-row g c =
@@ -93,3 +131,8 @@ returns-in-Move-clause-pictures g c = c.run_moves.ensures.pictures (g.P.Port.wor
 
 pub run_moves-requires-clause-rest : goal.run_moves-requires-clause-rest
 run_moves-requires-clause-rest g c = at_rest c.args.stage.now (g.P.Port.words c.args.port.now) c.requires.pictures
+
+pub returns-in-Order-clause-row : goal.returns-in-Order-clause-row
+returns-in-Order-clause-row g c =
+    subst (λ (v : NodeCommand). Follows c.run_order.result (node_row v c.args.from (map argument_of c.args.arguments.now) (turn_of c.args.stage.now (g.P.Port.words c.args.port.now) c.args.replies.now)) (turn_of c.run_order.new.stage (g.P.Port.words c.args.port.now) c.run_order.new.replies))
+    (sym c.in-Order.is) (c.run_order.ensures.row c.args.from (g.P.Port.words c.args.port.now))

@@ -5,18 +5,18 @@ use Rattle.sn_server.proofs.rendering.render_blocks.Goals as goal
 
 pub loop-number-init : goal.loop-number-init
 loop-number-init g c =
-    let s = c.args.settings.now in
+    let s = c.args.engine.settings in
     let same : c.args.blocks ≡ c.args.blocks - 0 = omega arith in
     record {
       going = subst (λ n. IsGoing s c.args.engine c.args.blocks n (g.O.Sink.taken c.args.sound.now) (g.O.Sink.taken c.args.sound.now) (g.R.Sink.taken c.args.replies.now) (g.R.Sink.taken c.args.replies.now) c.args.engine) same
-          (begins s c.args.blocks (g.O.Sink.taken c.args.sound.now) (g.R.Sink.taken c.args.replies.now) c.args.engine);
+          (begins s c.args.blocks (g.O.Sink.taken c.args.sound.now) (g.R.Sink.taken c.args.replies.now) c.args.engine c.requires.stands);
       sound_later = le_refl _;
       reply_later = le_refl _;
     }
 
 pub loop-number-preserved : goal.loop-number-preserved
 loop-number-preserved g c =
-    let s = c.args.settings.now in
+    let s = c.args.engine.settings in
     let i = c.loop-number.invariant in
     let left = c.args.blocks - (c.loop-number.number + 1) in
     let more : c.args.blocks - c.loop-number.number ≡ suc left = omega (arith, c.loop-number-test.true) in
@@ -30,7 +30,7 @@ loop-number-preserved g c =
 
 pub returns-clause-ended : goal.returns-clause-ended
 returns-clause-ended g c =
-    let s = c.args.settings.now in
+    let s = c.args.engine.settings in
     let none : c.args.blocks - c.loop-number.number ≡ 0 = omega (arith, c.loop-number-test.false) in
     let going = subst (λ n. IsGoing s c.args.engine c.args.blocks n (g.O.Sink.taken c.args.sound.now) (g.O.Sink.taken c.loop-number.sound) (g.R.Sink.taken c.args.replies.now) (g.R.Sink.taken c.loop-number.replies) c.loop-number.engine) none c.loop-number.invariant.going in
     on_ok c.render_end.result (ended s c.args.engine c.args.blocks _ _ _ _ _ _ c.loop-number.engine going) c.render_end.ensures.end

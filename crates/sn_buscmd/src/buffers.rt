@@ -1,0 +1,61 @@
+//! Buffers by the numbers that commands name.
+ghost use Rattle.std.specs.Prelude.{◌≡◌, ◌<◌, ◌∷◌, ◌++◌, [], true, map, length, OnOk, OnErr, IfOk};
+ghost use Rattle.sn_osc.specs.Bytes.{has_no_null};
+ghost use Rattle.sn_osc.specs.Shape.{argument_of};
+ghost use Rattle.sn_reply.specs.declared.replies.To.TheVariants.{Client};
+ghost use Rattle.sn_world.specs.BufferNumbers.{is_number, at_number, done_with};
+ghost use Rattle.sn_world.specs.BufferCommands.{one_number};
+
+use sn_osc::Arg;
+use sn_pool::BufferPlace;
+use sn_ports::NoMemory;
+use sn_reply::{Answer, Replies, To};
+use sn_world::Buffers;
+use std::alloc::Global;
+
+/// Whether a buffer may have the number.
+pub fn is_number(number: i32) -> bool
+    ensures { result ≡ is_number number }
+{
+    0 <= number && number < 1024
+}
+
+/// Where the buffer with a number is, where one is allocated.
+pub fn find(buffers: &Buffers, number: i32) -> Option<BufferPlace>
+    ensures { result ≡ at_number buffers.now number }
+{
+    if number < 0 {
+        return None;
+    }
+    buffers.place(number as u32)
+}
+
+/// The number, where it is all that a message says.
+pub fn one_number(arguments: &[Arg]) -> Option<i32>
+    ensures { result ≡ one_number (map argument_of arguments.now) }
+{
+    match arguments {
+        [Arg::Int(number)] => Some(*number),
+        _ => None,
+    }
+}
+
+/// Tells a client that a command on a buffer was carried out.
+pub fn tell_done(
+    alloc: Global,
+    command: &[u8],
+    number: i32,
+    from: u32,
+    replies: &mut Replies,
+) -> Result<(), NoMemory>
+    requires clean { has_no_null command.now ≡ true }
+    requires short { length command.now < 60 }
+    ensures ok { OnOk result (replies.new ≡ replies.old ++ (record { to = Client from; message = done_with command.now number }) ∷ []) }
+    ensures err { OnErr result (replies.new ≡ replies.old) }
+{
+    let mut answer = Answer::new(alloc);
+    answer.push_name(command)?;
+    answer.push_int(number)?;
+    let message = answer.into_message(b"/done")?;
+    replies.push(To::Client(from), message)
+}

@@ -1,0 +1,35 @@
+//! Samples of a buffer in the words that hold them.
+ghost use Rattle.std.specs.Prelude.{◌≡◌, ◌≤◌, ◌<◌, ◌+◌, slice_set, replicate};
+ghost use Rattle.sn_mem.specs.Words.{MayWrite};
+ghost use Rattle.sn_world.specs.Buffers.{samples_of};
+ghost use Rattle.sn_world.specs.BufferNumbers.{set_from};
+ghost use Rattle.sn_buscmd.specs.Samples.{KeepsAround};
+
+use sn_mem::{Extent, Port, word_of};
+
+/// Sets a sample.
+pub fn set_sample<P: Port>(port: &mut P, words: Extent, index: u32, value: i32)
+    requires foot { MayWrite (P.foot port.old) words.at words.len }
+    requires index { index < words.len }
+    ensures samples { samples_of (P.words port.new) words ≡ slice_set (samples_of (P.words port.old) words) index value }
+    ensures others { KeepsAround words (P.words port.old) (P.words port.new) }
+    ensures foot { P.foot port.new ≡ P.foot port.old }
+    ensures rest { P.rest port.new ≡ P.rest port.old }
+{
+    port.store(words.at + index, word_of(value));
+}
+
+/// Sets samples in a row to one value.
+pub fn fill_samples<P: Port>(port: &mut P, words: Extent, first: u32, count: u32, value: i32)
+    requires foot { MayWrite (P.foot port.old) words.at words.len }
+    requires run { first + count ≤ words.len }
+    ensures samples { samples_of (P.words port.new) words ≡ set_from first (replicate count value) (samples_of (P.words port.old) words) }
+    ensures others { KeepsAround words (P.words port.old) (P.words port.new) }
+    ensures foot { P.foot port.new ≡ P.foot port.old }
+    ensures rest { P.rest port.new ≡ P.rest port.old }
+{
+    let end = first + count;
+    for index in first..end {
+        set_sample(port, words, index, value);
+    }
+}

@@ -1,0 +1,128 @@
+-- Entries that act while they are taken from the queue.
+use Rattle.std.proofs.Common.{◌≡◌, ℕ, ◌<◌, suc, Bool, true, false, cond, ◌||◌, List, [], ◌∷◌, length, map, filter, Option, Some, None, refl, sym, ap, subst, ◌∙◌, arith}
+use Rattle.std.specs.Prelude.{not, if◌then◌else◌, Result, Ok, Err}
+use Rattle.sn_ports.specs.declared.failed.NoMemory.{NoMemory}
+use Rattle.sn_reply.specs.declared.reason.Reason.{Reason}
+use Rattle.sn_world.specs.declared.command.Handled.{Handled}
+use Rattle.sn_world.specs.declared.command.Handled.TheVariants.{Done, Quit, ClearSched, Failed, NotMine}
+use Rattle.sn_world.specs.Ending.{Next, nothing}
+use Rattle.sn_world.specs.Answers.{Handles, IsNext, TellsNext}
+use Rattle.sn_world.specs.Commands.{next_in}
+use Rattle.std.specs.Option.{option_map}
+use Rattle.std.specs.List.{AllByRecursion}
+use Rattle.sn_osc.specs.Shape.{MessageShape, message_of}
+use Rattle.sn_queue.specs.declared.entry.Entry.{Entry}
+use Rattle.sn_queue.specs.Waiting.{Waiting, WaitingList}
+use Rattle.sn_queue.specs.Meaning.{waiting_of}
+use Rattle.sn_queue.specs.Steps.{is_due, first_due, without_first_due, clear_after}
+use Rattle.sn_reply.specs.Sending.{IsAnswerable}
+use Rattle.sn_world.specs.World.{Turn}
+use Rattle.sn_engine.specs.Answerable.{AllAnswerable}
+use Rattle.sn_engine.specs.declared.acting.Asked.{Asked}
+use Rattle.sn_engine.specs.Boundary.{act_messages, act_entries, both, nothing_asked, messages_ask, entries_ask, due_at, later_than, left_at}
+use Rattle.sn_engine.proofs.DueLemmas.{first_of_filtered, none_filtered, others_stay, all_others, unchanged, first_has, others_have, first_among}
+
+-- One entry was taken: it is the first that acts, and the others that are due, and those that are not, stay.
+pub record IsTaken (now : ℕ) (old new : WaitingList) (w : Waiting) : Type 0 where
+  pub acts : (t : Turn) → act_entries (due_at now new) (act_messages w.from w.messages t) ≡ act_entries (due_at now old) t
+  pub asks : (t : Turn) → both (messages_ask w.from w.messages t) (entries_ask (due_at now new) (act_messages w.from w.messages t)) ≡ entries_ask (due_at now old) t
+  pub left : record new { waiting = later_than now new } ≡ record old { waiting = later_than now old }
+  pub answerable : AllAnswerable old.waiting → AllByRecursion IsAnswerable w.messages
+  pub others : AllAnswerable old.waiting → AllAnswerable new.waiting
+  pub fewer : length new.waiting < length old.waiting
+
+taken_first : (now : ℕ) (q : WaitingList) (w : Waiting) → first_due q now ≡ Some w → IsTaken now q (without_first_due q now) w
+taken_first now q w e = record {
+  acts = λ t. ap (λ ws. act_entries ws t) (sym (first_of_filtered (is_due q now) q.waiting w e));
+  asks = λ t. ap (λ ws. entries_ask ws t) (sym (first_of_filtered (is_due q now) q.waiting w e));
+  left = ap (λ ws. record q { waiting = ws }) (others_stay (is_due q now) q.waiting);
+  answerable = first_has (λ v. AllByRecursion IsAnswerable v.messages) (is_due q now) q.waiting w e;
+  others = others_have (λ v. AllByRecursion IsAnswerable v.messages) (is_due q now) q.waiting;
+  fewer = first_among (is_due q now) q.waiting w e;
+}
+
+pub taken : (now : ℕ) (old new : WaitingList) (entry : Entry) → Some (waiting_of entry) ≡ first_due old now → new ≡ without_first_due old now → IsTaken now old new (waiting_of entry)
+taken now old new entry first is = subst (λ q. IsTaken now old q (waiting_of entry)) (sym is) (taken_first now old (waiting_of entry) (sym first))
+
+-- where none is due, none acts, and all stay
+pub record IsDone (now : ℕ) (old new : WaitingList) : Type 0 where
+  pub acts : (t : Turn) → act_entries (due_at now old) t ≡ t
+  pub asks : (t : Turn) → entries_ask (due_at now old) t ≡ nothing_asked
+  pub left : new ≡ record old { waiting = later_than now old }
+  pub others : AllAnswerable old.waiting → AllAnswerable new.waiting
+
+done_first : (now : ℕ) (q : WaitingList) → first_due q now ≡ None → IsDone now q (without_first_due q now)
+done_first now q e = record {
+  acts = λ t. ap (λ ws. act_entries ws t) (none_filtered (is_due q now) q.waiting e);
+  asks = λ t. ap (λ ws. entries_ask ws t) (none_filtered (is_due q now) q.waiting e);
+  left = ap (λ ws. record q { waiting = ws }) (unchanged (is_due q now) q.waiting e ∙ sym (all_others (is_due q now) q.waiting e));
+  others = others_have (λ v. AllByRecursion IsAnswerable v.messages) (is_due q now) q.waiting;
+}
+
+pub done : (now : ℕ) (old new : WaitingList) → None ≡ first_due old now → new ≡ without_first_due old now → IsDone now old new
+done now old new none is = subst (IsDone now old) (sym is) (done_first now old (sym none))
+
+-- what was said of each message holds of those behind the first
+pub each_answerable : (m : MessageShape) (ms : List MessageShape) → AllByRecursion IsAnswerable (m ∷ ms) → IsAnswerable m
+each_answerable m ms all = all.0
+
+-- ---- what is asked besides
+
+or-assoc : (a b c : Bool) → ((a || b) || c) ≡ (a || (b || c))
+or-assoc true b c = refl
+or-assoc false b c = refl
+
+or-false : (a : Bool) → (a || false) ≡ a
+or-false true = refl
+or-false false = refl
+
+pub both-assoc : (a b c : Asked) → both (both a b) c ≡ both a (both b c)
+both-assoc a b c = λ i. record { clear = or-assoc a.clear b.clear c.clear i; quit = or-assoc a.quit b.quit c.quit i }
+
+pub both-nothing : (a b : Asked) → b ≡ nothing_asked → both a b ≡ a
+both-nothing a b none = ap (both a) none ∙ (λ i. record { clear = or-false a.clear i; quit = or-false a.quit i })
+
+-- what the commands on buses and definitions, and on the server, say of it
+pub next-after : (result : Result Handled NoMemory) (by_node by_bus : Option (Result Turn Reason)) (after : Turn) (n : Next)
+    → by_node ≡ None → Handles result by_bus after → IsNext result n → TellsNext result (next_in by_node by_bus n)
+next-after (Ok Done) by_node by_bus after n none is next = λ i. next_in (none i) (is i) (next i)
+next-after (Ok Quit) by_node by_bus after n none is next = λ i. next_in (none i) (is i) (next i)
+next-after (Ok ClearSched) by_node by_bus after n none is next = λ i. next_in (none i) (is i) (next i)
+next-after (Ok (Failed reason)) by_node by_bus after n none is next = λ i. next_in (none i) (is i) n
+next-after (Ok NotMine) by_node by_bus after n none is next = λ i. next_in (none i) (is i) n
+next-after (Err e) by_node by_bus after n none is next = tt
+
+pub next-not : (by_node by_bus : Option (Result Turn Reason)) (r : Result Turn Reason) (n : Next) → by_node ≡ Some r → next_in by_node by_bus n ≡ nothing
+next-not by_node by_bus r n is = ap (λ o. next_in o by_bus n) is
+
+pub was-true : (b : Bool) → not b ≡ false → b ≡ true
+was-true true h = refl
+was-true false h = absurd cc
+
+-- none of those that are not due is due
+none_due : {X : Type 0} (test : X → Bool) (xs : List X) → filter test (filter (λ x. not (test x)) xs) ≡ []
+none_due test [] = refl
+none_due test (x ∷ xs) = at (test x) refl (none_due test xs)
+  where
+    at : (b : Bool) → test x ≡ b → filter test (filter (λ y. not (test y)) xs) ≡ [] → filter test (cond (not b) (x ∷ filter (λ y. not (test y)) xs) (filter (λ y. not (test y)) xs)) ≡ []
+    at true is ih = ih
+    at false is ih = ap (λ b. cond b (x ∷ filter test (filter (λ y. not (test y)) xs)) (filter test (filter (λ y. not (test y)) xs))) is ∙ ih
+
+pub cleared-left : (now : ℕ) (q mid new : WaitingList) (t : Turn) → mid ≡ record q { waiting = later_than now q } → new ≡ clear_after mid now → (entries_ask (due_at now q) t).clear ≡ true → new ≡ record q { waiting = left_at now q t }
+cleared-left now q mid new t is after clears =
+    after ∙ ap (λ m. clear_after m now) is
+    ∙ ap (λ ws. record q { waiting = ws }) (none_due (is_due q now) q.waiting ∙ sym (ap (λ b. if b then [] else later_than now q) clears))
+
+pub kept-left : (now : ℕ) (q new : WaitingList) (t : Turn) → new ≡ record q { waiting = later_than now q } → (entries_ask (due_at now q) t).clear ≡ false → new ≡ record q { waiting = left_at now q t }
+kept-left now q new t is clears = is ∙ ap (λ ws. record q { waiting = ws }) (sym (ap (λ b. if b then [] else later_than now q) clears))
+
+pub cleared-answerable : (now : ℕ) (mid new : WaitingList) → new ≡ clear_after mid now → AllAnswerable mid.waiting → AllAnswerable new.waiting
+cleared-answerable now mid new is all = subst (λ (q : WaitingList). AllAnswerable q.waiting) (sym is) (kept (is_due mid now) mid.waiting all)
+  where
+    kept : (test : Waiting → Bool) (ws : List Waiting) → AllAnswerable ws → AllAnswerable (filter test ws)
+    kept test [] all = tt
+    kept test (w ∷ ws) all = at (test w) (kept test ws all.1)
+      where
+        at : (b : Bool) → AllAnswerable (filter test ws) → AllAnswerable (cond b (w ∷ filter test ws) (filter test ws))
+        at true rest = (all.0, rest)
+        at false rest = rest

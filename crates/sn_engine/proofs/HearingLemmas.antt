@@ -1,0 +1,77 @@
+-- The samples that are heard of audio buses.
+use Rattle.std.proofs.Common.{◌≡◌, ◌≢◌, ◌<◌, ◌≤◌, ◌+◌, ◌*◌, ℕ, zero, suc, ℤ, pos, Bool, true, false, cond, List, [], ◌∷◌, ◌++◌, get_or, refl, ap, sym, ◌∙◌, arith, eqb, append_assoc, append-nil, add-one, length, length-append, mul-suc}
+use Rattle.std.specs.Prelude.{◌==◌, slice_index, slice_index_or}
+use Rattle.std.proofs.lemmas.Bool.{eqb-true, eq-eqb}
+use Rattle.std.proofs.Math.Nat.{mul-le-mul_left, mul_comm}
+use Rattle.sn_mem.specs.Blocks.{table, sample_in}
+use Rattle.sn_mem.specs.Buses.{AudioBus, audio_bus, audio_buses, heard, silent}
+use Rattle.sn_mem.proofs.Windows.{table_at}
+use Rattle.sn_mem.proofs.Tables.{length-table}
+use Rattle.sn_mem.proofs.BusLaws.{audio_at}
+use Rattle.sn_world.specs.World.{World}
+use Rattle.sn_engine.specs.Outputs.{frame_of, frames_of}
+
+chosen : (b : Bool) (x y : ℤ) → b ≡ true → cond b x y ≡ x
+chosen b x y e = ap (λ c. cond c x y) e
+
+other : (b : Bool) (x y : ℤ) → b ≡ false → cond b x y ≡ y
+other b x y e = ap (λ c. cond c x y) e
+
+unequal : (m n : ℕ) → m ≢ n → (m == n) ≡ false
+unequal m n h = at (m == n) refl
+  where
+    at : (b : Bool) → (m == n) ≡ b → (m == n) ≡ false
+    at true e = absurd (h (eqb-true m n e))
+    at false e = e
+
+pub heard_written : (ws : List ℕ) (bus b frame : ℕ) → frame < 64 → slice_index ws (65 * bus) ≡ b + 1 → heard b (audio_bus ws bus) frame ≡ sample_in (slice_index ws (65 * bus + 1 + frame))
+heard_written ws bus b frame low is =
+    chosen (slice_index ws (65 * bus) == b + 1) _ _ (eq-eqb (slice_index ws (65 * bus)) (b + 1) is)
+    ∙ table_at (λ k. sample_in (slice_index ws (65 * bus + 1 + k))) 64 frame (pos 0) low
+
+pub heard_silent : (ws : List ℕ) (bus b frame : ℕ) → slice_index ws (65 * bus) ≢ b + 1 → heard b (audio_bus ws bus) frame ≡ pos 0
+heard_silent ws bus b frame is = other (slice_index ws (65 * bus) == b + 1) _ _ (unequal (slice_index ws (65 * bus)) (b + 1) is)
+
+-- the bus of a number
+pub of_bus : (b frame : ℕ) (ws : List ℕ) (c : ℕ) → c < 128 → heard b (slice_index_or (audio_buses ws) c silent) frame ≡ heard b (audio_bus ws c) frame
+of_bus b frame ws c low = ap (λ (bus : AudioBus). heard b bus frame) (audio_at ws c silent low)
+
+pub none_put : (f : ℕ → ℤ) (items : List ℤ) → items ≡ items ++ table f 0
+unfolding table
+none_put f items = sym (append-nil items)
+
+pub put_more : (f : ℕ → ℤ) (old items new : List ℤ) (n : ℕ) (x : ℤ) → items ≡ old ++ table f n → x ≡ f n → new ≡ items ++ x ∷ [] → new ≡ old ++ table f (n + 1)
+unfolding table
+put_more f old items new n x so_far is put =
+    put
+    ∙ ap (λ (xs : List ℤ). xs ++ x ∷ []) so_far
+    ∙ append_assoc old (table f n) (x ∷ [])
+    ∙ ap (λ (y : ℤ). old ++ (table f n ++ y ∷ [])) is
+    ∙ ap (λ (m : ℕ). old ++ table f m) (sym (add-one n))
+
+-- so many samples
+pub frames_made : (channels b : ℕ) (w : World) (n : ℕ) → length (frames_of channels b w n) ≡ n * channels
+unfolding frames_of
+frames_made channels b w zero = omega arith
+frames_made channels b w (suc n) = omega (arith, length-append (frames_of channels b w n) (frame_of channels b w n), frames_made channels b w n, length-table (λ c. heard b (slice_index_or w.audio_buses c silent) n) channels)
+
+pub few_frames : (channels b : ℕ) (w : World) (k : ℕ) (items : List ℤ) → channels ≤ 8 → k ≡ 64 → items ≡ frames_of channels b w k → length items ≤ 512
+few_frames channels b w k items few last are = let size : length items ≡ 64 * channels = ap length are ∙ ap (λ n. length (frames_of channels b w n)) last ∙ frames_made channels b w 64 in omega (arith, size, few)
+
+pub no_frames : (channels b : ℕ) (w : World) (items : List ℤ) → items ≡ [] → items ≡ frames_of channels b w 0
+unfolding frames_of
+no_frames channels b w items none = none
+
+pub next_frame : (channels b : ℕ) (w w' : World) (k : ℕ) (items new : List ℤ) → items ≡ frames_of channels b w k → w' ≡ w → new ≡ items ++ frame_of channels b w' k → new ≡ frames_of channels b w (k + 1)
+unfolding frames_of
+next_frame channels b w w' k items new so_far same put =
+    put
+    ∙ ap (λ (xs : List ℤ). xs ++ frame_of channels b w' k) so_far
+    ∙ ap (λ (v : World). frames_of channels b w k ++ frame_of channels b v k) same
+    ∙ ap (λ (m : ℕ). frames_of channels b w m) (sym (add-one k))
+
+-- a frame has room behind those before it
+pub room_for_one : (k channels len room : ℕ) → channels ≤ 8 → k < 64 → len ≡ k * channels → 512 ≤ room → len + channels ≤ room
+room_for_one k channels len room few before is some =
+    let whole : channels * suc k ≤ channels * 64 = mul-le-mul_left channels (omega (arith, before)) in
+    omega (arith, is, some, few, whole, mul-suc channels k, mul_comm k channels)

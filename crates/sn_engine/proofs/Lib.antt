@@ -1,0 +1,9 @@
+pub mod EntryLemmas
+pub mod DueLemmas
+pub mod ActingLemmas
+pub mod OpeningLemmas
+pub mod PutLemmas
+pub mod HearingLemmas
+pub mod SettleLemmas
+pub mod DrainLemmas
+pub mod OfferLemmas

@@ -1,0 +1,213 @@
+ghost use Rattle.std.specs.Prelude.{◌≡◌, ◌≤◌, map, length, IfOk, OnOk, OnErr};
+ghost use Rattle.std.specs.List.{AllByRecursion};
+ghost use Rattle.sn_osc.specs.Shape.{message_of};
+ghost use Rattle.sn_reply.specs.Sending.{IsAnswerable};
+ghost use Rattle.sn_queue.specs.Waiting.{WaitingList};
+ghost use Rattle.sn_queue.specs.Steps.{due_of};
+ghost use Rattle.sn_world.specs.World.{turn_of};
+ghost use Rattle.sn_world.specs.Pictures.{Pictures, WritesWorld};
+ghost use Rattle.sn_world.specs.Commands.{run_node, run_bus, either as first_there, command, next_after};
+ghost use Rattle.sn_world.specs.Answers.{Handles, UnlessDone, TellsNext};
+ghost use Rattle.sn_engine.specs.Boundary.{act_messages, act_entries, asked_by, both, messages_ask, entries_ask, due_at, later_than, left_at};
+ghost use Rattle.sn_engine.specs.Answerable.{AllAnswerable};
+
+use sn_buscmd::run_bus_command;
+use sn_mem::Port;
+use sn_nodecmd::run_node_command;
+use sn_osc::Message;
+use sn_ports::NoMemory;
+use sn_queue::Queue;
+use sn_reply::{Reason, Replies, To, fail};
+use sn_world::{Handled, Stage};
+use std::alloc::Global;
+
+/// What messages ask of the server besides what they do to its world.
+#[derive(Clone, Copy, Debug, PartialEq, Eq)]
+pub struct Asked {
+    /// That it drops the entries that are due later.
+    pub clear: bool,
+    /// That it ends.
+    pub quit: bool,
+}
+
+const NOTHING: Asked = Asked {
+    clear: false,
+    quit: false,
+};
+
+/// What either of two asks.
+fn both(a: Asked, b: Asked) -> Asked
+    ensures { result ≡ both a b }
+{
+    Asked {
+        clear: a.clear || b.clear,
+        quit: a.quit || b.quit,
+    }
+}
+
+/// Runs a message from a client, where its address is that of a command.
+fn run_known<P: Port>(
+    alloc: Global,
+    stage: &mut Stage,
+    port: &mut P,
+    message: &Message,
+    from: u32,
+    replies: &mut Replies,
+) -> Result<Handled, NoMemory>
+    requires message { IsAnswerable (message_of message.now) }
+    requires pictures { Pictures stage.old (P.words port.old) }
+    requires foot { WritesWorld (P.foot port.old) stage.old.pool.region }
+    ensures row { Handles result (first_there (run_node from (message_of message.now) (turn_of stage.old (P.words port.old) replies.old)) (run_bus from (message_of message.now) (turn_of stage.old (P.words port.old) replies.old))) (turn_of stage.new (P.words port.new) replies.new) }
+    ensures next { TellsNext result (next_after from (message_of message.now) (turn_of stage.old (P.words port.old) replies.old)) }
+    ensures unchanged { UnlessDone result (turn_of stage.new (P.words port.new) replies.new ≡ turn_of stage.old (P.words port.old) replies.old) }
+    ensures pictures { Pictures stage.new (P.words port.new) }
+    ensures region { stage.new.pool.region ≡ stage.old.pool.region }
+    ensures len { length (P.words port.new) ≡ length (P.words port.old) }
+    ensures foot { P.foot port.new ≡ P.foot port.old }
+    ensures rest { P.rest port.new ≡ P.rest port.old }
+{
+    match run_node_command(alloc, stage, port, message, from, replies)? {
+        Handled::NotMine => run_bus_command(alloc, stage, port, message, from, replies),
+        Handled::Failed(reason) => Ok(Handled::Failed(reason)),
+        Handled::Done | Handled::Quit | Handled::ClearSched => Ok(Handled::Done),
+    }
+}
+
+/// Runs a message from a client, whichever command it is, and answers `/fail` where it is refused. Gives what it asks besides.
+fn run_command<P: Port>(
+    alloc: Global,
+    stage: &mut Stage,
+    port: &mut P,
+    message: &Message,
+    from: u32,
+    replies: &mut Replies,
+) -> Result<Asked, NoMemory>
+    requires message { IsAnswerable (message_of message.now) }
+    requires pictures { Pictures stage.old (P.words port.old) }
+    requires foot { WritesWorld (P.foot port.old) stage.old.pool.region }
+    ensures command { OnOk result (turn_of stage.new (P.words port.new) replies.new ≡ command from (message_of message.now) (turn_of stage.old (P.words port.old) replies.old)) }
+    ensures asked { IfOk result (λ a. a ≡ asked_by (next_after from (message_of message.now) (turn_of stage.old (P.words port.old) replies.old))) }
+    ensures pictures { Pictures stage.new (P.words port.new) }
+    ensures region { stage.new.pool.region ≡ stage.old.pool.region }
+    ensures len { length (P.words port.new) ≡ length (P.words port.old) }
+    ensures foot { P.foot port.new ≡ P.foot port.old }
+    ensures rest { P.rest port.new ≡ P.rest port.old }
+{
+    let reason = match run_known(alloc, stage, port, message, from, replies)? {
+        Handled::Done => return Ok(NOTHING),
+        Handled::Quit => {
+            return Ok(Asked {
+                quit: true,
+                ..NOTHING
+            });
+        }
+        Handled::ClearSched => {
+            return Ok(Asked {
+                clear: true,
+                ..NOTHING
+            });
+        }
+        Handled::Failed(reason) => reason,
+        Handled::NotMine => Reason::UnknownCommand,
+    };
+    let refusal = fail(alloc, &message.address, reason)?;
+    replies.push(To::Client(from), refusal)?;
+    Ok(NOTHING)
+}
+
+/// Runs messages of a client, one after another. Gives what they ask besides.
+fn act_messages<P: Port>(
+    alloc: Global,
+    stage: &mut Stage,
+    port: &mut P,
+    messages: &[Message],
+    from: u32,
+    replies: &mut Replies,
+) -> Result<Asked, NoMemory>
+    requires messages { AllByRecursion IsAnswerable (map message_of messages.now) }
+    requires pictures { Pictures stage.old (P.words port.old) }
+    requires foot { WritesWorld (P.foot port.old) stage.old.pool.region }
+    ensures acts { OnOk result (turn_of stage.new (P.words port.new) replies.new ≡ act_messages from (map message_of messages.now) (turn_of stage.old (P.words port.old) replies.old)) }
+    ensures asked { IfOk result (λ a. a ≡ messages_ask from (map message_of messages.now) (turn_of stage.old (P.words port.old) replies.old)) }
+    ensures pictures { Pictures stage.new (P.words port.new) }
+    ensures region { stage.new.pool.region ≡ stage.old.pool.region }
+    ensures len { length (P.words port.new) ≡ length (P.words port.old) }
+    ensures foot { P.foot port.new ≡ P.foot port.old }
+    ensures rest { P.rest port.new ≡ P.rest port.old }
+{
+    let mut asked = NOTHING;
+    for message in messages {
+        let more = run_command(alloc, stage, port, message, from, replies)?;
+        asked = both(asked, more);
+    }
+    Ok(asked)
+}
+
+/// Takes the entries that are due at boundary `now`, in their order, and runs their messages. Gives what they ask
+/// besides.
+fn act_taken<P: Port>(
+    alloc: Global,
+    stage: &mut Stage,
+    port: &mut P,
+    queue: &mut Queue,
+    now: u64,
+    replies: &mut Replies,
+) -> Result<Asked, NoMemory>
+    requires waiting { AllAnswerable queue.old.waiting }
+    requires pictures { Pictures stage.old (P.words port.old) }
+    requires foot { WritesWorld (P.foot port.old) stage.old.pool.region }
+    ensures acts { OnOk result (turn_of stage.new (P.words port.new) replies.new ≡ act_entries (due_at now queue.old) (turn_of stage.old (P.words port.old) replies.old)) }
+    ensures asked { IfOk result (λ a. a ≡ entries_ask (due_at now queue.old) (turn_of stage.old (P.words port.old) replies.old)) }
+    ensures left { OnOk result (queue.new ≡ record queue.old { waiting = later_than now queue.old }) }
+    ensures waiting { AllAnswerable queue.new.waiting }
+    ensures pictures { Pictures stage.new (P.words port.new) }
+    ensures region { stage.new.pool.region ≡ stage.old.pool.region }
+    ensures len { length (P.words port.new) ≡ length (P.words port.old) }
+    ensures foot { P.foot port.new ≡ P.foot port.old }
+    ensures rest { P.rest port.new ≡ P.rest port.old }
+{
+    let mut asked = NOTHING;
+    while let Some(entry) = queue.take_due(now) {
+        let more = act_messages(
+            alloc,
+            stage,
+            port,
+            entry.messages.as_slice(),
+            entry.from,
+            replies,
+        )?;
+        asked = both(asked, more);
+    }
+    Ok(asked)
+}
+
+/// Runs the messages of the entries that are due at boundary `now`, in their order. Where one of them clears what waits, the entries that
+/// are due later are dropped. Tells whether one of them ends the server.
+pub fn act_due<P: Port>(
+    alloc: Global,
+    stage: &mut Stage,
+    port: &mut P,
+    queue: &mut Queue,
+    now: u64,
+    replies: &mut Replies,
+) -> Result<bool, NoMemory>
+    requires waiting { AllAnswerable queue.old.waiting }
+    requires pictures { Pictures stage.old (P.words port.old) }
+    requires foot { WritesWorld (P.foot port.old) stage.old.pool.region }
+    ensures acts { OnOk result (turn_of stage.new (P.words port.new) replies.new ≡ act_entries (due_at now queue.old) (turn_of stage.old (P.words port.old) replies.old)) }
+    ensures quit { IfOk result (λ q. q ≡ (entries_ask (due_at now queue.old) (turn_of stage.old (P.words port.old) replies.old)).quit) }
+    ensures left { OnOk result (queue.new ≡ record queue.old { waiting = left_at now queue.old (turn_of stage.old (P.words port.old) replies.old) }) }
+    ensures waiting { AllAnswerable queue.new.waiting }
+    ensures pictures { Pictures stage.new (P.words port.new) }
+    ensures region { stage.new.pool.region ≡ stage.old.pool.region }
+    ensures len { length (P.words port.new) ≡ length (P.words port.old) }
+    ensures foot { P.foot port.new ≡ P.foot port.old }
+    ensures rest { P.rest port.new ≡ P.rest port.old }
+{
+    let asked = act_taken(alloc, stage, port, queue, now, replies)?;
+    if !asked.clear {
+        return Ok(asked.quit);
+    }
+    queue.clear_after(now);
+    Ok(asked.quit)
+}

@@ -1,0 +1,307 @@
+ghost use Rattle.std.specs.Prelude.{◌≡◌, ◌≤◌, ◌<◌, ◌+◌, ◌^◌, ◌++◌, [], ℕ, Option, length, map, replicate, slice_index_or, slice_set, IfOk, OnOk, OnErr};
+ghost use Rattle.sn_osc.specs.Shape.{shape};
+ghost use Rattle.sn_ports.specs.Causes.{HasCause};
+ghost use Rattle.sn_ports.specs.Octets.{bytes_of};
+ghost use Rattle.sn_ports.specs.Transfer.{TakesAll};
+ghost use Rattle.sn_queue.specs.Steps.{last_due};
+ghost use Rattle.sn_engine.specs.Arriving.{IsSpelled, next_boundary, offered, with_offered, IsPartlyOffered, KeepsOthers};
+ghost use Rattle.sn_engine.specs.Entries.{entries_of};
+ghost use Rattle.sn_engine.specs.Running.{Running, IsQuiet, opened, at_boundary, flow_at, with_block, with_settled};
+ghost use Rattle.sn_engine.specs.declared.standing.Standing.TheVariants.{Settled, Bounded, Rendered, Spent};
+
+use crate::acting::act_due;
+use crate::entry::entries;
+use crate::offering::offer_entries;
+use crate::room::reserve_settling;
+use crate::settling::settle_before;
+use crate::standing::{Flow, Standing};
+use crate::walking::{hear_block, run_nodes};
+use sn_mem::{PlainPort, Scratch};
+use sn_osc::Packet;
+use sn_pcm::{Settings, frames};
+use sn_ports::{Failed, Gate, NoMemory, Sink, Text, write_all};
+use sn_queue::Queue;
+use sn_reply::{Replies, send};
+use sn_world::{Endings, Stage};
+use std::alloc::Global;
+use std::marker::Model;
+use std::thread::Threads;
+
+/// How many words the buses take.
+const BUS_WORDS: u32 = 10368;
+
+/// How many samples a block of 8 channels has, and how many bytes these take.
+const BLOCK_SAMPLES: usize = 512;
+
+const BLOCK_BYTES: u32 = 1536;
+
+/// What is played: the nodes, the words of the buses and of the pool, the entries that wait, and the bytes that are still to be
+/// written.
+#[derive(Drop)]
+pub struct Engine {
+    settings: Settings,
+    stage: Stage,
+    port: PlainPort,
+    scratch: Scratch,
+    // The samples of the last block, frame by frame.
+    samples: Vec<i32>,
+    // The units that ended in the last block.
+    endings: Endings,
+    // How many bytes each client may be sent of the settling that comes.
+    room: u32,
+    queue: Queue,
+    block: u64,
+    standing: Standing,
+    sound: Text,
+    // What each client is still to be sent.
+    replies: Vec<Text>,
+}
+
+impl Model for Engine {
+    ghost use Rattle.std.specs.Prelude.{map, length, ◌≤◌, ◌<◌, ◌^◌, vec_capacity};
+    ghost use Rattle.std.specs.Coded.{codes};
+    ghost use Rattle.std.specs.FinMap as finite;
+    ghost use Rattle.sn_ports.specs.Octets.{bytes_of};
+    ghost use Rattle.sn_tree.specs.Model.{nodes_code};
+    ghost use Rattle.sn_world.specs.World.{world_of};
+    ghost use Rattle.sn_world.specs.Pictures.{Pictures};
+    ghost use Rattle.sn_engine.specs.Running.{Running};
+    ghost use Rattle.sn_engine.specs.Answerable.{AllAnswerable};
+    ghost use Rattle.sn_tree.specs.Trees.{running_labels};
+    ghost use Rattle.sn_world.specs.SettleWords.{walk_room};
+    ghost use Rattle.sn_engine.specs.Keeping.{HasRoom, IsRoom};
+
+    ghost Value = { Running };
+
+    ghost coded = { Prim.hlevel (codes, nodes_code, finite.code) };
+
+    ghost view = { λ e. record { settings = e.settings; world = world_of e.stage e.port.words.items; waiting = e.queue; block = e.block; standing = e.standing; sound = e.sound.bytes; replies = map bytes_of e.replies.items } };
+
+    ghost invariant = { λ e. Pictures e.stage e.port.words.items × AllAnswerable e.queue.waiting × HasRoom e.standing e.sound.spare (vec_capacity e.samples) (walk_room (running_labels e.stage.tree.attached)) e.endings.spare e.replies.items
+        × IsRoom e.standing e.room (walk_room (running_labels e.stage.tree.attached)) × (e.room < 2 ^ 30) × (length e.replies.items ≤ 4) };
+}
+
+/// Nothing to send to so many clients.
+fn silent(alloc: Global, clients: u32) -> Result<Vec<Text>, NoMemory>
+    ensures { IfOk result (λ texts. map bytes_of texts.items ≡ replicate clients []) }
+{
+    let mut texts = Vec::new(alloc);
+    for _ in 0..clients {
+        texts.push(Text::new(alloc))?;
+    }
+    Ok(texts)
+}
+
+/// Writes a text, and drops it.
+fn drain<S: Sink>(text: &mut Text, sink: &mut S) -> Result<(), Failed>
+    ensures taken { TakesAll (S.taken sink.old) (S.taken sink.new) result text.old.bytes }
+    ensures cause { HasCause (S.faults sink.old) (S.faults sink.new) result }
+    ensures bytes { text.new.bytes ≡ [] }
+    ensures room { text.old.spare ≤ text.new.spare }
+{
+    let written = write_all(sink, text.as_slice());
+    text.clear();
+    written
+}
+
+impl Engine {
+    /// The opening world for so many clients, at the boundary before block 0, which begins at the time tag `base`. At most `limit` entries
+    /// wait in it.
+    pub fn open(
+        alloc: Global,
+        settings: &Settings,
+        base: u64,
+        limit: Option<u32>,
+        clients: u32,
+    ) -> Result<Self, NoMemory>
+        requires clients { clients ≤ 4 }
+        ensures { IfOk result (λ e. e ≡ opened settings.now base limit clients) }
+    {
+        Ok(Engine {
+            settings: *settings,
+            stage: Stage::new(alloc, settings.rate, settings.memory, clients)?,
+            port: PlainPort::new(alloc, BUS_WORDS + settings.memory)?,
+            scratch: Scratch::new(alloc)?,
+            samples: Vec::new(alloc),
+            endings: Endings::new(alloc),
+            room: 0,
+            queue: Queue::new(alloc, base, settings.rate, limit),
+            block: 0,
+            standing: Standing::Settled,
+            sound: Text::new(alloc),
+            replies: silent(alloc, clients)?,
+        })
+    }
+
+    /// The greatest due number of the entries that wait.
+    pub fn last(&self) -> Option<u64>
+        ensures { result ≡ last_due self.now.waiting }
+    {
+        self.queue.last()
+    }
+
+    /// How many blocks were rendered.
+    pub fn block(&self) -> u64
+        ensures { result ≡ self.now.block }
+    {
+        self.block
+    }
+
+    /// How far it is.
+    pub fn standing(&self) -> Standing
+        ensures { result ≡ self.now.standing }
+    {
+        self.standing
+    }
+
+    /// How many clients it has.
+    pub fn clients(&self) -> u32
+        ensures { result ≡ length self.now.replies }
+    {
+        self.replies.len() as u32
+    }
+
+    /// How many entries were ever put.
+    pub fn puts(&self) -> u64
+        ensures { result ≡ self.now.waiting.puts }
+    {
+        self.queue.puts()
+    }
+
+    /// How many bytes of sound are still to be written.
+    pub fn sound_len(&self) -> usize
+        ensures { result ≡ length self.now.sound }
+    {
+        self.sound.len()
+    }
+
+    /// The next boundary that has not been run.
+    fn next_boundary(&self) -> u64
+        requires block { self.now.block < 2 ^ 62 }
+        ensures { result ≡ next_boundary self.now }
+    {
+        match self.standing {
+            Standing::Bounded => self.block + 1,
+            Standing::Settled | Standing::Rendered | Standing::Spent => self.block,
+        }
+    }
+
+    /// Puts the entries of a packet that arrives at the next boundary from a client. An entry is refused exactly where as many wait as may,
+    /// and is answered by `/fail`; gives how many were refused. After `NoMemory` the entries before it stay.
+    pub fn offer(&mut self, alloc: Global, packet: Packet, from: u32) -> Result<u32, NoMemory>
+        requires block { next_boundary self.old < 2 ^ 62 }
+        requires puts { self.old.waiting.puts + length (entries_of (shape packet)) ≤ 2 ^ 62 }
+        requires spelled { IsSpelled (shape packet) }
+        ensures ok { OnOk result (self.new ≡ with_offered from (entries_of (shape packet)) self.old) }
+        ensures refused { IfOk result (λ k. k ≡ (offered from (entries_of (shape packet)) self.old).refused) }
+        ensures part { OnErr result (IsPartlyOffered (next_boundary self.old) from (entries_of (shape packet)) self.old.waiting self.new.waiting) }
+        ensures others { KeepsOthers self.old self.new }
+    {
+        let boundary = self.next_boundary();
+        let entries = entries(alloc, packet)?;
+        let mut said = Replies::new(alloc);
+        let refused = offer_entries(alloc, &mut self.queue, boundary, from, entries, &mut said)?;
+        send(alloc, &mut self.replies, self.room, said)?;
+        Ok(refused)
+    }
+
+    /// The boundary before the next block: the entries that are due act in their order, and the memory of the block is reserved. After
+    /// `NoMemory` the engine is spent: what acted before has acted.
+    pub fn boundary(&mut self, alloc: Global) -> Result<Flow, NoMemory>
+        requires settled { self.old.standing ≡ Settled }
+        ensures ok { OnOk result (self.new ≡ at_boundary self.old) }
+        ensures flow { IfOk result (λ flow. flow ≡ flow_at self.old) }
+        ensures spent { OnErr result (self.new.standing ≡ Spent) }
+    {
+        self.standing = Standing::Spent;
+        self.samples.clear();
+        self.samples.reserve(BLOCK_SAMPLES)?;
+        self.sound.reserve(BLOCK_BYTES)?;
+        let mut said = Replies::new(alloc);
+        let quits = act_due(
+            alloc,
+            &mut self.stage,
+            &mut self.port,
+            &mut self.queue,
+            self.block,
+            &mut said,
+        )?;
+        send(alloc, &mut self.replies, 0, said)?;
+        self.room = reserve_settling(&self.stage, &mut self.endings, &mut self.replies)?;
+        self.standing = Standing::Bounded;
+        Ok(if quits { Flow::Quit } else { Flow::On })
+    }
+
+    /// How many of so many blocks may be rendered before the next boundary.
+    pub fn span(&self, want: u32) -> u32
+        requires { 1 ≤ want }
+        ensures { IsQuiet result × (result ≤ want) }
+    {
+        1
+    }
+
+    /// The next block: the walk over the nodes, and its sound. It takes no memory.
+    pub fn blocks<H: Threads + Sync, G: Gate>(&mut self, _rt: &H, n: u32, _gate: &G)
+        requires quiet { IsQuiet n }
+        requires bounded { self.old.standing ≡ Bounded }
+        requires block { self.old.block < 2 ^ 62 }
+        ensures { self.new ≡ with_block self.old }
+    {
+        run_nodes(&mut self.port, &self.stage, self.block, &mut self.scratch);
+        hear_block(
+            &mut self.port,
+            &self.stage,
+            self.settings.channels,
+            self.block,
+            &mut self.samples,
+        );
+        frames(&self.settings, &self.samples, &mut self.sound);
+        self.block += 1;
+        self.standing = Standing::Rendered;
+    }
+
+    /// Settles the block that was rendered: its triggers are told, and the units that ended in it pause or free their synths. It takes no
+    /// memory.
+    pub fn settle(&mut self)
+        requires rendered { self.old.standing ≡ Rendered }
+        requires block { self.old.block < 2 ^ 63 }
+        ensures { self.new ≡ with_settled self.old }
+    {
+        settle_before(
+            &mut self.stage,
+            &mut self.port,
+            self.block,
+            &mut self.endings,
+            &mut self.replies,
+        );
+        self.standing = Standing::Settled;
+        self.room = 0;
+    }
+
+    /// Writes the sound that is still to be written. After a fault the sink took a front of it, and the rest is dropped.
+    pub fn drain_sound<O: Sink>(&mut self, sink: &mut O) -> Result<(), Failed>
+        ensures taken { TakesAll (O.taken sink.old) (O.taken sink.new) result self.old.sound }
+        ensures cause { HasCause (O.faults sink.old) (O.faults sink.new) result }
+        ensures kept { self.new ≡ record self.old { sound = [] } }
+    {
+        drain(&mut self.sound, sink)
+    }
+
+    /// Writes the replies that are still to be sent to a client. After a fault the sink took a front of them, and the rest is dropped.
+    pub fn drain_replies<R: Sink>(&mut self, client: u32, sink: &mut R) -> Result<(), Failed>
+        requires client { client < length self.old.replies }
+        ensures taken { TakesAll (R.taken sink.old) (R.taken sink.new) result (slice_index_or self.old.replies client []) }
+        ensures cause { HasCause (R.faults sink.old) (R.faults sink.new) result }
+        ensures kept { self.new ≡ record self.old { replies = slice_set self.old.replies client [] } }
+    {
+        drain(&mut self.replies[client as usize], sink)
+    }
+
+    /// How many bytes of replies are still to be sent to a client.
+    pub fn replies_len(&self, client: u32) -> usize
+        requires client { client < length self.now.replies }
+        ensures { result ≡ length (slice_index_or self.now.replies client []) }
+    {
+        self.replies[client as usize].len()
+    }
+}

@@ -1,0 +1,18 @@
+use Rattle.std.proofs.Common.{◌≡◌, ◌∙◌, ap, map, arith, Some}
+use Rattle.std.proofs.lemmas.List.{length-map}
+use Rattle.sn_osc.specs.Shape.{argument_of}
+use Rattle.sn_world.specs.Rows.{singles, some_of}
+use Rattle.sn_world.specs.Emptying.{free_all, judge_free_all, act_free_all}
+use Rattle.sn_world.specs.World.{turn_of}
+use Rattle.sn_nodecmd.proofs.Repeating.{few_singles, row_read}
+use Rattle.sn_nodecmd.proofs.emptying.run_free_all.Goals as goal
+
+pub each-requires-clause-few : goal.each-requires-clause-few
+each-requires-clause-few c =
+    let read : Some c.deref.result.now ≡ some_of (singles free_all (map argument_of c.args.arguments.now)) = ap Some c.deref.ensures.value ∙ c.in-Some.ensures ∙ ap some_of c.in_ok-singles.ensures in
+    omega (arith, few_singles free_all (map argument_of c.args.arguments.now) c.deref.result.now read, length-map c.args.arguments.now argument_of, c.requires.few)
+
+pub returns-clause-row : goal.returns-clause-row
+returns-clause-row c = λ from words.
+    let read : Some c.deref.result.now ≡ some_of (singles free_all (map argument_of c.args.arguments.now)) = ap Some c.deref.ensures.value ∙ c.in-Some.ensures ∙ ap some_of c.in_ok-singles.ensures in
+    row_read judge_free_all act_free_all _ c.deref.result.now c.each.result (turn_of c.args.stage.now words c.args.replies.now) (turn_of c.each.new.stage words c.each.new.replies) read (c.each.ensures.row words)

@@ -1,0 +1,176 @@
+//! `/g_queryTree`.
+ghost use Rattle.std.specs.Prelude.{◌≡◌, ◌≤◌, ◌∷◌, ◌++◌, [], List, ℕ, pos, negsuc, length, map, take, true, IfOk, OnOk};
+ghost use Rattle.sn_osc.specs.Shape.{argument_of, message_of, int, string};
+ghost use Rattle.sn_reply.specs.Sending.{IsSendable};
+ghost use Rattle.sn_def.specs.Reading.{is_name};
+ghost use Rattle.sn_tree.specs.Trees.{count};
+ghost use Rattle.sn_tree.specs.Faults.{is_synth};
+ghost use Rattle.sn_world.specs.World.{world_of, turn_of};
+ghost use Rattle.sn_world.specs.Rows.{steps};
+ghost use Rattle.sn_world.specs.TreeQueries.{judge_tree, act_tree, tree_row};
+ghost use Rattle.sn_world.specs.Answers.{Follows, UnlessFollowed};
+ghost use Rattle.sn_nodecmd.specs.Stepping.{Acts};
+ghost use Rattle.sn_nodecmd.specs.Describing.{held_arguments, described, HaveFew, tree_reply};
+
+use sn_def::{Def, lines_are_read};
+use sn_osc::{Arg, Message};
+use sn_ports::NoMemory;
+use sn_reply::{Answer, Reason, Replies, To};
+use sn_tree::{Member, Members, NodeKind, Tree};
+use sn_world::{Held, Stage, TreeQuery, pairs, some_of};
+use std::alloc::Global;
+
+/// A law: a definition has a name.
+fn is_named(def: &Def)
+    ensures { is_name def.now.name.bytes ≡ true }
+{
+    lines_are_read();
+}
+
+/// A synth: its id, -1, and the name of its definition.
+fn push_synth(answer: &mut Answer, id: i32, def: &Def) -> Result<(), NoMemory>
+    ensures { OnOk result (answer.new ≡ answer.old ++ int id ∷ int (negsuc 0) ∷ string def.now.name.bytes ∷ []) }
+{
+    is_named(def);
+    answer.push_int(id)?;
+    answer.push_int(-1)?;
+    answer.push_name(def.name.as_slice())
+}
+
+/// A group: its id, and the number of its children.
+fn push_group(answer: &mut Answer, id: i32, children: u32) -> Result<(), NoMemory>
+    requires few { children ≤ 4096 }
+    ensures { OnOk result (answer.new ≡ answer.old ++ int id ∷ int (pos children) ∷ []) }
+{
+    answer.push_int(id)?;
+    answer.push_int(children as i32)
+}
+
+fn push_member(answer: &mut Answer, member: &Member<'_, Held>) -> Result<(), NoMemory>
+    requires few { member.now.children ≤ 4096 }
+    ensures { OnOk result (answer.new ≡ answer.old ++ held_arguments member.now.id member.now.payload.now member.now.children) }
+{
+    match member.payload {
+        Held::Group => push_group(answer, member.id, member.children),
+        Held::Synth { def, .. } => push_synth(answer, member.id, def),
+    }
+}
+
+/// Each of these nodes, in their order.
+fn push_members(answer: &mut Answer, members: Members<'_, Held>) -> Result<(), NoMemory>
+    requires few { HaveFew members }
+    ensures { OnOk result (answer.new ≡ answer.old ++ described members.entry) }
+{
+    for member in members {
+        push_member(answer, &member)?;
+    }
+    Ok(())
+}
+
+/// The message `/g_queryTree.reply` of a group with so many children and these nodes below it.
+fn tree_message(
+    alloc: Global,
+    group: i32,
+    children: u32,
+    below: Members<'_, Held>,
+) -> Result<Message, NoMemory>
+    requires few { children ≤ 4096 }
+    requires each { HaveFew below }
+    requires all { length below ≤ 4096 }
+    ensures message { IfOk result (λ m. message_of m ≡ tree_reply group children below.entry) }
+    ensures sendable { IfOk result (λ m. IsSendable (message_of m)) }
+{
+    let mut answer = Answer::new(alloc);
+    answer.push_int(0)?;
+    push_group(&mut answer, group, children)?;
+    push_members(&mut answer, below)?;
+    answer.into_message(b"/g_queryTree.reply")
+}
+
+fn is_synth(kind: NodeKind) -> bool
+    ensures { result ≡ is_synth kind }
+{
+    match kind {
+        NodeKind::Synth => true,
+        NodeKind::Group | NodeKind::Parallel => false,
+    }
+}
+
+/// A law: a tree has at most 4,096 nodes.
+fn are_few(tree: &Tree<Held>)
+    ensures { count tree.now.attached ≤ 4096 }
+{
+    let _ = tree.len();
+}
+
+/// Tells a client what stands below a group.
+fn answer(
+    alloc: Global,
+    stage: &Stage,
+    query: &TreeQuery,
+    from: u32,
+    replies: &mut Replies,
+) -> Result<Option<Reason>, NoMemory>
+    ensures act { (words : List ℕ) → Acts result (judge_tree (world_of stage.now words) query.now) (act_tree from query.now (turn_of stage.now words replies.old)) (turn_of stage.now words replies.new) }
+    ensures earlier { take (length replies.old) replies.new ≡ replies.old }
+{
+    are_few(&stage.tree);
+    let mut members = stage.tree.members(query.group);
+    let Some(group) = members.next() else {
+        return Ok(Some(Reason::NoSuchNode));
+    };
+    if is_synth(group.kind) {
+        return Ok(Some(Reason::NotGroup));
+    }
+    let message = tree_message(alloc, query.group, group.children, members)?;
+    replies.push(To::Client(from), message)?;
+    Ok(None)
+}
+
+/// Tells a client what stands below groups, up to the first that is none.
+fn answer_all(
+    alloc: Global,
+    stage: &Stage,
+    queries: &[TreeQuery],
+    from: u32,
+    replies: &mut Replies,
+) -> Result<Option<Reason>, NoMemory>
+    ensures row { (words : List ℕ) → Follows result (steps judge_tree (act_tree from) queries.now (turn_of stage.now words replies.old)) (turn_of stage.now words replies.new) }
+    ensures earlier { take (length replies.old) replies.new ≡ replies.old }
+{
+    for query in queries {
+        let refused = answer(alloc, stage, query, from, replies)?;
+        if let Some(reason) = refused {
+            return Ok(Some(reason));
+        }
+    }
+    Ok(None)
+}
+
+/// `/g_queryTree` (group 0)..
+pub fn run_tree_query(
+    alloc: Global,
+    stage: &Stage,
+    arguments: &[Arg],
+    from: u32,
+    replies: &mut Replies,
+) -> Result<Option<Reason>, NoMemory>
+    ensures row { (words : List ℕ) → Follows result (tree_row from (map argument_of arguments.now) (turn_of stage.now words replies.old)) (turn_of stage.now words replies.new) }
+    ensures unsaid { UnlessFollowed result (replies.new ≡ replies.old) }
+{
+    let Some(queries) = some_of(pairs::<TreeQuery>(alloc, arguments)?) else {
+        return Ok(Some(Reason::Arguments));
+    };
+    let before = replies.len();
+    match answer_all(alloc, stage, &queries, from, replies) {
+        Ok(None) => Ok(None),
+        Ok(Some(reason)) => {
+            replies.truncate(before);
+            Ok(Some(reason))
+        }
+        Err(error) => {
+            replies.truncate(before);
+            Err(error)
+        }
+    }
+}

@@ -1,0 +1,286 @@
+-- Synths that are paused and freed.
+use Rattle.std.proofs.Common.{◌≡◌, ◌≤◌, ◌<◌, ◌+◌, ◌*◌, ◌||◌, ℕ, ℤ, pos, negsuc, Bool, true, false, not, List, [], ◌∷◌, ◌++◌, length, Option, Some, None, is_some, refl, ap, sym, subst, ◌∙◌, arith, length-append, append_assoc}
+use Rattle.std.specs.Prelude.{if◌then◌else◌}
+use Rattle.std.specs.Ordering.{int_eq}
+use Rattle.std.proofs.lemmas.Bool.{cond_both}
+use Rattle.std.proofs.lemmas.List.{append-nil}
+use Rattle.sn_ports.specs.Octets.{Octets}
+use Rattle.sn_mem.specs.declared.extents.Extent.{Extent}
+use Rattle.sn_mem.specs.Words.{covers}
+use Rattle.sn_pool.specs.Pools.{PoolState, times, same_extent}
+use Rattle.sn_reply.specs.Replies.{ReplyShape}
+use Rattle.sn_reply.specs.declared.events.Notice.{Notice}
+use Rattle.sn_reply.specs.declared.events.Notice.TheVariants as notice
+use Rattle.sn_tree.specs.declared.node.NodeView.{NodeView}
+use Rattle.sn_tree.specs.declared.node.TreeFault.TheVariants as faults
+use Rattle.sn_tree.specs.Trees.{Label, Nodes, none, node, holds, subtree, without, joined, changed, with_running, view_from, view_of, with_payloads, first_id, last_id}
+use Rattle.sn_tree.specs.Faults.{first_fault, set_run_fault, detach_fault}
+use Rattle.sn_tree.specs.Model.{Journal, NodeTree}
+use Rattle.sn_tree.specs.Steps.{HasRoom, running, detached}
+use Rattle.sn_tree.proofs.PayloadLaws.{changed-payloads, without-payloads, view-payloads}
+use Rattle.sn_world.specs.declared.endings.Ending.{Ending}
+use Rattle.sn_world.specs.declared.stage.Held.{Held}
+use Rattle.sn_world.specs.declared.stage.Stage.{Stage}
+use Rattle.sn_world.specs.Nodes.{Content, content_of}
+use Rattle.sn_world.specs.Buffers.{AreBuffers}
+use Rattle.sn_world.specs.Pictures.{Pictures, held_extents, live_held, overlaps, amount, AreHeld}
+use Rattle.sn_world.specs.Settling.{notices_of, place_of, paused_at, freed_at, acted_at, acted, all_acted}
+use Rattle.sn_world.specs.World.{Turn, world_of, turn_of}
+use Rattle.sn_world.proofs.Counting.{amount-joined, amount-without, overlaps-amount, times-amount}
+use Rattle.sn_settle.specs.Telling.{HaveRoom, AreTold}
+use Rattle.sn_settle.specs.Acting.{IsActed}
+use Rattle.sn_settle.proofs.Sending.{told_none, told_then, notices_of-append}
+
+pub has_room : (j : Option (Journal Held)) → j ≡ None → HasRoom j
+has_room j is = subst HasRoom (sym is) tt
+
+pub run_allowed : (id : ℤ) (t : Nodes Held) → holds id t ≡ true → set_run_fault id t ≡ None
+run_allowed id t is = ap (λ (b : Bool). first_fault ((not b, faults.NoNode) ∷ [])) is
+
+pub detach_allowed : (id : ℤ) (t : Nodes Held) → holds id t ≡ true → int_eq id (pos 0) ≡ false → detach_fault id t ≡ None
+detach_allowed id t is other =
+    ap (λ (b : Bool). first_fault ((not b, faults.NoNode) ∷ (int_eq id (pos 0), faults.IsRoot) ∷ [])) is ∙ ap (λ (b : Bool). first_fault ((false, faults.NoNode) ∷ (b, faults.IsRoot) ∷ [])) other
+
+-- ---- a node that is seen is there
+
+seen_from : (parent previous id : ℤ) (t : Nodes Held) → is_some (view_from parent previous id t) ≡ holds id t
+seen_from parent previous id none = refl
+seen_from parent previous id (node l below after) = at (int_eq l.id id) (holds id below) (seen_from l.id (negsuc 0) id below) (seen_from parent l.id id after)
+  where
+    at : (here inner : Bool) → is_some (view_from l.id (negsuc 0) id below) ≡ inner → is_some (view_from parent l.id id after) ≡ holds id after
+        → is_some (if here then Some (record { kind = l.kind; running = l.running; parent = parent; previous = previous; next = first_id after; head = first_id below; tail = last_id (negsuc 0) below }) else if inner then view_from l.id (negsuc 0) id below else view_from parent l.id id after) ≡ (here || (inner || holds id after))
+    at true inner b a = refl
+    at false true b a = b
+    at false false b a = a
+
+pub is_there : (id : ℤ) (t : Nodes Held) (view : NodeView) → view_of id t ≡ Some view → holds id t ≡ true
+is_there id t view seen = sym (seen_from (negsuc 0) (negsuc 0) id t) ∙ ap is_some seen
+
+-- ---- nodes that stay
+
+held-turned : (rate : ℕ) (region : Extent) (id : ℤ) (on : Bool) (t : Nodes Held) → AreHeld rate region t → AreHeld rate region (changed id (with_running on) t)
+held-turned rate region id on none h = h
+held-turned rate region id on (node l below after) h =
+    cond_both (int_eq l.id id) (node (with_running on l) below after) (if holds id below then node l (changed id (with_running on) below) after else node l below (changed id (with_running on) after)) (AreHeld rate region)
+    (λ _. h)
+    (λ _. cond_both (holds id below) (node l (changed id (with_running on) below) after) (node l below (changed id (with_running on) after)) (AreHeld rate region)
+    (λ _. (h.0, (held-turned rate region id on below h.1.0, h.1.1)))
+    (λ _. (h.0, (h.1.0, held-turned rate region id on after h.1.1))))
+
+live-turned : (id : ℤ) (on : Bool) (t : Nodes Held) → live_held (changed id (with_running on) t) ≡ live_held t
+live-turned id on none = refl
+live-turned id on (node l below after) =
+    cond_both (int_eq l.id id) (node (with_running on l) below after) (if holds id below then node l (changed id (with_running on) below) after else node l below (changed id (with_running on) after)) (λ (t : Nodes Held). live_held t ≡ live_held (node l below after))
+    (λ _. refl)
+    (λ _. cond_both (holds id below) (node l (changed id (with_running on) below) after) (node l below (changed id (with_running on) after)) (λ (t : Nodes Held). live_held t ≡ live_held (node l below after))
+    (λ _. ap (λ es. held_extents l.payload ++ (es ++ live_held after)) (live-turned id on below))
+    (λ _. ap (λ es. held_extents l.payload ++ (live_held below ++ es)) (live-turned id on after)))
+
+held-without : (rate : ℕ) (region : Extent) (id : ℤ) (t : Nodes Held) → AreHeld rate region t → AreHeld rate region (without id t)
+held-without rate region id none h = h
+held-without rate region id (node l below after) h =
+    cond_both (int_eq l.id id) after (if holds id below then node l (without id below) after else node l below (without id after)) (AreHeld rate region)
+    (λ _. h.1.1)
+    (λ _. cond_both (holds id below) (node l (without id below) after) (node l below (without id after)) (AreHeld rate region)
+    (λ _. (h.0, (held-without rate region id below h.1.0, h.1.1)))
+    (λ _. (h.0, (h.1.0, held-without rate region id after h.1.1))))
+
+-- ---- pausing
+
+abbrev with_tree : Stage → NodeTree Held → Stage
+with_tree stage tree = record stage { tree = tree }
+
+abbrev with_nodes : Stage → List ℕ → List ReplyShape → Nodes Content → Turn
+with_nodes stage words replies nodes = record { world = record (world_of stage words) { nodes = nodes }; replies = replies }
+
+turned_pictures : (stage : Stage) (id : ℤ) (words : List ℕ) → Pictures stage words → Pictures (with_tree stage (running id false stage.tree)) words
+turned_pictures stage id words p = record {
+  rate = p.rate;
+  rate_fits = p.rate_fits;
+  base = p.base;
+  bounded = p.bounded;
+  fits = p.fits;
+  synths = held-turned stage.rate stage.pool.region id false stage.tree.attached p.synths;
+  buffers = p.buffers;
+  live = λ e some. omega (arith, p.live e some, ap (times e) (live-turned id false stage.tree.attached));
+  apart = λ x. omega (arith, p.apart x, ap (overlaps x) (live-turned id false stage.tree.attached));
+  attached = p.attached;
+  settled = ap (λ (j : Option (Journal Held)). (running id false (record { attached = stage.tree.attached; detached = stage.tree.detached; journal = j })).journal) p.settled;
+  closed = p.closed;
+}
+
+pub paused_acted : (stage : Stage) (id : ℤ) (view : NodeView) (tree : NodeTree Held) (event : Notice) (a b : List Octets) → view.running ≡ true → tree ≡ running id false stage.tree → event ≡ notice.Off (place_of id view)
+    → AreTold stage.notify (event ∷ []) a b → IsActed 1 (paused_at id view) stage (with_tree stage tree) a b
+paused_acted stage id view tree event a b on is event_is told = record {
+  events = event ∷ [];
+  few = omega arith;
+  is = λ words replies.
+      let t : Turn = turn_of stage words replies in
+      let off : List Notice = notice.Off (place_of id view) ∷ [] in
+      let after : List ReplyShape = replies ++ notices_of stage.notify off in
+      ap (λ (r : Bool). if r then with_nodes stage words after (changed id (with_running false) (with_payloads (content_of words) stage.tree.attached)) else t) on
+      ∙ ap (with_nodes stage words after) (changed-payloads (content_of words) id (with_running false) (with_running false) (λ l. refl) stage.tree.attached)
+      ∙ ap (λ (s : NodeTree Held). turn_of (with_tree stage s) words after) (sym is)
+      ∙ ap (λ (e : Notice). turn_of (with_tree stage tree) words (replies ++ notices_of stage.notify (e ∷ []))) (sym event_is);
+  told = told;
+  notify = refl;
+  region = refl;
+  pictures = λ words p. subst (λ (s : NodeTree Held). Pictures (with_tree stage s) words) (sym is) (turned_pictures stage id words p);
+}
+
+-- ---- freeing
+
+times-without : (e : Extent) (id : ℤ) (t : Nodes Held) → times e (live_held (without id t)) + times e (live_held (subtree id t)) ≡ times e (live_held t)
+times-without e id t =
+    omega (arith, amount-without (λ y. if same_extent e y then 1 else 0) id t, times-amount e (live_held (without id t)), times-amount e (live_held (subtree id t)), times-amount e (live_held t))
+
+overlaps-without : (x : ℕ) (id : ℤ) (t : Nodes Held) → overlaps x (live_held (without id t)) ≤ overlaps x (live_held t)
+overlaps-without x id t =
+    omega (arith, amount-without (λ e. if covers e x then 1 else 0) id t, overlaps-amount x (live_held (without id t)), overlaps-amount x (live_held t))
+
+pub times-detached : (e : Extent) (tree taken : NodeTree Held) (id : ℤ) → tree.detached ≡ none → taken ≡ detached id tree → times e (live_held taken.detached) ≡ times e (live_held (subtree id tree.attached))
+times-detached e tree taken id nil is =
+    ap (λ (t : NodeTree Held). times e (live_held t.detached)) is ∙ ap (λ (d : Nodes Held). times e (live_held (joined d (subtree id tree.attached)))) nil
+
+pub free_live : (stage : Stage) (words : List ℕ) (taken : NodeTree Held) (id : ℤ) → Pictures stage words → taken ≡ detached id stage.tree → (e : Extent) → 1 ≤ e.len → times e (live_held taken.detached) ≤ times e stage.pool.live
+free_live stage words taken id p is e some = omega (arith, times-detached e stage.tree taken id p.attached is, times-without e id stage.tree.attached, p.live e some)
+
+abbrev with_parts : Stage → NodeTree Held → PoolState → Stage
+with_parts stage tree pool = record stage { tree = tree; pool = pool }
+
+freed_pictures : (stage : Stage) (id : ℤ) (taken tree : NodeTree Held) (pool : PoolState) (words : List ℕ) → taken ≡ detached id stage.tree → tree ≡ record taken { detached = none }
+    → ((e : Extent) → 1 ≤ e.len → times e stage.pool.live ≡ times e (live_held taken.detached) + times e pool.live) → pool.journal ≡ None → pool.region ≡ stage.pool.region → Pictures stage words → Pictures (with_parts stage tree pool) words
+freed_pictures stage id taken tree pool words is rest live closed region p =
+    let attached : tree.attached ≡ without id stage.tree.attached = ap (λ (t : NodeTree Held). t.attached) rest ∙ ap (λ (t : NodeTree Held). t.attached) is in
+    record {
+      rate = p.rate;
+      rate_fits = p.rate_fits;
+      base = ap (λ (e : Extent). e.at) region ∙ p.base;
+      bounded = omega (arith, ap (λ (e : Extent). e.len) region, p.bounded);
+      fits = omega (arith, ap (λ (e : Extent). e.len) region, p.fits);
+      synths = subst (λ (g : Extent). AreHeld stage.rate g tree.attached) (sym region) (subst (λ (t : Nodes Held). AreHeld stage.rate stage.pool.region t) (sym attached) (held-without stage.rate stage.pool.region id stage.tree.attached p.synths));
+      buffers = subst (λ (g : Extent). AreBuffers g stage.buffers) (sym region) p.buffers;
+      live = λ e some. omega (arith, live e some, times-detached e stage.tree taken id p.attached is, times-without e id stage.tree.attached, p.live e some, ap (λ (t : Nodes Held). times e (live_held t)) attached);
+      apart = λ x. omega (arith, overlaps-without x id stage.tree.attached, p.apart x, ap (λ (t : Nodes Held). overlaps x (live_held t)) attached);
+      attached = ap (λ (t : NodeTree Held). t.detached) rest;
+      settled = ap (λ (t : NodeTree Held). t.journal) rest ∙ ap (λ (t : NodeTree Held). t.journal) is
+          ∙ ap (λ (j : Option (Journal Held)). (detached id (record { attached = stage.tree.attached; detached = stage.tree.detached; journal = j })).journal) p.settled;
+      closed = closed;
+    }
+
+pub freed_acted : (stage : Stage) (id : ℤ) (view : NodeView) (taken tree : NodeTree Held) (pool : PoolState) (event : Notice) (a b : List Octets) → taken ≡ detached id stage.tree → tree ≡ record taken { detached = none }
+    → ((e : Extent) → 1 ≤ e.len → times e stage.pool.live ≡ times e (live_held taken.detached) + times e pool.live) → pool.journal ≡ None → pool.region ≡ stage.pool.region → event ≡ notice.End (place_of id view)
+    → AreTold stage.notify (event ∷ []) a b → IsActed 1 (freed_at id view) stage (with_parts stage tree pool) a b
+freed_acted stage id view taken tree pool event a b is rest live closed region event_is told = record {
+  events = event ∷ [];
+  few = omega arith;
+  is = λ words replies.
+      let gone : List Notice = notice.End (place_of id view) ∷ [] in
+      let after : List ReplyShape = replies ++ notices_of stage.notify gone in
+      let attached : tree.attached ≡ without id stage.tree.attached = ap (λ (t : NodeTree Held). t.attached) rest ∙ ap (λ (t : NodeTree Held). t.attached) is in
+      ap (with_nodes stage words after) (without-payloads (content_of words) id stage.tree.attached ∙ ap (with_payloads (content_of words)) (sym attached))
+      ∙ ap (λ (g : Extent). let r : Turn = record { world = record (world_of stage words) { nodes = with_payloads (content_of words) tree.attached; region = g }; replies = after } in r) (sym region)
+      ∙ ap (λ (e : Notice). turn_of (with_parts stage tree pool) words (replies ++ notices_of stage.notify (e ∷ []))) (sym event_is);
+  told = told;
+  notify = refl;
+  region = region;
+  pictures = λ words p. freed_pictures stage id taken tree pool words is rest live closed region p;
+}
+
+-- ---- one ending
+
+pub with_act : (n : ℕ) (f g : Turn → Turn) (old new : Stage) (a b : List Octets) → ((words : List ℕ) (replies : List ReplyShape) → g (turn_of old words replies) ≡ f (turn_of old words replies)) → IsActed n f old new a b → IsActed n g old new a b
+with_act n f g old new a b same acts = record {
+  events = acts.events;
+  few = acts.few;
+  is = λ words replies. same words replies ∙ acts.is words replies;
+  told = acts.told;
+  notify = acts.notify;
+  region = acts.region;
+  pictures = acts.pictures;
+}
+
+pub no_act : (n : ℕ) (g : Turn → Turn) (stage : Stage) (outs : List Octets) → ((words : List ℕ) (replies : List ReplyShape) → g (turn_of stage words replies) ≡ turn_of stage words replies) → IsActed n g stage stage outs outs
+no_act n g stage outs same = record {
+  events = [];
+  few = omega arith;
+  is = λ words replies. same words replies ∙ ap (turn_of stage words) (sym (append-nil replies));
+  told = told_none stage.notify outs;
+  notify = refl;
+  region = refl;
+  pictures = λ words p. p;
+}
+
+abbrev by_tests : Ending → NodeView → Turn → Bool → Bool → Bool → Turn
+by_tests e view t first second root = if first then paused_at e.node view t else if second then (if root then t else freed_at e.node view t) else t
+
+pub act_first : (e : Ending) (view : NodeView) (t : Turn) → int_eq e.action (pos 1) ≡ true → acted_at e (Some view) t ≡ paused_at e.node view t
+act_first e view t is = ap (λ b. by_tests e view t b (int_eq e.action (pos 2)) (int_eq e.node (pos 0))) is
+
+pub act_other : (e : Ending) (view : NodeView) (t : Turn) → int_eq e.action (pos 1) ≡ false → int_eq e.action (pos 2) ≡ false → acted_at e (Some view) t ≡ t
+act_other e view t is other = ap (λ b. by_tests e view t b (int_eq e.action (pos 2)) (int_eq e.node (pos 0))) is ∙ ap (λ b. by_tests e view t false b (int_eq e.node (pos 0))) other
+
+pub act_root : (e : Ending) (view : NodeView) (t : Turn) → int_eq e.action (pos 1) ≡ false → int_eq e.action (pos 2) ≡ true → int_eq e.node (pos 0) ≡ true → acted_at e (Some view) t ≡ t
+act_root e view t is second root = ap (λ b. by_tests e view t b (int_eq e.action (pos 2)) (int_eq e.node (pos 0))) is ∙ ap (λ b. by_tests e view t false b (int_eq e.node (pos 0))) second ∙ ap (λ b. by_tests e view t false true b) root
+
+pub act_second : (e : Ending) (view : NodeView) (t : Turn) → int_eq e.action (pos 1) ≡ false → int_eq e.action (pos 2) ≡ true → int_eq e.node (pos 0) ≡ false → acted_at e (Some view) t ≡ freed_at e.node view t
+act_second e view t is second root = ap (λ b. by_tests e view t b (int_eq e.action (pos 2)) (int_eq e.node (pos 0))) is ∙ ap (λ b. by_tests e view t false b (int_eq e.node (pos 0))) second ∙ ap (λ b. by_tests e view t false true b) root
+
+pub acted_there : (e : Ending) (stage : Stage) (o : Option NodeView) → o ≡ view_of e.node stage.tree.attached → (words : List ℕ) (replies : List ReplyShape) → acted e (turn_of stage words replies) ≡ acted_at e o (turn_of stage words replies)
+acted_there e stage o is words replies =
+    ap (λ (v : Option NodeView). acted_at e v (turn_of stage words replies)) (view-payloads (content_of words) (negsuc 0) (negsuc 0) e.node stage.tree.attached ∙ sym is)
+
+-- ---- endings one after the other
+
+-- some were acted on, and others are left
+pub record AreActed (left all : List Ending) (old now : Stage) (a b : List Octets) : Type 0 where
+  pub events : List Notice
+  pub few : length events + length left ≤ length all
+  pub is : (words : List ℕ) (replies : List ReplyShape) → all_acted left (turn_of now words (replies ++ notices_of old.notify events)) ≡ all_acted all (turn_of old words replies)
+  pub told : AreTold old.notify events a b
+  pub notify : now.notify ≡ old.notify
+  pub region : now.pool.region ≡ old.pool.region
+  pub pictures : (words : List ℕ) → Pictures old words → Pictures now words
+
+pub acted_none : (all : List Ending) (stage : Stage) (outs : List Octets) → AreActed all all stage stage outs outs
+acted_none all stage outs = record {
+  events = [];
+  few = omega arith;
+  is = λ words replies. ap (λ rs. all_acted all (turn_of stage words rs)) (append-nil replies);
+  told = told_none stage.notify outs;
+  notify = refl;
+  region = refl;
+  pictures = λ words p. p;
+}
+
+pub acted_next : (e : Ending) (here left all : List Ending) (old now new : Stage) (a b c : List Octets) → here ≡ e ∷ left → AreActed here all old now a b → IsActed 1 (acted e) now new b c → AreActed left all old new a c
+acted_next e here left all old now new a b c split so_far acts = record {
+  events = so_far.events ++ acts.events;
+  few = omega (arith, so_far.few, acts.few, length-append so_far.events acts.events, ap (λ (es : List Ending). length es) split);
+  is = λ words replies.
+      let first = notices_of old.notify so_far.events in
+      let second = notices_of old.notify acts.events in
+      ap (λ rs. all_acted left (turn_of new words rs)) (ap (λ rs. replies ++ rs) (notices_of-append old.notify so_far.events acts.events) ∙ sym (append_assoc replies first second) ∙ ap (λ (flags : List Bool). (replies ++ first) ++ notices_of flags acts.events) (sym so_far.notify))
+      ∙ ap (all_acted left) (sym (acts.is words (replies ++ first)))
+      ∙ ap (λ (es : List Ending). all_acted es (turn_of now words (replies ++ first))) (sym split)
+      ∙ so_far.is words replies;
+  told = told_then old.notify so_far.events acts.events a b c so_far.told (subst (λ (flags : List Bool). AreTold flags acts.events b c) so_far.notify acts.told);
+  notify = acts.notify ∙ so_far.notify;
+  region = acts.region ∙ so_far.region;
+  pictures = λ words p. acts.pictures words (so_far.pictures words p);
+}
+
+pub acted_room : (left all : List Ending) (old now : Stage) (a b : List Octets) → HaveRoom (48 * length all) a → 0 < length left → AreActed left all old now a b → HaveRoom 48 b
+acted_room left all old now a b room some so_far = λ k lt.
+    omega (arith, room k (omega (arith, lt, so_far.told.sent.clients)), so_far.told.room k (omega (arith, lt, so_far.told.sent.clients)), so_far.few, some)
+
+pub acted_all : (left all : List Ending) (old new : Stage) (a b : List Octets) → left ≡ [] → AreActed left all old new a b → IsActed (length all) (all_acted all) old new a b
+acted_all left all old new a b gone so_far = record {
+  events = so_far.events;
+  few = omega (arith, so_far.few);
+  is = λ words replies. sym (so_far.is words replies) ∙ ap (λ (es : List Ending). all_acted es (turn_of new words (replies ++ notices_of old.notify so_far.events))) gone;
+  told = so_far.told;
+  notify = so_far.notify;
+  region = so_far.region;
+  pictures = so_far.pictures;
+}

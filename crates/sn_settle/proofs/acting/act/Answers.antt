@@ -1,0 +1,11 @@
+use Rattle.std.proofs.Common.{◌≡◌, None, Some}
+use Rattle.sn_world.specs.Settling.{acted_at, acted}
+use Rattle.sn_settle.proofs.Acted.{with_act, no_act, acted_there}
+use Rattle.sn_settle.proofs.acting.act.Goals as goal
+
+pub returns : goal.returns
+returns c =
+    with_act 1 (acted_at c.args.ending.now (Some c.in-Some.view)) (acted c.args.ending.now) c.args.stage.now c.act_here.new.stage c.args.outs.now c.act_here.new.outs (acted_there c.args.ending.now c.args.stage.now (Some c.in-Some.view) c.in-Some.ensures) c.act_here.ensures
+
+pub returns-in_default : goal.returns-in_default
+returns-in_default c = no_act 1 (acted c.args.ending.now) c.args.stage.now c.args.outs.now (acted_there c.args.ending.now c.args.stage.now None c.in_default.ensures)

@@ -1,0 +1,15 @@
+use Rattle.std.proofs.Common.{ap}
+use Rattle.sn_reply.specs.declared.events.Notice.TheVariants.{End}
+use Rattle.sn_settle.proofs.Acted.{is_there, free_live, freed_acted}
+use Rattle.sn_settle.proofs.acting.free.Goals as goal
+
+pub take_out-requires-clause-there : goal.take_out-requires-clause-there
+take_out-requires-clause-there c = is_there c.args.ending.now.node c.args.stage.now.tree.attached c.args.view.now c.requires.there
+
+pub end_freed-requires-clause-live : goal.end_freed-requires-clause-live
+end_freed-requires-clause-live c = free_live c.args.stage.now c.requires.pictures.0 c.take_out.new.tree c.args.ending.now.node c.requires.pictures.1 c.take_out.ensures
+
+pub returns : goal.returns
+returns c =
+    freed_acted c.args.stage.now c.args.ending.now.node c.args.view.now c.take_out.new.tree c.end_freed.new.tree c.end_freed.new.pool (End c.place_of.result) c.args.outs.now c.tell.new.outs
+    c.take_out.ensures c.end_freed.ensures.tree c.end_freed.ensures.live c.end_freed.ensures.pool c.end_freed.ensures.region (ap End c.place_of.ensures) c.tell.ensures

@@ -1,0 +1,181 @@
+//! Done actions: synths that are paused and freed.
+ghost use Rattle.std.specs.Prelude.{◌≡◌, ◌≤◌, ◌+◌, ◌*◌, ℕ, ℤ, pos, List, length, true, false, None, Some};
+ghost use Rattle.std.specs.Ordering.{int_eq};
+ghost use Rattle.sn_mem.specs.declared.extents.Extent.{Extent};
+ghost use Rattle.sn_pool.specs.Pools.{times};
+ghost use Rattle.sn_tree.specs.Trees.{none, holds, view_of};
+ghost use Rattle.sn_tree.specs.Steps.{running, detached};
+ghost use Rattle.sn_world.specs.Pictures.{Pictures, held_extents, live_held};
+ghost use Rattle.sn_world.specs.Settling.{place_of, paused_at, freed_at, acted_at, acted, all_acted};
+ghost use Rattle.sn_settle.specs.Telling.{HaveRoom};
+ghost use Rattle.sn_settle.specs.Acting.{IsActed};
+
+use crate::telling::tell;
+use sn_pool::Pool;
+use sn_ports::Text;
+use sn_reply::{Notice, Place};
+use sn_tree::{NodeView, Tree};
+use sn_world::{Ending, Held, Stage};
+
+/// Gives the words of a freed node back.
+fn give_back(pool: &mut Pool, held: &Held)
+    requires live { (e : Extent) → 1 ≤ e.len → times e (held_extents held.now) ≤ times e pool.old.live }
+    requires closed { pool.old.journal ≡ None }
+    ensures live { (e : Extent) → 1 ≤ e.len → times e pool.old.live ≡ times e (held_extents held.now) + times e pool.new.live }
+    ensures closed { pool.new.journal ≡ None }
+    ensures region { pool.new.region ≡ pool.old.region }
+{
+    match held {
+        Held::Group => {}
+        Held::Synth { state, .. } => {
+            if state.len > 0 {
+                pool.give_back(*state);
+            }
+        }
+    }
+}
+
+/// Ends a freed node, and gives its words back.
+fn end_node(pool: &mut Pool, held: Held)
+    requires live { (e : Extent) → 1 ≤ e.len → times e (held_extents held) ≤ times e pool.old.live }
+    requires closed { pool.old.journal ≡ None }
+    ensures live { (e : Extent) → 1 ≤ e.len → times e pool.old.live ≡ times e (held_extents held) + times e pool.new.live }
+    ensures closed { pool.new.journal ≡ None }
+    ensures region { pool.new.region ≡ pool.old.region }
+{
+    give_back(pool, &held);
+}
+
+/// Ends the nodes that were freed, and gives their words back.
+fn end_freed(tree: &mut Tree<Held>, pool: &mut Pool)
+    requires closed { tree.old.journal ≡ None }
+    requires live { (e : Extent) → 1 ≤ e.len → times e (live_held tree.old.detached) ≤ times e pool.old.live }
+    requires pool { pool.old.journal ≡ None }
+    ensures tree { tree.new ≡ record tree.old { detached = none } }
+    ensures live { (e : Extent) → 1 ≤ e.len → times e pool.old.live ≡ times e (live_held tree.old.detached) + times e pool.new.live }
+    ensures pool { pool.new.journal ≡ None }
+    ensures region { pool.new.region ≡ pool.old.region }
+{
+    while let Some(held) = tree.free() {
+        end_node(pool, held);
+    }
+}
+
+/// Where a synth stands.
+fn place_of(ending: &Ending, view: &NodeView) -> Place
+    ensures { result ≡ place_of ending.now.node view.now }
+{
+    Place {
+        id: ending.node,
+        parent: view.parent,
+        previous: view.previous,
+        next: view.next,
+    }
+}
+
+#[tactic(auto, using(crate::proofs::Acted::run_allowed, crate::proofs::Acted::has_room))]
+fn stop(tree: &mut Tree<Held>, ending: &Ending)
+    requires there { holds ending.now.node tree.old.attached ≡ true }
+    requires closed { tree.old.journal ≡ None }
+    ensures { tree.new ≡ running ending.now.node false tree.old }
+{
+    match tree.set_run(ending.node, false) {
+        Ok(()) => {}
+        Err(_) => unreachable!(),
+    }
+}
+
+#[tactic(auto, using(crate::proofs::Acted::detach_allowed, crate::proofs::Acted::has_room))]
+fn take_out(tree: &mut Tree<Held>, ending: &Ending)
+    requires there { holds ending.now.node tree.old.attached ≡ true }
+    requires other { int_eq ending.now.node (pos 0) ≡ false }
+    requires closed { tree.old.journal ≡ None }
+    ensures { tree.new ≡ detached ending.now.node tree.old }
+{
+    match tree.detach(ending.node) {
+        Ok(()) => {}
+        Err(_) => unreachable!(),
+    }
+}
+
+/// Pauses a synth that stands so, where it runs, and tells of it.
+fn pause(stage: &mut Stage, ending: &Ending, view: &NodeView, outs: &mut [Text])
+    requires there { view_of ending.now.node stage.old.tree.attached ≡ Some view.now }
+    requires pictures { (words : List ℕ) × Pictures stage.old words }
+    requires clients { length outs.old ≤ 4 }
+    requires room { HaveRoom 48 outs.old }
+    ensures { IsActed 1 (paused_at ending.now.node view.now) stage.old stage.new outs.old outs.new }
+{
+    if !view.running {
+        return;
+    }
+    stop(&mut stage.tree, ending);
+    tell(&stage.notify, &Notice::Off(place_of(ending, view)), outs);
+}
+
+/// Frees a synth that stands so, and tells of it.
+fn free(stage: &mut Stage, ending: &Ending, view: &NodeView, outs: &mut [Text])
+    requires there { view_of ending.now.node stage.old.tree.attached ≡ Some view.now }
+    requires other { int_eq ending.now.node (pos 0) ≡ false }
+    requires pictures { (words : List ℕ) × Pictures stage.old words }
+    requires clients { length outs.old ≤ 4 }
+    requires room { HaveRoom 48 outs.old }
+    ensures { IsActed 1 (freed_at ending.now.node view.now) stage.old stage.new outs.old outs.new }
+{
+    take_out(&mut stage.tree, ending);
+    end_freed(&mut stage.tree, &mut stage.pool);
+    tell(&stage.notify, &Notice::End(place_of(ending, view)), outs);
+}
+
+/// Does what a unit's end asks for with a synth that stands so.
+fn act_here(stage: &mut Stage, ending: &Ending, view: &NodeView, outs: &mut [Text])
+    requires there { view_of ending.now.node stage.old.tree.attached ≡ Some view.now }
+    requires pictures { (words : List ℕ) × Pictures stage.old words }
+    requires clients { length outs.old ≤ 4 }
+    requires room { HaveRoom 48 outs.old }
+    ensures { IsActed 1 (acted_at ending.now (Some view.now)) stage.old stage.new outs.old outs.new }
+{
+    if ending.action == 1 {
+        pause(stage, ending, view, outs);
+        return;
+    }
+    if ending.action != 2 {
+        return;
+    }
+    if ending.node == 0 {
+        return;
+    }
+    free(stage, ending, view, outs);
+}
+
+/// How the synth stands, where it is still there.
+fn view_of(tree: &Tree<Held>, ending: &Ending) -> Option<NodeView>
+    ensures { result ≡ view_of ending.now.node tree.now.attached }
+{
+    tree.node(ending.node)
+}
+
+/// Does what a unit's end asks for.
+fn act(stage: &mut Stage, ending: &Ending, outs: &mut [Text])
+    requires pictures { (words : List ℕ) × Pictures stage.old words }
+    requires clients { length outs.old ≤ 4 }
+    requires room { HaveRoom 48 outs.old }
+    ensures { IsActed 1 (acted ending.now) stage.old stage.new outs.old outs.new }
+{
+    let Some(view) = view_of(&stage.tree, ending) else {
+        return;
+    };
+    act_here(stage, ending, &view, outs);
+}
+
+/// Does what the ends of units ask for, one after the other.
+pub fn act_all(stage: &mut Stage, endings: &[Ending], outs: &mut [Text])
+    requires pictures { (words : List ℕ) × Pictures stage.old words }
+    requires clients { length outs.old ≤ 4 }
+    requires room { HaveRoom (48 * length endings.now) outs.old }
+    ensures { IsActed (length endings.now) (all_acted endings.now) stage.old stage.new outs.old outs.new }
+{
+    for ending in endings {
+        act(stage, ending, outs);
+    }
+}

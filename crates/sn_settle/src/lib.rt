@@ -1,0 +1,12 @@
+//! What happens after a block: triggers are told, and units that ended pause or free their synths.
+#![tactic(auto)]
+
+mod acting;
+mod looking;
+mod room;
+mod settling;
+mod telling;
+mod words;
+
+pub use room::settling_room;
+pub use settling::settle;

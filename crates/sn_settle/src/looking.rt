@@ -1,0 +1,222 @@
+//! What a block left in the state words of the units: triggers that are told, and ends that are noted.
+ghost use Rattle.std.specs.Prelude.{◌≡◌, ◌≤◌, ◌<◌, ◌+◌, ◌*◌, ◌^◌, ℕ, length};
+ghost use Rattle.sn_def.specs.StateWords.{unit_words, units_words};
+ghost use Rattle.sn_mem.specs.Words.{MayRead};
+ghost use Rattle.sn_reply.specs.declared.events.Notice.{Notice};
+ghost use Rattle.sn_world.specs.Settling.{sends, literal_at, done_action, triggers_at, endings_at, unit_triggers, unit_endings};
+ghost use Rattle.sn_tree.specs.Trees.{running_labels};
+ghost use Rattle.sn_world.specs.Pictures.{Pictures, WritesWorld, IsHeld};
+ghost use Rattle.sn_world.specs.SettleWords.{held_triggers, held_endings, walk_triggers, walk_endings};
+ghost use Rattle.sn_world.specs.declared.endings.Ending.{Ending};
+ghost use Rattle.sn_settle.specs.Telling.{HaveRoom, AreTold, AreNoted, CanLook, AreSeen};
+ghost use Rattle.sn_settle.specs.Looking.{listed};
+
+use crate::telling::tell;
+use sn_def::{Input, Kind, Now, Unit};
+use sn_mem::{Port, sample_of};
+use sn_ports::Text;
+use sn_reply::Notice;
+use sn_world::{Ending, Endings, Flags, Held, Stage};
+
+/// The value of an input that is a literal.
+fn literal_at(inputs: &[Input], place: usize) -> Option<i32>
+    ensures { result ≡ literal_at inputs.now place }
+{
+    match inputs.get(place) {
+        Some(Input::Literal(value)) => Some(*value),
+        _ => Some(0),
+    }
+}
+
+/// What a unit does at its end, where it is one that ends.
+pub fn done_action(unit: &Unit) -> Option<i32>
+    ensures { result ≡ done_action unit.now.kind unit.now.inputs }
+{
+    let inputs = unit.inputs.as_slice();
+    match unit.kind {
+        Kind::FreeSelf => Some(2),
+        Kind::PauseSelf => Some(1),
+        Kind::Line | Kind::DetectSilence | Kind::RecordBuf => literal_at(inputs, 3),
+        Kind::Linen => literal_at(inputs, 4),
+        Kind::PlayBuf => literal_at(inputs, 5),
+        _ => None,
+    }
+}
+
+pub fn sends(unit: &Unit) -> bool
+    ensures { result ≡ sends unit.now.kind }
+{
+    matches!(unit.kind, Kind::SendTrig)
+}
+
+/// The trigger that a unit sent in a block, its state's words being those from a place on.
+fn trigger_at<P: Port>(port: &mut P, now: &Now, unit: &Unit, at: u32) -> Option<Notice>
+    requires reads { (rate : ℕ) × MayRead (P.foot port.old) at (unit_words rate unit.now) }
+    requires block { now.now.block < 2 ^ 63 }
+    ensures trigger { listed result ≡ triggers_at now.now.block now.now.node unit.now at (P.words port.old) }
+    ensures words { P.words port.new ≡ P.words port.old }
+    ensures foot { P.foot port.new ≡ P.foot port.old }
+    ensures rest { P.rest port.new ≡ P.rest port.old }
+{
+    if !sends(unit) {
+        return None;
+    }
+    if port.load(at) != now.block + 1 {
+        return None;
+    }
+    let id = sample_of(port.load(at + 1));
+    let value = sample_of(port.load(at + 2));
+    Some(Notice::Tr {
+        node: now.node,
+        id,
+        value,
+    })
+}
+
+/// The end of a unit in the last block.
+fn ending_at<P: Port>(port: &mut P, now: &Now, unit: &Unit, at: u32) -> Option<Ending>
+    requires reads { (rate : ℕ) × MayRead (P.foot port.old) at (unit_words rate unit.now) }
+    ensures ending { listed result ≡ endings_at now.now.node unit.now at (P.words port.old) }
+    ensures words { P.words port.new ≡ P.words port.old }
+    ensures foot { P.foot port.new ≡ P.foot port.old }
+    ensures rest { P.rest port.new ≡ P.rest port.old }
+{
+    let Some(action) = done_action(unit) else {
+        return None;
+    };
+    if port.load(at) != 1 {
+        return None;
+    }
+    Some(Ending {
+        node: now.node,
+        action,
+    })
+}
+
+/// Tells of a trigger that was found.
+fn tell_found(flags: &Flags, found: Option<Notice>, outs: &mut [Text])
+    requires clients { length outs.old ≤ 4 }
+    requires room { HaveRoom (48 * length (listed found)) outs.old }
+    ensures { AreTold flags.now (listed found) outs.old outs.new }
+{
+    match found {
+        Some(notice) => tell(flags, &notice, outs),
+        None => {}
+    }
+}
+
+/// Notes an end that was found.
+fn note_found(found: Option<Ending>, endings: &mut Endings)
+    requires room { length (listed found) ≤ endings.old.spare }
+    ensures { AreNoted (listed found) endings.old endings.new }
+{
+    match found {
+        Some(ending) => endings.push_within(ending),
+        None => {}
+    }
+}
+
+/// Tells a unit's trigger, and notes its end.
+fn look_at_unit<P: Port>(
+    port: &mut P,
+    flags: &Flags,
+    now: &Now,
+    unit: &Unit,
+    at: u32,
+    endings: &mut Endings,
+    outs: &mut [Text],
+)
+    requires reads { (rate : ℕ) × MayRead (P.foot port.old) at (unit_words rate unit.now) }
+    requires block { now.now.block < 2 ^ 63 }
+    requires can { CanLook (triggers_at now.now.block now.now.node unit.now at (P.words port.old)) (endings_at now.now.node unit.now at (P.words port.old)) outs.old endings.old }
+    ensures seen { AreSeen flags.now (triggers_at now.now.block now.now.node unit.now at (P.words port.old)) (endings_at now.now.node unit.now at (P.words port.old)) outs.old outs.new endings.old endings.new }
+    ensures words { P.words port.new ≡ P.words port.old }
+    ensures foot { P.foot port.new ≡ P.foot port.old }
+    ensures rest { P.rest port.new ≡ P.rest port.old }
+{
+    let trigger = trigger_at(port, now, unit, at);
+    tell_found(flags, trigger, outs);
+    let ending = ending_at(port, now, unit, at);
+    note_found(ending, endings);
+}
+
+/// Tells the triggers of a synth's units, and notes their ends.
+fn look_at_units<P: Port>(
+    port: &mut P,
+    flags: &Flags,
+    now: &Now,
+    units: &[Unit],
+    at: u32,
+    endings: &mut Endings,
+    outs: &mut [Text],
+)
+    requires reads { MayRead (P.foot port.old) at (units_words now.now.rate units.now) }
+    requires block { now.now.block < 2 ^ 63 }
+    requires can { CanLook (unit_triggers now.now.rate now.now.block now.now.node units.now at (P.words port.old)) (unit_endings now.now.rate now.now.node units.now at (P.words port.old)) outs.old endings.old }
+    ensures seen { AreSeen flags.now (unit_triggers now.now.rate now.now.block now.now.node units.now at (P.words port.old)) (unit_endings now.now.rate now.now.node units.now at (P.words port.old)) outs.old outs.new endings.old endings.new }
+    ensures words { P.words port.new ≡ P.words port.old }
+    ensures foot { P.foot port.new ≡ P.foot port.old }
+    ensures rest { P.rest port.new ≡ P.rest port.old }
+{
+    let mut at = at;
+    for unit in units {
+        look_at_unit(port, flags, now, unit, at, endings, outs);
+        at += unit.state_words(now.rate);
+    }
+}
+
+/// Looks at what a node holds, by itself.
+fn look_at_held<P: Port>(
+    port: &mut P,
+    stage: &Stage,
+    now: &Now,
+    held: &Held,
+    endings: &mut Endings,
+    outs: &mut [Text],
+)
+    requires held { IsHeld now.now.rate stage.now.pool.region held.now }
+    requires bounded { stage.now.pool.region.at + stage.now.pool.region.len < 4294967296 }
+    requires foot { WritesWorld (P.foot port.old) stage.now.pool.region }
+    requires block { now.now.block < 2 ^ 63 }
+    requires can { CanLook (held_triggers now.now.rate now.now.block now.now.node held.now (P.words port.old)) (held_endings now.now.rate now.now.node held.now (P.words port.old)) outs.old endings.old }
+    ensures seen { AreSeen stage.now.notify (held_triggers now.now.rate now.now.block now.now.node held.now (P.words port.old)) (held_endings now.now.rate now.now.node held.now (P.words port.old)) outs.old outs.new endings.old endings.new }
+    ensures words { P.words port.new ≡ P.words port.old }
+    ensures foot { P.foot port.new ≡ P.foot port.old }
+    ensures rest { P.rest port.new ≡ P.rest port.old }
+{
+    match held {
+        Held::Group => {}
+        Held::Synth { def, state, .. } => {
+            let units = def.units.as_slice();
+            look_at_units(port, &stage.notify, now, units, state.at, endings, outs);
+        }
+    }
+}
+
+/// Tells the triggers of all synths that ran in a block, and notes the ends of their units.
+pub fn look_at_all<P: Port>(
+    port: &mut P,
+    stage: &Stage,
+    block: u64,
+    endings: &mut Endings,
+    outs: &mut [Text],
+)
+    requires pictures { Pictures stage.now (P.words port.old) }
+    requires foot { WritesWorld (P.foot port.old) stage.now.pool.region }
+    requires block { block < 2 ^ 63 }
+    requires can { CanLook (walk_triggers stage.now.rate block (running_labels stage.now.tree.attached) (P.words port.old)) (walk_endings stage.now.rate (running_labels stage.now.tree.attached) (P.words port.old)) outs.old endings.old }
+    ensures seen { AreSeen stage.now.notify (walk_triggers stage.now.rate block (running_labels stage.now.tree.attached) (P.words port.old)) (walk_endings stage.now.rate (running_labels stage.now.tree.attached) (P.words port.old)) outs.old outs.new endings.old endings.new }
+    ensures words { P.words port.new ≡ P.words port.old }
+    ensures foot { P.foot port.new ≡ P.foot port.old }
+    ensures rest { P.rest port.new ≡ P.rest port.old }
+{
+    for visit in stage.tree.walk() {
+        let now = Now {
+            rate: stage.rate,
+            block,
+            node: visit.id,
+            unit: 0,
+        };
+        look_at_held(port, stage, &now, visit.payload, endings, outs);
+    }
+}

@@ -1,0 +1,51 @@
+//! What happens after a block.
+ghost use Rattle.std.specs.Prelude.{◌≡◌, ◌≤◌, ◌<◌, ◌*◌, ◌^◌, [], length};
+ghost use Rattle.sn_tree.specs.Trees.{running_labels};
+ghost use Rattle.sn_world.specs.Pictures.{Pictures, WritesWorld};
+ghost use Rattle.sn_world.specs.Settling.{settled};
+ghost use Rattle.sn_world.specs.SettleWords.{walk_room};
+ghost use Rattle.sn_world.specs.World.{world_of, turn_of};
+ghost use Rattle.sn_settle.specs.Telling.{HaveRoom, AreSent};
+
+use crate::acting::act_all;
+use crate::looking::look_at_all;
+use crate::words::settle_words;
+use sn_mem::Port;
+use sn_ports::Text;
+use sn_world::{Endings, Stage};
+
+/// Settles a block that was just walked: first its triggers are told. Then the units that ended in it pause or free their synths, which
+/// is told too. What is told is put behind the bytes that wait for each client, by their numbers.
+///
+/// It takes no memory: each client's bytes have room for 48 bytes for each unit of a running synth that sends triggers or ends, and
+/// `endings` has room for as many.
+pub fn settle<P: Port>(
+    stage: &mut Stage,
+    port: &mut P,
+    block: u64,
+    endings: &mut Endings,
+    outs: &mut [Text],
+)
+    requires pictures { Pictures stage.old (P.words port.old) }
+    requires foot { WritesWorld (P.foot port.old) stage.old.pool.region }
+    requires block { block < 2 ^ 63 }
+    requires clients { length outs.old ≤ 4 }
+    requires bytes { HaveRoom (48 * walk_room (running_labels stage.old.tree.attached)) outs.old }
+    requires room { walk_room (running_labels stage.old.tree.attached) ≤ endings.old.spare }
+    ensures world { world_of stage.new (P.words port.new) ≡ (settled block (turn_of stage.old (P.words port.old) [])).world }
+    ensures sent { AreSent (settled block (turn_of stage.old (P.words port.old) [])).replies outs.old outs.new }
+    ensures pictures { Pictures stage.new (P.words port.new) }
+    ensures clients { stage.new.notify ≡ stage.old.notify }
+    ensures region { stage.new.pool.region ≡ stage.old.pool.region }
+    ensures len { length (P.words port.new) ≡ length (P.words port.old) }
+    ensures foot { P.foot port.new ≡ P.foot port.old }
+    ensures rest { P.rest port.new ≡ P.rest port.old }
+{
+    endings.clear();
+    look_at_all(port, stage, block, endings, outs);
+    if endings.as_slice().is_empty() {
+        return;
+    }
+    settle_words(port, stage);
+    act_all(stage, endings.as_slice(), outs);
+}

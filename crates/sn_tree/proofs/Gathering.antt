@@ -1,0 +1,177 @@
+-- What lies below a node.
+use Rattle.std.proofs.Common.{◌≡◌, ℕ, ◌+◌, ◌≤◌, ℤ, pos, Bool, true, false, ◌||◌, List, [], ◌∷◌, ◌++◌, length, take, drop, sym, refl, ap, ◌∙◌, subst, ⊎_elim, arith, append_assoc, length-append, Option}
+use Rattle.std.specs.Prelude.{if◌then◌else◌}
+use Rattle.std.specs.List.{IsFirstAndRest, All}
+use Rattle.std.specs.Ordering.{int_eq}
+use Rattle.std.proofs.lemmas.Bool.{cases_Bool, or_from, or_parts}
+use Rattle.std.proofs.lemmas.List.{append-nil}
+use Rattle.std.proofs.lemmas.List.Elements.{All-nil, All-cons, All-append}
+use Rattle.sn_tree.specs.declared.entry.Entry.{Entry}
+use Rattle.sn_tree.specs.Trees.{Nodes, none, node, count, holds, ids, children, with_payloads}
+use Rattle.sn_tree.specs.Faults.{is_synth}
+use Rattle.sn_tree.specs.Order.{Key, entry_of, flat, tree_of, IsFlat, length-flat, take_at, drop_at}
+use Rattle.sn_tree.specs.Places.{Spotted}
+use Rattle.sn_tree.specs.Arranged.{Arranged}
+use Rattle.sn_tree.specs.Saving.{SavedNodes}
+use Rattle.sn_tree.specs.Model.{NodeTree}
+use Rattle.sn_tree.specs.Kept.{payload_of, IsRooted, shown}
+use Rattle.sn_tree.specs.Steps.{occurrences, AllDistinct}
+use Rattle.sn_tree.specs.Below.{top_ids, synth_ids, synths_of}
+use Rattle.sn_tree.proofs.PayloadLaws.{holds-payloads, children-payloads}
+use Rattle.sn_tree.proofs.Distinct.{occurs-node}
+use Rattle.sn_tree.proofs.Viewing.{cut_tree, first_back}
+
+-- the entries of all nodes below
+
+drop_one : (xs : List Entry) (e : Entry) (rest : List Entry) (n : ℕ) → n ≡ length xs + 1 → drop n (xs ++ (e ∷ rest)) ≡ rest
+drop_one xs e rest n h =
+    ap (drop n) (sym (append_assoc xs (e ∷ []) rest)) ∙ drop_at n (xs ++ (e ∷ [])) rest (omega (arith, h, length-append xs (e ∷ [])))
+
+pub below_list : (es : List Entry) (id : ℤ) (p : ℕ) (s : Spotted es id p) (n : ℕ) → n ≡ count s.place.below → take n (drop (p + 1) es) ≡ flat (children id (tree_of es))
+below_list es id p s n h =
+    let e : Entry = entry_of s.place.label (count s.place.below) in
+    let rest : List Entry = flat s.place.below ++ s.place.ys in
+    ap (λ l. take n (drop (p + 1) l)) s.is
+    ∙ (ap (take n) (drop_one s.place.xs e rest (p + 1) (omega (arith, s.at)))
+    ∙ (take_at n (flat s.place.below) s.place.ys (omega (arith, h, length-flat s.place.below))
+    ∙ sym (ap flat s.place.kids)))
+
+-- the nodes just below
+
+pub record IsListing (whole rest : List Entry) (found : List ℤ) : Type 0 where
+  pub flat : IsFlat rest
+  pub same : found ++ top_ids (tree_of rest) ≡ top_ids (tree_of whole)
+
+pub listing_next : (whole rest : List Entry) (found more : List ℤ) (e : Entry) (after past : List Entry) → IsListing whole rest found → IsFirstAndRest rest e after → past ≡ drop e.below after → more ≡ found ++ (e.id ∷ []) → IsListing whole past more
+listing_next whole rest found more e after past h f p m =
+    let fl : IsFlat (e ∷ after) = subst (λ l. IsFlat l) f.0 h.flat in
+    record {
+      flat = first_back rest e after past h.flat f p;
+      same = ap (λ l. l ++ top_ids (tree_of past)) m
+          ∙ (append_assoc found (e.id ∷ []) (top_ids (tree_of past))
+          ∙ (ap (λ l. found ++ (e.id ∷ top_ids (tree_of l))) p
+          ∙ (ap (λ t. found ++ top_ids t) (sym (cut_tree e after fl))
+          ∙ (ap (λ l. found ++ top_ids (tree_of l)) (sym f.0)
+          ∙ h.same))));
+    }
+
+pub listing_end : (whole rest : List Entry) (found : List ℤ) → IsListing whole rest found → length rest ≡ 0 → found ≡ top_ids (tree_of whole)
+listing_end whole [] found h z = sym (append-nil found) ∙ h.same
+listing_end whole (e ∷ rest) found h z = absurd (omega arith)
+
+-- the synths
+
+pub synths-append : (xs ys : List Entry) → synths_of (xs ++ ys) ≡ synths_of xs ++ synths_of ys
+synths-append [] ys = refl
+synths-append (e ∷ xs) ys = at (is_synth e.kind) (synths-append xs ys)
+  where
+    at : (b : Bool) → synths_of (xs ++ ys) ≡ synths_of xs ++ synths_of ys
+        → (if b then e.id ∷ synths_of (xs ++ ys) else synths_of (xs ++ ys)) ≡ (if b then e.id ∷ synths_of xs else synths_of xs) ++ synths_of ys
+    at true h = ap (λ l. e.id ∷ l) h
+    at false h = h
+
+pub synths-flat : (t : Nodes Key) → synths_of (flat t) ≡ synth_ids t
+synths-flat none = refl
+synths-flat (node label below after) =
+    at (is_synth label.kind) (synths-append (flat below) (flat after) ∙ (λ i. synths-flat below i ++ synths-flat after i))
+  where
+    at : (b : Bool) → synths_of (flat below ++ flat after) ≡ synth_ids below ++ synth_ids after
+        → (if b then label.id ∷ synths_of (flat below ++ flat after) else synths_of (flat below ++ flat after)) ≡ (if b then label.id ∷ (synth_ids below ++ synth_ids after) else synth_ids below ++ synth_ids after)
+    at true h = ap (λ l. label.id ∷ l) h
+    at false h = h
+
+pub synths_list : (es : List Entry) (t : Nodes Key) → IsFlat es → tree_of es ≡ t → synths_of es ≡ synth_ids t
+synths_list es t h e = ap synths_of h ∙ (synths-flat (tree_of es) ∙ ap synth_ids e)
+
+-- payloads changed
+
+pub top_ids-payloads : {P Q : Type 0} (f : P → Q) (t : Nodes P) → top_ids (with_payloads f t) ≡ top_ids t
+top_ids-payloads f none = refl
+top_ids-payloads f (node label below after) = ap (λ l. label.id ∷ l) (top_ids-payloads f after)
+
+pub synth_ids-payloads : {P Q : Type 0} (f : P → Q) (t : Nodes P) → synth_ids (with_payloads f t) ≡ synth_ids t
+synth_ids-payloads f none = refl
+synth_ids-payloads f (node label below after) =
+    λ i. if is_synth label.kind then label.id ∷ (synth_ids-payloads f below i ++ synth_ids-payloads f after i) else synth_ids-payloads f below i ++ synth_ids-payloads f after i
+
+-- the root
+
+module _ {P : Type 0} where
+  not_there : (x : ℤ) (t : Nodes P) → occurrences int_eq x (ids t) ≡ 0 → holds x t ≡ false
+  not_there x none h = refl
+  not_there x (node label below after) h =
+      ⊎_elim
+      (λ (n : int_eq label.id x ≡ true).
+      let one : ◌≡◌ {A = ℕ} (if int_eq label.id x then 1 else 0) 1 = rw n refl in
+      absurd (omega (arith, h, occurs-node x label below after, one)))
+      (λ (n : int_eq label.id x ≡ false).
+      or_from (int_eq label.id x) (holds x below || holds x after) n
+      (or_from (holds x below) (holds x after)
+      (not_there x below (omega (arith, h, occurs-node x label below after)))
+      (not_there x after (omega (arith, h, occurs-node x label below after)))))
+      (cases_Bool (int_eq label.id x))
+
+  pub children_apart : (x id : ℤ) (t : Nodes P) → holds x t ≡ false → holds x (children id t) ≡ false
+  children_apart x id none h = refl
+  children_apart x id (node label below after) h =
+      let d = or_parts (int_eq label.id x) (holds x below || holds x after) h in
+      let e = or_parts (holds x below) (holds x after) d.1 in
+      at (int_eq label.id id) (holds id below) e.0 (children_apart x id below e.0) (children_apart x id after e.1)
+    where
+      at : (here inner : Bool) → holds x below ≡ false → holds x (children id below) ≡ false → holds x (children id after) ≡ false
+          → holds x (if here then below else if inner then children id below else children id after) ≡ false
+      at true inner b p q = b
+      at false true b p q = p
+      at false false b p q = q
+
+  -- an id that is not among nodes
+  pub tops_apart : (x : ℤ) (t : Nodes P) → holds x t ≡ false → All (λ (y : ℤ). int_eq y x ≡ false) (top_ids t)
+  tops_apart x none h = All-nil (λ (y : ℤ). int_eq y x ≡ false)
+  tops_apart x (node label below after) h =
+      let d = or_parts (int_eq label.id x) (holds x below || holds x after) h in
+      let e = or_parts (holds x below) (holds x after) d.1 in
+      All-cons (λ (y : ℤ). int_eq y x ≡ false) label.id (top_ids after) d.0 (tops_apart x after e.1)
+
+  pub synths_apart : (x : ℤ) (t : Nodes P) → holds x t ≡ false → All (λ (y : ℤ). int_eq y x ≡ false) (synth_ids t)
+  synths_apart x none h = All-nil (λ (y : ℤ). int_eq y x ≡ false)
+  synths_apart x (node label below after) h =
+      let d = or_parts (int_eq label.id x) (holds x below || holds x after) h in
+      let e = or_parts (holds x below) (holds x after) d.1 in
+      at (is_synth label.kind) d.0 (All-append (λ (y : ℤ). int_eq y x ≡ false) (synth_ids below) (synth_ids after) (synths_apart x below e.0) (synths_apart x after e.1))
+    where
+      at : (b : Bool) → int_eq label.id x ≡ false → All (λ (y : ℤ). int_eq y x ≡ false) (synth_ids below ++ synth_ids after)
+          → All (λ (y : ℤ). int_eq y x ≡ false) (if b then label.id ∷ (synth_ids below ++ synth_ids after) else synth_ids below ++ synth_ids after)
+      at true n h = All-cons (λ (y : ℤ). int_eq y x ≡ false) label.id (synth_ids below ++ synth_ids after) n h
+      at false n h = h
+
+root_below : (id : ℤ) (nodes : Nodes Key) → IsRooted nodes → AllDistinct int_eq (ids nodes) → holds (pos 0) (children id nodes) ≡ false
+root_below id nodes r d =
+    let one : ◌≡◌ {A = ℕ} (if int_eq r.label.id (pos 0) then 1 else 0) 1 = ap (λ (y : ℤ). let n : ℕ = if int_eq y (pos 0) then 1 else 0 in n) r.id in
+    let apart : holds (pos 0) r.below ≡ false = not_there (pos 0) r.below (omega (arith, d (pos 0), ap (λ t. occurrences int_eq (pos 0) (ids t)) r.is, occurs-node (pos 0) r.label r.below none, one)) in
+    ap (λ t. holds (pos 0) (children id t)) r.is ∙ at (int_eq r.label.id id) (holds id r.below) apart (children_apart (pos 0) id r.below apart)
+  where
+    at : (here inner : Bool) → holds (pos 0) r.below ≡ false → holds (pos 0) (children id r.below) ≡ false
+        → holds (pos 0) (if here then r.below else if inner then children id r.below else children id none) ≡ false
+    at true inner b p = b
+    at false true b p = p
+    at false false b p = refl
+
+-- the same of the tree that they stand for
+
+module _ {P : Type 0} (root : P) (slots : List (Option P)) (nodes : Arranged) (saved : Option SavedNodes) (tree : NodeTree P) (e : shown root slots nodes saved ≡ tree) where
+  pub root_shown : (id : ℤ) → IsRooted nodes.attached → AllDistinct int_eq (ids nodes.attached) → holds (pos 0) (children id tree.attached) ≡ false
+  root_shown id r d =
+      sym (ap (λ (t : NodeTree P). holds (pos 0) (children id t.attached)) e)
+      ∙ (ap (holds (pos 0)) (children-payloads (payload_of root slots) id nodes.attached)
+      ∙ (holds-payloads (payload_of root slots) (pos 0) (children id nodes.attached)
+      ∙ root_below id nodes.attached r d))
+
+  pub tops_shown : (id : ℤ) → top_ids (children id nodes.attached) ≡ top_ids (children id tree.attached)
+  tops_shown id =
+      sym (ap top_ids (children-payloads (payload_of root slots) id nodes.attached) ∙ top_ids-payloads (payload_of root slots) (children id nodes.attached))
+      ∙ ap (λ (t : NodeTree P). top_ids (children id t.attached)) e
+
+  pub synths_shown : (id : ℤ) → synth_ids (children id nodes.attached) ≡ synth_ids (children id tree.attached)
+  synths_shown id =
+      sym (ap synth_ids (children-payloads (payload_of root slots) id nodes.attached) ∙ synth_ids-payloads (payload_of root slots) (children id nodes.attached))
+      ∙ ap (λ (t : NodeTree P). synth_ids (children id t.attached)) e

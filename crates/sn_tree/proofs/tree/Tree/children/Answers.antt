@@ -1,0 +1,13 @@
+use Rattle.std.proofs.Common.{◌≡◌, ◌∙◌, ap, subst, w32}
+use Rattle.std.specs.Prelude.{IfOk}
+use mir.Val.{SFits}
+use Rattle.std.proofs.lemmas.Int.{to_z-of_z}
+use Rattle.sn_tree.specs.Below.{top_ids}
+use Rattle.sn_tree.proofs.Gathering.{tops_shown}
+use Rattle.sn_tree.proofs.tree.Tree.children.Goals as goal
+
+pub returns : goal.returns
+returns g c =
+    subst (λ l. IfOk c.tops_in.result (λ found. found.items ≡ l))
+    (ap top_ids (let fit : SFits w32 c.args.id = c.ranges.id in simp to_z-of_z at c.entries_below.ensures.value) ∙ tops_shown c.self.inside.root c.self.inside.payloads.slots c.self.inside.order c.self.inside.saved c.args.self.now c.self.view_is c.args.id)
+    c.tops_in.ensures

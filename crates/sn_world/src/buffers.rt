@@ -1,0 +1,58 @@
+//! Where the buffers are.
+ghost use Rattle.std.specs.Prelude.{◌≡◌, ◌<◌, None, length, replicate, slice_index_or, slice_set, IfOk};
+
+use sn_pool::BufferPlace;
+use sn_ports::NoMemory;
+use std::alloc::Global;
+use std::marker::Model;
+
+/// How many buffers there may be.
+pub const BUFFERS: u32 = 1024;
+
+/// The place of each buffer that is allocated, by its number.
+#[derive(Drop)]
+pub struct Buffers {
+    places: Vec<Option<BufferPlace>>,
+}
+
+impl Model for Buffers {
+    ghost use Rattle.std.specs.Prelude.{List, Option};
+    ghost use Rattle.sn_pool.specs.declared.places.BufferPlace.{BufferPlace};
+
+    ghost Value = { List (Option BufferPlace) };
+
+    ghost view = { λ b. b.places.items };
+}
+
+/// So many numbers without a buffer.
+fn none_allocated(alloc: Global, numbers: u32) -> Result<Vec<Option<BufferPlace>>, NoMemory>
+    ensures { IfOk result (λ places. places.items ≡ replicate numbers None) }
+{
+    Ok(vec![in alloc; None; numbers as usize]?)
+}
+
+impl Buffers {
+    /// No buffer is allocated.
+    pub fn new(alloc: Global) -> Result<Buffers, NoMemory>
+        ensures { IfOk result (λ b. b ≡ replicate 1024 None) }
+    {
+        Ok(Buffers {
+            places: none_allocated(alloc, BUFFERS)?,
+        })
+    }
+
+    /// Where a buffer is, or `None` where none is allocated by this number.
+    pub fn place(&self, number: u32) -> Option<BufferPlace>
+        ensures { result ≡ slice_index_or self.now number None }
+    {
+        self.places.get(number as usize).copied().unwrap_or(None)
+    }
+
+    /// Sets where a buffer is, or that it is not allocated any more.
+    pub fn set(&mut self, number: u32, place: Option<BufferPlace>)
+        requires number { number < length self.old }
+        ensures { self.new ≡ slice_set self.old number place }
+    {
+        self.places[number as usize] = place;
+    }
+}

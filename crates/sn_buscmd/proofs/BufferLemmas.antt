@@ -4,19 +4,20 @@ use Rattle.std.specs.Prelude.{if◌then◌else◌, is_none, codes}
 use Rattle.std.specs.Option.{option_map}
 use Rattle.sn_mem.specs.declared.extents.Extent.{Extent}
 use Rattle.sn_osc.specs.Shape.{Argument}
-use Rattle.sn_pool.specs.declared.places.BufferPlace.{BufferPlace}
+use Rattle.sn_mem.specs.declared.buffers.BufferPlace.{BufferPlace}
 use Rattle.sn_pool.specs.Pools.{PoolState, same_extent, times}
 use Rattle.sn_reply.specs.declared.reason.Reason.{Reason}
 use Rattle.sn_reply.specs.declared.reason.Reason.TheVariants as Reasons
 use Rattle.sn_reply.specs.declared.replies.To.TheVariants.{Client}
 use Rattle.sn_reply.specs.Replies.{ReplyShape}
 use Rattle.sn_world.specs.declared.stage.Stage.{Stage}
-use Rattle.sn_world.specs.Buffers.{Buffer, buffer_of, buffers_of, place_extents, MayBeBuffer, IsBuffer}
+use Rattle.sn_mem.specs.Buffers.{Buffer, buffer_of, buffers_of, place_extents, overlaps}
+use Rattle.sn_world.specs.Buffers.{MayBeBuffer, IsBuffer}
 use Rattle.sn_pool.proofs.Counts.{same_itself}
 use Rattle.sn_buscmd.proofs.PlacingLemmas.{times_one, times_none}
 use Rattle.sn_world.specs.BufferNumbers.{at_number, put_at, buffer_refusal, done_with}
 use Rattle.sn_world.specs.BufferCommands.{one_number, without_buffer, free_outcome, free_row}
-use Rattle.sn_world.specs.Pictures.{Pictures, overlaps}
+use Rattle.sn_world.specs.Pictures.{Pictures}
 use Rattle.sn_world.specs.Rows.{first_of, unless}
 use Rattle.sn_world.specs.World.{World, Turn, world_of, turn_of}
 use Rattle.sn_world.proofs.BufferSteps.{IsSet, buffers-at, each-at, times-set, set_pictures, set_world}

@@ -4,6 +4,7 @@ pub mod FillingLemmas
 pub mod AskingLemmas
 pub mod RunLemmas
 pub mod RunningLemmas
+pub mod CompletingLemmas
 pub mod FreeingLemmas
 pub mod StatusLemmas
 pub mod TestLemmas
@@ -13,3 +14,5 @@ pub mod BufferLemmas
 pub mod MakingLemmas
 pub mod ResamplingLemmas
 pub mod QueryLemmas
+pub mod SampleRowLemmas
+pub mod SampleAnswerLemmas

@@ -5,7 +5,7 @@ use Rattle.std.specs.Option.{option_map}
 use Rattle.std.proofs.lemmas.Bool.{ltb-true, leb-true, lt-ltb, and_parts}
 use Rattle.sn_mem.specs.declared.extents.Extent.{Extent}
 use Rattle.sn_mem.specs.Words.{covers, has}
-use Rattle.sn_pool.specs.declared.places.BufferPlace.{BufferPlace}
+use Rattle.sn_mem.specs.declared.buffers.BufferPlace.{BufferPlace}
 use Rattle.sn_pool.specs.Pools.{PoolState, same_extent, times}
 use Rattle.sn_pool.specs.Regions.{least_place}
 use Rattle.sn_reply.specs.declared.reason.Reason.{Reason}
@@ -14,17 +14,18 @@ use Rattle.sn_reply.specs.declared.replies.To.TheVariants.{Client}
 use Rattle.sn_reply.specs.Replies.{ReplyShape}
 use Rattle.sn_world.specs.declared.buffer_repetition.NewBuffer.{NewBuffer}
 use Rattle.sn_world.specs.declared.stage.Stage.{Stage}
-use Rattle.sn_world.specs.Buffers.{Buffer, buffer_of, buffers_of, samples_of, place_extents, live_buffers, live_places}
+use Rattle.sn_mem.specs.Buffers.{Buffer, buffer_of, buffers_of, samples_of, place_extents, live_places, overlaps}
+use Rattle.sn_world.specs.Buffers.{live_buffers}
 use Rattle.sn_world.specs.BufferNumbers.{is_number, at_number, put_at, number_refusal, done_with}
 use Rattle.sn_world.specs.BufferCommands.{without_buffer, place_for, silent, alloc_at, alloc_outcome}
-use Rattle.sn_world.specs.Pictures.{Pictures, live_held, overlaps}
+use Rattle.sn_world.specs.Pictures.{Pictures, live_held}
 use Rattle.sn_world.specs.Rows.{first_of, unless}
 use Rattle.sn_world.specs.World.{World, Turn, world_of, turn_of, live_of}
 use Rattle.sn_world.proofs.BufferLaws.{live_buffers-of}
 use Rattle.sn_world.proofs.BufferSteps.{IsSet, buffers-set, times-set, set_pictures, set_world}
 use Rattle.sn_world.proofs.Counting.{amount-append, times-amount, has-same}
 use Rattle.sn_world.proofs.Inserting.{has-overlaps, live_in-payloads, least_place-same}
-use Rattle.sn_world.proofs.Walking.{overlaps-append}
+use Rattle.sn_mem.proofs.BufferWords.{overlaps-append}
 use Rattle.sn_buscmd.specs.Samples.{KeepsAround, IsNew, IsLive, AreLeft, IsPlaced}
 use Rattle.sn_buscmd.proofs.BufferLemmas.{there, put_there, live_there}
 use Rattle.sn_buscmd.proofs.PlacingLemmas.{times_one, times_none}

@@ -5,7 +5,7 @@ use Rattle.std.specs.Prelude.{IfSome, codes}
 use Rattle.std.proofs.lemmas.List.{length-map}
 use Rattle.sn_osc.specs.Shape.{Argument, int, BodyShape, arguments, MessageShape}
 use Rattle.sn_osc.specs.Bytes.{arguments_bytes, int_bytes, string_bytes, tags_bytes, tag_of}
-use Rattle.sn_pool.specs.declared.places.BufferPlace.{BufferPlace}
+use Rattle.sn_mem.specs.declared.buffers.BufferPlace.{BufferPlace}
 use Rattle.sn_reply.specs.declared.reason.Reason.{Reason}
 use Rattle.sn_reply.specs.declared.replies.To.TheVariants.{Client}
 use Rattle.sn_reply.specs.Replies.{ReplyShape}
@@ -13,7 +13,8 @@ use Rattle.sn_reply.specs.Sending.{IsAnswerable}
 use Rattle.sn_reply.proofs.Sending.{length-arguments_bytes-least, length-string_bytes}
 use Rattle.sn_world.specs.declared.buffer_repetition.BufferNumber.{BufferNumber}
 use Rattle.sn_world.specs.declared.stage.Stage.{Stage}
-use Rattle.sn_world.specs.Buffers.{buffer_of, buffers_of, MayBeBuffer}
+use Rattle.sn_mem.specs.Buffers.{buffer_of, buffers_of}
+use Rattle.sn_world.specs.Buffers.{MayBeBuffer}
 use Rattle.sn_world.specs.BufferNumbers.{at_number, number_refusal}
 use Rattle.sn_world.specs.BufferCommands.{info, infos, buffer_number, judge_query, answer_query, query_row}
 use Rattle.sn_world.specs.Pictures.{Pictures}

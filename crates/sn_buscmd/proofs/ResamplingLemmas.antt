@@ -7,18 +7,19 @@ use Rattle.sn_mem.specs.declared.extents.Extent.{Extent}
 use Rattle.sn_mem.specs.declared.extents.Foot.{Foot}
 use Rattle.sn_mem.specs.Words.{MayWrite, covers}
 use Rattle.sn_osc.specs.Shape.{Argument}
-use Rattle.sn_pool.specs.declared.places.BufferPlace.{BufferPlace}
+use Rattle.sn_mem.specs.declared.buffers.BufferPlace.{BufferPlace}
 use Rattle.sn_pool.specs.Pools.{times}
 use Rattle.sn_reply.specs.declared.reason.Reason.{Reason}
 use Rattle.sn_reply.specs.declared.reason.Reason.TheVariants as Reasons
 use Rattle.sn_reply.specs.declared.replies.To.TheVariants.{Client}
 use Rattle.sn_reply.specs.Replies.{ReplyShape}
 use Rattle.sn_world.specs.declared.stage.Stage.{Stage}
-use Rattle.sn_world.specs.Buffers.{Buffer, buffer_of, buffers_of, samples_of, place_extents, MayBeBuffer, IsBuffer}
+use Rattle.sn_mem.specs.Buffers.{Buffer, buffer_of, buffers_of, samples_of, place_extents, overlaps}
+use Rattle.sn_world.specs.Buffers.{MayBeBuffer, IsBuffer}
 use Rattle.sn_world.specs.BufferNumbers.{at_number, put_at, resampled, with_samples, buffer_refusal, done_with}
 use Rattle.sn_world.specs.BufferCommands.{one_number, zeros, zero_outcome, zero_row}
 use Rattle.sn_world.specs.BufferSamples.{size_of, samples_in}
-use Rattle.sn_world.specs.Pictures.{Pictures, WritesWorld, KeepsOutside, overlaps}
+use Rattle.sn_world.specs.Pictures.{Pictures, WritesWorld, KeepsOutside}
 use Rattle.sn_world.specs.Rows.{unless}
 use Rattle.sn_world.specs.World.{World, Turn, world_of, turn_of}
 use Rattle.sn_world.proofs.BufferSteps.{IsSet, each-at, overlaps-set, set_pictures, set_world}

@@ -10,8 +10,8 @@ use Rattle.sn_mem.specs.Blocks.{window, put, sample_in, word_for}
 use Rattle.sn_mem.proofs.BusLaws.{sample_in-word_for}
 use Rattle.sn_mem.proofs.Meetings.{covered}
 use Rattle.sn_mem.proofs.Steps.{length-window}
-use Rattle.sn_mem.proofs.Windows.{window_put}
-use Rattle.sn_world.specs.Buffers.{samples_of}
+use Rattle.sn_mem.proofs.Windows.{window_at, window_put}
+use Rattle.sn_mem.specs.Buffers.{samples_of}
 use Rattle.sn_world.specs.BufferNumbers.{set_from}
 use Rattle.sn_buscmd.specs.Samples.{KeepsAround}
 
@@ -53,6 +53,17 @@ last_touched f e i may low = touched f (e.at + (e.len - 1)) (may.each (e.len - 1
 
 pub length-samples : (ws : List ℕ) (e : Extent) → length (samples_of ws e) ≡ e.len
 length-samples ws e = length-map (window ws e.at e.len) sample_in ∙ length-window ws e.at e.len
+
+-- ---- a sample that is read
+
+in_word : (xs : List ℕ) (i : ℕ) → i < length xs → sample_in (get_or xs i 0) ≡ get_or (map sample_in xs) i (pos 0)
+in_word [] i lt = absurd (omega arith)
+in_word (x ∷ xs) zero lt = refl
+in_word (x ∷ xs) (suc i) lt = in_word xs i (omega arith)
+
+pub read_sample : (ws : List ℕ) (e : Extent) (i : ℕ) → i < e.len → sample_in (get_or ws (e.at + i) 0) ≡ get_or (samples_of ws e) i (pos 0)
+read_sample ws e i lt =
+    ap sample_in (sym (window_at ws e.at e.len i lt)) ∙ in_word (window ws e.at e.len) i (omega (arith, lt, length-window ws e.at e.len))
 
 -- ---- samples in a row
 

@@ -1,21 +1,12 @@
--- What the tests rest on: a message that was decoded can be answered, and words that are all 0 are a picture.
-use Rattle.std.proofs.Common.{◌≡◌, ◌≤◌, ◌<◌, ◌+◌, ℕ, List, true, false, length, refl, ap, arith}
+-- What the tests rest on: words that are all 0 are a picture.
+use Rattle.std.proofs.Common.{◌≡◌, ◌≤◌, ◌<◌, ◌+◌, ℕ, List, true, false, length, refl, arith}
 use Rattle.std.proofs.lemmas.Bool.{or_left}
-use Rattle.sn_osc.specs.Shape.{MessageShape, message}
-use Rattle.sn_osc.specs.Grammar.{Spells}
-use Rattle.sn_osc.proofs.Encoded.{packet_is}
 use Rattle.sn_mem.specs.Words.{covers, writes, everything}
 use Rattle.sn_mem.proofs.Meetings.{covered}
-use Rattle.sn_reply.specs.Sending.{IsAnswerable}
 use Rattle.sn_world.specs.declared.stage.Stage.{Stage}
 use Rattle.sn_world.specs.Opening.{IsOpening}
 use Rattle.sn_world.specs.Pictures.{Pictures, WritesWorld}
 use Rattle.sn_world.proofs.BufferLaws.{opening_are, opening_live, no-times}
-
-pub decoded_answerable : (m : MessageShape) (bytes : List ℕ) → length bytes ≤ 65536 → Spells (message m) bytes → IsAnswerable m
-decoded_answerable m bytes few spelled =
-    let is = packet_is (message m) 8 1 bytes spelled in
-    record { valid = is.1; short = omega (arith, few, ap length is.0) }
 
 pub opening_pictured : (rate memory : ℕ) (stage : Stage) (words : List ℕ) → IsOpening rate memory 1 stage → 0 < rate → rate ≤ 96000 → 10368 + memory < 4294967296 → 10368 + memory ≤ length words → Pictures stage words
 opening_pictured rate memory stage words o some small bounded fits = record {

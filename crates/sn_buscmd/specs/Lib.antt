@@ -2,3 +2,4 @@ pub mod Setting
 pub mod Given
 pub mod Census
 pub mod Samples
+pub mod SampleCommands

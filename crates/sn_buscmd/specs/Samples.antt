@@ -5,12 +5,12 @@ use Rattle.sn_mem.specs.declared.extents.Extent.{Extent}
 use Rattle.sn_mem.specs.Words.{covers}
 use Rattle.sn_pool.specs.Pools.{PoolState, times, room_of, mark_of, saved_of}
 use Rattle.sn_pool.specs.Regions.{IsFree, least_place}
-use Rattle.sn_pool.specs.declared.places.BufferPlace.{BufferPlace}
+use Rattle.sn_mem.specs.declared.buffers.BufferPlace.{BufferPlace}
 use Rattle.sn_world.specs.declared.buffer_repetition.NewBuffer.{NewBuffer}
 use Rattle.sn_osc.specs.Shape.{Argument, int, arguments, MessageShape}
 use Rattle.sn_world.specs.declared.buffer_repetition.BufferNumber.{BufferNumber}
 use Rattle.sn_world.specs.BufferNumbers.{at_number}
-use Rattle.sn_world.specs.Buffers.{place_extents}
+use Rattle.sn_mem.specs.Buffers.{place_extents}
 
 -- all words but those of an extent stay as they were
 pub record KeepsAround (e : Extent) (old new : List ℕ) : Type 0 where

@@ -102,7 +102,7 @@ pub fn run_get<P: Port>(
     let Some(all) = some_of(singles::<BusNumber>(alloc, arguments)?) else {
         return Ok(Some(Reason::Arguments));
     };
-    if let Some(reason) = first_refusal(&all) {
+    if let Some(reason) = first_refusal(&all, ()) {
         return Ok(Some(reason));
     }
     let message = answer(alloc, port, &all)?;

@@ -1,5 +1,5 @@
 //! Questions for the values of runs of buses.
-ghost use Rattle.std.specs.Prelude.{◌≡◌, ◌+◌, ◌*◌, ◌^◌, ◌<◌, ◌≤◌, ◌++◌, nat_abs, nat_le, length, map, None, IfOk, OnOk};
+ghost use Rattle.std.specs.Prelude.{◌≡◌, ◌+◌, ◌*◌, ◌^◌, ◌<◌, ◌≤◌, ◌++◌, nat_abs, length, map, None, IfOk, OnOk};
 ghost use Rattle.sn_osc.specs.Shape.{argument_of, message_of};
 ghost use Rattle.sn_reply.specs.Sending.{IsSendable};
 ghost use Rattle.sn_mem.specs.Buses.{control_buses};
@@ -13,6 +13,7 @@ ghost use Rattle.sn_world.specs.Answers.{Follows, UnlessFollowed};
 ghost use Rattle.sn_buscmd.specs.Setting.{place_refusal};
 
 use crate::asking::value_at;
+use crate::counting::asks_few;
 use crate::judging::first_refusal;
 use sn_mem::Port;
 use sn_osc::{Arg, Args, Body, Message};
@@ -20,23 +21,6 @@ use sn_ports::{NoMemory, Text};
 use sn_reply::{Reason, Replies, To};
 use sn_world::{Run, pairs, some_of};
 use std::alloc::Global;
-
-/// The most values that a message asks for.
-const MOST_VALUES: u32 = 8192;
-
-/// Whether a message asks for no more values than it may.
-fn asks_few(runs: &[Run]) -> bool
-    ensures { result ≡ nat_le (total_count runs.now) most_values }
-{
-    let mut left = MOST_VALUES;
-    for run in runs {
-        if left < run.count {
-            return false;
-        }
-        left -= run.count;
-    }
-    true
-}
 
 /// Puts the values of control buses in a row behind arguments.
 fn push_values<P: Port>(port: &mut P, run: &Run, found: &mut Vec<Arg>) -> Result<(), NoMemory>
@@ -114,7 +98,7 @@ pub fn run_get_runs<P: Port>(
     if !asks_few(&all) {
         return Ok(Some(Reason::Arguments));
     }
-    if let Some(reason) = first_refusal(&all) {
+    if let Some(reason) = first_refusal(&all, ()) {
         return Ok(Some(reason));
     }
     let message = answer(alloc, port, &all)?;

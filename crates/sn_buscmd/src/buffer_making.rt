@@ -12,9 +12,9 @@ ghost use Rattle.sn_buscmd.specs.Samples.{IsNew, Places, MayGo, IsGone, IsLive};
 
 use crate::buffers::{find, is_number, tell_done};
 use crate::samples::fill_samples;
-use sn_mem::{Extent, Port};
+use sn_mem::{BufferPlace, Extent, Port};
 use sn_osc::Arg;
-use sn_pool::{BufferPlace, Pool, Untaken};
+use sn_pool::{Pool, Untaken};
 use sn_ports::NoMemory;
 use sn_reply::{Reason, Replies};
 use sn_world::{NewBuffer, Single, Stage};

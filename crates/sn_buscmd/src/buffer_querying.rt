@@ -11,8 +11,8 @@ ghost use Rattle.sn_buscmd.specs.Samples.{place_info, place_infos, place_answer,
 
 use crate::buffers::{find, is_number};
 use crate::judging::{Judged, first_refusal};
+use sn_mem::BufferPlace;
 use sn_osc::{Arg, Message};
-use sn_pool::BufferPlace;
 use sn_ports::NoMemory;
 use sn_reply::{Answer, Reason, Replies, To};
 use sn_world::{BufferNumber, Stage, singles, some_of};
@@ -27,10 +27,10 @@ fn number_refusal(number: i32) -> Option<Reason>
     None
 }
 
-impl Judged for BufferNumber {
-    ghost judge = { λ r. number_refusal r.number };
+impl Judged<()> for BufferNumber {
+    ghost judge = { λ by r. number_refusal r.number };
 
-    fn refusal(&self) -> Option<Reason> {
+    fn refusal(&self, _by: ()) -> Option<Reason> {
         number_refusal(self.number)
     }
 }
@@ -90,7 +90,7 @@ pub fn run_buffer_query(
     let Some(all) = some_of(singles::<BufferNumber>(alloc, arguments)?) else {
         return Ok(Some(Reason::Arguments));
     };
-    if let Some(reason) = first_refusal(&all) {
+    if let Some(reason) = first_refusal(&all, ()) {
         return Ok(Some(reason));
     }
     let message = answer(alloc, stage, &all)?;

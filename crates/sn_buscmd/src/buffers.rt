@@ -6,11 +6,10 @@ ghost use Rattle.sn_reply.specs.declared.replies.To.TheVariants.{Client};
 ghost use Rattle.sn_world.specs.BufferNumbers.{is_number, at_number, done_with};
 ghost use Rattle.sn_world.specs.BufferCommands.{one_number};
 
+use sn_mem::{BufferPlace, Buffers};
 use sn_osc::Arg;
-use sn_pool::BufferPlace;
 use sn_ports::NoMemory;
 use sn_reply::{Answer, Replies, To};
-use sn_world::Buffers;
 use std::alloc::Global;
 
 /// Whether a buffer may have the number.

@@ -67,7 +67,7 @@ pub fn run_fill<P: Port>(
     let Some(all) = some_of(triples::<BusFill>(alloc, arguments)?) else {
         return Ok(Some(Reason::Arguments));
     };
-    if let Some(reason) = first_refusal(&all) {
+    if let Some(reason) = first_refusal(&all, ()) {
         return Ok(Some(reason));
     }
     fill_runs(port, &all);

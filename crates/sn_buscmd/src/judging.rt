@@ -7,16 +7,17 @@ use sn_mem::Places;
 use sn_reply::Reason;
 use sn_world::{BusFill, BusNumber, BusValue, Run, ValueRun};
 
-/// What a message repeats, where no repetition changes what is against another.
-pub trait Judged {
+/// What a message repeats, where no repetition changes what is against another. It is judged by itself, or by something that is the
+/// same for all of them, as the number of samples of a buffer.
+pub trait Judged<By> {
     ghost use Rattle.std.specs.Prelude.{Option, ◌≡◌};
     ghost use Rattle.sn_reply.specs.declared.reason.Reason.{Reason};
 
-    ghost judge: { Self → Option Reason };
+    ghost judge: { By → Self → Option Reason };
 
     /// The reason against it.
-    fn refusal(&self) -> Option<Reason>
-        ensures { result ≡ judge self.now };
+    fn refusal(&self, by: By) -> Option<Reason>
+        ensures { result ≡ judge by self.now };
 }
 
 fn is_bus(bus: i32) -> bool
@@ -62,54 +63,54 @@ fn run_refusal(bus: i32, count: u64) -> Option<Reason>
     None
 }
 
-impl Judged for BusValue {
-    ghost judge = { λ r. bus_refusal r.bus };
+impl Judged<()> for BusValue {
+    ghost judge = { λ by r. bus_refusal r.bus };
 
-    fn refusal(&self) -> Option<Reason> {
+    fn refusal(&self, _by: ()) -> Option<Reason> {
         bus_refusal(self.bus)
     }
 }
 
-impl Judged for BusNumber {
-    ghost judge = { λ r. bus_refusal r.bus };
+impl Judged<()> for BusNumber {
+    ghost judge = { λ by r. bus_refusal r.bus };
 
-    fn refusal(&self) -> Option<Reason> {
+    fn refusal(&self, _by: ()) -> Option<Reason> {
         bus_refusal(self.bus)
     }
 }
 
-impl Judged for BusFill {
-    ghost judge = { λ r. run_refusal r.bus r.count };
+impl Judged<()> for BusFill {
+    ghost judge = { λ by r. run_refusal r.bus r.count };
 
-    fn refusal(&self) -> Option<Reason> {
+    fn refusal(&self, _by: ()) -> Option<Reason> {
         run_refusal(self.bus, u64::from(self.count))
     }
 }
 
-impl Judged for Run {
-    ghost judge = { λ r. run_refusal r.first r.count };
+impl Judged<()> for Run {
+    ghost judge = { λ by r. run_refusal r.first r.count };
 
-    fn refusal(&self) -> Option<Reason> {
+    fn refusal(&self, _by: ()) -> Option<Reason> {
         run_refusal(self.first, u64::from(self.count))
     }
 }
 
-impl Judged for ValueRun {
+impl Judged<()> for ValueRun {
     ghost use Rattle.std.specs.Prelude.{length};
 
-    ghost judge = { λ r. run_refusal r.first (length r.values) };
+    ghost judge = { λ by r. run_refusal r.first (length r.values) };
 
-    fn refusal(&self) -> Option<Reason> {
+    fn refusal(&self, _by: ()) -> Option<Reason> {
         run_refusal(self.first(), self.values().len() as u64)
     }
 }
 
 /// The first reason against any of the repetitions.
-pub fn first_refusal<R: Judged>(repetitions: &[R]) -> Option<Reason>
-    ensures { result ≡ first_refusal R.judge repetitions.now }
+pub fn first_refusal<By: Copy, R: Judged<By>>(repetitions: &[R], by: By) -> Option<Reason>
+    ensures { result ≡ first_refusal (R.judge by) repetitions.now }
 {
     for repetition in repetitions {
-        if let Some(reason) = repetition.refusal() {
+        if let Some(reason) = repetition.refusal(by) {
             return Some(reason);
         }
     }

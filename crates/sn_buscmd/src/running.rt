@@ -1,5 +1,5 @@
 //! Messages that are run as commands.
-ghost use Rattle.std.specs.Prelude.{◌≡◌, ◌+◌, ◌*◌, ◌^◌, ◌<◌, List, length, map, IfSome};
+ghost use Rattle.std.specs.Prelude.{◌≡◌, ◌+◌, ◌*◌, ◌^◌, ◌<◌, Some, Ok, List, length, map, IfSome};
 ghost use Rattle.std.specs.Option.{option_map};
 ghost use Rattle.std.specs.Borrow.{Bor};
 ghost use Rattle.sn_osc.specs.declared.packet.Arg.{Arg};
@@ -7,8 +7,10 @@ ghost use Rattle.sn_osc.specs.Shape.{argument_of, body_of, message_of};
 ghost use Rattle.sn_reply.specs.Sending.{IsAnswerable};
 ghost use Rattle.sn_world.specs.World.{turn_of};
 ghost use Rattle.sn_world.specs.Pictures.{Pictures, WritesWorld, KeepsOutside};
-ghost use Rattle.sn_world.specs.Commands.{bus_command_of, bus_row, run_bus, next_of, done_with};
-ghost use Rattle.sn_world.specs.Answers.{Follows, UnlessFollowed, Handles, UnlessDone, IsNext};
+ghost use Rattle.sn_osc.specs.Reading.{read};
+ghost use Rattle.sn_world.specs.Completing.{one_message};
+ghost use Rattle.sn_world.specs.Commands.{bus_command_of, bus_row, carrying_row, run_bus, next_alone, next_with, next_of, done_with};
+ghost use Rattle.sn_world.specs.Answers.{Follows, UnlessFollowed, Handles, UnlessDone, IsNext, NextHas};
 ghost use Rattle.sn_buscmd.specs.Given.{ArgumentsOf};
 
 use crate::asking::run_get;
@@ -17,10 +19,13 @@ use crate::buffer_freeing::run_buffer_free;
 use crate::buffer_making::run_buffer_alloc;
 use crate::buffer_querying::run_buffer_query;
 use crate::buffer_zeroing::run_buffer_zero;
+use crate::completing::{carried, completion_in, own};
 use crate::ending::{run_clear, run_quit};
 use crate::filling::run_fill;
 use crate::freeing::run_free;
 use crate::receiving::run_receive;
+use crate::sample_changes::{run_fill_samples, run_set_sample_runs, run_set_samples};
+use crate::sample_questions::{run_get_sample_runs, run_get_samples};
 use crate::setting::run_set;
 use crate::setting_runs::run_set_runs;
 use crate::status::run_status;
@@ -32,7 +37,8 @@ use sn_reply::{Reason, Replies};
 use sn_world::{BusCommand, Handled, Stage};
 use std::alloc::Global;
 
-fn bus_command_of(address: &[u8]) -> Option<BusCommand>
+/// The command with an address.
+pub fn bus_command_of(address: &[u8]) -> Option<BusCommand>
     ensures { result ≡ bus_command_of address.now }
 {
     if address == b"/c_set".as_slice() {
@@ -61,6 +67,21 @@ fn bus_command_of(address: &[u8]) -> Option<BusCommand>
     }
     if address == b"/b_query".as_slice() {
         return Some(BusCommand::QueryBuffers);
+    }
+    if address == b"/b_set".as_slice() {
+        return Some(BusCommand::SetSamples);
+    }
+    if address == b"/b_setn".as_slice() {
+        return Some(BusCommand::SetSampleRuns);
+    }
+    if address == b"/b_fill".as_slice() {
+        return Some(BusCommand::FillSamples);
+    }
+    if address == b"/b_get".as_slice() {
+        return Some(BusCommand::GetSamples);
+    }
+    if address == b"/b_getn".as_slice() {
+        return Some(BusCommand::GetSampleRuns);
     }
     if address == b"/sync".as_slice() {
         return Some(BusCommand::Sync);
@@ -128,6 +149,13 @@ fn run_row<P: Port>(
         BusCommand::FreeBuffer => run_buffer_free(alloc, stage, arguments, from, replies),
         BusCommand::ZeroBuffer => run_buffer_zero(alloc, stage, port, arguments, from, replies),
         BusCommand::QueryBuffers => run_buffer_query(alloc, stage, arguments, from, replies),
+        BusCommand::SetSamples => run_set_samples(alloc, stage, port, arguments),
+        BusCommand::SetSampleRuns => run_set_sample_runs(alloc, stage, port, arguments),
+        BusCommand::FillSamples => run_fill_samples(alloc, stage, port, arguments),
+        BusCommand::GetSamples => run_get_samples(alloc, stage, port, arguments, from, replies),
+        BusCommand::GetSampleRuns => run_get_sample_runs(
+            alloc, stage, port, arguments, from, replies,
+        ),
         BusCommand::Sync => run_sync(alloc, arguments, from, replies),
         BusCommand::Receive => run_receive(alloc, stage, arguments, from, replies),
         BusCommand::Free => run_free(alloc, stage, arguments),
@@ -137,9 +165,10 @@ fn run_row<P: Port>(
     }
 }
 
-/// How it is told that a command was carried out.
+/// How it is told that a command was carried out that carries no completion message.
 fn done_with(command: BusCommand) -> Handled
-    ensures { result ≡ done_with command }
+    ensures told { result ≡ done_with command }
+    ensures alone { NextHas IsAnswerable (Ok result) }
 {
     match command {
         BusCommand::ClearSched => Handled::ClearSched,
@@ -148,9 +177,73 @@ fn done_with(command: BusCommand) -> Handled
     }
 }
 
+/// A command that carries no completion message.
+fn run_alone<P: Port>(
+    alloc: Global,
+    stage: &mut Stage,
+    port: &mut P,
+    command: BusCommand,
+    arguments: &[Arg],
+    from: u32,
+    replies: &mut Replies,
+) -> Result<Handled, NoMemory>
+    requires few { 20 * length arguments.now + 2 ^ 20 < 2 ^ 31 }
+    requires pictures { Pictures stage.old (P.words port.old) }
+    requires foot { WritesWorld (P.foot port.old) stage.old.pool.region }
+    ensures row { Handles result (Some (bus_row command from (map argument_of arguments.now) (turn_of stage.old (P.words port.old) replies.old))) (turn_of stage.new (P.words port.new) replies.new) }
+    ensures next { IsNext result (next_alone command) }
+    ensures answerable { NextHas IsAnswerable result }
+    ensures unchanged { UnlessDone result (turn_of stage.new (P.words port.new) replies.new ≡ turn_of stage.old (P.words port.old) replies.old) }
+    ensures pictures { Pictures stage.new (P.words port.new) }
+    ensures region { stage.new.pool.region ≡ stage.old.pool.region }
+    ensures others { KeepsOutside stage.old.pool.region (P.words port.old) (P.words port.new) }
+    ensures len { length (P.words port.new) ≡ length (P.words port.old) }
+    ensures foot { P.foot port.new ≡ P.foot port.old }
+    ensures rest { P.rest port.new ≡ P.rest port.old }
+{
+    match run_row(alloc, stage, port, command, arguments, from, replies)? {
+        None => Ok(done_with(command)),
+        Some(reason) => Ok(Handled::Failed(reason)),
+    }
+}
+
+/// A command with the blob behind its own arguments.
+fn run_carrying<P: Port>(
+    alloc: Global,
+    stage: &mut Stage,
+    port: &mut P,
+    command: BusCommand,
+    arguments: &[Arg],
+    blob: &[u8],
+    from: u32,
+    replies: &mut Replies,
+) -> Result<Handled, NoMemory>
+    requires few { 20 * length arguments.now + 2 ^ 20 < 2 ^ 31 }
+    requires pictures { Pictures stage.old (P.words port.old) }
+    requires foot { WritesWorld (P.foot port.old) stage.old.pool.region }
+    ensures row { Handles result (Some (carrying_row command (Some blob.now) from (map argument_of arguments.now) (turn_of stage.old (P.words port.old) replies.old))) (turn_of stage.new (P.words port.new) replies.new) }
+    ensures next { IsNext result (next_with command (one_message (read blob.now))) }
+    ensures answerable { NextHas IsAnswerable result }
+    ensures unchanged { UnlessDone result (turn_of stage.new (P.words port.new) replies.new ≡ turn_of stage.old (P.words port.old) replies.old) }
+    ensures pictures { Pictures stage.new (P.words port.new) }
+    ensures region { stage.new.pool.region ≡ stage.old.pool.region }
+    ensures others { KeepsOutside stage.old.pool.region (P.words port.old) (P.words port.new) }
+    ensures len { length (P.words port.new) ≡ length (P.words port.old) }
+    ensures foot { P.foot port.new ≡ P.foot port.old }
+    ensures rest { P.rest port.new ≡ P.rest port.old }
+{
+    let Some(completion) = completion_in(alloc, blob)? else {
+        return Ok(Handled::Failed(Reason::Arguments));
+    };
+    match run_row(alloc, stage, port, command, own(arguments), from, replies)? {
+        None => Ok(Handled::Completion(completion)),
+        Some(reason) => Ok(Handled::Failed(reason)),
+    }
+}
+
 /// Runs a message from a client, where it is a command on control buses, on buffers, on definitions or on the server itself.
 ///
-/// `Done` comes where the command was carried out, `Quit` and `ClearSched` where it was the command of that name, `Failed` with the first reason against it, and `NotMine` where the address is that of
+/// `Done` comes where the command was carried out, `Completion` where one was that carries a completion message, `Quit` and `ClearSched` where it was the command of that name, `Failed` with the first reason against it, and `NotMine` where the address is that of
 /// another command or of none. `Failed` and `NotMine` leave the world and the
 /// replies as they were.
 pub fn run_bus_command<P: Port>(
@@ -165,7 +258,8 @@ pub fn run_bus_command<P: Port>(
     requires pictures { Pictures stage.old (P.words port.old) }
     requires foot { WritesWorld (P.foot port.old) stage.old.pool.region }
     ensures row { Handles result (run_bus from (message_of message.now) (turn_of stage.old (P.words port.old) replies.old)) (turn_of stage.new (P.words port.new) replies.new) }
-    ensures next { IsNext result (next_of (bus_command_of (message_of message.now).address)) }
+    ensures next { IsNext result (next_of (bus_command_of (message_of message.now).address) (message_of message.now).body) }
+    ensures answerable { NextHas IsAnswerable result }
     ensures unchanged { UnlessDone result (turn_of stage.new (P.words port.new) replies.new ≡ turn_of stage.old (P.words port.old) replies.old) }
     ensures pictures { Pictures stage.new (P.words port.new) }
     ensures region { stage.new.pool.region ≡ stage.old.pool.region }
@@ -180,8 +274,8 @@ pub fn run_bus_command<P: Port>(
     let Some(arguments) = arguments_of(message) else {
         return Ok(Handled::Failed(Reason::ArgumentType));
     };
-    match run_row(alloc, stage, port, command, arguments, from, replies)? {
-        None => Ok(done_with(command)),
-        Some(reason) => Ok(Handled::Failed(reason)),
+    match carried(command, arguments) {
+        None => run_alone(alloc, stage, port, command, arguments, from, replies),
+        Some(blob) => run_carrying(alloc, stage, port, command, arguments, blob, from, replies),
     }
 }

@@ -74,7 +74,7 @@ pub fn run_set<P: Port>(
     let Some(all) = some_of(pairs::<BusValue>(alloc, arguments)?) else {
         return Ok(Some(Reason::Arguments));
     };
-    if let Some(reason) = first_refusal(&all) {
+    if let Some(reason) = first_refusal(&all, ()) {
         return Ok(Some(reason));
     }
     set_buses(port, &all);

@@ -69,7 +69,7 @@ pub fn run_set_runs<P: Port>(
     let Some(all) = some_of(value_runs(alloc, arguments)?) else {
         return Ok(Some(Reason::Arguments));
     };
-    if let Some(reason) = first_refusal(&all) {
+    if let Some(reason) = first_refusal(&all, ()) {
         return Ok(Some(reason));
     }
     set_runs(port, &all);

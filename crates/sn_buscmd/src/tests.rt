@@ -86,7 +86,7 @@ fn a_bus_is_set_and_asked(rt: HostRuntime) -> Result<(), Fail> {
         &mut port,
         b"/c_set\0\0,ii\0\0\0\0\x03\xff\xff\xff\xfb",
     )?;
-    assert_eq!(rt; handled, Handled::Done);
+    assert!(rt; matches!(handled, Handled::Done));
     assert_eq!(rt; frames.as_slice(), b"".as_slice());
     let (handled, frames) = told(
         alloc,
@@ -94,13 +94,13 @@ fn a_bus_is_set_and_asked(rt: HostRuntime) -> Result<(), Fail> {
         &mut port,
         b"/c_get\0\0,ii\0\0\0\0\x03\0\0\x03\xff",
     )?;
-    assert_eq!(rt; handled, Handled::Done);
+    assert!(rt; matches!(handled, Handled::Done));
     assert_eq!(rt;
         frames.as_slice(),
         b"\0\0\0\x20/c_set\0\0,iiii\0\0\0\0\0\0\x03\xff\xff\xff\xfb\0\0\x03\xff\0\0\0\0".as_slice()
     );
     let (handled, frames) = told(alloc, &mut stage, &mut port, b"/c_get\0\0,i\0\0\0\0\x04\0")?;
-    assert_eq!(rt; handled, Handled::Failed(Reason::Bus));
+    assert!(rt; matches!(handled, Handled::Failed(Reason::Bus)));
     assert_eq!(rt; frames.as_slice(), b"".as_slice());
     Ok(())
 }
@@ -115,7 +115,7 @@ fn a_run_of_buses_is_filled(rt: HostRuntime) -> Result<(), Fail> {
         &mut port,
         b"/c_fill\0,iii\0\0\0\0\0\0\x03\xfe\0\0\0\x02\0\0\0\x09",
     )?;
-    assert_eq!(rt; handled, Handled::Done);
+    assert!(rt; matches!(handled, Handled::Done));
     assert_eq!(rt; frames.as_slice(), b"".as_slice());
     let (handled, frames) = told(
         alloc,
@@ -123,7 +123,7 @@ fn a_run_of_buses_is_filled(rt: HostRuntime) -> Result<(), Fail> {
         &mut port,
         b"/c_get\0\0,iii\0\0\0\0\0\0\x03\xfd\0\0\x03\xfe\0\0\x03\xff",
     )?;
-    assert_eq!(rt; handled, Handled::Done);
+    assert!(rt; matches!(handled, Handled::Done));
     assert_eq!(rt;
         frames.as_slice(),
         b"\0\0\0\x28/c_set\0\0,iiiiii\0\0\0\x03\xfd\0\0\0\0\0\0\x03\xfe\0\0\0\x09\0\0\x03\xff\0\0\0\x09".as_slice()
@@ -134,14 +134,14 @@ fn a_run_of_buses_is_filled(rt: HostRuntime) -> Result<(), Fail> {
         &mut port,
         b"/c_fill\0,iii\0\0\0\0\0\0\x04\0\0\0\0\0\0\0\0\x09",
     )?;
-    assert_eq!(rt; handled, Handled::Failed(Reason::Bus));
+    assert!(rt; matches!(handled, Handled::Failed(Reason::Bus)));
     let (handled, _) = told(
         alloc,
         &mut stage,
         &mut port,
         b"/c_fill\0,iii\0\0\0\0\0\0\0\0\xff\xff\xff\xff\0\0\0\x09",
     )?;
-    assert_eq!(rt; handled, Handled::Failed(Reason::Arguments));
+    assert!(rt; matches!(handled, Handled::Failed(Reason::Arguments)));
     Ok(())
 }
 
@@ -155,14 +155,14 @@ fn a_run_of_buses_is_set_and_asked(rt: HostRuntime) -> Result<(), Fail> {
         &mut port,
         b"/c_setn\0,iiii\0\0\0\0\0\x03\xfe\0\0\0\x02\0\0\0\x05\xff\xff\xff\xff",
     )?;
-    assert_eq!(rt; handled, Handled::Done);
+    assert!(rt; matches!(handled, Handled::Done));
     let (handled, frames) = told(
         alloc,
         &mut stage,
         &mut port,
         b"/c_getn\0,ii\0\0\0\x03\xfd\0\0\0\x03",
     )?;
-    assert_eq!(rt; handled, Handled::Done);
+    assert!(rt; matches!(handled, Handled::Done));
     assert_eq!(rt;
         frames.as_slice(),
         b"\0\0\0\x24/c_setn\0,iiiii\0\0\0\0\x03\xfd\0\0\0\x03\0\0\0\0\0\0\0\x05\xff\xff\xff\xff".as_slice()
@@ -175,13 +175,13 @@ fn a_client_waits_for_an_answer(rt: HostRuntime) -> Result<(), Fail> {
     let alloc = rt.alloc();
     let (mut stage, mut port) = opened(alloc, 1024)?;
     let (handled, frames) = told(alloc, &mut stage, &mut port, b"/sync\0\0\0,i\0\0\0\0\0\x07")?;
-    assert_eq!(rt; handled, Handled::Done);
+    assert!(rt; matches!(handled, Handled::Done));
     assert_eq!(rt;
         frames.as_slice(),
         b"\0\0\0\x10/synced\0,i\0\0\0\0\0\x07".as_slice()
     );
     let (handled, _) = told(alloc, &mut stage, &mut port, b"/a\0\0,\0\0\0")?;
-    assert_eq!(rt; handled, Handled::NotMine);
+    assert!(rt; matches!(handled, Handled::NotMine));
     Ok(())
 }
 
@@ -190,10 +190,10 @@ fn a_definition_is_received(rt: HostRuntime) -> Result<(), Fail> {
     let alloc = rt.alloc();
     let (mut stage, mut port) = opened(alloc, 1024)?;
     let (handled, frames) = told(alloc, &mut stage, &mut port, TONE)?;
-    assert_eq!(rt; handled, Handled::Done);
+    assert!(rt; matches!(handled, Handled::Done));
     assert_eq!(rt; frames.as_slice(), DONE);
     let (handled, frames) = told(alloc, &mut stage, &mut port, CUT)?;
-    assert_eq!(rt; handled, Handled::Failed(Reason::DefinitionLine(5)));
+    assert!(rt; matches!(handled, Handled::Failed(Reason::DefinitionLine(5))));
     assert_eq!(rt; frames.as_slice(), b"".as_slice());
     assert!(rt; stage.defs.named(b"tone").is_some());
     Ok(())
@@ -204,17 +204,100 @@ fn definitions_are_counted_and_forgotten(rt: HostRuntime) -> Result<(), Fail> {
     let alloc = rt.alloc();
     let (mut stage, mut port) = opened(alloc, 1024)?;
     let (handled, _) = told(alloc, &mut stage, &mut port, TONE)?;
-    assert_eq!(rt; handled, Handled::Done);
+    assert!(rt; matches!(handled, Handled::Done));
     let (handled, frames) = told(alloc, &mut stage, &mut port, b"/status\0,\0\0\0")?;
-    assert_eq!(rt; handled, Handled::Done);
+    assert!(rt; matches!(handled, Handled::Done));
     assert_eq!(rt;
         frames.as_slice(),
         b"\0\0\0\x2c/status.reply\0\0\0,iiiii\0\0\0\0\0\x01\0\0\0\0\0\0\0\0\0\0\0\x01\0\0\0\x01".as_slice()
     );
     let (handled, frames) = told(alloc, &mut stage, &mut port, b"/d_free\0,s\0\0tone\0\0\0\0")?;
-    assert_eq!(rt; handled, Handled::Done);
+    assert!(rt; matches!(handled, Handled::Done));
     assert_eq!(rt; frames.as_slice(), b"".as_slice());
     let (handled, _) = told(alloc, &mut stage, &mut port, b"/d_free\0,s\0\0tone\0\0\0\0")?;
-    assert_eq!(rt; handled, Handled::Failed(Reason::NoSuchDefinition));
+    assert!(rt; matches!(handled, Handled::Failed(Reason::NoSuchDefinition)));
+    Ok(())
+}
+
+#[test]
+fn samples_are_set_filled_and_asked(rt: HostRuntime) -> Result<(), Fail> {
+    let alloc = rt.alloc();
+    let (mut stage, mut port) = opened(alloc, 1024)?;
+    let (handled, frames) = told(
+        alloc,
+        &mut stage,
+        &mut port,
+        b"/b_alloc\0\0\0\0,ii\0\0\0\0\0\0\0\0\x04",
+    )?;
+    assert!(rt; matches!(handled, Handled::Done));
+    assert_eq!(rt;
+        frames.as_slice(),
+        b"\0\0\0\x1c/done\0\0\0,si\0/b_alloc\0\0\0\0\0\0\0\0".as_slice()
+    );
+    let (handled, frames) = told(
+        alloc,
+        &mut stage,
+        &mut port,
+        b"/b_set\0\0,iiiii\0\0\0\0\0\0\0\0\0\x01\0\0\0\x07\0\0\0\x03\xff\xff\xff\xf7",
+    )?;
+    assert!(rt; matches!(handled, Handled::Done));
+    assert_eq!(rt; frames.as_slice(), b"".as_slice());
+    let (handled, frames) = told(
+        alloc,
+        &mut stage,
+        &mut port,
+        b"/b_get\0\0,iii\0\0\0\0\0\0\0\0\0\0\0\x01\0\0\0\x03",
+    )?;
+    assert!(rt; matches!(handled, Handled::Done));
+    assert_eq!(rt;
+        frames.as_slice(),
+        b"\0\0\0\x24/b_set\0\0,iiiii\0\0\0\0\0\0\0\0\0\x01\0\0\0\x07\0\0\0\x03\xff\xff\xff\xf7".as_slice()
+    );
+    let (handled, _) = told(
+        alloc,
+        &mut stage,
+        &mut port,
+        b"/b_set\0\0,iii\0\0\0\0\0\0\0\0\0\0\0\x04\0\0\0\x01",
+    )?;
+    assert!(rt; matches!(handled, Handled::Failed(Reason::SampleIndex)));
+    Ok(())
+}
+
+#[test]
+fn runs_of_samples_are_set_filled_and_asked(rt: HostRuntime) -> Result<(), Fail> {
+    let alloc = rt.alloc();
+    let (mut stage, mut port) = opened(alloc, 1024)?;
+    let (handled, _) = told(
+        alloc,
+        &mut stage,
+        &mut port,
+        b"/b_alloc\0\0\0\0,ii\0\0\0\0\0\0\0\0\x04",
+    )?;
+    assert!(rt; matches!(handled, Handled::Done));
+    let (handled, _) = told(
+        alloc,
+        &mut stage,
+        &mut port,
+        b"/b_fill\0,iiii\0\0\0\0\0\0\0\0\0\0\x02\0\0\0\x02\0\0\0\x05",
+    )?;
+    assert!(rt; matches!(handled, Handled::Done));
+    let (handled, _) = told(
+        alloc,
+        &mut stage,
+        &mut port,
+        b"/b_setn\0,iiiii\0\0\0\0\0\0\0\0\0\x01\0\0\0\x02\0\0\0\x07\xff\xff\xff\xf7",
+    )?;
+    assert!(rt; matches!(handled, Handled::Done));
+    let (handled, frames) = told(
+        alloc,
+        &mut stage,
+        &mut port,
+        b"/b_getn\0,iii\0\0\0\0\0\0\0\0\0\0\0\0\0\0\0\x04",
+    )?;
+    assert!(rt; matches!(handled, Handled::Done));
+    assert_eq!(rt;
+        frames.as_slice(),
+        b"\0\0\0\x30/b_setn\0,iiiiiii\0\0\0\0\0\0\0\0\0\0\0\0\0\0\0\x04\0\0\0\0\0\0\0\x07\xff\xff\xff\xf7\0\0\0\x05".as_slice()
+    );
     Ok(())
 }

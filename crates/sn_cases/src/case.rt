@@ -1,7 +1,25 @@
 //! What a script asks for, and what is to come of it.
 use crate::bytes::put_sized;
 use sn_ports::{NoMemory, Text, Word};
+use sn_server::Ended;
 use std::alloc::Global;
+use std::mem;
+
+/// What comes over a connection.
+#[derive(Drop)]
+pub enum Step {
+    Bytes(Text),
+    /// So many blocks are due.
+    Ticks(u32),
+}
+
+/// A connection: when its block 0 begins, what comes over it, and how it is to end.
+#[derive(Drop)]
+pub struct Connection {
+    pub base: u64,
+    pub steps: Vec<Step>,
+    pub ending: Option<Ended>,
+}
 
 /// A stream of commands with its settings, and what is to come of it.
 #[derive(Drop)]
@@ -19,6 +37,8 @@ pub struct Case {
     pub sound: Text,
     /// The number of blocks, where the script says it.
     pub blocks: Option<u64>,
+    /// The connection that is served, where the stream is not rendered.
+    pub connection: Option<Connection>,
 }
 
 impl Case {
@@ -33,6 +53,7 @@ impl Case {
             replies: Text::new(alloc),
             sound: Text::new(alloc),
             blocks: None,
+            connection: None,
         })
     }
 
@@ -50,5 +71,16 @@ impl Case {
             Some(bundle) => put_sized(bundle, element.as_slice()),
             None => put_sized(&mut self.stream, element.as_slice()),
         }
+    }
+
+    /// What was put into the stream comes over the connection.
+    pub fn send_stream(&mut self, alloc: Global) -> Result<(), NoMemory> {
+        self.close_bundle()?;
+        let Some(connection) = &mut self.connection else {
+            return Ok(());
+        };
+        let bytes = mem::replace(&mut self.stream, Text::new(alloc));
+        connection.steps.push(Step::Bytes(bytes))?;
+        Ok(())
     }
 }

@@ -1,9 +1,10 @@
-//! Renders scripts of commands, and compares what comes of each with what the script says.
+//! Renders scripts of commands or serves them as a connection, and compares what comes of each with what the script says.
 #![tactic(auto)]
 
 mod bytes;
 mod case;
 mod script;
+mod serving;
 mod trial;
 
 use script::read_cases;

@@ -3,10 +3,15 @@
 //! `case NAME` begins a case, `with KEY=VALUE` gives a setting, `at TAG` begins a bundle, `/address argument ..` is a message,
 //! `raw HEX ..` the bytes of a packet, `> /address argument ..` a reply, `= HEX ..` the first bytes of the sound, `blocks N` its length. `blob NAME /address ..` names
 //! the bytes of a message, and `text NAME` those of the lines up to a line `.`; `@NAME` is such a blob as an argument. An argument
-//! that is a whole number is an int, any other is a string, and so is what stands between two `"`.
+//! that is a whole number is an int, any other is a string, and so is what stands between two `"`. `many N LINE` is a line N times.
+//!
+//! `over TAG` makes a case a connection whose block 0 begins at a time: `ticks N` lets come what stands above it, and then N blocks
+//! are due; `bytes HEX ..` are bytes without a size; and `ends closed`, `ends quit`, `ends cut N` and `ends bad N` say how it ends. `=`
+//! gives the whole sound of a connection.
 use crate::bytes::{Given, bundle_head, message, put_sized};
-use crate::case::Case;
+use crate::case::{Case, Connection, Step};
 use sn_ports::{NoMemory, Text};
+use sn_server::Ended;
 use std::alloc::Global;
 
 /// The cases of a script, and the numbers of the lines that say nothing.
@@ -153,9 +158,81 @@ fn put_command(
     Ok(true)
 }
 
+/// Makes a case a connection whose block 0 begins at a time tag.
+fn put_connection(alloc: Global, case: &mut Case, base: &str) -> bool {
+    let Ok(base) = base.parse::<u64>() else {
+        return false;
+    };
+    case.connection = Some(Connection {
+        base,
+        steps: Vec::new(alloc),
+        ending: None,
+    });
+    true
+}
+
+fn put_ticks(alloc: Global, case: &mut Case, count: &str) -> Result<bool, NoMemory> {
+    let Ok(count) = count.parse::<u32>() else {
+        return Ok(false);
+    };
+    case.send_stream(alloc)?;
+    match &mut case.connection {
+        Some(connection) => {
+            connection.steps.push(Step::Ticks(count))?;
+            Ok(true)
+        }
+        None => Ok(false),
+    }
+}
+
+/// The end that words name.
+fn ending_of(words: &str) -> Option<Ended> {
+    let (word, number) = words.split_once(' ').unwrap_or((words, ""));
+    match word {
+        "closed" => Some(Ended::Closed),
+        "quit" => Some(Ended::Quit),
+        "cut" => match number.parse::<u32>() {
+            Ok(kept) => Some(Ended::Cut { kept }),
+            Err(_) => None,
+        },
+        "bad" => match number.parse::<i32>() {
+            Ok(size) => Some(Ended::BadFrame { size }),
+            Err(_) => None,
+        },
+        _ => None,
+    }
+}
+
+fn put_ending(case: &mut Case, words: &str) -> bool {
+    let Some(connection) = &mut case.connection else {
+        return false;
+    };
+    connection.ending = ending_of(words);
+    connection.ending.is_some()
+}
+
+/// A line of a connection, or none. It answers whether the line says something.
+fn connection_line(
+    alloc: Global,
+    case: &mut Case,
+    word: &str,
+    rest: &str,
+) -> Result<Option<bool>, NoMemory> {
+    match word {
+        "over" => Ok(Some(put_connection(alloc, case, rest))),
+        "ticks" => Ok(Some(put_ticks(alloc, case, rest)?)),
+        "bytes" => Ok(Some(put_hex(&mut case.stream, rest)?)),
+        "ends" => Ok(Some(put_ending(case, rest))),
+        _ => Ok(None),
+    }
+}
+
 /// A line of a case. It answers whether the line says something.
 fn case_line(alloc: Global, blobs: &[Blob], case: &mut Case, line: &str) -> Result<bool, NoMemory> {
     let (word, rest) = line.split_once(' ').unwrap_or((line, ""));
+    if let Some(says) = connection_line(alloc, case, word, rest)? {
+        return Ok(says);
+    }
     match word {
         "with" => {
             put_words(alloc, case, rest)?;
@@ -171,6 +248,28 @@ fn case_line(alloc: Global, blobs: &[Blob], case: &mut Case, line: &str) -> Resu
         ">" => put_reply(alloc, blobs, case, rest),
         _ => put_command(alloc, blobs, case, line),
     }
+}
+
+/// A line so many times, where the number stands before it. It answers whether the line says something.
+fn case_lines(
+    alloc: Global,
+    blobs: &[Blob],
+    case: &mut Case,
+    line: &str,
+) -> Result<bool, NoMemory> {
+    let Some(many) = line.strip_prefix("many ") else {
+        return case_line(alloc, blobs, case, line);
+    };
+    let (number, line) = many.split_once(' ').unwrap_or((many, ""));
+    let Ok(number) = number.parse::<u32>() else {
+        return Ok(false);
+    };
+    for _ in 0..number {
+        if !case_line(alloc, blobs, case, line)? {
+            return Ok(false);
+        }
+    }
+    Ok(true)
 }
 
 impl Reader {
@@ -236,7 +335,7 @@ impl Reader {
             return Ok(true);
         }
         match self.script.cases.last_mut() {
-            Some(case) => case_line(self.alloc, &self.blobs, case, line),
+            Some(case) => case_lines(self.alloc, &self.blobs, case, line),
             None => Ok(false),
         }
     }
@@ -253,7 +352,7 @@ pub fn read_cases(alloc: Global, text: &str) -> Result<Script, NoMemory> {
         }
     }
     for case in reader.script.cases.iter_mut() {
-        case.close_bundle()?;
+        case.send_stream(alloc)?;
         put_words(alloc, case, "commands sound replies")?;
     }
     Ok(reader.script)

@@ -1,5 +1,6 @@
 //! A case, tried.
 use crate::case::Case;
+use crate::serving::try_connection;
 use sn_ports::{Calls, MemorySink, MemorySource, NoMemory, Open, Text};
 use sn_server::{Outcome, render};
 use sn_words::settings;
@@ -7,7 +8,7 @@ use std::alloc::Global;
 use std::thread::Threads;
 
 /// How many bytes of sound and of replies a case may give.
-const CAPACITY: u32 = 4194304;
+pub const CAPACITY: u32 = 4194304;
 
 /// How many bytes stand before the first sample.
 const HEADER: usize = 44;
@@ -20,6 +21,8 @@ pub enum Verdict {
     /// It was not done.
     Refused,
     Length,
+    /// A connection ended otherwise.
+    Ending,
     /// The replies that came.
     Replies(Text),
     /// The first bytes of sound that came.
@@ -33,6 +36,7 @@ impl Verdict {
             Verdict::NoMemory => "no memory",
             Verdict::Refused => "refused",
             Verdict::Length => "another number of blocks",
+            Verdict::Ending => "another end",
             Verdict::Replies(_) => "other replies",
             Verdict::Sound(_) => "another sound",
         }
@@ -67,7 +71,7 @@ fn judged(
     Ok(Verdict::Agrees)
 }
 
-/// Renders the stream of a case in memory.
+/// Renders the stream of a case in memory, or serves its connection.
 pub fn try_case<H: AllocGlobal + Threads + Sync>(rt: &H, case: &Case) -> Result<Verdict, NoMemory> {
     let alloc = rt.alloc();
     if u32::try_from(case.words.len()).is_err() {
@@ -76,6 +80,9 @@ pub fn try_case<H: AllocGlobal + Threads + Sync>(rt: &H, case: &Case) -> Result<
     let Ok(settings) = settings(&case.words) else {
         return Ok(Verdict::Refused);
     };
+    if let Some(connection) = &case.connection {
+        return try_connection(rt, case, connection, &settings);
+    }
     let bytes = Text::from_slice(alloc, case.stream.as_slice())?;
     let mut source = MemorySource::new(bytes, 4096, Calls::from_vec(Vec::new(alloc)));
     let mut sound = MemorySink::new(alloc, CAPACITY, 65536, Calls::from_vec(Vec::new(alloc)))?;

@@ -45,7 +45,7 @@ pub struct Row {
 }
 
 /// The kinds that are built. A unit of another kind is unknown to `read`.
-pub const BUILT: [Kind; 42] = [
+pub const BUILT: [Kind; 47] = [
     Kind::SinOsc,
     Kind::LFSaw,
     Kind::LFPulse,
@@ -84,6 +84,11 @@ pub const BUILT: [Kind; 42] = [
     Kind::Outar,
     Kind::ReplaceOut,
     Kind::Outkr,
+    Kind::PlayBuf,
+    Kind::RecordBuf,
+    Kind::BufRd,
+    Kind::BufWr,
+    Kind::BufFrames,
     Kind::SendTrig,
     Kind::DetectSilence,
     Kind::FreeSelf,

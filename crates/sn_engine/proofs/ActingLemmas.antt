@@ -4,7 +4,7 @@ use Rattle.std.specs.Prelude.{not, if◌then◌else◌, Result, Ok, Err}
 use Rattle.sn_ports.specs.declared.failed.NoMemory.{NoMemory}
 use Rattle.sn_reply.specs.declared.reason.Reason.{Reason}
 use Rattle.sn_world.specs.declared.command.Handled.{Handled}
-use Rattle.sn_world.specs.declared.command.Handled.TheVariants.{Done, Quit, ClearSched, Failed, NotMine}
+use Rattle.sn_world.specs.declared.command.Handled.TheVariants.{Done, Completion, Quit, ClearSched, Failed, NotMine}
 use Rattle.sn_world.specs.Ending.{Next, nothing}
 use Rattle.sn_world.specs.Answers.{Handles, IsNext, TellsNext}
 use Rattle.sn_world.specs.Commands.{next_in}
@@ -86,6 +86,7 @@ both-nothing a b none = ap (both a) none ∙ (λ i. record { clear = or-false a.
 pub next-after : (result : Result Handled NoMemory) (by_node by_bus : Option (Result Turn Reason)) (after : Turn) (n : Next)
     → by_node ≡ None → Handles result by_bus after → IsNext result n → TellsNext result (next_in by_node by_bus n)
 next-after (Ok Done) by_node by_bus after n none is next = λ i. next_in (none i) (is i) (next i)
+next-after (Ok (Completion m)) by_node by_bus after n none is next = λ i. next_in (none i) (is i) (next i)
 next-after (Ok Quit) by_node by_bus after n none is next = λ i. next_in (none i) (is i) (next i)
 next-after (Ok ClearSched) by_node by_bus after n none is next = λ i. next_in (none i) (is i) (next i)
 next-after (Ok (Failed reason)) by_node by_bus after n none is next = λ i. next_in (none i) (is i) n

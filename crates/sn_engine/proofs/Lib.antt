@@ -1,6 +1,7 @@
 pub mod EntryLemmas
 pub mod DueLemmas
 pub mod ActingLemmas
+pub mod CompletionLemmas
 pub mod OpeningLemmas
 pub mod PutLemmas
 pub mod HearingLemmas

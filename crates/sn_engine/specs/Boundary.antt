@@ -1,17 +1,41 @@
 -- A boundary between two blocks: the entries that are due act.
-use Rattle.std.specs.Prelude.{ℕ, Bool, false, not, ◌||◌, if◌then◌else◌, List, [], ◌∷◌, filter}
+use Rattle.std.specs.Prelude.{ℕ, zero, suc, Bool, false, not, ◌||◌, if◌then◌else◌, List, [], ◌∷◌, filter}
 use Rattle.sn_osc.specs.Shape.{MessageShape}
 use Rattle.sn_queue.specs.Waiting.{Waiting, WaitingList}
 use Rattle.sn_queue.specs.Steps.{is_due}
 use Rattle.sn_world.specs.World.{World, Turn}
-use Rattle.sn_world.specs.Ending.{Next, is_clearing, is_quitting}
-use Rattle.sn_world.specs.Commands.{command, next_after}
+use Rattle.sn_world.specs.Ending.{Next, nothing, quitting, clearing, completing, is_clearing, is_quitting}
+use Rattle.sn_world.specs.Commands.{deepest, command, next_after}
 use Rattle.sn_engine.specs.declared.acting.Asked.{Asked}
+
+-- the turn after a message, and what is still done besides
+pub record Acted : Type 0 where
+  pub turn : Turn
+  pub next : Next
+
+abbrev pub acted : ℕ → MessageShape → Turn → Acted
+acted from m t = record { turn = command from m t; next = next_after from m t }
+
+-- The completion message that was carried, if one was, acts as any message of the same client. If it fails, what carried it stays done.
+abbrev pub completed : ℕ → Next → Turn → Acted
+completed from nothing t = record { turn = t; next = nothing }
+completed from quitting t = record { turn = t; next = quitting }
+completed from clearing t = record { turn = t; next = clearing }
+completed from (completing m) t = acted from m t
+
+-- so many of them, each right after the one that carried it
+unfoldable pub all_completed : ℕ → ℕ → Acted → Acted
+all_completed zero from a = a
+all_completed (suc n) from a = all_completed n from (completed from a.next a.turn)
+
+-- A message of a client acts, and then its completion messages, as many as may nest in it: a command in which more do is refused.
+abbrev pub act_message : ℕ → MessageShape → Turn → Acted
+act_message from m t = all_completed deepest from (acted from m t)
 
 -- messages of a client, one after another
 abbrev pub act_messages : ℕ → List MessageShape → Turn → Turn
 act_messages from [] t = t
-act_messages from (m ∷ ms) t = act_messages from ms (command from m t)
+act_messages from (m ∷ ms) t = act_messages from ms (act_message from m t).turn
 
 -- entries, one after another, and never split
 abbrev pub act_entries : List Waiting → Turn → Turn
@@ -32,7 +56,7 @@ both a b = record { clear = a.clear || b.clear; quit = a.quit || b.quit }
 
 abbrev pub messages_ask : ℕ → List MessageShape → Turn → Asked
 messages_ask from [] t = nothing_asked
-messages_ask from (m ∷ ms) t = both (asked_by (next_after from m t)) (messages_ask from ms (command from m t))
+messages_ask from (m ∷ ms) t = both (asked_by (act_message from m t).next) (messages_ask from ms (act_message from m t).turn)
 
 abbrev pub entries_ask : List Waiting → Turn → Asked
 entries_ask [] t = nothing_asked

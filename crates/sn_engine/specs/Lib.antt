@@ -6,3 +6,4 @@ pub mod Outputs
 pub mod Running
 pub mod Keeping
 pub mod Arriving
+pub mod Refusing

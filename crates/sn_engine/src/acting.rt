@@ -1,4 +1,4 @@
-ghost use Rattle.std.specs.Prelude.{◌≡◌, ◌≤◌, map, length, IfOk, OnOk, OnErr};
+ghost use Rattle.std.specs.Prelude.{◌≡◌, ◌≤◌, Ok, map, length, IfOk, OnOk, OnErr};
 ghost use Rattle.std.specs.List.{AllByRecursion};
 ghost use Rattle.sn_osc.specs.Shape.{message_of};
 ghost use Rattle.sn_reply.specs.Sending.{IsAnswerable};
@@ -7,8 +7,8 @@ ghost use Rattle.sn_queue.specs.Steps.{due_of};
 ghost use Rattle.sn_world.specs.World.{turn_of};
 ghost use Rattle.sn_world.specs.Pictures.{Pictures, WritesWorld};
 ghost use Rattle.sn_world.specs.Commands.{run_node, run_bus, either as first_there, command, next_after};
-ghost use Rattle.sn_world.specs.Answers.{Handles, UnlessDone, TellsNext};
-ghost use Rattle.sn_engine.specs.Boundary.{act_messages, act_entries, asked_by, both, messages_ask, entries_ask, due_at, later_than, left_at};
+ghost use Rattle.sn_world.specs.Answers.{Handles, UnlessDone, TellsNext, NextHas, next_told};
+ghost use Rattle.sn_engine.specs.Boundary.{completed, act_message, act_messages, act_entries, asked_by, both, messages_ask, entries_ask, due_at, later_than, left_at};
 ghost use Rattle.sn_engine.specs.Answerable.{AllAnswerable};
 
 use sn_buscmd::run_bus_command;
@@ -18,7 +18,7 @@ use sn_osc::Message;
 use sn_ports::NoMemory;
 use sn_queue::Queue;
 use sn_reply::{Reason, Replies, To, fail};
-use sn_world::{Handled, Stage};
+use sn_world::{Handled, MOST_COMPLETIONS, Stage};
 use std::alloc::Global;
 
 /// What messages ask of the server besides what they do to its world.
@@ -45,6 +45,23 @@ fn both(a: Asked, b: Asked) -> Asked
     }
 }
 
+/// What is asked by a message that was handled so.
+fn asked_by(handled: &Handled) -> Asked
+    ensures { result ≡ asked_by (next_told handled.now) }
+{
+    match handled {
+        Handled::Quit => Asked {
+            clear: false,
+            quit: true,
+        },
+        Handled::ClearSched => Asked {
+            clear: true,
+            quit: false,
+        },
+        _ => NOTHING,
+    }
+}
+
 /// Runs a message from a client, where its address is that of a command.
 fn run_known<P: Port>(
     alloc: Global,
@@ -59,6 +76,7 @@ fn run_known<P: Port>(
     requires foot { WritesWorld (P.foot port.old) stage.old.pool.region }
     ensures row { Handles result (first_there (run_node from (message_of message.now) (turn_of stage.old (P.words port.old) replies.old)) (run_bus from (message_of message.now) (turn_of stage.old (P.words port.old) replies.old))) (turn_of stage.new (P.words port.new) replies.new) }
     ensures next { TellsNext result (next_after from (message_of message.now) (turn_of stage.old (P.words port.old) replies.old)) }
+    ensures answerable { NextHas IsAnswerable result }
     ensures unchanged { UnlessDone result (turn_of stage.new (P.words port.new) replies.new ≡ turn_of stage.old (P.words port.old) replies.old) }
     ensures pictures { Pictures stage.new (P.words port.new) }
     ensures region { stage.new.pool.region ≡ stage.old.pool.region }
@@ -70,11 +88,77 @@ fn run_known<P: Port>(
         Handled::NotMine => run_bus_command(alloc, stage, port, message, from, replies),
         Handled::Failed(reason) => Ok(Handled::Failed(reason)),
         Handled::Done | Handled::Quit | Handled::ClearSched => Ok(Handled::Done),
+        Handled::Completion(_) => Ok(Handled::Done),
     }
 }
 
-/// Runs a message from a client, whichever command it is, and answers `/fail` where it is refused. Gives what it asks besides.
+/// Runs a message from a client, whichever command it is, and answers `/fail` where it is refused. Gives what was done with it.
 fn run_command<P: Port>(
+    alloc: Global,
+    stage: &mut Stage,
+    port: &mut P,
+    message: &Message,
+    from: u32,
+    replies: &mut Replies,
+) -> Result<Handled, NoMemory>
+    requires message { IsAnswerable (message_of message.now) }
+    requires pictures { Pictures stage.old (P.words port.old) }
+    requires foot { WritesWorld (P.foot port.old) stage.old.pool.region }
+    ensures command { OnOk result (turn_of stage.new (P.words port.new) replies.new ≡ command from (message_of message.now) (turn_of stage.old (P.words port.old) replies.old)) }
+    ensures next { TellsNext result (next_after from (message_of message.now) (turn_of stage.old (P.words port.old) replies.old)) }
+    ensures answerable { NextHas IsAnswerable result }
+    ensures pictures { Pictures stage.new (P.words port.new) }
+    ensures region { stage.new.pool.region ≡ stage.old.pool.region }
+    ensures len { length (P.words port.new) ≡ length (P.words port.old) }
+    ensures foot { P.foot port.new ≡ P.foot port.old }
+    ensures rest { P.rest port.new ≡ P.rest port.old }
+{
+    let reason = match run_known(alloc, stage, port, message, from, replies)? {
+        Handled::Done => return Ok(Handled::Done),
+        Handled::Completion(completion) => return Ok(Handled::Completion(completion)),
+        Handled::Quit => return Ok(Handled::Quit),
+        Handled::ClearSched => return Ok(Handled::ClearSched),
+        Handled::Failed(reason) => reason,
+        Handled::NotMine => Reason::UnknownCommand,
+    };
+    let refusal = fail(alloc, &message.address, reason)?;
+    replies.push(To::Client(from), refusal)?;
+    Ok(Handled::Failed(reason))
+}
+
+/// Runs the completion message that a command carried, if it carried one. Gives what was done with it, or with the command that carried
+/// none.
+fn complete<P: Port>(
+    alloc: Global,
+    stage: &mut Stage,
+    port: &mut P,
+    handled: Handled,
+    from: u32,
+    replies: &mut Replies,
+) -> Result<Handled, NoMemory>
+    requires message { NextHas IsAnswerable (Ok handled) }
+    requires pictures { Pictures stage.old (P.words port.old) }
+    requires foot { WritesWorld (P.foot port.old) stage.old.pool.region }
+    ensures acts { OnOk result (turn_of stage.new (P.words port.new) replies.new ≡ (completed from (next_told handled) (turn_of stage.old (P.words port.old) replies.old)).turn) }
+    ensures next { TellsNext result (completed from (next_told handled) (turn_of stage.old (P.words port.old) replies.old)).next }
+    ensures answerable { NextHas IsAnswerable result }
+    ensures pictures { Pictures stage.new (P.words port.new) }
+    ensures region { stage.new.pool.region ≡ stage.old.pool.region }
+    ensures len { length (P.words port.new) ≡ length (P.words port.old) }
+    ensures foot { P.foot port.new ≡ P.foot port.old }
+    ensures rest { P.rest port.new ≡ P.rest port.old }
+{
+    match handled {
+        Handled::Completion(message) => run_command(alloc, stage, port, &message, from, replies),
+        Handled::Quit => Ok(Handled::Quit),
+        Handled::ClearSched => Ok(Handled::ClearSched),
+        Handled::Done | Handled::Failed(_) | Handled::NotMine => Ok(Handled::Done),
+    }
+}
+
+/// Runs a message from a client, and right after it the completion messages that it carries, each inside the one before. Gives what they
+/// ask besides.
+fn act_message<P: Port>(
     alloc: Global,
     stage: &mut Stage,
     port: &mut P,
@@ -85,34 +169,19 @@ fn run_command<P: Port>(
     requires message { IsAnswerable (message_of message.now) }
     requires pictures { Pictures stage.old (P.words port.old) }
     requires foot { WritesWorld (P.foot port.old) stage.old.pool.region }
-    ensures command { OnOk result (turn_of stage.new (P.words port.new) replies.new ≡ command from (message_of message.now) (turn_of stage.old (P.words port.old) replies.old)) }
-    ensures asked { IfOk result (λ a. a ≡ asked_by (next_after from (message_of message.now) (turn_of stage.old (P.words port.old) replies.old))) }
+    ensures acts { OnOk result (turn_of stage.new (P.words port.new) replies.new ≡ (act_message from (message_of message.now) (turn_of stage.old (P.words port.old) replies.old)).turn) }
+    ensures asked { IfOk result (λ a. a ≡ asked_by (act_message from (message_of message.now) (turn_of stage.old (P.words port.old) replies.old)).next) }
     ensures pictures { Pictures stage.new (P.words port.new) }
     ensures region { stage.new.pool.region ≡ stage.old.pool.region }
     ensures len { length (P.words port.new) ≡ length (P.words port.old) }
     ensures foot { P.foot port.new ≡ P.foot port.old }
     ensures rest { P.rest port.new ≡ P.rest port.old }
 {
-    let reason = match run_known(alloc, stage, port, message, from, replies)? {
-        Handled::Done => return Ok(NOTHING),
-        Handled::Quit => {
-            return Ok(Asked {
-                quit: true,
-                ..NOTHING
-            });
-        }
-        Handled::ClearSched => {
-            return Ok(Asked {
-                clear: true,
-                ..NOTHING
-            });
-        }
-        Handled::Failed(reason) => reason,
-        Handled::NotMine => Reason::UnknownCommand,
-    };
-    let refusal = fail(alloc, &message.address, reason)?;
-    replies.push(To::Client(from), refusal)?;
-    Ok(NOTHING)
+    let mut handled = run_command(alloc, stage, port, message, from, replies)?;
+    for _ in 0..MOST_COMPLETIONS {
+        handled = complete(alloc, stage, port, handled, from, replies)?;
+    }
+    Ok(asked_by(&handled))
 }
 
 /// Runs messages of a client, one after another. Gives what they ask besides.
@@ -137,7 +206,7 @@ fn act_messages<P: Port>(
 {
     let mut asked = NOTHING;
     for message in messages {
-        let more = run_command(alloc, stage, port, message, from, replies)?;
+        let more = act_message(alloc, stage, port, message, from, replies)?;
         asked = both(asked, more);
     }
     Ok(asked)

@@ -1,17 +1,20 @@
 ghost use Rattle.std.specs.Prelude.{◌≡◌, ◌≤◌, ◌<◌, ◌+◌, ◌^◌, ◌++◌, [], ℕ, Option, length, map, replicate, slice_index_or, slice_set, IfOk, OnOk, OnErr};
 ghost use Rattle.sn_osc.specs.Shape.{shape};
 ghost use Rattle.sn_ports.specs.Causes.{HasCause};
+ghost use Rattle.sn_ports.specs.Links.{KeepsEvents};
 ghost use Rattle.sn_ports.specs.Octets.{bytes_of};
 ghost use Rattle.sn_ports.specs.Transfer.{TakesAll};
 ghost use Rattle.sn_queue.specs.Steps.{last_due};
 ghost use Rattle.sn_engine.specs.Arriving.{IsSpelled, next_boundary, offered, with_offered, IsPartlyOffered, KeepsOthers};
 ghost use Rattle.sn_engine.specs.Entries.{entries_of};
+ghost use Rattle.sn_engine.specs.Refusing.{with_bad_packet};
 ghost use Rattle.sn_engine.specs.Running.{Running, IsQuiet, opened, at_boundary, flow_at, with_block, with_settled};
 ghost use Rattle.sn_engine.specs.declared.standing.Standing.TheVariants.{Settled, Bounded, Rendered, Spent};
 
 use crate::acting::act_due;
 use crate::entry::entries;
 use crate::offering::offer_entries;
+use crate::refusing::bad_packet;
 use crate::room::reserve_settling;
 use crate::settling::settle_before;
 use crate::standing::{Flow, Standing};
@@ -19,7 +22,7 @@ use crate::walking::{hear_block, run_nodes};
 use sn_mem::{PlainPort, Scratch};
 use sn_osc::Packet;
 use sn_pcm::{Settings, frames};
-use sn_ports::{Failed, Gate, NoMemory, Sink, Text, write_all};
+use sn_ports::{Failed, Gate, Link, NoMemory, Sink, Text, send_all, write_all};
 use sn_queue::Queue;
 use sn_reply::{Replies, send};
 use sn_world::{Endings, Stage};
@@ -90,6 +93,19 @@ fn silent(alloc: Global, clients: u32) -> Result<Vec<Text>, NoMemory>
         texts.push(Text::new(alloc))?;
     }
     Ok(texts)
+}
+
+/// Sends a text, and drops it.
+fn send_text<L: Link>(text: &mut Text, link: &mut L) -> Result<(), Failed>
+    ensures taken { TakesAll (L.sent link.old) (L.sent link.new) result text.old.bytes }
+    ensures events { KeepsEvents (L.left link.old) (L.left link.new) }
+    ensures cause { HasCause (L.faults link.old) (L.faults link.new) result }
+    ensures bytes { text.new.bytes ≡ [] }
+    ensures room { text.old.spare ≤ text.new.spare }
+{
+    let sent = send_all(link, text.as_slice());
+    text.clear();
+    sent
 }
 
 /// Writes a text, and drops it.
@@ -295,6 +311,27 @@ impl Engine {
         ensures kept { self.new ≡ record self.old { replies = slice_set self.old.replies client [] } }
     {
         drain(&mut self.replies[client as usize], sink)
+    }
+
+    /// Sends a client over a link the replies that are still to be sent to it. After a fault a front of them was sent, and the rest is
+    /// dropped.
+    pub fn send_replies<L: Link>(&mut self, client: u32, link: &mut L) -> Result<(), Failed>
+        requires client { client < length self.old.replies }
+        ensures sent { TakesAll (L.sent link.old) (L.sent link.new) result (slice_index_or self.old.replies client []) }
+        ensures events { KeepsEvents (L.left link.old) (L.left link.new) }
+        ensures cause { HasCause (L.faults link.old) (L.faults link.new) result }
+        ensures kept { self.new ≡ record self.old { replies = slice_set self.old.replies client [] } }
+    {
+        send_text(&mut self.replies[client as usize], link)
+    }
+
+    /// Answers a client whose bytes are no packet.
+    pub fn refuse_packet(&mut self, alloc: Global, from: u32) -> Result<(), NoMemory>
+        ensures ok { OnOk result (self.new ≡ with_bad_packet from self.old) }
+        ensures others { self.new ≡ record self.old { replies = self.new.replies } }
+    {
+        let said = bad_packet(alloc, from)?;
+        send(alloc, &mut self.replies, self.room, said)
     }
 
     /// How many bytes of replies are still to be sent to a client.

@@ -4,11 +4,14 @@
 mod acting;
 mod engine;
 mod entry;
+mod laws;
 mod offering;
+mod refusing;
 mod room;
 mod settling;
 mod standing;
 mod walking;
 
 pub use engine::Engine;
+pub use laws::no_completion_is_left;
 pub use standing::{Flow, Standing};

@@ -1,7 +1,8 @@
 //! One block of the walk, and its sound.
 ghost use Rattle.std.specs.Prelude.{◌≡◌, ◌≤◌, ◌<◌, ◌+◌, ◌++◌, ◌∷◌, [], ◌^◌, length, vec_capacity};
 ghost use Rattle.sn_mem.specs.Buses.{audio_bus, heard};
-ghost use Rattle.sn_world.specs.Pictures.{Pictures, WritesWorld, WritesBuses, IsHeld};
+ghost use Rattle.sn_world.specs.Pictures.{Pictures, WritesWorld, WritesBuses, IsHeld, IsApart};
+ghost use Rattle.sn_world.specs.Buffers.{AreEach};
 ghost use Rattle.sn_world.specs.Walk.{walk};
 ghost use Rattle.sn_world.specs.WalkWords.{held_words};
 ghost use Rattle.sn_world.specs.World.{world_of};
@@ -22,12 +23,14 @@ fn run_held<P: Port>(
     scratch: &mut Scratch,
 )
     requires held { IsHeld stage.now.rate stage.now.pool.region held.now }
+    requires buffers { AreEach stage.now.pool.region stage.now.buffers }
+    requires apart { IsApart stage.now.buffers held.now }
     requires rate { 0 < stage.now.rate }
     requires base { stage.now.pool.region.at ≡ 10368 }
     requires bounded { 10368 + stage.now.pool.region.len < 4294967296 }
     requires foot { WritesWorld (P.foot port.old) stage.now.pool.region }
     requires block { block < 2 ^ 63 }
-    ensures words { P.words port.new ≡ held_words stage.now.rate block node held.now (P.words port.old) }
+    ensures words { P.words port.new ≡ held_words stage.now.rate block node stage.now.buffers held.now (P.words port.old) }
     ensures foot { P.foot port.new ≡ P.foot port.old }
     ensures rest { P.rest port.new ≡ P.rest port.old }
 {
@@ -44,7 +47,7 @@ fn run_held<P: Port>(
                 node,
                 unit: 0,
             };
-            run_synth(port, def, controls, &Places, *state, scratch, &now);
+            run_synth(port, def, controls, &stage.buffers, *state, scratch, &now);
         }
     }
 }

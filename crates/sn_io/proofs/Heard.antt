@@ -11,7 +11,7 @@ use Rattle.sn_io.specs.BusInputs.{hears, heard_block}
 pub control_at_is : (ws : List ℕ) (n w : ℕ) (x : ℤ) → n < 1024 → x ≡ sample_in w → w ≡ get_or ws (8320 + 2 * n + 1) 0 → x ≡ (get_or (control_buses ws) n resting).value
 control_at_is ws n w x low e f = e ∙ (ap sample_in f ∙ ap (λ (b : ControlBus). b.value) (sym (control_at ws n resting low)))
 
-same_value : {A : Type 0} (x : A) (n : ℕ) → replicate n x ≡ table (λ k. x) n
+pub same_value : {A : Type 0} (x : A) (n : ℕ) → replicate n x ≡ table (λ k. x) n
 same_value x n = ext_get_or x (replicate n x) (table (λ k. x) n) (length-replicate n x ∙ sym (length-table (λ k. x) n))
     (λ k lt. let l : k < n = omega (arith, lt, length-replicate n x) in get_or-replicate n k x x l ∙ sym (table_at (λ k. x) n k x l))
 

@@ -6,3 +6,10 @@ pub mod Setting
 pub mod Meaning
 pub mod Plain
 pub mod Keeping
+pub mod Words
+pub mod Walking
+pub mod BufferWords
+pub mod Bounds
+pub mod BufferMeaning
+pub mod BufferKeeping
+pub mod BufferPlain

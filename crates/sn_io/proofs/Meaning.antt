@@ -82,7 +82,7 @@ no_bus : (at n j : ℕ) → (0 < n → 10368 ≤ at) → j < 10368 → (j < at) 
 no_bus at zero j apart low = ⊎_elim (λ (l : j < at). inl l) (λ (r : at ≤ j). inr (omega arith)) (cases_lt j at)
 no_bus at (suc n) j apart low = let a : 10368 ≤ at = apart (omega arith) in inl (omega arith)
 
-put_there : (ws : List ℕ) (at len : ℕ) (xs : List ℕ) → length xs ≡ len → (0 < len → at + len ≤ length ws) → window (put ws at xs) at len ≡ xs
+pub put_there : (ws : List ℕ) (at len : ℕ) (xs : List ℕ) → length xs ≡ len → (0 < len → at + len ≤ length ws) → window (put ws at xs) at len ≡ xs
 unfolding window put
 put_there ws at zero [] long inside = refl
 put_there ws at zero (x ∷ xs) long inside = absurd (omega arith)

@@ -4,4 +4,7 @@ pub mod BusOutputs
 pub mod Triggers
 pub mod BusUnits
 pub mod OverWords
+pub mod Positions
+pub mod BufferUnits
+pub mod BuffersOverWords
 pub mod Conditions

@@ -16,7 +16,8 @@ fn audio_number(number: i64) -> Option<u32>
     }
 }
 
-fn control_number(number: i64) -> Option<u32>
+/// The number of a control bus or of a buffer, where it is one.
+pub(crate) fn control_number(number: i64) -> Option<u32>
     ensures number { result ≡ control_number number }
     ensures bound { IfSome result (λ n. n < 1024) }
 {

@@ -6,3 +6,4 @@ pub mod Masks
 pub mod Puts
 pub mod Windows
 pub mod BusLaws
+pub mod BufferWords

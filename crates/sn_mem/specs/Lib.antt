@@ -5,4 +5,5 @@ pub mod Blocks
 pub mod Frames
 pub mod Seen
 pub mod Buses
+pub mod Buffers
 pub mod Done

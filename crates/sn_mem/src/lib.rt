@@ -2,6 +2,7 @@
 #![tactic(auto)]
 
 mod blocks;
+mod buffers;
 mod bus_words;
 mod clashes;
 mod done;
@@ -18,6 +19,7 @@ mod scratch;
 mod stored;
 
 pub use blocks::{Block, Blocks, MOST_BLOCKS};
+pub use buffers::{BUFFERS, BufferPlace, Buffers};
 pub use bus_words::{Change, change_block};
 pub use clashes::clash;
 pub use done::ended;

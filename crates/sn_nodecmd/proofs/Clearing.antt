@@ -12,7 +12,7 @@ use Rattle.sn_mem.proofs.Windows.{window_at}
 use Rattle.sn_mem.proofs.Meetings.{covered}
 use Rattle.sn_pool.specs.Pools.{PoolState, with_extent, same_extent, times}
 use Rattle.sn_pool.proofs.Counts.{same_is, times_with}
-use Rattle.sn_world.specs.Pictures.{overlaps}
+use Rattle.sn_mem.specs.Buffers.{overlaps}
 use Rattle.sn_nodecmd.specs.Placing.{taken, cleared}
 
 -- ---- words that are set to 0

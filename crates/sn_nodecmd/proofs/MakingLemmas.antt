@@ -22,9 +22,9 @@ use Rattle.sn_tree.proofs.PayloadLaws.{views-payloads}
 use Rattle.sn_world.specs.declared.stage.Held.{Held}
 use Rattle.sn_world.specs.declared.stage.Stage.{Stage}
 use Rattle.sn_world.specs.Nodes.{Content, synth, content_of, live_in}
-use Rattle.sn_world.specs.Pictures.{Pictures, KeepsOutside, held_extents, live_held, overlaps, IsHeld, IsSynthOf}
+use Rattle.sn_mem.specs.Buffers.{overlaps, live_places}
+use Rattle.sn_world.specs.Pictures.{Pictures, KeepsOutside, held_extents, live_held, IsHeld, IsSynthOf}
 use Rattle.sn_world.specs.World.{World, Turn, world_of, turn_of, live_of}
-use Rattle.sn_world.specs.Buffers.{live_places}
 use Rattle.sn_world.proofs.BufferLaws.{live_buffers-of}
 use Rattle.sn_world.specs.declared.notices.NodeEvent.TheVariants.{Went}
 use Rattle.sn_world.specs.Notices.{told}

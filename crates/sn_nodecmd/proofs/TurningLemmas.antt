@@ -22,8 +22,8 @@ use Rattle.sn_world.specs.declared.node_repetition.RunFlag.{RunFlag}
 use Rattle.sn_world.specs.declared.stage.Held.{Held}
 use Rattle.sn_world.specs.declared.stage.Stage.{Stage}
 use Rattle.sn_world.specs.Nodes.{Content, content_of}
-use Rattle.sn_world.specs.Buffers.{live_places}
-use Rattle.sn_world.specs.Pictures.{Pictures, held_extents, live_held, overlaps, AreHeld}
+use Rattle.sn_mem.specs.Buffers.{live_places, overlaps}
+use Rattle.sn_world.specs.Pictures.{Pictures, held_extents, live_held, AreHeld}
 use Rattle.sn_world.specs.World.{Turn, world_of, turn_of}
 use Rattle.sn_world.specs.Notices.{told_at, told}
 use Rattle.sn_world.specs.Rows.{unless, steps}

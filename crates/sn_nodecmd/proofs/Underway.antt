@@ -5,14 +5,15 @@ use Rattle.sn_mem.specs.declared.extents.Extent.{Extent}
 use Rattle.sn_mem.specs.Words.{covers}
 use Rattle.sn_pool.specs.Pools.{PoolState, same_extent, times, mark_of, saved_of, room_of}
 use Rattle.sn_pool.specs.declared.pool.Mark.{Mark}
-use Rattle.sn_pool.specs.declared.places.BufferPlace.{BufferPlace}
+use Rattle.sn_mem.specs.declared.buffers.BufferPlace.{BufferPlace}
 use Rattle.sn_tree.specs.Trees.{Nodes, Sides, none, count}
 use Rattle.sn_tree.specs.Model.{Journal, NodeTree}
 use Rattle.sn_tree.specs.Steps.{IsOpen, IsOpened, HasRoom, undone, restored}
 use Rattle.sn_world.specs.declared.stage.Held.{Held}
 use Rattle.sn_world.specs.declared.stage.Stage.{Stage}
-use Rattle.sn_world.specs.Buffers.{live_places, AreBuffers}
-use Rattle.sn_world.specs.Pictures.{live_held, amount, overlaps, AreHeld, Pictures}
+use Rattle.sn_mem.specs.Buffers.{live_places, overlaps}
+use Rattle.sn_world.specs.Buffers.{AreBuffers}
+use Rattle.sn_world.specs.Pictures.{live_held, amount, AreHeld, Pictures}
 use Rattle.sn_world.proofs.Counting.{times-amount, overlaps-amount, few_extents, amount-none}
 use Rattle.sn_nodecmd.specs.Folding.{room_in, saved_in, IsAtRest, CanStep, Keeps, IsUnderway}
 

@@ -9,7 +9,7 @@ use Rattle.sn_tree.specs.Trees.{Sides, none, count}
 use Rattle.sn_tree.specs.Model.{Journal, NodeTree}
 use Rattle.sn_world.specs.declared.stage.Held.{Held}
 use Rattle.sn_world.specs.declared.stage.Stage.{Stage}
-use Rattle.sn_world.specs.Buffers.{live_places}
+use Rattle.sn_mem.specs.Buffers.{live_places}
 use Rattle.sn_world.specs.Pictures.{live_held, amount, AreHeld}
 use Rattle.sn_world.specs.World.{Turn}
 

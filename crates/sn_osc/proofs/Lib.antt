@@ -15,3 +15,4 @@ pub mod DataFaults
 pub mod PacketFaults
 pub mod DataFound
 pub mod PacketFound
+pub mod UnpackingLemmas

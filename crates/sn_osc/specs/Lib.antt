@@ -6,3 +6,4 @@ pub mod Framing
 pub mod Frames
 pub mod Framed
 pub mod Faults
+pub mod Unpacking

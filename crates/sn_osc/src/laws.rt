@@ -8,6 +8,7 @@ ghost use Rattle.sn_osc.specs.Framed.{AreFirst, HasNoFrame, packet_of};
 ghost use Rattle.sn_osc.specs.Grammar.{Spells, IsSpellable};
 ghost use Rattle.sn_osc.specs.Reading.{fault, read};
 ghost use Rattle.sn_osc.specs.Faults.{FirstFault};
+ghost use Rattle.sn_osc.specs.Unpacking.{unpacked, joined_to};
 ghost use Rattle.sn_osc.specs.declared.fault.PacketFault.{PacketFault};
 ghost use Rattle.sn_osc.specs.declared.fault.PacketKind.{PacketKind};
 ghost use Rattle.sn_osc.specs.declared.frame.Frame.{Frame};
@@ -66,4 +67,9 @@ pub fn bad_for_good()
 /// before it.
 pub fn first_fault()
     ensures { (bytes : List ℕ) (kind : PacketKind) (place : ℕ) → ((i : ℕ) → slice_index bytes i < 256) → (read bytes ≡ fault kind place) ↔ FirstFault bytes kind place }
+{}
+
+/// The whole frames at the front of a stream are the same in whatever pieces it comes.
+pub fn joined_frames()
+    ensures { (a b : List ℕ) → unpacked (a ++ b) ≡ joined_to (unpacked a) b }
 {}

@@ -7,7 +7,5 @@ mod pool;
 #[cfg(test)]
 mod tests;
 
-pub use places::{
-    AUDIO_BUSES, AUDIO_WORDS, BufferPlace, CONTROL_BUSES, CONTROL_WORDS, POOL_BASE, Places,
-};
+pub use places::{AUDIO_BUSES, AUDIO_WORDS, CONTROL_BUSES, CONTROL_WORDS, POOL_BASE, Places};
 pub use pool::{Mark, Pool, Untaken};

@@ -1,5 +1,5 @@
-//! Where the buses and the buffers stand in the words.
-ghost use Rattle.std.specs.Prelude.{◌≡◌, ◌≢◌, ◌<◌, ◌≤◌, ◌+◌, ℕ, None};
+//! Where the buses stand in the words.
+ghost use Rattle.std.specs.Prelude.{◌≡◌, ◌≢◌, ◌<◌, ◌≤◌, ◌+◌, ℕ};
 ghost use Rattle.sn_pool.specs.Buses.{audio_bus, control_bus};
 ghost use Rattle.sn_pool.specs.Pools.{AreDisjoint};
 
@@ -23,27 +23,11 @@ const CONTROL_BASE: u32 = AUDIO_BUSES * AUDIO_WORDS;
 /// The first word of the pool's region, which stands after the buses.
 pub const POOL_BASE: u32 = CONTROL_BASE + CONTROL_BUSES * CONTROL_WORDS;
 
-/// Where a buffer's samples stand, frame by frame.
+/// Where the buses stand.
 #[derive(Clone, Copy)]
-pub struct BufferPlace {
-    /// Its words, one for each sample.
-    pub extent: Extent,
-    /// The number of its frames.
-    pub frames: u32,
-    /// The number of samples in a frame.
-    pub channels: u32,
-}
-
-/// Where the buses and the buffers stand.
-#[derive(Drop)]
-pub struct Places {}
+pub struct Places;
 
 impl Places {
-    /// The places before any buffer is allocated. It takes no memory.
-    pub fn new() -> Places {
-        Places {}
-    }
-
     /// The words of audio bus `n`.
     pub fn audio(n: u32) -> Extent
         requires { n < AUDIO_BUSES }
@@ -69,12 +53,5 @@ impl Places {
             at: CONTROL_BASE + n * CONTROL_WORDS,
             len: CONTROL_WORDS,
         }
-    }
-
-    /// Where buffer `n` stands, or `None` where it is not allocated. No buffer is allocated yet.
-    pub fn buffer(&self, n: u32) -> Option<BufferPlace>
-        ensures { result ≡ None }
-    {
-        None
     }
 }

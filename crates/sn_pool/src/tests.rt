@@ -1,6 +1,6 @@
 ghost use Rattle.std.specs.Prelude.{◌≡◌, ◌<◌, None};
 
-use crate::{BufferPlace, CONTROL_BUSES, POOL_BASE, Places, Pool, Untaken};
+use crate::{CONTROL_BUSES, POOL_BASE, Places, Pool, Untaken};
 use sn_mem::Extent;
 use sn_ports::NoMemory;
 use std::collections::VecDeque;
@@ -80,14 +80,12 @@ fn undoing(rt: HostRuntime) -> Result<(), Fail> {
 }
 
 #[test]
-fn buses_and_buffers(rt: HostRuntime) {
+fn buses(rt: HostRuntime) {
     let audio = Places::audio(127);
     assert_eq!(rt; (audio.at, audio.len), (8255, 65));
     let control = Places::control(CONTROL_BUSES - 1);
     assert_eq!(rt; (control.at, control.len), (10366, 2));
     assert_eq!(rt; POOL_BASE, 10368);
-    let buffer: Option<BufferPlace> = Places::new().buffer(0);
-    assert!(rt; buffer.is_none());
 }
 
 /// The first word of the region of the trial, and its number of words.

@@ -1,6 +1,6 @@
 use crate::{
-    Calls, Failed, FileSink, FileSource, Gate, MemorySink, MemorySource, NoMemory, Open, Text,
-    fill, show, write_all,
+    Calls, Event, Failed, Fed, FileSink, FileSource, Gate, Link, MemorySink, MemorySource,
+    NoMemory, Open, PlayedLink, Text, fill, send_all, show, write_all,
 };
 use std::alloc::Global;
 use std::test::Fail;
@@ -73,5 +73,35 @@ fn numbers_are_shown_in_decimal(rt: HostRuntime) -> Result<(), Fail> {
         show(rt.alloc(), -2147483648)?.as_slice(),
         b"-2147483648".as_slice()
     );
+    Ok(())
+}
+
+#[test]
+fn a_link_plays_its_events(rt: HostRuntime) -> Result<(), Fail> {
+    let alloc = rt.alloc();
+    let bytes = Event::Bytes(Text::from_slice(alloc, b"packet")?);
+    let events = vec![in alloc; bytes, Event::Ticks(3)]?;
+    let mut link = PlayedLink::new(alloc, events, 8, calls(alloc, &[1])?)?;
+    let mut into = [0; 4];
+    assert_eq!(rt; link.next(&mut into), Ok(Fed::Bytes(4)));
+    assert_eq!(rt; into, *b"pack");
+    assert_eq!(rt; link.next(&mut into), Err(Failed));
+    assert_eq!(rt; link.next(&mut into), Ok(Fed::Bytes(2)));
+    assert_eq!(rt; into, *b"etck");
+    assert_eq!(rt; link.next(&mut into), Ok(Fed::Ticks(3)));
+    assert_eq!(rt; link.next(&mut into), Ok(Fed::End));
+    assert_eq!(rt; link.faults(), 1);
+    Ok(())
+}
+
+#[test]
+fn a_link_sends_what_it_can_hold(rt: HostRuntime) -> Result<(), Fail> {
+    let alloc = rt.alloc();
+    let mut link = PlayedLink::new(alloc, Vec::new(alloc), 8, calls(alloc, &[])?)?;
+    assert_eq!(rt; send_all(&mut link, b"reply"), Ok(()));
+    assert_eq!(rt; send_all(&mut link, b"more"), Err(Failed));
+    assert_eq!(rt; send_all(&mut link, b"end"), Ok(()));
+    assert_eq!(rt; link.sent(), b"replyend".as_slice());
+    assert_eq!(rt; link.faults(), 1);
     Ok(())
 }

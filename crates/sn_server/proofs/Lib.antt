@@ -2,3 +2,8 @@ pub mod StreamLemmas
 pub mod GoingLemmas
 pub mod ArrivingLemmas
 pub mod OutcomeLemmas
+pub mod JoiningLemmas
+pub mod TakenLemmas
+pub mod ServingLemmas
+pub mod PacketLemmas
+pub mod EventLemmas

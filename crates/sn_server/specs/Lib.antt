@@ -3,3 +3,7 @@ pub mod Play
 pub mod Arriving
 pub mod Going
 pub mod Outcomes
+pub mod PlayEvents
+pub mod Served
+pub mod Serving
+pub mod Statuses

@@ -1,3 +1,6 @@
+ghost use Rattle.std.specs.Prelude.{◌≡◌};
+ghost use Rattle.sn_server.specs.Statuses.{outcome_status};
+
 use sn_osc::StreamFault;
 
 /// How a run ended.
@@ -37,7 +40,9 @@ pub enum Outcome {
 
 impl Outcome {
     /// The status of the program.
-    pub fn status(&self) -> u8 {
+    pub fn status(&self) -> u8
+        ensures { result ≡ outcome_status self.now }
+    {
         match self {
             Outcome::Done { .. } => 0,
             Outcome::NoMemory => 1,

@@ -52,7 +52,7 @@ pub enum Unread {
 }
 
 /// So many bytes to write over.
-fn room(alloc: Global, len: usize) -> Result<Vec<u8>, AllocError>
+pub fn room(alloc: Global, len: usize) -> Result<Vec<u8>, AllocError>
     ensures { IfOk result (λ v. length v.items ≡ len) }
 {
     vec![in alloc; 0; len]

@@ -23,7 +23,8 @@ use Rattle.sn_world.specs.declared.stage.Held.{Held}
 use Rattle.sn_world.specs.declared.stage.Stage.{Stage}
 use Rattle.sn_world.specs.Nodes.{Content, content_of}
 use Rattle.sn_world.specs.Buffers.{AreBuffers}
-use Rattle.sn_world.specs.Pictures.{Pictures, held_extents, live_held, overlaps, amount, AreHeld}
+use Rattle.sn_mem.specs.Buffers.{overlaps}
+use Rattle.sn_world.specs.Pictures.{Pictures, held_extents, live_held, amount, AreHeld}
 use Rattle.sn_world.specs.Settling.{notices_of, place_of, paused_at, freed_at, acted_at, acted, all_acted}
 use Rattle.sn_world.specs.World.{Turn, world_of, turn_of}
 use Rattle.sn_world.proofs.Counting.{amount-joined, amount-without, overlaps-amount, times-amount}

@@ -4,4 +4,5 @@ pub mod Holding
 pub mod Few
 pub mod Freed
 pub mod Acted
+pub mod Labels
 pub mod Settled

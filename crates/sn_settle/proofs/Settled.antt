@@ -15,7 +15,7 @@ use Rattle.sn_world.specs.declared.endings.Ending.{Ending}
 use Rattle.sn_world.specs.declared.stage.Held.{Held}
 use Rattle.sn_world.specs.declared.stage.Held.TheVariants as held
 use Rattle.sn_world.specs.declared.stage.Stage.{Stage}
-use Rattle.sn_world.specs.Buffers.{Buffer, buffers_of}
+use Rattle.sn_mem.specs.Buffers.{Buffer, buffers_of}
 use Rattle.sn_world.specs.Nodes.{Content, content_of}
 use Rattle.sn_world.specs.Noted.{Noted}
 use Rattle.sn_world.specs.Pictures.{Pictures, IsHeld}
@@ -23,7 +23,7 @@ use Rattle.sn_world.specs.Settling.{done_action, after_ending, settled_at, settl
 use Rattle.sn_world.specs.SettleWords.{settled_held, walk_triggers, walk_endings, settled_walk, walk_room}
 use Rattle.sn_world.specs.World.{World, Turn, world_of, turn_of}
 use Rattle.sn_world.proofs.Changes.{pictured_again}
-use Rattle.sn_world.proofs.Walking.{HoldEach, running_held}
+use Rattle.sn_settle.proofs.Labels.{HoldEach, running_held}
 use Rattle.sn_world.proofs.WalkedStage.{can_walk, buffers_walked}
 use Rattle.sn_world.proofs.SettleWalks.{IsSettled, triggers_are, endings_are, settled_are, walk_unended, few_events}
 use Rattle.sn_settle.specs.Telling.{out_of, HaveRoom, AreSent, AreTold, CanLook}

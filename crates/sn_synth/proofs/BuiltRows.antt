@@ -1,5 +1,5 @@
 -- What the rows of the built kinds say.
-use Rattle.std.proofs.Common.{◌≡◌, ◌≤◌, ℕ, ◌+◌, max, true, false, List, [], ◌∷◌, ℤ, pos, length, refl, sym, ap, subst, arith, lit≤, lit<}
+use Rattle.std.proofs.Common.{◌≡◌, ◌≤◌, ℕ, ◌+◌, max, true, false, List, [], ◌∷◌, ℤ, pos, Option, length, refl, sym, ap, subst, arith, lit≤, lit<}
 use Rattle.std.specs.Prelude.{slice_get}
 use Rattle.std.proofs.lemmas.List.{get_or-replicate}
 use Rattle.sn_fixed.specs.Fixed.{frames_of}
@@ -28,6 +28,9 @@ use Rattle.sn_io.specs.BusInputs.{audio_in, control_in}
 use Rattle.sn_io.specs.Triggers.{trigger_block}
 use Rattle.sn_io.specs.BusUnits.{reads_audio, reads_control, writes_audio, writes_control, is_bus_unit}
 use Rattle.sn_io.specs.OverWords.{bus_unit_over}
+use Rattle.sn_io.specs.BufferUnits.{is_buffer_unit, reads_buffer, writes_buffer}
+use Rattle.sn_io.specs.BuffersOverWords.{buffer_unit_over}
+use Rattle.sn_mem.specs.declared.buffers.BufferPlace.{BufferPlace}
 use Rattle.sn_synth.specs.UnitBlocks.{is_played, inner}
 use Rattle.sn_synth.specs.Synths.{input_blocks}
 use Rattle.sn_synth.specs.Words.{unit_after}
@@ -72,11 +75,15 @@ built_kind kinds.Inkr h = refl
 built_kind kinds.Outar h = refl
 built_kind kinds.ReplaceOut h = refl
 built_kind kinds.Outkr h = refl
+built_kind kinds.PlayBuf h = refl
+built_kind kinds.RecordBuf h = refl
+built_kind kinds.BufRd h = refl
+built_kind kinds.BufWr h = refl
+built_kind kinds.BufFrames h = refl
 built_kind kinds.SendTrig h = refl
 built_kind kinds.DetectSilence h = refl
 built_kind kinds.FreeSelf h = refl
 built_kind kinds.PauseSelf h = refl
-built_kind _ h = absurd cc
 
 -- the one input that a unit on buses always has is the index
 pub hears_index : (k : Kind) → reads_audio k ≡ true → (row_of k).inputs ≡ Index ∷ []
@@ -101,7 +108,27 @@ unfolding row_of
 sets_index kinds.Outkr h = refl
 sets_index _ h = absurd cc
 
-pub inputs_few : (k : Kind) → is_played k ≡ true → length (row_of k).inputs + (row_of k).signals ≤ 9
+-- the first input of a unit on a buffer is the index
+pub first_index : (k : Kind) → is_buffer_unit k ≡ true → (marks : List Mark) × ((row_of k).inputs ≡ Index ∷ marks)
+unfolding row_of
+first_index kinds.PlayBuf h = (_, refl)
+first_index kinds.RecordBuf h = (_, refl)
+first_index kinds.BufRd h = (_, refl)
+first_index kinds.BufWr h = (_, refl)
+first_index kinds.BufFrames h = (_, refl)
+first_index _ h = absurd cc
+
+pub reads_a_buffer : (k : Kind) → reads_buffer k ≡ true → is_buffer_unit k ≡ true
+reads_a_buffer kinds.PlayBuf h = refl
+reads_a_buffer kinds.BufRd h = refl
+reads_a_buffer _ h = absurd cc
+
+pub writes_a_buffer : (k : Kind) → writes_buffer k ≡ true → is_buffer_unit k ≡ true
+writes_a_buffer kinds.RecordBuf h = refl
+writes_a_buffer kinds.BufWr h = refl
+writes_a_buffer _ h = absurd cc
+
+pub inputs_few : (k : Kind) → is_played k ≡ true → length (row_of k).inputs + (row_of k).signals ≤ 12
 unfolding row_of
 inputs_few kinds.SinOsc h = lit≤ tt
 inputs_few kinds.LFSaw h = lit≤ tt
@@ -141,11 +168,15 @@ inputs_few kinds.Inkr h = lit≤ tt
 inputs_few kinds.Outar h = lit≤ tt
 inputs_few kinds.ReplaceOut h = lit≤ tt
 inputs_few kinds.Outkr h = lit≤ tt
+inputs_few kinds.PlayBuf h = lit≤ tt
+inputs_few kinds.RecordBuf h = lit≤ tt
+inputs_few kinds.BufRd h = lit≤ tt
+inputs_few kinds.BufWr h = lit≤ tt
+inputs_few kinds.BufFrames h = lit≤ tt
 inputs_few kinds.SendTrig h = lit≤ tt
 inputs_few kinds.DetectSilence h = lit≤ tt
 inputs_few kinds.FreeSelf h = lit≤ tt
 inputs_few kinds.PauseSelf h = lit≤ tt
-inputs_few _ h = absurd cc
 
 -- a generator has a fixed number of words
 pub generator_words : (k : Kind) (frames len : ℕ) → is_generator k ≡ true → words_of (row_of k).words frames ≡ len → (row_of k).words ≡ Fixed len
@@ -175,6 +206,16 @@ bus_unit_words kinds.DetectSilence frames len h e = ap Fixed e
 bus_unit_words kinds.FreeSelf frames len h e = ap Fixed e
 bus_unit_words kinds.PauseSelf frames len h e = ap Fixed e
 bus_unit_words _ frames len h e = absurd cc
+
+-- and so has a unit on a buffer
+pub buffer_unit_words : (k : Kind) (frames len : ℕ) → is_buffer_unit k ≡ true → words_of (row_of k).words frames ≡ len → (row_of k).words ≡ Fixed len
+unfolding row_of
+buffer_unit_words kinds.PlayBuf frames len h e = ap Fixed e
+buffer_unit_words kinds.RecordBuf frames len h e = ap Fixed e
+buffer_unit_words kinds.BufRd frames len h e = ap Fixed e
+buffer_unit_words kinds.BufWr frames len h e = ap Fixed e
+buffer_unit_words kinds.BufFrames frames len h e = ap Fixed e
+buffer_unit_words _ frames len h e = absurd cc
 
 -- the second input is the longest delay
 longest_second : (marks : List Mark) (c w : ℕ) (values : List ℤ) (wires : List (List ℤ)) (xs : List Input) → mark_at marks 1 ≡ Longest → AreAllowed marks c w 0 xs → 2 ≤ length xs → sample (input_blocks values wires xs) 1 0 ≡ literal_value (slice_get xs 1)
@@ -226,58 +267,66 @@ same_words kinds.Inkr rate c w values wires xs h a le = refl
 same_words kinds.Outar rate c w values wires xs h a le = refl
 same_words kinds.ReplaceOut rate c w values wires xs h a le = refl
 same_words kinds.Outkr rate c w values wires xs h a le = refl
+same_words kinds.PlayBuf rate c w values wires xs h a le = refl
+same_words kinds.RecordBuf rate c w values wires xs h a le = refl
+same_words kinds.BufRd rate c w values wires xs h a le = refl
+same_words kinds.BufWr rate c w values wires xs h a le = refl
+same_words kinds.BufFrames rate c w values wires xs h a le = refl
 same_words kinds.SendTrig rate c w values wires xs h a le = refl
 same_words kinds.DetectSilence rate c w values wires xs h a le = refl
 same_words kinds.FreeSelf rate c w values wires xs h a le = refl
 same_words kinds.PauseSelf rate c w values wires xs h a le = refl
-same_words _ rate c w values wires xs h a le = absurd cc
 
 -- a unit gives as many outputs as its line names
-pub outputs_long : (k : Kind) (now : Now) (ws : List ℕ) (at len : ℕ) (inputs : List (List ℤ)) (n : ℕ) → is_played k ≡ true → (row_of k).least ≤ n → n ≤ (row_of k).most → length (unit_after k now n ws at len inputs).1 ≡ n
-unfolding row_of inner generator filter arithmetic bus_unit_over trigger_block
-outputs_long kinds.SinOsc now ws at len inputs n h low high = omega arith
-outputs_long kinds.LFSaw now ws at len inputs n h low high = omega arith
-outputs_long kinds.LFPulse now ws at len inputs n h low high = omega arith
-outputs_long kinds.LFTri now ws at len inputs n h low high = omega arith
-outputs_long kinds.WhiteNoise now ws at len inputs n h low high = omega arith
-outputs_long kinds.Impulse now ws at len inputs n h low high = omega arith
-outputs_long kinds.Phasor now ws at len inputs n h low high = omega arith
-outputs_long kinds.Line now ws at len inputs n h low high = omega arith
-outputs_long kinds.Linen now ws at len inputs n h low high = omega arith
-outputs_long kinds.Add now ws at len inputs n h low high = omega arith
-outputs_long kinds.Sub now ws at len inputs n h low high = omega arith
-outputs_long kinds.Mul now ws at len inputs n h low high = omega arith
-outputs_long kinds.MulAdd now ws at len inputs n h low high = omega arith
-outputs_long kinds.Neg now ws at len inputs n h low high = omega arith
-outputs_long kinds.Abs now ws at len inputs n h low high = omega arith
-outputs_long kinds.Min now ws at len inputs n h low high = omega arith
-outputs_long kinds.Max now ws at len inputs n h low high = omega arith
-outputs_long kinds.Clip now ws at len inputs n h low high = omega arith
-outputs_long kinds.Gt now ws at len inputs n h low high = omega arith
-outputs_long kinds.Lt now ws at len inputs n h low high = omega arith
-outputs_long kinds.Pan2 now ws at len inputs n h low high = omega arith
-outputs_long kinds.OnePole now ws at len inputs n h low high = omega arith
-outputs_long kinds.Lag now ws at len inputs n h low high = omega arith
-outputs_long kinds.Integrator now ws at len inputs n h low high = omega arith
-outputs_long kinds.Delay1 now ws at len inputs n h low high = omega arith
-outputs_long kinds.DelayN now ws at len inputs n h low high = omega arith
-outputs_long kinds.CombN now ws at len inputs n h low high = omega arith
-outputs_long kinds.SOS now ws at len inputs n h low high = omega arith
-outputs_long kinds.Latch now ws at len inputs n h low high = omega arith
-outputs_long kinds.Gate now ws at len inputs n h low high = omega arith
-outputs_long kinds.PulseCount now ws at len inputs n h low high = omega arith
-outputs_long kinds.Stepper now ws at len inputs n h low high = omega arith
-outputs_long kinds.Inar now ws at len inputs n h low high = length-table (λ i. audio_in false now.block (audio_buses ws) (audio_channel inputs i)) n
-outputs_long kinds.InFeedback now ws at len inputs n h low high = length-table (λ i. audio_in true now.block (audio_buses ws) (audio_channel inputs i)) n
-outputs_long kinds.Inkr now ws at len inputs n h low high = length-table (λ i. control_in (control_buses ws) (control_channel inputs i)) n
-outputs_long kinds.Outar now ws at len inputs n h low high = omega arith
-outputs_long kinds.ReplaceOut now ws at len inputs n h low high = omega arith
-outputs_long kinds.Outkr now ws at len inputs n h low high = omega arith
-outputs_long kinds.SendTrig now ws at len inputs n h low high = omega arith
-outputs_long kinds.DetectSilence now ws at len inputs n h low high = omega arith
-outputs_long kinds.FreeSelf now ws at len inputs n h low high = omega arith
-outputs_long kinds.PauseSelf now ws at len inputs n h low high = omega arith
-outputs_long _ now ws at len inputs n h low high = absurd cc
+pub outputs_long : (k : Kind) (now : Now) (places : List (Option BufferPlace)) (ws : List ℕ) (at len : ℕ) (inputs : List (List ℤ)) (n : ℕ) → is_played k ≡ true → (row_of k).least ≤ n → n ≤ (row_of k).most → length (unit_after k now n places ws at len inputs).1 ≡ n
+unfolding row_of inner generator filter arithmetic bus_unit_over trigger_block buffer_unit_over
+outputs_long kinds.SinOsc now places ws at len inputs n h low high = omega arith
+outputs_long kinds.LFSaw now places ws at len inputs n h low high = omega arith
+outputs_long kinds.LFPulse now places ws at len inputs n h low high = omega arith
+outputs_long kinds.LFTri now places ws at len inputs n h low high = omega arith
+outputs_long kinds.WhiteNoise now places ws at len inputs n h low high = omega arith
+outputs_long kinds.Impulse now places ws at len inputs n h low high = omega arith
+outputs_long kinds.Phasor now places ws at len inputs n h low high = omega arith
+outputs_long kinds.Line now places ws at len inputs n h low high = omega arith
+outputs_long kinds.Linen now places ws at len inputs n h low high = omega arith
+outputs_long kinds.Add now places ws at len inputs n h low high = omega arith
+outputs_long kinds.Sub now places ws at len inputs n h low high = omega arith
+outputs_long kinds.Mul now places ws at len inputs n h low high = omega arith
+outputs_long kinds.MulAdd now places ws at len inputs n h low high = omega arith
+outputs_long kinds.Neg now places ws at len inputs n h low high = omega arith
+outputs_long kinds.Abs now places ws at len inputs n h low high = omega arith
+outputs_long kinds.Min now places ws at len inputs n h low high = omega arith
+outputs_long kinds.Max now places ws at len inputs n h low high = omega arith
+outputs_long kinds.Clip now places ws at len inputs n h low high = omega arith
+outputs_long kinds.Gt now places ws at len inputs n h low high = omega arith
+outputs_long kinds.Lt now places ws at len inputs n h low high = omega arith
+outputs_long kinds.Pan2 now places ws at len inputs n h low high = omega arith
+outputs_long kinds.OnePole now places ws at len inputs n h low high = omega arith
+outputs_long kinds.Lag now places ws at len inputs n h low high = omega arith
+outputs_long kinds.Integrator now places ws at len inputs n h low high = omega arith
+outputs_long kinds.Delay1 now places ws at len inputs n h low high = omega arith
+outputs_long kinds.DelayN now places ws at len inputs n h low high = omega arith
+outputs_long kinds.CombN now places ws at len inputs n h low high = omega arith
+outputs_long kinds.SOS now places ws at len inputs n h low high = omega arith
+outputs_long kinds.Latch now places ws at len inputs n h low high = omega arith
+outputs_long kinds.Gate now places ws at len inputs n h low high = omega arith
+outputs_long kinds.PulseCount now places ws at len inputs n h low high = omega arith
+outputs_long kinds.Stepper now places ws at len inputs n h low high = omega arith
+outputs_long kinds.Inar now places ws at len inputs n h low high = length-table (λ i. audio_in false now.block (audio_buses ws) (audio_channel inputs i)) n
+outputs_long kinds.InFeedback now places ws at len inputs n h low high = length-table (λ i. audio_in true now.block (audio_buses ws) (audio_channel inputs i)) n
+outputs_long kinds.Inkr now places ws at len inputs n h low high = length-table (λ i. control_in (control_buses ws) (control_channel inputs i)) n
+outputs_long kinds.Outar now places ws at len inputs n h low high = omega arith
+outputs_long kinds.ReplaceOut now places ws at len inputs n h low high = omega arith
+outputs_long kinds.Outkr now places ws at len inputs n h low high = omega arith
+outputs_long kinds.PlayBuf now places ws at len inputs n h low high = length-table _ n
+outputs_long kinds.RecordBuf now places ws at len inputs n h low high = omega arith
+outputs_long kinds.BufRd now places ws at len inputs n h low high = length-table _ n
+outputs_long kinds.BufWr now places ws at len inputs n h low high = omega arith
+outputs_long kinds.BufFrames now places ws at len inputs n h low high = omega arith
+outputs_long kinds.SendTrig now places ws at len inputs n h low high = omega arith
+outputs_long kinds.DetectSilence now places ws at len inputs n h low high = omega arith
+outputs_long kinds.FreeSelf now places ws at len inputs n h low high = omega arith
+outputs_long kinds.PauseSelf now places ws at len inputs n h low high = omega arith
 
 -- and keeps the number of its state words
 pub state_long : (k : Kind) (now : Now) (state : List ℕ) (inputs : List (List ℤ)) (frames : ℕ) → length state ≡ words_of (row_of k).words frames → length (inner k now state inputs).0 ≡ length state

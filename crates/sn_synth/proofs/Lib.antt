@@ -5,3 +5,4 @@ pub mod Indices
 pub mod Picturing
 pub mod Plain
 pub mod Keeping
+pub mod Standing

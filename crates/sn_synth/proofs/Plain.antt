@@ -1,17 +1,21 @@
 -- Where all words of the buses may be written, a synth may play.
-use Rattle.std.proofs.Common.{◌≡◌, ◌≤◌, ◌<◌, ℕ, List, pos, ◌+ℤ◌, Option, Some, None, get_or, arith}
+use Rattle.std.proofs.Common.{◌≡◌, ◌≤◌, ◌<◌, ℕ, zero, suc, ◌+◌, List, [], ◌∷◌, pos, ◌+ℤ◌, Option, Some, None, get_or, replicate, sym, subst, arith, All}
+use Rattle.std.proofs.lemmas.Bool.{or_left}
+use Rattle.std.proofs.lemmas.List.Elements.{All-nil, All-cons, All-head, All-tail}
 use Rattle.sn_def.specs.declared.control.Control.{Control as SynthControl}
 use Rattle.sn_def.specs.Definition.{Definition}
 use Rattle.sn_mem.specs.declared.extents.Foot.{Foot}
-use Rattle.sn_mem.specs.Words.{everything, MayWrite}
+use Rattle.sn_mem.specs.declared.buffers.BufferPlace.{BufferPlace}
+use Rattle.sn_mem.specs.Words.{everything, has, MayWrite}
 use Rattle.sn_mem.specs.Buses.{audio_number}
 use Rattle.sn_mem.proofs.Feet.{plain_may_write}
 use Rattle.sn_io.specs.Channels.{control_number}
-use Rattle.sn_io.specs.Conditions.{MayReadControl}
+use Rattle.sn_io.specs.BufferUnits.{numbered}
+use Rattle.sn_io.specs.Conditions.{MayReadControl, MayReadBuffer, MayWriteBuffer}
 use Rattle.sn_io.proofs.Mixing.{number_bound}
 use Rattle.sn_io.proofs.Setting.{control_bound}
 use Rattle.sn_io.proofs.Plain.{reads_audio_bus, reads_control_bus, writes_audio_bus, writes_control_bus}
-use Rattle.sn_synth.specs.Conditions.{AreControlsOf, IsFollowed, MayFollow, MayPlayAll, index_of}
+use Rattle.sn_synth.specs.Conditions.{AreControlsOf, IsFollowed, MayFollow, MayPlayAll, index_of, place_of}
 
 reads_bus : (f : Foot) (o : Option ℕ) → MayWrite f 0 10368 → IsFollowed o → MayReadControl f o
 reads_bus f None may is = tt
@@ -20,17 +24,37 @@ reads_bus f (Some k) may is = reads_control_bus f (Some k) may (λ n e. let s : 
 pub may_follow : (f : Foot) (d : Definition) (controls : List SynthControl) → MayWrite f 0 10368 → AreControlsOf d controls → MayFollow f controls
 may_follow f d controls may are = λ k e lt. reads_bus f (get_or controls k e).bus may (are.followed k e lt)
 
-pub may_play : (f : Foot) (d : Definition) (controls : List SynthControl) → MayWrite f 0 10368 → MayPlayAll f controls d
-may_play f d controls may = λ k e lt. record {
-  hears = λ is i low. reads_audio_bus f (audio_number (index_of controls (get_or d.units k e) +ℤ pos i)) may (number_bound (index_of controls (get_or d.units k e) +ℤ pos i));
-  reads = λ is i low. reads_control_bus f (control_number (index_of controls (get_or d.units k e) +ℤ pos i)) may (control_bound (index_of controls (get_or d.units k e) +ℤ pos i));
-  writes = λ is i low. writes_audio_bus f (audio_number (index_of controls (get_or d.units k e) +ℤ pos i)) may (number_bound (index_of controls (get_or d.units k e) +ℤ pos i));
-  sets = λ is i low. writes_control_bus f (control_number (index_of controls (get_or d.units k e) +ℤ pos i)) may (control_bound (index_of controls (get_or d.units k e) +ℤ pos i));
-}
+written_at : (f : Foot) (n : ℕ) (ps : List (Option BufferPlace)) → All (MayWriteBuffer f) ps → MayWriteBuffer f (get_or ps n None)
+written_at f n [] may = tt
+written_at f zero (p ∷ ps) may = All-head (MayWriteBuffer f) p ps may
+written_at f (suc n) (p ∷ ps) may = written_at f n ps (All-tail (MayWriteBuffer f) p ps may)
 
--- so over words that are all one owner's
+writes_place : (f : Foot) (o : Option ℕ) (ps : List (Option BufferPlace)) → All (MayWriteBuffer f) ps → MayWriteBuffer f (numbered o ps)
+writes_place f None ps may = tt
+writes_place f (Some n) ps may = written_at f n ps may
+
+read_too : (f : Foot) (p : Option BufferPlace) → MayWriteBuffer f p → MayReadBuffer f p
+read_too f None may = tt
+read_too f (Some p) may = record { below = may.below; each = λ i lt. or_left (has f.writes (p.extent.at + i)) (has f.reads (p.extent.at + i)) (may.each i lt) }
+
+pub may_play : (f : Foot) (places : List (Option BufferPlace)) (d : Definition) (controls : List SynthControl) → MayWrite f 0 10368 → All (MayWriteBuffer f) places → MayPlayAll f places controls d
+may_play f places d controls may each = λ k e lt.
+    let index = index_of controls (get_or d.units k e) in record {
+      hears = λ is i low. reads_audio_bus f (audio_number (index +ℤ pos i)) may (number_bound (index +ℤ pos i));
+      reads = λ is i low. reads_control_bus f (control_number (index +ℤ pos i)) may (control_bound (index +ℤ pos i));
+      writes = λ is i low. writes_audio_bus f (audio_number (index +ℤ pos i)) may (number_bound (index +ℤ pos i));
+      sets = λ is i low. writes_control_bus f (control_number (index +ℤ pos i)) may (control_bound (index +ℤ pos i));
+      plays = λ is. read_too f (place_of places controls (get_or d.units k e)) (writes_place f (control_number index) places each);
+      records = λ is. writes_place f (control_number index) places each;
+    }
+
+-- so over words that are all one owner's, with no buffers
 pub plain_may_follow : (n : ℕ) (d : Definition) (controls : List SynthControl) → 10368 ≤ n → n < 4294967296 → AreControlsOf d controls → MayFollow (everything n) controls
 plain_may_follow n d controls long low are = may_follow (everything n) d controls (plain_may_write n 0 10368 (omega arith) low) are
 
-pub plain_may_play : (n : ℕ) (d : Definition) (controls : List SynthControl) → 10368 ≤ n → n < 4294967296 → MayPlayAll (everything n) controls d
-plain_may_play n d controls long low = may_play (everything n) d controls (plain_may_write n 0 10368 (omega arith) low)
+no_buffers : (f : Foot) (n : ℕ) → All (MayWriteBuffer f) (replicate n None)
+no_buffers f zero = All-nil (MayWriteBuffer f)
+no_buffers f (suc n) = All-cons (MayWriteBuffer f) None (replicate n None) tt (no_buffers f n)
+
+pub plain_may_play : (n : ℕ) (places : List (Option BufferPlace)) (d : Definition) (controls : List SynthControl) → 10368 ≤ n → n < 4294967296 → places ≡ replicate 1024 None → MayPlayAll (everything n) places controls d
+plain_may_play n places d controls long low none = may_play (everything n) places d controls (plain_may_write n 0 10368 (omega arith) low) (subst (All (MayWriteBuffer (everything n))) (sym none) (no_buffers (everything n) 1024))

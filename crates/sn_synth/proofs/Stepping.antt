@@ -1,5 +1,5 @@
 -- One more unit.
-use Rattle.std.proofs.Common.{◌≡◌, ◌≤◌, ◌<◌, ℕ, ◌+◌, List, [], ◌∷◌, ◌++◌, ℤ, length, get_or, take, drop, true, refl, ap, sym, subst, ◌∙◌, arith, All}
+use Rattle.std.proofs.Common.{◌≡◌, ◌≤◌, ◌<◌, ℕ, ◌+◌, Option, List, [], ◌∷◌, ◌++◌, ℤ, length, get_or, take, drop, true, refl, ap, sym, subst, ◌∙◌, arith, All}
 use Rattle.std.proofs.lemmas.List.{drop_more, length-map}
 use Rattle.std.proofs.lemmas.List.Sums.{fold_more}
 use Rattle.std.proofs.lemmas.List.Elements.{All-nil, All-cons}
@@ -15,13 +15,15 @@ use Rattle.sn_def.specs.StateWords.{unit_words, units_words, words_of}
 use Rattle.sn_filt.specs.Rings.{most_frames}
 use Rattle.sn_def.specs.WellFormed.{IsAllowed, AreAllowed, UnitFits, UnitsFit, outputs_of}
 use Rattle.sn_mem.specs.declared.extents.Foot.{Foot}
+use Rattle.sn_mem.specs.declared.buffers.BufferPlace.{BufferPlace}
 use Rattle.sn_mem.specs.Words.{MayWrite}
+use Rattle.sn_mem.specs.Buffers.{AreApart}
+use Rattle.sn_mem.proofs.BufferWords.{part_apart}
 use Rattle.sn_mem.proofs.Feet.{part_at}
-use Rattle.sn_io.specs.Conditions.{MayReach}
 use Rattle.sn_synth.specs.UnitBlocks.{is_played}
 use Rattle.sn_synth.specs.Synths.{input_block, input_blocks, now_of}
 use Rattle.sn_synth.specs.Words.{unit_after, Going, after_unit, after_units}
-use Rattle.sn_synth.specs.Conditions.{IsKnown, AreKnown, MayOutput, CanRun}
+use Rattle.sn_synth.specs.Conditions.{IsKnown, AreKnown, Reaches, MayOutput, CanRun}
 use Rattle.sn_synth.proofs.BuiltRows.{built_kind, inputs_few, same_words, outputs_long}
 
 -- ---- what a unit line that fits allows
@@ -46,7 +48,7 @@ inputs_known c w c' w' u e e' fits =
     let P : ℕ → Type 0 = λ (c : ℕ). AreKnown c w' u.inputs in let Q : ℕ → Type 0 = λ (w : ℕ). AreKnown c w u.inputs in
     subst P (sym e) (subst Q (sym e') (known (row_of u.kind).inputs c w 0 u.inputs fits.inputs))
 
-pub inputs_at_most : (c w : ℕ) (u : UnitLine) → UnitFits c w u → length u.inputs ≤ 9
+pub inputs_at_most : (c w : ℕ) (u : UnitLine) → UnitFits c w u → length u.inputs ≤ 12
 inputs_at_most c w u fits = let few = inputs_few u.kind (built_kind u.kind fits.built) in let most = fits.most_inputs in omega arith
 
 long_blocks : (values : List ℤ) (wires : List (List ℤ)) (xs : List Input) → length (input_blocks values wires xs) ≡ length xs
@@ -56,25 +58,26 @@ size_is : (rate c w : ℕ) (values : List ℤ) (wires : List (List ℤ)) (u : Un
 unfolding unit_words
 size_is rate c w values wires u fits = let least = fits.fewest_inputs in same_words u.kind rate c w values wires u.inputs (built_kind u.kind fits.built) fits.inputs (omega arith)
 
-pub can_run : (rate : ℕ) (f : Foot) (at c w n len : ℕ) (values : List ℤ) (wires : List (List ℤ)) (u : UnitLine) → UnitFits c w u → MayOutput f values u → n ≡ u.outputs → len ≡ unit_words rate u → (0 < len → 10368 ≤ at) → MayWrite f at len → CanRun u.kind rate f n at len (input_blocks values wires u.inputs)
-can_run rate f at c w n len values wires u fits may many size apart state =
+pub can_run : (rate : ℕ) (f : Foot) (places : List (Option BufferPlace)) (at c w n len : ℕ) (values : List ℤ) (wires : List (List ℤ)) (u : UnitLine) → UnitFits c w u → MayOutput f places values u → n ≡ u.outputs → len ≡ unit_words rate u → (0 < len → 10368 ≤ at) → MayWrite f at len → AreApart (record { at = at; len = len }) places → CanRun u.kind rate f places n at len (input_blocks values wires u.inputs)
+can_run rate f places at c w n len values wires u fits may many size apart state buffers =
     let long = long_blocks values wires u.inputs in
     let built : is_played u.kind ≡ true = built_kind u.kind fits.built in
     let least = fits.fewest_inputs in
-    let P : ℕ → Type 0 = λ n. MayReach u.kind f n (input_blocks values wires u.inputs) in
+    let P : ℕ → Type 0 = λ n. Reaches u.kind f places n (input_blocks values wires u.inputs) in
     record {
       built = built;
       enough = omega arith;
       size = size_is rate c w values wires u fits ∙ sym size;
       apart = apart;
       state = state;
-      buses = subst P (sym many) (may wires);
+      buffers = buffers;
+      reach = subst P (sym many) (may wires);
     }
 
-pub outputs_are : (c w n : ℕ) (u : UnitLine) (now : Now) (ws : List ℕ) (at len : ℕ) (inputs : List (List ℤ)) → UnitFits c w u → n ≡ u.outputs → length (unit_after u.kind now n ws at len inputs).1 ≡ u.outputs
-outputs_are c w n u now ws at len inputs fits many =
-    let P : ℕ → Type 0 = λ n. length (unit_after u.kind now n ws at len inputs).1 ≡ u.outputs in
-    subst P (sym many) (outputs_long u.kind now ws at len inputs u.outputs (built_kind u.kind fits.built) fits.fewest_outputs fits.most_outputs)
+pub outputs_are : (c w n : ℕ) (u : UnitLine) (now : Now) (places : List (Option BufferPlace)) (ws : List ℕ) (at len : ℕ) (inputs : List (List ℤ)) → UnitFits c w u → n ≡ u.outputs → length (unit_after u.kind now n places ws at len inputs).1 ≡ u.outputs
+outputs_are c w n u now places ws at len inputs fits many =
+    let P : ℕ → Type 0 = λ n. length (unit_after u.kind now n places ws at len inputs).1 ≡ u.outputs in
+    subst P (sym many) (outputs_long u.kind now places ws at len inputs u.outputs (built_kind u.kind fits.built) fits.fewest_outputs fits.most_outputs)
 
 -- ---- the units to come
 
@@ -112,29 +115,29 @@ ahead_at rate c w p w' p' end us e e' a =
 
 -- ---- the fold
 
-one : (rate b : ℕ) (node : ℤ) (values : List ℤ) (g : Going) (u : UnitLine) (now : Now) (ws : List ℕ) (ins outs wires : List (List ℤ)) (many len : ℕ)
+one : (rate b : ℕ) (node : ℤ) (places : List (Option BufferPlace)) (values : List ℤ) (g : Going) (u : UnitLine) (now : Now) (ws : List ℕ) (ins outs wires : List (List ℤ)) (many len : ℕ)
     → ins ≡ input_blocks values g.wires u.inputs → now ≡ now_of rate b node g.number → many ≡ u.outputs → len ≡ unit_words rate u
-    → ws ≡ (unit_after u.kind now many g.words g.at len ins).0 → outs ≡ (unit_after u.kind now many g.words g.at len ins).1 → wires ≡ g.wires ++ outs
-    → ◌≡◌ {A = Going} (record { words = ws; wires = wires; at = g.at + len; number = g.number + 1 }) (after_unit rate b node values g u)
+    → ws ≡ (unit_after u.kind now many places g.words g.at len ins).0 → outs ≡ (unit_after u.kind now many places g.words g.at len ins).1 → wires ≡ g.wires ++ outs
+    → ◌≡◌ {A = Going} (record { words = ws; wires = wires; at = g.at + len; number = g.number + 1 }) (after_unit rate b node places values g u)
 unfolding after_unit
-one rate b node values g u now ws ins outs wires many len i n m s w o a =
-    let F : Now → ℕ → ℕ → List (List ℤ) → Going = λ (now : Now) (many len : ℕ) (ins : List (List ℤ)). record { words = (unit_after u.kind now many g.words g.at len ins).0; wires = g.wires ++ (unit_after u.kind now many g.words g.at len ins).1; at = g.at + len; number = g.number + 1 } in
+one rate b node places values g u now ws ins outs wires many len i n m s w o a =
+    let F : Now → ℕ → ℕ → List (List ℤ) → Going = λ (now : Now) (many len : ℕ) (ins : List (List ℤ)). record { words = (unit_after u.kind now many places g.words g.at len ins).0; wires = g.wires ++ (unit_after u.kind now many places g.words g.at len ins).1; at = g.at + len; number = g.number + 1 } in
     let e : ◌≡◌ {A = Going} (record { words = ws; wires = wires; at = g.at + len; number = g.number + 1 }) (F now many len ins) =
     ap (λ (ws : List ℕ). record { words = ws; wires = wires; at = g.at + len; number = g.number + 1 }) w
-    ∙ ap (λ (wires : List (List ℤ)). record { words = (unit_after u.kind now many g.words g.at len ins).0; wires = wires; at = g.at + len; number = g.number + 1 }) (a ∙ ap (λ (o : List (List ℤ)). g.wires ++ o) o) in
+    ∙ ap (λ (wires : List (List ℤ)). record { words = (unit_after u.kind now many places g.words g.at len ins).0; wires = wires; at = g.at + len; number = g.number + 1 }) (a ∙ ap (λ (o : List (List ℤ)). g.wires ++ o) o) in
     e ∙ (ap (λ (now : Now). F now many len ins) n ∙ (ap (λ (many : ℕ). F (now_of rate b node g.number) many len ins) m ∙ (ap (λ (len : ℕ). F (now_of rate b node g.number) u.outputs len ins) s
     ∙ ap (λ (ins : List (List ℤ)). F (now_of rate b node g.number) u.outputs (unit_words rate u) ins) i)))
 
-pub unit_more : (rate b : ℕ) (node : ℤ) (values : List ℤ) (us : List UnitLine) (start g : Going) (k : ℕ) (u : UnitLine) (now : Now) (ws : List ℕ) (ins outs wires : List (List ℤ)) (many len : ℕ)
-    → k < length us → u ≡ get_or us k u → g ≡ after_units rate b node values (take k us) start
+pub unit_more : (rate b : ℕ) (node : ℤ) (places : List (Option BufferPlace)) (values : List ℤ) (us : List UnitLine) (start g : Going) (k : ℕ) (u : UnitLine) (now : Now) (ws : List ℕ) (ins outs wires : List (List ℤ)) (many len : ℕ)
+    → k < length us → u ≡ get_or us k u → g ≡ after_units rate b node places values (take k us) start
     → ins ≡ input_blocks values g.wires u.inputs → now ≡ now_of rate b node g.number → many ≡ u.outputs → len ≡ unit_words rate u
-    → ws ≡ (unit_after u.kind now many g.words g.at len ins).0 → outs ≡ (unit_after u.kind now many g.words g.at len ins).1 → wires ≡ g.wires ++ outs
-    → ◌≡◌ {A = Going} (record { words = ws; wires = wires; at = g.at + len; number = g.number + 1 }) (after_units rate b node values (take (k + 1) us) start)
-unit_more rate b node values us start g k u now ws ins outs wires many len lt is e i n m s w o a =
-    one rate b node values g u now ws ins outs wires many len i n m s w o a
-    ∙ (ap (λ (g : Going). after_unit rate b node values g u) e
-    ∙ (ap (after_unit rate b node values (after_units rate b node values (take k us) start)) is
-    ∙ sym (fold_more (after_unit rate b node values) start us k u lt)))
+    → ws ≡ (unit_after u.kind now many places g.words g.at len ins).0 → outs ≡ (unit_after u.kind now many places g.words g.at len ins).1 → wires ≡ g.wires ++ outs
+    → ◌≡◌ {A = Going} (record { words = ws; wires = wires; at = g.at + len; number = g.number + 1 }) (after_units rate b node places values (take (k + 1) us) start)
+unit_more rate b node places values us start g k u now ws ins outs wires many len lt is e i n m s w o a =
+    one rate b node places values g u now ws ins outs wires many len i n m s w o a
+    ∙ (ap (λ (g : Going). after_unit rate b node places values g u) e
+    ∙ (ap (after_unit rate b node places values (after_units rate b node places values (take k us) start)) is
+    ∙ sym (fold_more (after_unit rate b node places values) start us k u lt)))
 
 -- ---- the same for what a loop holds
 
@@ -144,12 +147,14 @@ known_at c w c' w' u xs e p q fits = let P : List Input → Type 0 = λ (xs : Li
 pub gathered : (values values' : List ℤ) (wires ins : List (List ℤ)) (u : UnitLine) (xs : List Input) → ins ≡ input_blocks values' wires xs → xs ≡ u.inputs → values' ≡ values → ins ≡ input_blocks values wires u.inputs
 gathered values values' wires ins u xs e p q = e ∙ (ap (input_blocks values' wires) p ∙ ap (λ (vs : List ℤ). input_blocks vs wires u.inputs) q)
 
-pub can_at : (rate rate' : ℕ) (f f' : Foot) (at total place c w n len : ℕ) (values : List ℤ) (wires ins : List (List ℤ)) (us : List UnitLine) (k : ℕ) (u : UnitLine)
-    → k < length us → u ≡ get_or us k u → UnitFits c w u → All (MayOutput f values) us → n ≡ u.outputs → len ≡ unit_words rate u → (0 < total → 10368 ≤ at) → MayWrite f at total → f' ≡ f → at ≤ place → place + unit_words rate u ≤ at + total → ins ≡ input_blocks values wires u.inputs → rate' ≡ rate → CanRun u.kind rate' f' n place len ins
-can_at rate rate' f f' at total place c w n len values wires ins us k u lt is fits may many size apart state e low high gather same =
-    let P : UnitLine → Type 0 = λ (v : UnitLine). MayOutput f values v in
-    let F : Foot → Type 0 = λ (f : Foot). CanRun u.kind rate f n place len ins in
-    let I : List (List ℤ) → Type 0 = λ (ins : List (List ℤ)). CanRun u.kind rate f n place len ins in
-    let R : ℕ → Type 0 = λ rate. CanRun u.kind rate f' n place len ins in
+pub can_at : (rate rate' : ℕ) (f f' : Foot) (places : List (Option BufferPlace)) (at total place c w n len : ℕ) (values : List ℤ) (wires ins : List (List ℤ)) (us : List UnitLine) (k : ℕ) (u : UnitLine)
+    → k < length us → u ≡ get_or us k u → UnitFits c w u → All (MayOutput f places values) us → n ≡ u.outputs → len ≡ unit_words rate u → (0 < total → 10368 ≤ at) → MayWrite f at total → AreApart (record { at = at; len = total }) places
+    → f' ≡ f → at ≤ place → place + unit_words rate u ≤ at + total → ins ≡ input_blocks values wires u.inputs → rate' ≡ rate → CanRun u.kind rate' f' places n place len ins
+can_at rate rate' f f' places at total place c w n len values wires ins us k u lt is fits may many size apart state buffers e low high gather same =
+    let P : UnitLine → Type 0 = λ (v : UnitLine). MayOutput f places values v in
+    let F : Foot → Type 0 = λ (f : Foot). CanRun u.kind rate f places n place len ins in
+    let I : List (List ℤ) → Type 0 = λ (ins : List (List ℤ)). CanRun u.kind rate f places n place len ins in
+    let R : ℕ → Type 0 = λ rate. CanRun u.kind rate f' places n place len ins in
     let behind : 0 < len → 10368 ≤ place = λ some. let from : 10368 ≤ at = apart (omega (arith, some)) in omega arith in
-    subst R (sym same) (subst F (sym e) (subst I (sym gather) (can_run rate f place c w n len values wires u fits (subst P (sym is) (may k u lt)) many size behind (part_at f f at total place len state refl low (omega arith)))))
+    subst R (sym same) (subst F (sym e) (subst I (sym gather) (can_run rate f places place c w n len values wires u fits (subst P (sym is) (may k u lt)) many size behind (part_at f f at total place len state refl low (omega arith))
+    (part_apart (record { at = at; len = total }) (record { at = place; len = len }) places low (omega arith) buffers))))

@@ -12,11 +12,14 @@ use Rattle.sn_def.specs.declared.kind.Kind.{Kind}
 use Rattle.sn_def.specs.StateWords.{words_of}
 use Rattle.sn_filt.specs.Rings.{most_frames}
 use Rattle.sn_mem.specs.declared.extents.Foot.{Foot}
+use Rattle.sn_mem.specs.declared.buffers.BufferPlace.{BufferPlace}
 use Rattle.sn_mem.specs.Words.{MayWrite}
+use Rattle.sn_mem.specs.Buffers.{AreApart}
 use Rattle.sn_mem.specs.Buses.{audio_number}
 use Rattle.sn_io.specs.Channels.{control_number}
 use Rattle.sn_io.specs.BusUnits.{reads_audio, reads_control, writes_audio, writes_control}
-use Rattle.sn_io.specs.Conditions.{MayReadAudio, MayReadControl, MayWriteAudio, MayWriteControl, MayReach}
+use Rattle.sn_io.specs.BufferUnits.{reads_buffer, writes_buffer, numbered}
+use Rattle.sn_io.specs.Conditions.{MayReadAudio, MayReadControl, MayWriteAudio, MayWriteControl, MayReach, MayReadBuffer, MayWriteBuffer, MayReachBuffer}
 use Rattle.sn_synth.specs.UnitBlocks.{is_played}
 use Rattle.sn_synth.specs.Synths.{input_blocks}
 
@@ -47,20 +50,30 @@ index_value controls (Wire k) = pos 0
 abbrev pub index_of : List SynthControl → UnitLine → ℤ
 index_of controls u = index_value controls (slice_index_or u.inputs 0 (Literal (pos 0)))
 
--- the buses of a unit's channels may be read or written, as its kind does
-pub record MayPlay (f : Foot) (controls : List SynthControl) (u : UnitLine) : Type 0 where
+-- what is at the number of a unit's buffer
+abbrev pub place_of : List (Option BufferPlace) → List SynthControl → UnitLine → Option BufferPlace
+place_of places controls u = numbered (control_number (index_of controls u)) places
+
+-- the buses of a unit's channels, and its buffer, may be read or written, as its kind does
+pub record MayPlay (f : Foot) (places : List (Option BufferPlace)) (controls : List SynthControl) (u : UnitLine) : Type 0 where
   pub hears : reads_audio u.kind ≡ true → (i : ℕ) → i < u.outputs → MayReadAudio f (audio_number (index_of controls u +ℤ pos i))
   pub reads : reads_control u.kind ≡ true → (i : ℕ) → i < u.outputs → MayReadControl f (control_number (index_of controls u +ℤ pos i))
   pub writes : writes_audio u.kind ≡ true → (i : ℕ) → i + 1 < length u.inputs → MayWriteAudio f (audio_number (index_of controls u +ℤ pos i))
   pub sets : writes_control u.kind ≡ true → (i : ℕ) → i + 1 < length u.inputs → MayWriteControl f (control_number (index_of controls u +ℤ pos i))
+  pub plays : reads_buffer u.kind ≡ true → MayReadBuffer f (place_of places controls u)
+  pub records : writes_buffer u.kind ≡ true → MayWriteBuffer f (place_of places controls u)
 
 -- those of all units
-abbrev pub MayPlayAll : Foot → List SynthControl → Definition → Type 0
-MayPlayAll f controls d = All (MayPlay f controls) d.units
+abbrev pub MayPlayAll : Foot → List (Option BufferPlace) → List SynthControl → Definition → Type 0
+MayPlayAll f places controls d = All (MayPlay f places controls) d.units
 
 -- the same by the values of the controls and the blocks of the inputs
-abbrev pub MayOutput : Foot → List ℤ → UnitLine → Type 0
-MayOutput f values u = (wires : List (List ℤ)) → MayReach u.kind f u.outputs (input_blocks values wires u.inputs)
+pub record Reaches (kind : Kind) (f : Foot) (places : List (Option BufferPlace)) (n : ℕ) (inputs : List (List ℤ)) : Type 0 where
+  pub buses : MayReach kind f n inputs
+  pub buffer : MayReachBuffer kind f inputs places
+
+abbrev pub MayOutput : Foot → List (Option BufferPlace) → List ℤ → UnitLine → Type 0
+MayOutput f places values u = (wires : List (List ℤ)) → Reaches u.kind f places u.outputs (input_blocks values wires u.inputs)
 
 -- an input that is there, after so many wires
 abbrev pub IsKnown : ℕ → ℕ → Input → Type 0
@@ -72,10 +85,11 @@ abbrev pub AreKnown : ℕ → ℕ → List Input → Type 0
 AreKnown controls wires inputs = All (IsKnown controls wires) inputs
 
 -- a unit of a kind with so many outputs, at a rate, on the blocks of its inputs, with its state in so many words from a place on
-pub record CanRun (kind : Kind) (rate : ℕ) (f : Foot) (n at len : ℕ) (inputs : List (List ℤ)) : Type 0 where
+pub record CanRun (kind : Kind) (rate : ℕ) (f : Foot) (places : List (Option BufferPlace)) (n at len : ℕ) (inputs : List (List ℤ)) : Type 0 where
   pub built : is_played kind ≡ true
   pub enough : length (row_of kind).inputs ≤ length inputs
   pub size : words_of (row_of kind).words (most_frames rate inputs) ≡ len
   pub apart : 0 < len → 10368 ≤ at
   pub state : MayWrite f at len
-  pub buses : MayReach kind f n inputs
+  pub buffers : AreApart (record { at = at; len = len }) places
+  pub reach : Reaches kind f places n inputs

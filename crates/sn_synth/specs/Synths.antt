@@ -9,7 +9,8 @@ use Rattle.sn_def.specs.declared.unit.Unit.{Unit as UnitLine}
 use Rattle.sn_def.specs.Definition.{Definition}
 use Rattle.sn_def.specs.StateWords.{unit_words}
 use Rattle.sn_mem.specs.Blocks.{block, window, put}
-use Rattle.sn_mem.specs.Buses.{Buses, ControlBus, resting}
+use Rattle.sn_mem.specs.Buses.{ControlBus, resting}
+use Rattle.sn_mem.specs.Buffers.{Resources}
 use Rattle.sn_synth.specs.UnitBlocks.{unit_block}
 
 -- ---- controls and inputs
@@ -38,7 +39,7 @@ input_blocks values wires inputs = map (input_block values wires) inputs
 
 -- where a synth stands between two units
 pub record Playing : Type 0 where
-  pub buses : Buses
+  pub resources : Resources
   -- the state words of all units, one unit's after the other's
   pub state : List ℕ
   -- the outputs of the units so far
@@ -54,15 +55,15 @@ now_of rate b node number = record { rate = rate; block = b; node = node; unit =
 unfoldable pub play_unit : ℕ → ℕ → ℤ → List ℤ → Playing → UnitLine → Playing
 play_unit rate b node values p u =
     let words = unit_words rate u in
-    let r = unit_block u.kind (now_of rate b node p.number) u.outputs (window p.state p.place words) (input_blocks values p.wires u.inputs) p.buses in
-    record { buses = r.buses; state = put p.state p.place r.state; wires = p.wires ++ r.outputs; place = p.place + words; number = p.number + 1 }
+    let r = unit_block u.kind (now_of rate b node p.number) u.outputs (window p.state p.place words) (input_blocks values p.wires u.inputs) p.resources in
+    record { resources = r.resources; state = put p.state p.place r.state; wires = p.wires ++ r.outputs; place = p.place + words; number = p.number + 1 }
 
 abbrev pub play_units : ℕ → ℕ → ℤ → List ℤ → List UnitLine → Playing → Playing
 play_units rate b node values us p = fold (play_unit rate b node values) p us
 
-abbrev pub before_units : Buses → List ℕ → Playing
-before_units buses state = record { buses = buses; state = state; wires = []; place = 0; number = 0 }
+abbrev pub before_units : Resources → List ℕ → Playing
+before_units resources state = record { resources = resources; state = state; wires = []; place = 0; number = 0 }
 
 -- At a rate, in block b, the synth with a node's id: each control that follows a control bus is read from it once, and then the units run in order.
-abbrev pub synth_block : ℕ → ℕ → ℤ → Definition → List SynthControl → Buses → List ℕ → Playing
-synth_block rate b node d controls buses state = play_units rate b node (control_values buses.control controls) d.units (before_units buses state)
+abbrev pub synth_block : ℕ → ℕ → ℤ → Definition → List SynthControl → Resources → List ℕ → Playing
+synth_block rate b node d controls resources state = play_units rate b node (control_values resources.buses.control controls) d.units (before_units resources state)

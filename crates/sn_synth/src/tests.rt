@@ -1,11 +1,11 @@
-ghost use Rattle.std.specs.Prelude.{◌≡◌, ◌<◌, ◌≤◌, ◌^◌, true, None, length, IfOk};
+ghost use Rattle.std.specs.Prelude.{◌≡◌, ◌<◌, ◌≤◌, ◌^◌, true, None, length, replicate, IfOk};
 ghost use Rattle.sn_def.specs.Asked.{is_index};
 ghost use Rattle.sn_def.specs.Defs.{definition_of};
 ghost use Rattle.sn_synth.specs.Conditions.{IsFollowed, AreControlsOf};
 
 use crate::run_synth;
 use sn_def::{Control, Controls, Def, Now, read};
-use sn_mem::{Extent, Places, PlainPort, Port, Scratch, sample_of, word_of};
+use sn_mem::{Buffers, Extent, PlainPort, Port, Scratch, sample_of, word_of};
 use sn_ports::NoMemory;
 use std::alloc::Global;
 use std::test::Fail;
@@ -76,11 +76,13 @@ fn memory(alloc: Global, words: u32) -> Result<PlainPort, NoMemory>
     PlainPort::new(alloc, words)
 }
 
-/// Words for the buses and for a state from word 10,368 on.
+/// Words for the buses and for a state from word 10,368 on, without buffers.
 #[derive(Drop)]
 struct Desk {
     port: PlainPort,
     scratch: Scratch,
+    buffers: Buffers,
+    ghost none: { buffers ≡ replicate 1024 None },
     ghost long: { length port.words.items ≡ 10400 },
 }
 
@@ -88,11 +90,16 @@ impl Desk {
     fn new(alloc: Global) -> Result<Desk, NoMemory> {
         let port = memory(alloc, 10_400)?;
         let scratch = Scratch::new(alloc)?;
-        Ok(Desk { port, scratch })
+        let buffers = Buffers::new(alloc)?;
+        Ok(Desk {
+            port,
+            scratch,
+            buffers,
+        })
     }
 
     /// Runs a synth of at most 32 state words.
-    #[tactic(auto, using(sn_mem::proofs::Feet::plain_may_write, crate::proofs::Plain::plain_may_follow, crate::proofs::Plain::plain_may_play))]
+    #[tactic(auto, using(sn_mem::proofs::Feet::plain_may_write, sn_mem::proofs::BufferWords::none_apart, crate::proofs::Plain::plain_may_follow, crate::proofs::Plain::plain_may_play))]
     fn play(
         &mut self,
         alloc: Global,
@@ -117,7 +124,7 @@ impl Desk {
             &mut self.port,
             def,
             &controls,
-            &Places,
+            &self.buffers,
             Extent { at: 10_368, len },
             &mut self.scratch,
             &now,

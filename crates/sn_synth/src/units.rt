@@ -8,15 +8,18 @@ ghost use Rattle.sn_filt.specs.Rings.{most_frames};
 ghost use Rattle.sn_mem.specs.Words.{MayWrite};
 ghost use Rattle.sn_gen.specs.Generators.{is_generator};
 ghost use Rattle.sn_mem.specs.Blocks.{window, put};
+ghost use Rattle.sn_mem.specs.Buffers.{AreApart};
 ghost use Rattle.sn_io.specs.BusUnits.{is_bus_unit};
-ghost use Rattle.sn_synth.specs.UnitBlocks.{is_inner, inner};
+ghost use Rattle.sn_io.specs.BufferUnits.{is_buffer_unit};
+ghost use Rattle.sn_io.specs.Conditions.{MayReach};
+ghost use Rattle.sn_synth.specs.UnitBlocks.{is_inner, is_plain, inner};
 ghost use Rattle.sn_synth.specs.Synths.{input_blocks, now_of};
-ghost use Rattle.sn_synth.specs.Words.{unit_after, after_units, begun};
+ghost use Rattle.sn_synth.specs.Words.{plain_after, unit_after, after_units, begun};
 ghost use Rattle.sn_synth.specs.Conditions.{MayOutput, CanRun};
 
 use crate::inputs::gather;
 use sn_def::{Kind, Now, Unit};
-use sn_mem::{Blocks, Extent, Places, Port, Scratch};
+use sn_mem::{Blocks, Buffers, Extent, Places, Port, Scratch};
 
 fn is_bus_unit(kind: Kind) -> bool
     ensures { result ≡ is_bus_unit kind }
@@ -33,6 +36,15 @@ fn is_bus_unit(kind: Kind) -> bool
             | Kind::DetectSilence
             | Kind::FreeSelf
             | Kind::PauseSelf
+    )
+}
+
+fn is_buffer_unit(kind: Kind) -> bool
+    ensures { result ≡ is_buffer_unit kind }
+{
+    matches!(
+        kind,
+        Kind::PlayBuf | Kind::RecordBuf | Kind::BufRd | Kind::BufWr | Kind::BufFrames
     )
 }
 
@@ -90,9 +102,9 @@ fn run_inner<P: Port>(
     }
 }
 
-/// Runs a unit of a kind on the blocks of its inputs. `outputs` comes with as many blocks as the
-/// unit has outputs.
-fn run_kind<P: Port>(
+/// Runs a unit that has no buffer on the blocks of its inputs. `outputs` comes with as many blocks
+/// as the unit has outputs.
+fn run_plain<P: Port>(
     kind: Kind,
     now: &Now,
     port: &mut P,
@@ -100,11 +112,16 @@ fn run_kind<P: Port>(
     inputs: &Blocks,
     outputs: &mut Blocks,
 )
+    requires kind { is_plain kind ≡ true }
     requires rate { 0 < now.now.rate }
     requires block { now.now.block < 2 ^ 63 }
-    requires can { CanRun kind now.now.rate (P.foot port.old) (length outputs.old) state.at state.len inputs.now }
-    ensures words { P.words port.new ≡ (unit_after kind now.now (length outputs.old) (P.words port.old) state.at state.len inputs.now).0 }
-    ensures outputs { outputs.new ≡ (unit_after kind now.now (length outputs.old) (P.words port.old) state.at state.len inputs.now).1 }
+    requires inputs { length (row_of kind).inputs ≤ length inputs.now }
+    requires size { words_of (row_of kind).words (most_frames now.now.rate inputs.now) ≡ state.len }
+    requires apart { 0 < state.len → 10368 ≤ state.at }
+    requires state { MayWrite (P.foot port.old) state.at state.len }
+    requires buses { MayReach kind (P.foot port.old) (length outputs.old) inputs.now }
+    ensures words { P.words port.new ≡ (plain_after kind now.now (length outputs.old) (P.words port.old) state.at state.len inputs.now).0 }
+    ensures outputs { outputs.new ≡ (plain_after kind now.now (length outputs.old) (P.words port.old) state.at state.len inputs.now).1 }
     ensures foot { P.foot port.new ≡ P.foot port.old }
     ensures rest { P.rest port.new ≡ P.rest port.old }
 {
@@ -115,9 +132,36 @@ fn run_kind<P: Port>(
     }
 }
 
+/// Runs a unit of a kind on the blocks of its inputs, with the buffers at their places. `outputs`
+/// comes with as many blocks as the unit has outputs.
+fn run_kind<P: Port>(
+    kind: Kind,
+    now: &Now,
+    buffers: &Buffers,
+    port: &mut P,
+    state: Extent,
+    inputs: &Blocks,
+    outputs: &mut Blocks,
+)
+    requires rate { 0 < now.now.rate }
+    requires block { now.now.block < 2 ^ 63 }
+    requires can { CanRun kind now.now.rate (P.foot port.old) buffers.now (length outputs.old) state.at state.len inputs.now }
+    ensures words { P.words port.new ≡ (unit_after kind now.now (length outputs.old) buffers.now (P.words port.old) state.at state.len inputs.now).0 }
+    ensures outputs { outputs.new ≡ (unit_after kind now.now (length outputs.old) buffers.now (P.words port.old) state.at state.len inputs.now).1 }
+    ensures foot { P.foot port.new ≡ P.foot port.old }
+    ensures rest { P.rest port.new ≡ P.rest port.old }
+{
+    if is_buffer_unit(kind) {
+        sn_io::run_buffer_unit(kind, now, buffers, port, state, inputs, outputs);
+    } else {
+        run_plain(kind, now, port, state, inputs, outputs);
+    }
+}
+
 /// Runs the units in order, their states in the words from `at` on, one unit's after the other's.
 pub(crate) fn run_units<P: Port>(
     port: &mut P,
+    buffers: &Buffers,
     units: &[Unit],
     at: u32,
     scratch: &mut Scratch,
@@ -130,8 +174,9 @@ pub(crate) fn run_units<P: Port>(
     requires few { length units.now ≤ 256 }
     requires apart { 0 < units_words now.now.rate units.now → 10368 ≤ at }
     requires state { MayWrite (P.foot port.old) at (units_words now.now.rate units.now) }
-    requires outputs { All (MayOutput (P.foot port.old) scratch.old.values) units.now }
-    ensures words { P.words port.new ≡ (after_units now.now.rate now.now.block now.now.node scratch.old.values units.now (begun (P.words port.old) at)).words }
+    requires buffers { AreApart (record { at = at; len = units_words now.now.rate units.now }) buffers.now }
+    requires outputs { All (MayOutput (P.foot port.old) buffers.now scratch.old.values) units.now }
+    ensures words { P.words port.new ≡ (after_units now.now.rate now.now.block now.now.node buffers.now scratch.old.values units.now (begun (P.words port.old) at)).words }
     ensures foot { P.foot port.new ≡ P.foot port.old }
     ensures rest { P.rest port.new ≡ P.rest port.old }
 {
@@ -151,6 +196,7 @@ pub(crate) fn run_units<P: Port>(
         run_kind(
             unit.kind,
             &numbered(now, number),
+            buffers,
             port,
             state,
             &scratch.inputs,

@@ -2,7 +2,8 @@
 use Rattle.std.proofs.Common.{◌≡◌, ◌<◌, ◌≤◌, ℕ, zero, suc, ◌+◌, Bool, true, false, cond, List, length, get_or, take, drop, Option, Some, None, refl, sym, ap, subst, arith, drop_of_length-le, below_more}
 use Rattle.sn_ports.specs.Octets.{Octets}
 use Rattle.sn_words.specs.Keys.{given, first_bad}
-use Rattle.sn_words.specs.Laws.{no_word, is_good_at, AreGood, Tells, FindsFirstBad, HasOpeningDefaults}
+use Rattle.sn_words.specs.Laws.{is_good_at, AreGood, Tells, FindsFirstBad, HasOpeningDefaults}
+use Rattle.sn_words.specs.Words.{no_word}
 use Rattle.sn_words.proofs.Loops.{bad_here}
 
 by_good : (words : List Octets) (i : ℕ) (good : Bool) (rest : Option ℕ) → i < length words → AreGood words i → is_good_at words i ≡ good → (good ≡ true → Tells words rest) → Tells words (cond good rest (Some i))

@@ -1,12 +1,12 @@
--- Laws about the first bad word, and about settings that no word chooses.
-use Rattle.std.specs.Prelude.{◌≡◌, ◌<◌, ℕ, Bool, true, false, List, [], length, get_or, take, Option, MatchOption}
+-- Laws about the first bad word, about settings that no word chooses, and about the words of `serve`.
+use Rattle.std.specs.Prelude.{◌≡◌, ◌<◌, ◌≤◌, ℕ, Bool, true, false, List, [], length, get_or, take, codes, Option, Some, MatchOption, Ok}
+use Rattle.sn_fixed.specs.Natural.{natural}
 use Rattle.sn_ports.specs.Octets.{Octets}
 use Rattle.sn_pcm.specs.Opening.{opening}
 use Rattle.sn_words.specs.Choices.{numbers}
 use Rattle.sn_words.specs.Keys.{is_good, first_bad, choices}
-
-abbrev pub no_word : Octets
-no_word = record { bytes = []; spare = 0 }
+use Rattle.sn_words.specs.Serving.{ServeChoices, between, port_word, serve_words_of}
+use Rattle.sn_words.specs.Words.{begins_with, no_word}
 
 -- The word with this index is good after the words before it.
 abbrev pub is_good_at : List Octets → ℕ → Bool
@@ -28,3 +28,16 @@ FindsFirstBad words = Tells words (first_bad [] words)
 
 abbrev pub HasOpeningDefaults : Type 0
 HasOpeningDefaults = choices [] ≡ numbers opening
+
+-- `serve`, good words, a port from 1 to 65535 and one more word
+pub record IsServeLine (words : List Octets) (chosen : ServeChoices) : Type 0 where
+  pub first : begins_with (codes "serve") words ≡ true
+  pub enough : 3 ≤ length words
+  pub good : AreGood (between words) (length (between words))
+  pub settings : chosen.settings ≡ choices (between words)
+  pub port : natural (port_word words) ≡ Some chosen.port
+  pub least : 1 ≤ chosen.port
+  pub greatest : chosen.port ≤ 65535
+
+abbrev pub ServesBy : List Octets → ServeChoices → Type 0
+ServesBy words chosen = serve_words_of words ≡ Ok chosen → IsServeLine words chosen

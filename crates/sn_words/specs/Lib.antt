@@ -1,4 +1,5 @@
 pub mod Choices
 pub mod Keys
 pub mod Laws
+pub mod Serving
 pub mod Words

@@ -6,6 +6,9 @@ use Rattle.sn_ports.specs.Octets.{Octets}
 use Rattle.sn_words.specs.Choices.{Choices}
 use Rattle.sn_words.specs.Keys.{first_bad, choices}
 
+abbrev pub no_word : Octets
+no_word = record { bytes = []; spare = 0 }
+
 abbrev pub begins_with : List ℕ → List Octets → Bool
 begins_with name [] = false
 begins_with name (word ∷ words) = bytes_eq word.bytes name

@@ -1,7 +1,8 @@
 //! Laws about the definitions of this crate. Each function's contract is one law.
 ghost use Rattle.std.specs.Prelude.{List};
 ghost use Rattle.sn_ports.specs.Octets.{Octets};
-ghost use Rattle.sn_words.specs.Laws.{FindsFirstBad, HasOpeningDefaults};
+ghost use Rattle.sn_words.specs.Laws.{FindsFirstBad, HasOpeningDefaults, ServesBy};
+ghost use Rattle.sn_words.specs.Serving.{ServeChoices};
 
 /// The index of the first bad word is that of a bad word, and each word before it is good. Where
 /// there is no such index, each word is good.
@@ -12,4 +13,9 @@ pub fn first_bad_word()
 /// Where no word gives a value, the settings are those of `Settings::new`.
 pub fn defaults_stand()
     ensures { HasOpeningDefaults }
+{}
+
+/// Words that choose settings and a port are `serve`, good words, a port from 1 to 65535 and one more word.
+pub fn chosen_port()
+    ensures { (words : List Octets) (chosen : ServeChoices) → ServesBy words chosen }
 {}

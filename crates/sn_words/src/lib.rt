@@ -4,9 +4,13 @@
 mod choices;
 mod keys;
 mod laws;
+mod lines;
 mod render;
+mod serve;
 #[cfg(test)]
 mod tests;
 
-pub use laws::{defaults_stand, first_bad_word};
-pub use render::{BadWord, settings};
+pub use laws::{chosen_port, defaults_stand, first_bad_word};
+pub use lines::BadWord;
+pub use render::settings;
+pub use serve::{ServeWords, serve_words};

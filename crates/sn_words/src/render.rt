@@ -1,27 +1,12 @@
 //! The words `render [key=value ..] COMMANDS SOUND REPLIES`.
-ghost use Rattle.std.specs.Prelude.{◌≡◌, ◌≤◌, ◌<◌, ◌^◌, length, codes, IfOk, IfErr, MatchOption, Ok, Err};
+ghost use Rattle.std.specs.Prelude.{◌≡◌, ◌≤◌, ◌<◌, ◌^◌, length, IfOk, IfErr, MatchOption, Ok, Err};
 ghost use Rattle.sn_words.specs.Choices.{numbers};
-ghost use Rattle.sn_words.specs.Words.{begins_with, between, bad_word, settings_of};
+ghost use Rattle.sn_words.specs.Words.{between, bad_word, settings_of};
 
 use crate::choices::{chosen, first_bad};
+use crate::lines::{BadWord, begins_with};
 use sn_pcm::Settings;
 use sn_ports::Word;
-
-/// The words choose no settings.
-#[derive(Clone, Copy, Debug, PartialEq, Eq)]
-pub struct BadWord {
-    /// The index of the first bad word, from 0; where a word is missing, the number of words.
-    pub index: u32,
-}
-
-fn begins_with_render(words: &[Word]) -> bool
-    ensures { result ≡ begins_with (codes "render") words.now }
-{
-    match words.first() {
-        Some(first) => first.as_slice() == b"render".as_slice(),
-        None => false,
-    }
-}
 
 /// The words between the first one and the last three.
 fn between(words: &[Word]) -> &[Word]
@@ -37,7 +22,7 @@ fn bad_word(words: &[Word]) -> Option<usize>
     ensures value { result ≡ bad_word words.now }
     ensures within { MatchOption result (4 ≤ length words.now) (λ i. i ≤ length words.now) }
 {
-    if !begins_with_render(words) {
+    if !begins_with(b"render", words) {
         return Some(0);
     }
     if words.len() < 4 {

@@ -1,4 +1,4 @@
-use crate::settings;
+use crate::{serve_words, settings};
 use sn_ports::{NoMemory, Word};
 use std::alloc::Global;
 
@@ -52,6 +52,47 @@ fn bad_words(rt: HostRuntime) {
             Ok(words) => {
                 assert!(rt; words.len() < 10);
                 match settings(&words) {
+                    Ok(_) => assert!(rt; false, "good words: {line}"),
+                    Err(bad) => assert_eq!(rt; bad.index, want, "in {line}"),
+                }
+            }
+            Err(_) => assert!(rt; false, "no memory"),
+        }
+    }
+}
+
+#[test]
+fn a_port_and_settings(rt: HostRuntime) {
+    match words_of(rt.alloc(), "serve bits=24 5000 out") {
+        Ok(words) => {
+            assert!(rt; words.len() < 10);
+            match serve_words(&words) {
+                Ok(served) => {
+                    assert_eq!(rt; served.port, 5000);
+                    assert_eq!(rt; served.settings.bits, 24);
+                    assert_eq!(rt; served.settings.rate, 48_000);
+                }
+                Err(bad) => assert!(rt; false, "bad word {}", bad.index),
+            }
+        }
+        Err(_) => assert!(rt; false, "no memory"),
+    }
+}
+
+#[test]
+fn bad_words_of_serve(rt: HostRuntime) {
+    for (line, want) in [
+        ("", 0),
+        ("render 5000 out", 0),
+        ("serve", 1),
+        ("serve 0 out", 1),
+        ("serve rate=44000 5000 out", 1),
+        ("serve bits=24 65536 out", 2),
+    ] {
+        match words_of(rt.alloc(), line) {
+            Ok(words) => {
+                assert!(rt; words.len() < 10);
+                match serve_words(&words) {
                     Ok(_) => assert!(rt; false, "good words: {line}"),
                     Err(bad) => assert_eq!(rt; bad.index, want, "in {line}"),
                 }

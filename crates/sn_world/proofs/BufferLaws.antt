@@ -1,15 +1,19 @@
 -- Buffers, and the words that hold them.
-use Rattle.std.proofs.Common.{◌≡◌, ◌≤◌, ◌<◌, ◌+◌, ◌⊎◌, inl, inr, ℕ, zero, suc, ℤ, List, [], ◌∷◌, ◌++◌, map, length, replicate, Option, Some, None, refl, ap, sym, subst, ◌∙◌, arith}
+use Rattle.std.proofs.Common.{◌≡◌, ◌≤◌, ◌<◌, ◌+◌, ◌⊎◌, inl, inr, ℕ, zero, suc, ℤ, List, [], ◌∷◌, ◌++◌, map, length, replicate, Option, Some, None, refl, ap, sym, subst, ◌∙◌, arith, true, All}
+use Rattle.std.proofs.lemmas.List.Elements.{All-nil, All-cons}
+use Rattle.sn_mem.specs.declared.extents.Foot.{Foot}
+use Rattle.sn_mem.specs.Words.{writes}
+use Rattle.sn_io.specs.Conditions.{MayWriteBuffer}
 use Rattle.std.specs.Option.{option_map}
 use Rattle.std.proofs.lemmas.Bool.Decides.{leb_tells}
 use Rattle.std.proofs.lemmas.List.{length-replicate}
 use Rattle.sn_mem.specs.declared.extents.Extent.{Extent}
 use Rattle.sn_mem.specs.Blocks.{sample_in}
-use Rattle.sn_pool.specs.declared.places.BufferPlace.{BufferPlace}
+use Rattle.sn_mem.specs.declared.buffers.BufferPlace.{BufferPlace}
 use Rattle.sn_pool.specs.Pools.{times}
-use Rattle.sn_world.specs.Buffers.{Buffer, buffer_of, buffers_of, buffer_extents, live_buffers, place_extents, live_places, MayBeBuffer, AreEach, AreBuffers}
-use Rattle.sn_world.specs.Pictures.{overlaps}
-use Rattle.sn_world.proofs.Walking.{AgreesOn, overlaps-append, same_window, covered_from}
+use Rattle.sn_mem.specs.Buffers.{Buffer, buffer_of, buffers_of, place_extents, live_places, overlaps, MayBePlace}
+use Rattle.sn_world.specs.Buffers.{buffer_extents, live_buffers, MayBeBuffer, AreEach, AreBuffers}
+use Rattle.sn_mem.proofs.BufferWords.{places-parts, nothing-overlaps, covered_from}
 
 -- ---- their extents
 
@@ -21,14 +25,6 @@ pub live_buffers-of : (ps : List (Option BufferPlace)) (ws : List ℕ) → live_
 unfolding live_buffers live_places buffers_of
 live_buffers-of [] ws = refl
 live_buffers-of (p ∷ ps) ws = λ i. own_extents p ws i ++ live_buffers-of ps ws i
-
-pub places-parts : (p : Option BufferPlace) (ps : List (Option BufferPlace)) (x : ℕ) → overlaps x (live_places (p ∷ ps)) ≡ overlaps x (place_extents p) + overlaps x (live_places ps)
-unfolding live_places
-places-parts p ps x = overlaps-append x (place_extents p) (live_places ps)
-
-pub nothing-overlaps : (x : ℕ) → overlaps x (live_places []) ≡ 0
-unfolding live_places
-nothing-overlaps x = refl
 
 own_from : (region : Extent) (p : Option BufferPlace) (x : ℕ) → MayBeBuffer region p → 0 < overlaps x (place_extents p) → region.at ≤ x
 own_from region None x is more = absurd (omega (arith, more))
@@ -43,21 +39,28 @@ places_from region (p ∷ ps) x are more = elim (leb_tells 1 (overlaps x (place_
   | inr q ↦ places_from region ps x are.1 (omega (arith, more, places-parts p ps x, q.1))
 ]
 
--- ---- what a change of other words leaves
+-- and so behind those of the buses
+own_place : (region : Extent) (p : Option BufferPlace) → region.at ≡ 10368 → MayBeBuffer region p → MayBePlace p
+own_place region None base is = tt
+own_place region (Some p) base is = record { frames = is.frames; short = is.short; channels = is.channels; few = is.few; size = is.size; behind = omega (arith, base, is.within.0) }
 
-abbrev with_samples : BufferPlace → List ℤ → Option Buffer
-with_samples p samples = let b : Buffer = record { frames = p.frames; channels = p.channels; samples = samples; extent = p.extent } in Some b
+pub are_places : (region : Extent) (ps : List (Option BufferPlace)) → region.at ≡ 10368 → AreEach region ps → All MayBePlace ps
+unfolding AreEach
+are_places region [] base are = All-nil MayBePlace
+are_places region (p ∷ ps) base are = All-cons MayBePlace p ps (own_place region p base are.0) (are_places region ps base are.1)
 
-same_buffer : (p : Option BufferPlace) (us ws : List ℕ) → AgreesOn (place_extents p) us ws → option_map (buffer_of us) p ≡ option_map (buffer_of ws) p
-same_buffer None us ws agree = refl
-same_buffer (Some p) us ws agree = ap (λ (words : List ℕ). with_samples p (map sample_in words)) (same_window p.extent us ws agree)
+-- they may be written where the region may
+own_written : (f : Foot) (region : Extent) (p : Option BufferPlace) → region.at + region.len < 4294967296 → ((k : ℕ) → region.at ≤ k → k < region.at + region.len → writes f k ≡ true) → MayBeBuffer region p → MayWriteBuffer f p
+own_written f region None bounded may is = tt
+own_written f region (Some p) bounded may is = record {
+  below = omega (arith, bounded, is.within.1);
+  each = λ i lt. may (p.extent.at + i) (omega (arith, is.within.0)) (omega (arith, lt, is.within.1));
+}
 
-pub same_buffers : (ps : List (Option BufferPlace)) (us ws : List ℕ) → AgreesOn (live_places ps) us ws → buffers_of us ps ≡ buffers_of ws ps
-unfolding AgreesOn buffers_of
-same_buffers [] us ws agree = refl
-same_buffers (p ∷ ps) us ws agree = λ i.
-    same_buffer p us ws (λ x more. agree x (omega (arith, places-parts p ps x, more))) i
-    ∷ same_buffers ps us ws (λ x more. agree x (omega (arith, places-parts p ps x, more))) i
+pub are_written : (f : Foot) (region : Extent) (ps : List (Option BufferPlace)) → region.at + region.len < 4294967296 → ((k : ℕ) → region.at ≤ k → k < region.at + region.len → writes f k ≡ true) → AreEach region ps → All (MayWriteBuffer f) ps
+unfolding AreEach
+are_written f region [] bounded may are = All-nil (MayWriteBuffer f)
+are_written f region (p ∷ ps) bounded may are = All-cons (MayWriteBuffer f) p ps (own_written f region p bounded may are.0) (are_written f region ps bounded may are.1)
 
 -- ---- no buffers
 

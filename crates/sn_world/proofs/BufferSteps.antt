@@ -7,7 +7,7 @@ use Rattle.sn_mem.specs.declared.extents.Extent.{Extent}
 use Rattle.sn_mem.specs.Words.{covers}
 use Rattle.sn_mem.specs.Buses.{AudioBus, ControlBus}
 use Rattle.sn_mem.proofs.BusLaws.{audio_same, control_same}
-use Rattle.sn_pool.specs.declared.places.BufferPlace.{BufferPlace}
+use Rattle.sn_mem.specs.declared.buffers.BufferPlace.{BufferPlace}
 use Rattle.sn_pool.specs.Pools.{same_extent, times}
 use Rattle.sn_tree.specs.Trees.{Nodes, none, with_payloads}
 use Rattle.sn_tree.specs.Model.{NodeTree}
@@ -15,12 +15,14 @@ use Rattle.sn_world.specs.declared.stage.Held.{Held}
 use Rattle.sn_world.specs.declared.stage.Stage.{Stage}
 use Rattle.sn_world.specs.Definitions.{Definitions, definitions_of}
 use Rattle.sn_world.specs.Nodes.{Content, content_of}
-use Rattle.sn_world.specs.Buffers.{Buffer, buffer_of, buffers_of, place_extents, live_places, MayBeBuffer, AreEach, AreBuffers}
-use Rattle.sn_world.specs.Pictures.{amount, live_held, overlaps, AreHeld, Pictures}
+use Rattle.sn_mem.specs.Buffers.{Buffer, buffer_of, buffers_of, place_extents, live_places, overlaps}
+use Rattle.sn_world.specs.Buffers.{MayBeBuffer, AreEach, AreBuffers}
+use Rattle.sn_world.specs.Pictures.{amount, live_held, AreHeld, Pictures}
 use Rattle.sn_world.specs.World.{World, world_of}
 use Rattle.sn_world.proofs.Counting.{amount-append, times-amount, overlaps-amount}
-use Rattle.sn_world.proofs.Walking.{AgreesOn, same_nodes}
-use Rattle.sn_world.proofs.BufferLaws.{places_from, places-parts, same_buffers}
+use Rattle.sn_mem.proofs.BufferWords.{AgreesOn, places-parts, same_buffers}
+use Rattle.sn_world.proofs.Walking.{same_nodes}
+use Rattle.sn_world.proofs.BufferLaws.{places_from}
 
 -- ---- another entry in the list of places
 

@@ -7,11 +7,12 @@ use Rattle.sn_tree.specs.Trees.{Nodes, with_payloads}
 use Rattle.sn_world.specs.declared.defs.Defs.{Defs}
 use Rattle.sn_world.specs.declared.stage.Stage.{Stage}
 use Rattle.sn_world.specs.Nodes.{Content, content_of}
-use Rattle.sn_world.specs.Buffers.{Buffer, buffers_of}
+use Rattle.sn_mem.specs.Buffers.{Buffer, buffers_of}
 use Rattle.sn_world.specs.Pictures.{Pictures}
 use Rattle.sn_world.specs.World.{World, Turn, world_of, turn_of}
-use Rattle.sn_world.proofs.Walking.{AgreesOn, same_nodes, held_from}
-use Rattle.sn_world.proofs.BufferLaws.{places_from, same_buffers}
+use Rattle.sn_mem.proofs.BufferWords.{AgreesOn, same_buffers}
+use Rattle.sn_world.proofs.Walking.{same_nodes, held_from}
+use Rattle.sn_world.proofs.BufferLaws.{places_from}
 
 -- other words, as many, are a picture too
 pub pictured_again : (stage : Stage) (us ws : List ℕ) → length us ≡ length ws → Pictures stage ws → Pictures stage us

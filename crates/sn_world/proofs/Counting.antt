@@ -14,8 +14,8 @@ use Rattle.sn_tree.specs.Trees.{Label, Nodes, none, node, count, holds, joined, 
 use Rattle.sn_world.specs.declared.stage.Held.{Held}
 use Rattle.sn_world.specs.declared.stage.Held.TheVariants as held
 use Rattle.sn_world.specs.declared.stage.Stage.{Stage}
-use Rattle.sn_world.specs.Buffers.{live_places}
-use Rattle.sn_world.specs.Pictures.{held_extents, live_held, overlaps, amount, Pictures}
+use Rattle.sn_mem.specs.Buffers.{live_places, overlaps}
+use Rattle.sn_world.specs.Pictures.{held_extents, live_held, amount, Pictures}
 
 third : (p q r : Bool) → (p || (q || r)) ≡ true → p ≡ false → q ≡ false → r ≡ true
 third false false r h e f = h

@@ -7,7 +7,7 @@ use Rattle.sn_mem.specs.declared.extents.Extent.{Extent}
 use Rattle.sn_mem.specs.Words.{covers, has}
 use Rattle.sn_mem.specs.Buses.{AudioBus, ControlBus}
 use Rattle.sn_mem.proofs.BusLaws.{audio_same, control_same}
-use Rattle.sn_pool.specs.declared.places.BufferPlace.{BufferPlace}
+use Rattle.sn_mem.specs.declared.buffers.BufferPlace.{BufferPlace}
 use Rattle.sn_pool.specs.Pools.{with_extent, times}
 use Rattle.sn_pool.specs.Regions.{are_free, first_free, least_place}
 use Rattle.sn_tree.specs.declared.node.NodeKind.{NodeKind}
@@ -18,14 +18,16 @@ use Rattle.sn_tree.specs.Model.{NodeTree}
 use Rattle.sn_world.specs.declared.stage.Held.{Held}
 use Rattle.sn_world.specs.declared.stage.Held.TheVariants as held
 use Rattle.sn_world.specs.declared.stage.Stage.{Stage}
-use Rattle.sn_world.specs.Buffers.{Buffer, buffers_of, live_places, AreBuffers}
+use Rattle.sn_mem.specs.Buffers.{Buffer, buffers_of, live_places, overlaps}
+use Rattle.sn_world.specs.Buffers.{AreBuffers}
 use Rattle.sn_world.specs.Definitions.{Definitions, definitions_of}
 use Rattle.sn_world.specs.Nodes.{Content, content_of, extents_of, live_in}
-use Rattle.sn_world.specs.Pictures.{held_extents, live_held, overlaps, IsHeld, AreHeld, Pictures}
+use Rattle.sn_world.specs.Pictures.{held_extents, live_held, IsHeld, AreHeld, Pictures}
 use Rattle.sn_world.specs.World.{World, world_of, live_of}
 use Rattle.sn_world.specs.NewNodes.{left_by, gone_by}
-use Rattle.sn_world.proofs.Walking.{overlaps-append, parts_of, held_from, AgreesOn}
-use Rattle.sn_world.proofs.BufferLaws.{live_buffers-of, same_buffers}
+use Rattle.sn_mem.proofs.BufferWords.{overlaps-append, AgreesOn, same_buffers}
+use Rattle.sn_world.proofs.Walking.{parts_of, held_from}
+use Rattle.sn_world.proofs.BufferLaws.{live_buffers-of}
 use Rattle.sn_world.proofs.Replacing.{overlaps-left, times-left, overlaps-placed, times-placed, held-left, same_placed}
 
 -- ---- words in extents

@@ -62,7 +62,7 @@ triples-length p (x ∷ []) = tt
 triples-length p (x ∷ y ∷ []) = tt
 triples-length p (x ∷ y ∷ z ∷ rest) = another-few (p x y z) (triples p rest) (length rest) (length (x ∷ y ∷ z ∷ rest)) (triples-length p rest) (omega arith)
 
-some_of-few : {R : Type 0} (o : Option (List R)) (rs : List R) (n : ℕ) → IfSome o (λ all. length all ≤ n) → Some rs ≡ some_of o → length rs ≤ n
+pub some_of-few : {R : Type 0} (o : Option (List R)) (rs : List R) (n : ℕ) → IfSome o (λ all. length all ≤ n) → Some rs ≡ some_of o → length rs ≤ n
 some_of-few None rs n few h = absurd cc
 some_of-few (Some []) rs n few h = absurd cc
 some_of-few (Some (r ∷ all)) rs n few h = let same : rs ≡ r ∷ all = cc in omega (arith, few, ap length same)
@@ -70,7 +70,7 @@ some_of-few (Some (r ∷ all)) rs n few h = let same : rs ≡ r ∷ all = cc in 
 pub triples-few_of : {R : Type 0} (p : Argument → Argument → Argument → Option R) (args : List Arg) (rs : List R) → Some rs ≡ some_of (triples p (map argument_of args)) → length rs ≤ length args
 triples-few_of p args rs h = omega (arith, some_of-few (triples p (map argument_of args)) rs (length (map argument_of args)) (triples-length p (map argument_of args)) h, length-map args argument_of)
 
-pairs-length : {R : Type 0} (p : Argument → Argument → Option R) (xs : List Argument) → IfSome (pairs p xs) (λ rs. length rs ≤ length xs)
+pub pairs-length : {R : Type 0} (p : Argument → Argument → Option R) (xs : List Argument) → IfSome (pairs p xs) (λ rs. length rs ≤ length xs)
 pairs-length p [] = omega arith
 pairs-length p (x ∷ []) = tt
 pairs-length p (x ∷ y ∷ rest) = another-few (p x y) (pairs p rest) (length rest) (length (x ∷ y ∷ rest)) (pairs-length p rest) (omega arith)
@@ -78,7 +78,7 @@ pairs-length p (x ∷ y ∷ rest) = another-few (p x y) (pairs p rest) (length r
 pub pairs-few_of : {R : Type 0} (p : Argument → Argument → Option R) (args : List Arg) (rs : List R) → Some rs ≡ some_of (pairs p (map argument_of args)) → length rs ≤ length args
 pairs-few_of p args rs h = omega (arith, some_of-few (pairs p (map argument_of args)) rs (length (map argument_of args)) (pairs-length p (map argument_of args)) h, length-map args argument_of)
 
-singles-length : {R : Type 0} (p : Argument → Option R) (xs : List Argument) → IfSome (singles p xs) (λ rs. length rs ≤ length xs)
+pub singles-length : {R : Type 0} (p : Argument → Option R) (xs : List Argument) → IfSome (singles p xs) (λ rs. length rs ≤ length xs)
 singles-length p [] = omega arith
 singles-length p (x ∷ rest) = another-few (p x) (singles p rest) (length rest) (length (x ∷ rest)) (singles-length p rest) (omega arith)
 

@@ -15,10 +15,12 @@ use Rattle.sn_tree.proofs.PayloadLaws.{holds-payloads, put-payloads, without-pay
 use Rattle.sn_tree.proofs.Replacing.{still_held, subtree-before}
 use Rattle.sn_world.specs.declared.stage.Held.{Held}
 use Rattle.sn_world.specs.Nodes.{content_of}
-use Rattle.sn_world.specs.Pictures.{AreHeld, held_extents, live_held, overlaps, amount}
+use Rattle.sn_mem.specs.Buffers.{overlaps}
+use Rattle.sn_world.specs.Pictures.{AreHeld, held_extents, live_held, amount}
 use Rattle.sn_world.specs.NewNodes.{action_for, replaces, left_by, gone_by}
 use Rattle.sn_world.proofs.Counting.{amount-none, amount-put, amount-leaf, amount-without, overlaps-amount, times-amount}
-use Rattle.sn_world.proofs.Walking.{AgreesOn, parts_of, same_content, same_label, same_node, same_nodes}
+use Rattle.sn_mem.proofs.BufferWords.{AgreesOn}
+use Rattle.sn_world.proofs.Walking.{parts_of, same_content, same_label, same_node, same_nodes}
 
 -- ---- the action
 

@@ -1,53 +1,32 @@
 -- The words that a walk leaves stand for the nodes and the buses after the walk.
-use Rattle.std.proofs.Common.{◌≡◌, ◌≤◌, ◌<◌, ◌+◌, ◌⊎◌, inl, inr, ℕ, zero, suc, ℤ, Bool, true, false, List, [], ◌∷◌, ◌++◌, length, get_or, refl, ap, sym, subst, ◌∙◌, arith}
+use Rattle.std.proofs.Common.{◌≡◌, ◌≤◌, ◌<◌, ◌+◌, ◌⊎◌, inl, inr, ℕ, zero, suc, ℤ, Bool, true, false, Option, List, [], ◌∷◌, ◌++◌, length, get_or, refl, ap, sym, subst, ◌∙◌, arith}
 use Rattle.std.specs.Prelude.{if◌then◌else◌}
 use Rattle.sn_mem.specs.declared.extents.Extent.{Extent}
-use Rattle.sn_mem.specs.Words.{covers}
 use Rattle.sn_mem.specs.Blocks.{window}
-use Rattle.sn_mem.specs.Buses.{Buses, buses_of}
+use Rattle.sn_mem.specs.declared.buffers.BufferPlace.{BufferPlace}
 use Rattle.std.proofs.lemmas.Bool.Decides.{leb_tells}
-use Rattle.sn_mem.proofs.Meetings.{covered}
-use Rattle.sn_pool.proofs.FreeRuns.{before}
-use Rattle.sn_mem.proofs.Windows.{window_same}
 use Rattle.sn_def.specs.declared.control.Control.{Control}
 use Rattle.sn_def.specs.Defs.{definition_of}
 use Rattle.sn_def.specs.Definition.{Definition}
 use Rattle.sn_synth.specs.Synths.{synth_block}
 use Rattle.sn_synth.specs.Words.{synth_words}
 use Rattle.sn_world.proofs.Meanings.{played}
+use Rattle.sn_world.specs.Buffers.{AreEach}
+use Rattle.sn_world.proofs.BufferLaws.{are_places}
 use Rattle.sn_tree.specs.Trees.{Label, Nodes, none, node, running_labels, with_payload, with_payloads}
 use Rattle.sn_world.specs.declared.stage.Held.{Held}
 use Rattle.sn_world.specs.declared.stage.Held.TheVariants as held
 use Rattle.sn_world.specs.Nodes.{Content, Synth, group, synth, content_of}
 use Rattle.sn_world.specs.Walk.{Walked, walk_nodes, content_after}
 use Rattle.sn_world.specs.WalkWords.{held_words, walk_words}
-use Rattle.sn_world.specs.Pictures.{held_extents, live_held, overlaps, IsHeld, AreHeld, IsSynthOf}
-
--- ---- extents and the words in them
-
-pub overlaps-append : (x : ℕ) (es fs : List Extent) → overlaps x (es ++ fs) ≡ overlaps x es + overlaps x fs
-overlaps-append x [] fs = omega arith
-overlaps-append x (e ∷ es) fs = omega (arith, overlaps-append x es fs)
-
-one : (b : Bool) → b ≡ true → ◌≡◌ {A = ℕ} (if b then 1 else 0) 1
-one b e = ap (λ (c : Bool). let n : ℕ = if c then 1 else 0 in n) e
-
--- a word in an extent overlaps it
-pub in_extent : (e : Extent) (x : ℕ) → e.at ≤ x → x < e.at + e.len → overlaps x (e ∷ []) ≡ 1
-in_extent e x from to = omega (arith, one (covers e x) (covered e x from to))
-
--- words that agree where the extents overlap, and behind the buses
-unfoldable pub AgreesOn : List Extent → List ℕ → List ℕ → Type 0
-AgreesOn es us ws = (x : ℕ) → 0 < overlaps x es → get_or us x 0 ≡ get_or ws x 0
+use Rattle.sn_mem.specs.Buffers.{Resources, resources_of, overlaps, live_places}
+use Rattle.sn_mem.proofs.BufferWords.{AgreesOn, overlaps-append, covered_from, outside, same_window}
+use Rattle.sn_world.specs.Pictures.{held_extents, live_held, IsHeld, AreHeld, IsSynthOf, IsApart}
 
 -- ---- what a change of other words leaves
 
 same_synth : (d : Definition) (controls : List Control) (e : Extent) (s s' : List ℕ) → s ≡ s' → ◌≡◌ {A = Content} (synth (record { definition = d; controls = controls; state = s; extent = e })) (synth (record { definition = d; controls = controls; state = s'; extent = e }))
 same_synth d controls e s s' p = ap (λ (t : List ℕ). synth (record { definition = d; controls = controls; state = t; extent = e })) p
-
-pub same_window : (e : Extent) (us ws : List ℕ) → AgreesOn (e ∷ []) us ws → window us e.at e.len ≡ window ws e.at e.len
-unfolding AgreesOn
-same_window e us ws agree = window_same us ws e.at e.len (λ k lt. agree (e.at + k) (omega (arith, in_extent e (e.at + k) (omega arith) (omega arith))))
 
 pub same_content : (h : Held) (us ws : List ℕ) → AgreesOn (held_extents h) us ws → content_of us h ≡ content_of ws h
 same_content held.Group us ws agree = refl
@@ -76,11 +55,11 @@ same_nodes (node l below after) us ws agree =
 
 -- ---- nodes that run
 
-pub walk_words-append : (rate b : ℕ) (ls ms : List (Label Held)) (ws : List ℕ) → walk_words rate b (ls ++ ms) ws ≡ walk_words rate b ms (walk_words rate b ls ws)
-walk_words-append rate b [] ms ws = refl
-walk_words-append rate b (l ∷ ls) ms ws = walk_words-append rate b ls ms (held_words rate b l.id l.payload ws)
+pub walk_words-append : (rate b : ℕ) (places : List (Option BufferPlace)) (ls ms : List (Label Held)) (ws : List ℕ) → walk_words rate b places (ls ++ ms) ws ≡ walk_words rate b places ms (walk_words rate b places ls ws)
+walk_words-append rate b places [] ms ws = refl
+walk_words-append rate b places (l ∷ ls) ms ws = walk_words-append rate b places ls ms (held_words rate b l.id places l.payload ws)
 
--- What running nodes do to words, seen from the extents of the nodes: the length stays, and so do all words behind the buses but theirs.
+-- What running nodes do to words, seen from the extents of the nodes and of the buffers: the length stays, and so do all words behind the buses but theirs.
 pub record IsKept (es : List Extent) (ws us : List ℕ) : Type 0 where
   pub length : length us ≡ length ws
   pub others : (x : ℕ) → 10368 ≤ x → overlaps x es ≡ 0 → get_or us x 0 ≡ get_or ws x 0
@@ -92,24 +71,6 @@ pub record CanWalk (rate : ℕ) (region : Extent) (t : Nodes Held) (ws : List �
   pub base : region.at ≡ 10368
   pub fits : 10368 + region.len ≤ length ws
   pub bounded : 10368 + region.len < 4294967296
-
-pub outside : (e : Extent) (x : ℕ) → overlaps x (e ∷ []) ≡ 0 → (x < e.at) ⊎ (e.at + e.len ≤ x)
-outside e x free = elim (leb_tells e.at x) [
-  | inl p ↦ (elim (leb_tells (e.at + e.len) x) [
-    | inl q ↦ inr q.1
-    | inr q ↦ absurd (omega (arith, free, in_extent e x p.1 q.1))
-  ])
-  | inr p ↦ inl p.1
-]
-
-pub covered_from : (e : Extent) (x : ℕ) → 0 < overlaps x (e ∷ []) → e.at ≤ x
-covered_from e x more = elim (leb_tells e.at x) [
-  | inl p ↦ p.1
-  | inr p ↦ absurd (omega (arith, more, zero_of (covers e x) (before e x p.1)))
-]
-  where
-    zero_of : (b : Bool) → b ≡ false → ◌≡◌ {A = ℕ} (if b then 1 else 0) 0
-    zero_of b e = ap (λ (c : Bool). let n : ℕ = if c then 1 else 0 in n) e
 
 own_from : (rate : ℕ) (region : Extent) (h : Held) (x : ℕ) → IsHeld rate region h → 0 < overlaps x (held_extents h) → region.at ≤ x
 own_from rate region held.Group x is more = absurd (omega (arith, more))
@@ -129,72 +90,80 @@ held_from rate region (node l below after) x are more =
       ])
     ]
 
+-- the same with buffers, which have words of the region too
+pub record CanPlay (rate : ℕ) (region : Extent) (places : List (Option BufferPlace)) (t : Nodes Held) (ws : List ℕ) : Type 0 where
+  pub can : CanWalk rate region t ws
+  pub each : AreEach region places
+  pub apart : (x : ℕ) → overlaps x (live_held t) + overlaps x (live_places places) ≤ 1
+
 -- ---- one node
 
-pub record IsRun (rate b : ℕ) (id : ℤ) (h : Held) (ws us : List ℕ) : Type 0 where
-  pub kept : IsKept (held_extents h) ws us
-  pub ran : content_after rate b id (content_of ws h) (buses_of ws) ≡ (content_of us h, buses_of us)
+pub record IsRun (rate b : ℕ) (id : ℤ) (places : List (Option BufferPlace)) (h : Held) (ws us : List ℕ) : Type 0 where
+  pub kept : IsKept (held_extents h ++ live_places places) ws us
+  pub ran : content_after rate b id (content_of ws h) (resources_of places ws) ≡ (content_of us h, resources_of places us)
 
 pair : {A B : Type 0} (a a' : A) (b b' : B) → a ≡ a' → b ≡ b' → ◌≡◌ {A = A × B} (a, b) (a', b')
 pair a a' b b' p q = λ i. (p i, q i)
 
-node_run : (rate b : ℕ) (id : ℤ) (region : Extent) (h : Held) (ws : List ℕ) → IsHeld rate region h → region.at ≡ 10368 → 10368 + region.len < 4294967296 → 10368 + region.len ≤ length ws → IsRun rate b id h ws (held_words rate b id h ws)
-node_run rate b id region held.Group ws is base bounded fits = record { kept = record { length = refl; others = λ x from free. refl }; ran = refl }
-node_run rate b id region (held.Synth def controls state) ws is base bounded fits =
+node_run : (rate b : ℕ) (id : ℤ) (region : Extent) (places : List (Option BufferPlace)) (h : Held) (ws : List ℕ) → IsHeld rate region h → AreEach region places → ((x : ℕ) → overlaps x (held_extents h) + overlaps x (live_places places) ≤ 1) → region.at ≡ 10368 → 10368 + region.len < 4294967296 → 10368 + region.len ≤ length ws
+    → IsRun rate b id places h ws (held_words rate b id places h ws)
+node_run rate b id region places held.Group ws is each apart base bounded fits = record { kept = record { length = refl; others = λ x from free. refl }; ran = refl }
+node_run rate b id region places (held.Synth def controls state) ws is each apart base bounded fits =
     let d = definition_of def.value in
-    let p = played rate b id def.value controls state.at state.len ws is.each is.size (omega (arith, base, is.within.0)) (omega (arith, base, bounded, is.within.1)) (omega (arith, base, fits, is.within.1)) in
+    let p = played rate b id def.value controls region places state.at state.len ws is.each is.size (omega (arith, base, is.within.0)) (omega (arith, base, bounded, is.within.1)) (omega (arith, base, fits, is.within.1)) each base bounded fits
+    (record { each = are_places region places base each; apart = λ x. omega (arith, apart x) }) in
     record {
-      kept = record { length = p.long; others = λ x from free. p.others x from (outside state x free) };
-      ran = pair _ _ _ _ (same_synth d controls state _ _ (sym p.state)) (sym p.buses);
+      kept = record { length = p.long; others = λ x from free. let parts = overlaps-append x (state ∷ []) (live_places places) in p.others x from (outside state x (omega (arith, free, parts))) (omega (arith, free, parts)) };
+      ran = pair _ _ _ _ (same_synth d controls state _ _ (sym p.state)) (sym p.resources);
     }
 
 -- ---- all nodes
 
-pub record IsWalked (rate b : ℕ) (t : Nodes Held) (ws us : List ℕ) : Type 0 where
-  pub kept : IsKept (live_held t) ws us
-  pub walked : walk_nodes rate b (with_payloads (content_of ws) t) (buses_of ws) ≡ record { nodes = with_payloads (content_of us) t; buses = buses_of us }
+pub record IsWalked (rate b : ℕ) (places : List (Option BufferPlace)) (t : Nodes Held) (ws us : List ℕ) : Type 0 where
+  pub kept : IsKept (live_held t ++ live_places places) ws us
+  pub walked : walk_nodes rate b (with_payloads (content_of ws) t) (resources_of places ws) ≡ record { nodes = with_payloads (content_of us) t; resources = resources_of places us }
 
 abbrev relabelled : Label Held → Content → Label Content
 relabelled l c = record { id = l.id; kind = l.kind; running = l.running; payload = c }
 
 -- a node that ran, what is below it, and what is after it
 abbrev third : ℕ → ℕ → Label Held → Content → Walked → Nodes Content → Walked
-third rate b l c inner after = let rest = walk_nodes rate b after inner.buses in record { nodes = node (relabelled l c) inner.nodes rest.nodes; buses = rest.buses }
+third rate b l c inner after = let rest = walk_nodes rate b after inner.resources in record { nodes = node (relabelled l c) inner.nodes rest.nodes; resources = rest.resources }
 
-abbrev second : ℕ → ℕ → Label Held → Content × Buses → Nodes Content → Nodes Content → Walked
+abbrev second : ℕ → ℕ → Label Held → Content × Resources → Nodes Content → Nodes Content → Walked
 second rate b l here below after = third rate b l here.0 (walk_nodes rate b below here.1) after
 
-same_walked : (n n' : Nodes Content) (buses : Buses) → n ≡ n' → ◌≡◌ {A = Walked} (record { nodes = n; buses = buses }) (record { nodes = n'; buses = buses })
-same_walked n n' buses p = ap (λ (t : Nodes Content). record { nodes = t; buses = buses }) p
+same_walked : (n n' : Nodes Content) (r : Resources) → n ≡ n' → ◌≡◌ {A = Walked} (record { nodes = n; resources = r }) (record { nodes = n'; resources = r })
+same_walked n n' r p = ap (λ (t : Nodes Content). record { nodes = t; resources = r }) p
 
 -- where the parts were walked one after the other
-three : (rate b : ℕ) (l : Label Held) (below after : Nodes Held) (ws w1 w2 w3 : List ℕ)
-    → content_after rate b l.id (content_of ws l.payload) (buses_of ws) ≡ (content_of w1 l.payload, buses_of w1)
+three : (rate b : ℕ) (places : List (Option BufferPlace)) (l : Label Held) (below after : Nodes Held) (ws w1 w2 w3 : List ℕ)
+    → content_after rate b l.id (content_of ws l.payload) (resources_of places ws) ≡ (content_of w1 l.payload, resources_of places w1)
     → with_payloads (content_of ws) below ≡ with_payloads (content_of w1) below
-    → walk_nodes rate b (with_payloads (content_of w1) below) (buses_of w1) ≡ record { nodes = with_payloads (content_of w2) below; buses = buses_of w2 }
+    → walk_nodes rate b (with_payloads (content_of w1) below) (resources_of places w1) ≡ record { nodes = with_payloads (content_of w2) below; resources = resources_of places w2 }
     → with_payloads (content_of ws) after ≡ with_payloads (content_of w2) after
-    → walk_nodes rate b (with_payloads (content_of w2) after) (buses_of w2) ≡ record { nodes = with_payloads (content_of w3) after; buses = buses_of w3 }
+    → walk_nodes rate b (with_payloads (content_of w2) after) (resources_of places w2) ≡ record { nodes = with_payloads (content_of w3) after; resources = resources_of places w3 }
     → content_of w1 l.payload ≡ content_of w3 l.payload
     → with_payloads (content_of w2) below ≡ with_payloads (content_of w3) below
-    → second rate b l (content_after rate b l.id (content_of ws l.payload) (buses_of ws)) (with_payloads (content_of ws) below) (with_payloads (content_of ws) after)
-    ≡ record { nodes = with_payloads (content_of w3) (node l below after); buses = buses_of w3 }
-three rate b l below after ws w1 w2 w3 own same_below ran_below same_after ran_after own_kept below_kept =
-    ap (λ (h : Content × Buses). second rate b l h (with_payloads (content_of ws) below) (with_payloads (content_of ws) after)) own
-    ∙ ap (λ (t : Nodes Content). second rate b l (content_of w1 l.payload, buses_of w1) t (with_payloads (content_of ws) after)) same_below
+    → second rate b l (content_after rate b l.id (content_of ws l.payload) (resources_of places ws)) (with_payloads (content_of ws) below) (with_payloads (content_of ws) after)
+    ≡ record { nodes = with_payloads (content_of w3) (node l below after); resources = resources_of places w3 }
+three rate b places l below after ws w1 w2 w3 own same_below ran_below same_after ran_after own_kept below_kept =
+    ap (λ (h : Content × Resources). second rate b l h (with_payloads (content_of ws) below) (with_payloads (content_of ws) after)) own
+    ∙ ap (λ (t : Nodes Content). second rate b l (content_of w1 l.payload, resources_of places w1) t (with_payloads (content_of ws) after)) same_below
     ∙ ap (λ (r : Walked). third rate b l (content_of w1 l.payload) r (with_payloads (content_of ws) after)) ran_below
-    ∙ ap (λ (t : Nodes Content). third rate b l (content_of w1 l.payload) (record { nodes = with_payloads (content_of w2) below; buses = buses_of w2 }) t) same_after
-    ∙ ap (λ (r : Walked). record { nodes = node (relabelled l (content_of w1 l.payload)) (with_payloads (content_of w2) below) r.nodes; buses = r.buses }) ran_after
+    ∙ ap (λ (t : Nodes Content). third rate b l (content_of w1 l.payload) (record { nodes = with_payloads (content_of w2) below; resources = resources_of places w2 }) t) same_after
+    ∙ ap (λ (r : Walked). record { nodes = node (relabelled l (content_of w1 l.payload)) (with_payloads (content_of w2) below) r.nodes; resources = r.resources }) ran_after
     ∙ same_walked _ _ _ (same_node _ _ _ _ _ _ (same_label l _ _ own_kept) below_kept refl)
 
 -- a paused node
-two : (rate b : ℕ) (l : Label Held) (below after : Nodes Held) (ws us : List ℕ)
-    → walk_nodes rate b (with_payloads (content_of ws) after) (buses_of ws) ≡ record { nodes = with_payloads (content_of us) after; buses = buses_of us }
+two : (rate b : ℕ) (places : List (Option BufferPlace)) (l : Label Held) (below after : Nodes Held) (ws us : List ℕ)
+    → walk_nodes rate b (with_payloads (content_of ws) after) (resources_of places ws) ≡ record { nodes = with_payloads (content_of us) after; resources = resources_of places us }
     → content_of ws l.payload ≡ content_of us l.payload
     → with_payloads (content_of ws) below ≡ with_payloads (content_of us) below
-    → (let rest = walk_nodes rate b (with_payloads (content_of ws) after) (buses_of ws) in let r : Walked = record { nodes = node (relabelled l (content_of ws l.payload)) (with_payloads (content_of ws) below) rest.nodes; buses = rest.buses } in r)
-    ≡ record { nodes = with_payloads (content_of us) (node l below after); buses = buses_of us }
-two rate b l below after ws us ran own_kept below_kept =
-    ap (λ (r : Walked). record { nodes = node (relabelled l (content_of ws l.payload)) (with_payloads (content_of ws) below) r.nodes; buses = r.buses }) ran
+    → (let rest = walk_nodes rate b (with_payloads (content_of ws) after) (resources_of places ws) in let r : Walked = record { nodes = node (relabelled l (content_of ws l.payload)) (with_payloads (content_of ws) below) rest.nodes; resources = rest.resources } in r)
+    ≡ record { nodes = with_payloads (content_of us) (node l below after); resources = resources_of places us }
+two rate b places l below after ws us ran own_kept below_kept =
+    ap (λ (r : Walked). record { nodes = node (relabelled l (content_of ws l.payload)) (with_payloads (content_of ws) below) r.nodes; resources = r.resources }) ran
     ∙ same_walked _ _ _ (same_node _ _ _ _ _ _ (same_label l _ _ own_kept) below_kept refl)
 
 -- words that stay where some extents are
@@ -212,6 +181,13 @@ can_go_on rate region t part ws us can len held within = record {
   bounded = can.bounded;
 }
 
+play_on : (rate : ℕ) (region : Extent) (places : List (Option BufferPlace)) (t part : Nodes Held) (ws us : List ℕ) → CanPlay rate region places t ws → length us ≡ length ws → AreHeld rate region part → ((x : ℕ) → overlaps x (live_held part) ≤ overlaps x (live_held t)) → CanPlay rate region places part us
+play_on rate region places t part ws us can len held within = record {
+  can = can_go_on rate region t part ws us can.can len held within;
+  each = can.each;
+  apart = λ x. omega (arith, can.apart x, within x);
+}
+
 when_true : (c : Bool) (x y : Walked) → c ≡ true → (if c then x else y) ≡ x
 when_true true x y e = refl
 when_true false x y e = absurd cc
@@ -220,42 +196,51 @@ when_false : (c : Bool) (x y : Walked) → c ≡ false → (if c then x else y) 
 when_false false x y e = refl
 when_false true x y e = absurd cc
 
-walked_running : (rate b : ℕ) (region : Extent) (l : Label Held) (below after : Nodes Held) (ws w1 w2 w3 : List ℕ) → CanWalk rate region (node l below after) ws
-    → IsRun rate b l.id l.payload ws w1 → IsWalked rate b below w1 w2 → IsWalked rate b after w2 w3 → l.running ≡ true → IsWalked rate b (node l below after) ws w3
-walked_running rate b region l below after ws w1 w2 w3 can first inner last on =
+walked_running : (rate b : ℕ) (region : Extent) (places : List (Option BufferPlace)) (l : Label Held) (below after : Nodes Held) (ws w1 w2 w3 : List ℕ) → CanPlay rate region places (node l below after) ws
+    → IsRun rate b l.id places l.payload ws w1 → IsWalked rate b places below w1 w2 → IsWalked rate b places after w2 w3 → l.running ≡ true → IsWalked rate b places (node l below after) ws w3
+walked_running rate b region places l below after ws w1 w2 w3 can first inner last on =
+    let shared = live_places places in
+    let own = held_extents l.payload in
     let parts = parts_of l below after in
-    let from_region : (x : ℕ) → 0 < overlaps x (live_held (node l below after)) → 10368 ≤ x = λ x more. omega (arith, can.base, held_from rate region (node l below after) x can.held more) in
-    let own_from_buses : (x : ℕ) → 0 < overlaps x (held_extents l.payload) → 10368 ≤ x = λ x more. from_region x (omega (arith, parts x, more)) in
+    let with_own : (x : ℕ) → overlaps x (own ++ shared) ≡ overlaps x own + overlaps x shared = λ x. overlaps-append x own shared in
+    let with_below : (x : ℕ) → overlaps x (live_held below ++ shared) ≡ overlaps x (live_held below) + overlaps x shared = λ x. overlaps-append x (live_held below) shared in
+    let with_after : (x : ℕ) → overlaps x (live_held after ++ shared) ≡ overlaps x (live_held after) + overlaps x shared = λ x. overlaps-append x (live_held after) shared in
+    let with_all : (x : ℕ) → overlaps x (live_held (node l below after) ++ shared) ≡ overlaps x (live_held (node l below after)) + overlaps x shared = λ x. overlaps-append x (live_held (node l below after)) shared in
+    let from_region : (x : ℕ) → 0 < overlaps x (live_held (node l below after)) → 10368 ≤ x = λ x more. omega (arith, can.can.base, held_from rate region (node l below after) x can.can.held more) in
+    let own_from_buses : (x : ℕ) → 0 < overlaps x own → 10368 ≤ x = λ x more. from_region x (omega (arith, parts x, more)) in
     let below_from_buses : (x : ℕ) → 0 < overlaps x (live_held below) → 10368 ≤ x = λ x more. from_region x (omega (arith, parts x, more)) in
     let after_from_buses : (x : ℕ) → 0 < overlaps x (live_held after) → 10368 ≤ x = λ x more. from_region x (omega (arith, parts x, more)) in
-    let below_1 = kept_on (live_held below) (held_extents l.payload) ws w1 first.kept below_from_buses (λ x. omega (arith, parts x, can.apart x)) in
-    let after_1 = kept_on (live_held after) (held_extents l.payload) ws w1 first.kept after_from_buses (λ x. omega (arith, parts x, can.apart x)) in
-    let after_2 = kept_on (live_held after) (live_held below) w1 w2 inner.kept after_from_buses (λ x. omega (arith, parts x, can.apart x)) in
-    let own_2 = kept_on (held_extents l.payload) (live_held below) w1 w2 inner.kept own_from_buses (λ x. omega (arith, parts x, can.apart x)) in
-    let own_3 = kept_on (held_extents l.payload) (live_held after) w2 w3 last.kept own_from_buses (λ x. omega (arith, parts x, can.apart x)) in
-    let below_3 = kept_on (live_held below) (live_held after) w2 w3 last.kept below_from_buses (λ x. omega (arith, parts x, can.apart x)) in
+    let below_1 = kept_on (live_held below) (own ++ shared) ws w1 first.kept below_from_buses (λ x. omega (arith, parts x, with_own x, can.apart x)) in
+    let after_1 = kept_on (live_held after) (own ++ shared) ws w1 first.kept after_from_buses (λ x. omega (arith, parts x, with_own x, can.apart x)) in
+    let after_2 = kept_on (live_held after) (live_held below ++ shared) w1 w2 inner.kept after_from_buses (λ x. omega (arith, parts x, with_below x, can.apart x)) in
+    let own_2 = kept_on own (live_held below ++ shared) w1 w2 inner.kept own_from_buses (λ x. omega (arith, parts x, with_below x, can.apart x)) in
+    let own_3 = kept_on own (live_held after ++ shared) w2 w3 last.kept own_from_buses (λ x. omega (arith, parts x, with_after x, can.apart x)) in
+    let below_3 = kept_on (live_held below) (live_held after ++ shared) w2 w3 last.kept below_from_buses (λ x. omega (arith, parts x, with_after x, can.apart x)) in
     record {
       kept = record {
         length = last.kept.length ∙ inner.kept.length ∙ first.kept.length;
         others = λ x from free.
-            last.kept.others x from (omega (arith, parts x, free))
-            ∙ inner.kept.others x from (omega (arith, parts x, free))
-            ∙ first.kept.others x from (omega (arith, parts x, free));
+            last.kept.others x from (omega (arith, parts x, with_all x, with_after x, free))
+            ∙ inner.kept.others x from (omega (arith, parts x, with_all x, with_below x, free))
+            ∙ first.kept.others x from (omega (arith, parts x, with_all x, with_own x, free));
       };
-      walked = when_true _ _ _ on ∙ three rate b l below after ws w1 w2 w3 first.ran (same_nodes below ws w1 below_1) inner.walked (same_nodes after ws w1 after_1 ∙ same_nodes after w1 w2 after_2) last.walked
+      walked = when_true _ _ _ on ∙ three rate b places l below after ws w1 w2 w3 first.ran (same_nodes below ws w1 below_1) inner.walked (same_nodes after ws w1 after_1 ∙ same_nodes after w1 w2 after_2) last.walked
           (same_content l.payload w1 w2 own_2 ∙ same_content l.payload w2 w3 own_3) (same_nodes below w2 w3 below_3);
     }
 
-walked_paused : (rate b : ℕ) (region : Extent) (l : Label Held) (below after : Nodes Held) (ws us : List ℕ) → CanWalk rate region (node l below after) ws
-    → IsWalked rate b after ws us → l.running ≡ false → IsWalked rate b (node l below after) ws us
-walked_paused rate b region l below after ws us can last off =
+walked_paused : (rate b : ℕ) (region : Extent) (places : List (Option BufferPlace)) (l : Label Held) (below after : Nodes Held) (ws us : List ℕ) → CanPlay rate region places (node l below after) ws
+    → IsWalked rate b places after ws us → l.running ≡ false → IsWalked rate b places (node l below after) ws us
+walked_paused rate b region places l below after ws us can last off =
+    let shared = live_places places in
     let parts = parts_of l below after in
-    let from_region : (x : ℕ) → 0 < overlaps x (live_held (node l below after)) → 10368 ≤ x = λ x more. omega (arith, can.base, held_from rate region (node l below after) x can.held more) in
-    let own = kept_on (held_extents l.payload) (live_held after) ws us last.kept (λ x more. from_region x (omega (arith, parts x, more))) (λ x. omega (arith, parts x, can.apart x)) in
-    let inner = kept_on (live_held below) (live_held after) ws us last.kept (λ x more. from_region x (omega (arith, parts x, more))) (λ x. omega (arith, parts x, can.apart x)) in
+    let with_after : (x : ℕ) → overlaps x (live_held after ++ shared) ≡ overlaps x (live_held after) + overlaps x shared = λ x. overlaps-append x (live_held after) shared in
+    let with_all : (x : ℕ) → overlaps x (live_held (node l below after) ++ shared) ≡ overlaps x (live_held (node l below after)) + overlaps x shared = λ x. overlaps-append x (live_held (node l below after)) shared in
+    let from_region : (x : ℕ) → 0 < overlaps x (live_held (node l below after)) → 10368 ≤ x = λ x more. omega (arith, can.can.base, held_from rate region (node l below after) x can.can.held more) in
+    let own = kept_on (held_extents l.payload) (live_held after ++ shared) ws us last.kept (λ x more. from_region x (omega (arith, parts x, more))) (λ x. omega (arith, parts x, with_after x, can.apart x)) in
+    let inner = kept_on (live_held below) (live_held after ++ shared) ws us last.kept (λ x more. from_region x (omega (arith, parts x, more))) (λ x. omega (arith, parts x, with_after x, can.apart x)) in
     record {
-      kept = record { length = last.kept.length; others = λ x from free. last.kept.others x from (omega (arith, parts x, free)) };
-      walked = when_false _ _ _ off ∙ two rate b l below after ws us last.walked (same_content l.payload ws us own) (same_nodes below ws us inner);
+      kept = record { length = last.kept.length; others = λ x from free. last.kept.others x from (omega (arith, parts x, with_all x, with_after x, free)) };
+      walked = when_false _ _ _ off ∙ two rate b places l below after ws us last.walked (same_content l.payload ws us own) (same_nodes below ws us inner);
     }
 
 -- the labels of the nodes that run, by the flag of the first
@@ -265,9 +250,9 @@ running_on l below after on = ap (λ (c : Bool). if c then l ∷ (running_labels
 running_off : (l : Label Held) (below after : Nodes Held) → l.running ≡ false → running_labels (node l below after) ≡ running_labels after
 running_off l below after off = ap (λ (c : Bool). if c then l ∷ (running_labels below ++ running_labels after) else running_labels after) off
 
-pub walked : (rate b : ℕ) (region : Extent) (t : Nodes Held) (ws : List ℕ) → CanWalk rate region t ws → IsWalked rate b t ws (walk_words rate b (running_labels t) ws)
-walked rate b region none ws can = record { kept = record { length = refl; others = λ x from free. refl }; walked = refl }
-walked rate b region (node l below after) ws can = at (λ w c. walked rate b region below w c) (λ w c. walked rate b region after w c) l.running refl
+pub walked : (rate b : ℕ) (region : Extent) (places : List (Option BufferPlace)) (t : Nodes Held) (ws : List ℕ) → CanPlay rate region places t ws → IsWalked rate b places t ws (walk_words rate b places (running_labels t) ws)
+walked rate b region places none ws can = record { kept = record { length = refl; others = λ x from free. refl }; walked = refl }
+walked rate b region places (node l below after) ws can = at (λ w c. walked rate b region places below w c) (λ w c. walked rate b region places after w c) l.running refl
   where
     part_below : (x : ℕ) → overlaps x (live_held below) ≤ overlaps x (live_held (node l below after))
     part_below x = omega (arith, parts_of l below after x)
@@ -275,36 +260,45 @@ walked rate b region (node l below after) ws can = at (λ w c. walked rate b reg
     part_after : (x : ℕ) → overlaps x (live_held after) ≤ overlaps x (live_held (node l below after))
     part_after x = omega (arith, parts_of l below after x)
 
-    at : ((w : List ℕ) → CanWalk rate region below w → IsWalked rate b below w (walk_words rate b (running_labels below) w)) → ((w : List ℕ) → CanWalk rate region after w → IsWalked rate b after w (walk_words rate b (running_labels after) w))
-        → (r : Bool) → l.running ≡ r → IsWalked rate b (node l below after) ws (walk_words rate b (running_labels (node l below after)) ws)
+    at : ((w : List ℕ) → CanPlay rate region places below w → IsWalked rate b places below w (walk_words rate b places (running_labels below) w)) → ((w : List ℕ) → CanPlay rate region places after w → IsWalked rate b places after w (walk_words rate b places (running_labels after) w))
+        → (r : Bool) → l.running ≡ r → IsWalked rate b places (node l below after) ws (walk_words rate b places (running_labels (node l below after)) ws)
     at walk_below walk_after true on =
-        let w1 = held_words rate b l.id l.payload ws in
-        let w2 = walk_words rate b (running_labels below) w1 in
-        let w3 = walk_words rate b (running_labels after) w2 in
-        let first = node_run rate b l.id region l.payload ws can.held.0 can.base can.bounded can.fits in
-        let inner = walk_below w1 (can_go_on rate region (node l below after) below ws w1 can first.kept.length can.held.1.0 part_below) in
-        let last = walk_after w2 (can_go_on rate region (node l below after) after ws w2 can (inner.kept.length ∙ first.kept.length) can.held.1.1 part_after) in
-        let ends : walk_words rate b (running_labels (node l below after)) ws ≡ w3 = ap (λ ls. walk_words rate b ls ws) (running_on l below after on) ∙ walk_words-append rate b (running_labels below) (running_labels after) w1 in
-        subst (IsWalked rate b (node l below after) ws) (sym ends) (walked_running rate b region l below after ws w1 w2 w3 can first inner last on)
+        let w1 = held_words rate b l.id places l.payload ws in
+        let w2 = walk_words rate b places (running_labels below) w1 in
+        let w3 = walk_words rate b places (running_labels after) w2 in
+        let first = node_run rate b l.id region places l.payload ws can.can.held.0 can.each (λ x. omega (arith, parts_of l below after x, can.apart x)) can.can.base can.can.bounded can.can.fits in
+        let inner = walk_below w1 (play_on rate region places (node l below after) below ws w1 can first.kept.length can.can.held.1.0 part_below) in
+        let last = walk_after w2 (play_on rate region places (node l below after) after ws w2 can (inner.kept.length ∙ first.kept.length) can.can.held.1.1 part_after) in
+        let ends : walk_words rate b places (running_labels (node l below after)) ws ≡ w3 = ap (λ ls. walk_words rate b places ls ws) (running_on l below after on) ∙ walk_words-append rate b places (running_labels below) (running_labels after) w1 in
+        subst (IsWalked rate b places (node l below after) ws) (sym ends) (walked_running rate b region places l below after ws w1 w2 w3 can first inner last on)
     at walk_below walk_after false off =
-        let us = walk_words rate b (running_labels after) ws in
-        let last = walk_after ws (can_go_on rate region (node l below after) after ws ws can refl can.held.1.1 part_after) in
-        let ends : walk_words rate b (running_labels (node l below after)) ws ≡ us = ap (λ ls. walk_words rate b ls ws) (running_off l below after off) in
-        subst (IsWalked rate b (node l below after) ws) (sym ends) (walked_paused rate b region l below after ws us can last off)
+        let us = walk_words rate b places (running_labels after) ws in
+        let last = walk_after ws (play_on rate region places (node l below after) after ws ws can refl can.can.held.1.1 part_after) in
+        let ends : walk_words rate b places (running_labels (node l below after)) ws ≡ us = ap (λ ls. walk_words rate b places ls ws) (running_off l below after off) in
+        subst (IsWalked rate b places (node l below after) ws) (sym ends) (walked_paused rate b region places l below after ws us can last off)
 
--- each of the labels has what a node holds
-abbrev pub HoldEach : ℕ → Extent → List (Label Held) → Type 0
-HoldEach rate region [] = Unit {0}
-HoldEach rate region (l ∷ ls) = IsHeld rate region l.payload × HoldEach rate region ls
+-- each of the labels has what a node holds, apart from the buffers
+abbrev pub HoldEach : ℕ → Extent → List (Option BufferPlace) → List (Label Held) → Type 0
+HoldEach rate region places [] = Unit {0}
+HoldEach rate region places (l ∷ ls) = (IsHeld rate region l.payload × IsApart places l.payload) × HoldEach rate region places ls
 
-both_hold : (rate : ℕ) (region : Extent) (ls ms : List (Label Held)) → HoldEach rate region ls → HoldEach rate region ms → HoldEach rate region (ls ++ ms)
-both_hold rate region [] ms p q = q
-both_hold rate region (l ∷ ls) ms p q = (p.0, both_hold rate region ls ms p.1 q)
+both_hold : (rate : ℕ) (region : Extent) (places : List (Option BufferPlace)) (ls ms : List (Label Held)) → HoldEach rate region places ls → HoldEach rate region places ms → HoldEach rate region places (ls ++ ms)
+both_hold rate region places [] ms p q = q
+both_hold rate region places (l ∷ ls) ms p q = (p.0, both_hold rate region places ls ms p.1 q)
 
-pub running_held : (rate : ℕ) (region : Extent) (t : Nodes Held) → AreHeld rate region t → HoldEach rate region (running_labels t)
-running_held rate region none are = tt
-running_held rate region (node l below after) are = at l.running (running_held rate region below are.1.0) (running_held rate region after are.1.1)
+own_apart : (region : Extent) (places : List (Option BufferPlace)) (h : Held) → region.at ≡ 10368 → AreEach region places → ((x : ℕ) → overlaps x (held_extents h) + overlaps x (live_places places) ≤ 1) → IsApart places h
+own_apart region places held.Group base each apart = tt
+own_apart region places (held.Synth def controls state) base each apart = record { each = are_places region places base each; apart = λ x. omega (arith, apart x) }
+
+pub running_held : (rate : ℕ) (region : Extent) (places : List (Option BufferPlace)) (t : Nodes Held) → AreHeld rate region t → region.at ≡ 10368 → AreEach region places → ((x : ℕ) → overlaps x (live_held t) + overlaps x (live_places places) ≤ 1) → HoldEach rate region places (running_labels t)
+running_held rate region places none are base each apart = tt
+running_held rate region places (node l below after) are base each apart = at l.running
+    (running_held rate region places below are.1.0 base each (λ x. omega (arith, parts_of l below after x, apart x)))
+    (running_held rate region places after are.1.1 base each (λ x. omega (arith, parts_of l below after x, apart x)))
   where
-    at : (r : Bool) → HoldEach rate region (running_labels below) → HoldEach rate region (running_labels after) → HoldEach rate region (if r then l ∷ (running_labels below ++ running_labels after) else running_labels after)
-    at true p q = (are.0, both_hold rate region _ _ p q)
+    own : IsApart places l.payload
+    own = own_apart region places l.payload base each (λ x. omega (arith, parts_of l below after x, apart x))
+
+    at : (r : Bool) → HoldEach rate region places (running_labels below) → HoldEach rate region places (running_labels after) → HoldEach rate region places (if r then l ∷ (running_labels below ++ running_labels after) else running_labels after)
+    at true p q = ((are.0, own), both_hold rate region places _ _ p q)
     at false p q = q

@@ -1,17 +1,19 @@
 -- What the answer of a command says.
 use Rattle.std.specs.Prelude.{◌≡◌, List, ◌++◌, Option, Some, None, Result, Ok, Err}
 use Rattle.sn_ports.specs.declared.failed.NoMemory.{NoMemory}
+use Rattle.sn_osc.specs.Shape.{MessageShape, message_of}
 use Rattle.sn_reply.specs.declared.reason.Reason.{Reason}
 use Rattle.sn_reply.specs.Replies.{ReplyShape}
 use Rattle.sn_world.specs.declared.command.Handled.{Handled}
-use Rattle.sn_world.specs.declared.command.Handled.TheVariants.{Done, Quit, ClearSched, Failed, NotMine}
-use Rattle.sn_world.specs.Ending.{Next, nothing, quitting, clearing}
+use Rattle.sn_world.specs.declared.command.Handled.TheVariants.{Done, Completion, Quit, ClearSched, Failed, NotMine}
+use Rattle.sn_world.specs.Ending.{Next, nothing, quitting, clearing, completing}
 use Rattle.sn_world.specs.World.{Turn}
 
 -- Of a message's outcome by the rows of some commands, which is none where it is no such command: done, with the turn after it, or
 -- refused for a reason.
 abbrev pub Handles : Result Handled NoMemory → Option (Result Turn Reason) → Turn → Type 0
 Handles (Ok Done) outcome after = outcome ≡ Some (Ok after)
+Handles (Ok (Completion m)) outcome after = outcome ≡ Some (Ok after)
 Handles (Ok Quit) outcome after = outcome ≡ Some (Ok after)
 Handles (Ok ClearSched) outcome after = outcome ≡ Some (Ok after)
 Handles (Ok (Failed reason)) outcome after = outcome ≡ Some (Err reason)
@@ -21,6 +23,7 @@ Handles (Err e) outcome after = Unit {0}
 -- a fact for a message that was not carried out
 abbrev pub UnlessDone : Result Handled NoMemory → Type 0 → Type 0
 UnlessDone (Ok Done) P = Unit {0}
+UnlessDone (Ok (Completion m)) P = Unit {0}
 UnlessDone (Ok Quit) P = Unit {0}
 UnlessDone (Ok ClearSched) P = Unit {0}
 UnlessDone (Ok (Failed reason)) P = P
@@ -30,29 +33,45 @@ UnlessDone (Err e) P = P
 -- what is done besides where the message was carried out
 abbrev pub IsNext : Result Handled NoMemory → Next → Type 0
 IsNext (Ok Done) n = n ≡ nothing
+IsNext (Ok (Completion m)) n = n ≡ completing (message_of m)
 IsNext (Ok Quit) n = n ≡ quitting
 IsNext (Ok ClearSched) n = n ≡ clearing
 IsNext (Ok (Failed reason)) n = Unit {0}
 IsNext (Ok NotMine) n = Unit {0}
 IsNext (Err e) n = Unit {0}
 
--- what is done besides, nothing where the message was not carried out
+-- what is done besides where a message was handled so, nothing where it was not carried out
+abbrev pub next_told : Handled → Next
+next_told Done = nothing
+next_told (Completion m) = completing (message_of m)
+next_told Quit = quitting
+next_told ClearSched = clearing
+next_told (Failed reason) = nothing
+next_told NotMine = nothing
+
 abbrev pub TellsNext : Result Handled NoMemory → Next → Type 0
-TellsNext (Ok Done) n = n ≡ nothing
-TellsNext (Ok Quit) n = n ≡ quitting
-TellsNext (Ok ClearSched) n = n ≡ clearing
-TellsNext (Ok (Failed reason)) n = n ≡ nothing
-TellsNext (Ok NotMine) n = n ≡ nothing
+TellsNext (Ok handled) n = n ≡ next_told handled
 TellsNext (Err e) n = Unit {0}
 
 -- nothing is done besides
 abbrev pub AsksNothing : Result Handled NoMemory → Type 0
 AsksNothing (Ok Done) = Unit {0}
+AsksNothing (Ok (Completion m)) = ⊥
 AsksNothing (Ok Quit) = ⊥
 AsksNothing (Ok ClearSched) = ⊥
 AsksNothing (Ok (Failed reason)) = Unit {0}
 AsksNothing (Ok NotMine) = Unit {0}
 AsksNothing (Err e) = Unit {0}
+
+-- what holds of the completion message that is to act next, if there is one
+abbrev pub NextHas : (MessageShape → Type 0) → Result Handled NoMemory → Type 0
+NextHas P (Ok Done) = Unit {0}
+NextHas P (Ok (Completion m)) = P (message_of m)
+NextHas P (Ok Quit) = Unit {0}
+NextHas P (Ok ClearSched) = Unit {0}
+NextHas P (Ok (Failed reason)) = Unit {0}
+NextHas P (Ok NotMine) = Unit {0}
+NextHas P (Err e) = Unit {0}
 
 -- the same of one row: done, or refused for a reason
 abbrev pub Follows : Result (Option Reason) NoMemory → Result Turn Reason → Turn → Type 0

@@ -6,7 +6,7 @@ use Rattle.sn_reply.specs.declared.reason.Reason.{Reason}
 use Rattle.sn_reply.specs.declared.reason.Reason.TheVariants as Reasons
 use Rattle.sn_world.specs.declared.buffer_repetition.NewBuffer.{NewBuffer}
 use Rattle.sn_world.specs.declared.buffer_repetition.BufferNumber.{BufferNumber}
-use Rattle.sn_world.specs.Buffers.{Buffer}
+use Rattle.sn_mem.specs.Buffers.{Buffer}
 use Rattle.sn_world.specs.BufferNumbers.{at_number, put_at, with_samples, number_refusal, buffer_refusal, done_with}
 use Rattle.sn_world.specs.Runs.{number}
 use Rattle.sn_world.specs.World.{World, Turn, live_of, replied}

@@ -3,7 +3,7 @@ use Rattle.std.specs.Prelude.{ℕ, ◌+◌, ℤ, pos, negsuc, Bool, false, not, 
 use Rattle.sn_osc.specs.Shape.{int, string, arguments, MessageShape}
 use Rattle.sn_reply.specs.declared.reason.Reason.{Reason}
 use Rattle.sn_reply.specs.declared.reason.Reason.TheVariants as Reasons
-use Rattle.sn_world.specs.Buffers.{Buffer}
+use Rattle.sn_mem.specs.Buffers.{Buffer}
 use Rattle.sn_world.specs.World.{World}
 use Rattle.sn_world.specs.Rows.{first_of}
 

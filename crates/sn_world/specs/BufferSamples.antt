@@ -7,9 +7,9 @@ use Rattle.sn_world.specs.declared.buffer_repetition.SampleIndex.{SampleIndex}
 use Rattle.sn_world.specs.declared.buffer_repetition.SampleValue.{SampleValue}
 use Rattle.sn_world.specs.declared.buffer_repetition.SampleRun.{SampleRun}
 use Rattle.sn_world.specs.declared.buffer_repetition.SampleFill.{SampleFill}
-use Rattle.sn_world.specs.Buffers.{Buffer}
+use Rattle.sn_mem.specs.Buffers.{Buffer}
 use Rattle.sn_world.specs.BufferNumbers.{at_number, set_from, buffer_refusal, with_samples}
-use Rattle.sn_world.specs.Runs.{ValuesAt, number, value_runs, most_values}
+use Rattle.sn_world.specs.Runs.{ValuesAt, number, value_runs, most_values, total_of}
 use Rattle.sn_world.specs.World.{World, Turn, replied}
 use Rattle.sn_world.specs.Rows.{first_of, unless, first_refusal, singles, pairs, triples, some_of}
 
@@ -153,8 +153,7 @@ sample_run (int (pos i)) (int (pos count)) = Some (record { first = pos i; count
 sample_run _ _ = None
 
 abbrev pub samples_asked : List SampleRun → ℕ
-samples_asked [] = 0
-samples_asked (r ∷ rs) = r.count + samples_asked rs
+samples_asked rs = total_of (λ r. r.count) rs
 
 abbrev pub few_asked : Option (List SampleRun) → Option (List SampleRun)
 few_asked None = None

@@ -1,9 +1,10 @@
 -- What a message does, whichever command it is.
-use Rattle.std.specs.Prelude.{ℕ, List, [], Option, Some, None, Result, Ok, Err, if◌then◌else◌, codes}
+use Rattle.std.specs.Prelude.{ℕ, zero, suc, ◌-◌, Bool, true, is_none, List, [], Option, Some, None, Result, Ok, Err, if◌then◌else◌, codes}
 use Rattle.std.specs.Str.{bytes_eq}
 use Rattle.sn_osc.specs.Shape.{Argument, BodyShape, bare, arguments, foreign, MessageShape}
+use Rattle.sn_osc.specs.Reading.{read}
 use Rattle.sn_reply.specs.declared.reason.Reason.{Reason}
-use Rattle.sn_reply.specs.declared.reason.Reason.TheVariants.{UnknownCommand, ArgumentType}
+use Rattle.sn_reply.specs.declared.reason.Reason.TheVariants.{UnknownCommand, ArgumentType, Arguments}
 use Rattle.sn_reply.specs.Failing.{fail_message}
 use Rattle.sn_tree.specs.declared.node.Action.TheVariants.{Head, Tail, Before, After}
 use Rattle.sn_world.specs.declared.command.BusCommand.{BusCommand}
@@ -14,10 +15,12 @@ use Rattle.sn_world.specs.World.{Turn, replied}
 use Rattle.sn_world.specs.Buses.{set_row, fill_row, get_row, sync_row}
 use Rattle.sn_world.specs.Runs.{setn_row, getn_row}
 use Rattle.sn_world.specs.BufferCommands as buffers
+use Rattle.sn_world.specs.BufferSamples as samples
 use Rattle.sn_world.specs.Recv.{recv_row}
 use Rattle.sn_world.specs.Free.{free_row as forget_row}
 use Rattle.sn_world.specs.Status.{status_row}
-use Rattle.sn_world.specs.Ending.{quit_row, clear_row, Next, nothing, quitting, clearing}
+use Rattle.sn_world.specs.Ending.{quit_row, clear_row, Next, nothing, quitting, clearing, completing}
+use Rattle.sn_world.specs.Completing.{carried, own, one_message, message_in}
 use Rattle.sn_world.specs.declared.command.Handled.{Handled}
 use Rattle.sn_world.specs.declared.command.Handled.TheVariants as answers
 use Rattle.sn_world.specs.NewSynth.{new_row}
@@ -46,6 +49,11 @@ bus_command_of address =
     else if bytes_eq address (codes "/b_free") then Some buses.FreeBuffer
     else if bytes_eq address (codes "/b_zero") then Some buses.ZeroBuffer
     else if bytes_eq address (codes "/b_query") then Some buses.QueryBuffers
+    else if bytes_eq address (codes "/b_set") then Some buses.SetSamples
+    else if bytes_eq address (codes "/b_setn") then Some buses.SetSampleRuns
+    else if bytes_eq address (codes "/b_fill") then Some buses.FillSamples
+    else if bytes_eq address (codes "/b_get") then Some buses.GetSamples
+    else if bytes_eq address (codes "/b_getn") then Some buses.GetSampleRuns
     else if bytes_eq address (codes "/sync") then Some buses.Sync
     else if bytes_eq address (codes "/d_recv") then Some buses.Receive
     else if bytes_eq address (codes "/d_free") then Some buses.Free
@@ -65,6 +73,11 @@ bus_row buses.AllocBuffer = buffers.alloc_row
 bus_row buses.FreeBuffer = buffers.free_row
 bus_row buses.ZeroBuffer = buffers.zero_row
 bus_row buses.QueryBuffers = buffers.query_row
+bus_row buses.SetSamples = samples.set_row
+bus_row buses.SetSampleRuns = samples.setn_row
+bus_row buses.FillSamples = samples.fill_row
+bus_row buses.GetSamples = samples.get_row
+bus_row buses.GetSampleRuns = samples.getn_row
 bus_row buses.Sync = sync_row
 bus_row buses.Receive = recv_row
 bus_row buses.Free = forget_row
@@ -72,17 +85,73 @@ bus_row buses.Status = status_row
 bus_row buses.ClearSched = clear_row
 bus_row buses.Quit = quit_row
 
--- what is done besides where it is accepted
-abbrev pub next_of : Option BusCommand → Next
-next_of (Some buses.ClearSched) = clearing
-next_of (Some buses.Quit) = quitting
-next_of _ = nothing
+-- ---- completion messages
 
--- how it is told that it was carried out
+-- the completion message that a message carries, if it carries one
+abbrev pub completion_in : Option BusCommand → BodyShape → Option MessageShape
+completion_in None body = None
+completion_in (Some command) bare = message_in (carried command [])
+completion_in (Some command) (arguments xs) = message_in (carried command xs)
+completion_in (Some command) (foreign tags rest) = None
+
+abbrev pub completion_of : MessageShape → Option MessageShape
+completion_of m = completion_in (bus_command_of m.address) m.body
+
+abbrev pub each_within : (MessageShape → Bool) → Option MessageShape → Bool
+each_within test None = true
+each_within test (Some m) = test m
+
+-- Completion messages nest at most so deep in a message: it carries none, or one in which they nest one less deep.
+unfoldable pub depth_within : ℕ → MessageShape → Bool
+depth_within zero m = is_none (completion_of m)
+depth_within (suc deep) m = each_within (depth_within deep) (completion_of m)
+
+-- how deep they may nest
+abbrev pub deepest : ℕ
+deepest = 8
+
+-- what a command may carry: one message, in which they nest one less deep than they may
+abbrev pub acceptable : Option MessageShape → Option MessageShape
+acceptable None = None
+acceptable (Some m) = if depth_within (deepest - 1) m then Some m else None
+
+-- What the message in its blob is decides whether a command is judged at all, and changes nothing of what it does.
+abbrev pub with_completion : Option MessageShape → Result Turn Reason → Result Turn Reason
+with_completion None r = Err Arguments
+with_completion (Some m) r = r
+
+-- the row of a command with the blob that it carries, if it carries one
+abbrev pub carrying_row : BusCommand → Option (List ℕ) → ℕ → List Argument → Turn → Result Turn Reason
+carrying_row command None from xs t = bus_row command from xs t
+carrying_row command (Some b) from xs t = with_completion (acceptable (one_message (read b))) (bus_row command from (own xs) t)
+
+abbrev pub whole_row : BusCommand → ℕ → List Argument → Turn → Result Turn Reason
+whole_row command from xs t = carrying_row command (carried command xs) from xs t
+
+-- how it is told that a command was carried out that carries no completion message
 abbrev pub done_with : BusCommand → Handled
 done_with buses.ClearSched = answers.ClearSched
 done_with buses.Quit = answers.Quit
 done_with _ = answers.Done
+
+-- ---- what is done besides where a command is accepted
+
+-- where it is told so, and carries no completion message
+abbrev pub ending_of : Handled → Next
+ending_of answers.ClearSched = clearing
+ending_of answers.Quit = quitting
+ending_of _ = nothing
+
+abbrev pub next_alone : BusCommand → Next
+next_alone command = ending_of (done_with command)
+
+abbrev pub next_with : BusCommand → Option MessageShape → Next
+next_with command None = next_alone command
+next_with command (Some m) = completing m
+
+abbrev pub next_of : Option BusCommand → BodyShape → Next
+next_of None body = nothing
+next_of (Some command) body = next_with command (completion_in (Some command) body)
 
 -- the command on nodes with an address
 abbrev pub node_command_of : List ℕ → Option NodeCommand
@@ -135,7 +204,7 @@ with_arguments (foreign tags rest) run t = Err ArgumentType
 
 abbrev pub bus_outcome : Option BusCommand → ℕ → BodyShape → Turn → Option (Result Turn Reason)
 bus_outcome None from body t = None
-bus_outcome (Some command) from body t = Some (with_arguments body (bus_row command from) t)
+bus_outcome (Some command) from body t = Some (with_arguments body (whole_row command from) t)
 
 -- what a message from a client does where it is such a command
 abbrev pub run_bus : ℕ → MessageShape → Turn → Option (Result Turn Reason)
@@ -175,4 +244,4 @@ next_in None (Some (Err reason)) n = nothing
 next_in None (Some (Ok t)) n = n
 
 abbrev pub next_after : ℕ → MessageShape → Turn → Next
-next_after from m t = next_in (run_node from m t) (run_bus from m t) (next_of (bus_command_of m.address))
+next_after from m t = next_in (run_node from m t) (run_bus from m t) (next_of (bus_command_of m.address) m.body)

@@ -18,6 +18,7 @@ pub mod BufferNumbers
 pub mod BufferCommands
 pub mod BufferSamples
 pub mod Ending
+pub mod Completing
 pub mod NewSynth
 pub mod ControlRuns
 pub mod Notifying

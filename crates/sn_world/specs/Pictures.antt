@@ -1,8 +1,8 @@
 -- When a stage and its words stand for a world.
-use Rattle.std.specs.Prelude.{◌≡◌, ◌≤◌, ◌<◌, ◌+◌, ℕ, true, ◌++◌, List, [], ◌∷◌, length, slice_index, None, if◌then◌else◌}
+use Rattle.std.specs.Prelude.{◌≡◌, ◌≤◌, ◌<◌, ◌+◌, ℕ, true, ◌++◌, List, [], ◌∷◌, length, slice_index, Option, None}
 use Rattle.sn_mem.specs.declared.extents.Extent.{Extent}
 use Rattle.sn_mem.specs.declared.extents.Foot.{Foot}
-use Rattle.sn_mem.specs.Words.{covers, writes}
+use Rattle.sn_mem.specs.Words.{writes}
 use Rattle.sn_def.specs.declared.control.Control.{Control}
 use Rattle.sn_def.specs.Defs.{definition_of}
 use Rattle.sn_def.specs.Definition.{Definition}
@@ -13,7 +13,9 @@ use Rattle.sn_tree.specs.Trees.{Nodes, none, node}
 use Rattle.sn_world.specs.declared.stage.Held.{Held}
 use Rattle.sn_world.specs.declared.stage.Held.TheVariants as held
 use Rattle.sn_world.specs.declared.stage.Stage.{Stage}
-use Rattle.sn_world.specs.Buffers.{AreBuffers, live_places}
+use Rattle.sn_mem.specs.declared.buffers.BufferPlace.{BufferPlace}
+use Rattle.sn_mem.specs.Buffers.{overlaps, live_places, AreApart}
+use Rattle.sn_world.specs.Buffers.{AreBuffers}
 
 -- where the pool keeps the words of what a node holds, and of all nodes in the order of the walk
 abbrev pub held_extents : Held → List Extent
@@ -23,11 +25,6 @@ held_extents (held.Synth def controls state) = state ∷ []
 abbrev pub live_held : Nodes Held → List Extent
 live_held none = []
 live_held (node label below after) = held_extents label.payload ++ (live_held below ++ live_held after)
-
--- how many of the extents a word lies in
-abbrev pub overlaps : ℕ → List Extent → ℕ
-overlaps x [] = 0
-overlaps x (e ∷ es) = (if covers e x then 1 else 0) + overlaps x es
 
 -- the weights of extents together
 unfoldable pub amount : (Extent → ℕ) → List Extent → ℕ
@@ -43,6 +40,11 @@ pub record IsSynthOf (rate : ℕ) (region : Extent) (d : Definition) (controls :
 abbrev pub IsHeld : ℕ → Extent → Held → Type 0
 IsHeld rate region held.Group = Unit {0}
 IsHeld rate region (held.Synth def controls state) = IsSynthOf rate region (definition_of def.value) controls state
+
+-- no word of its state is a buffer's
+abbrev pub IsApart : List (Option BufferPlace) → Held → Type 0
+IsApart places held.Group = Unit {0}
+IsApart places (held.Synth def controls state) = AreApart state places
 
 abbrev pub AreHeld : ℕ → Extent → Nodes Held → Type 0
 AreHeld rate region none = Unit {0}

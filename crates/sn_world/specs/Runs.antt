@@ -21,9 +21,12 @@ place_run (string s) y = None
 place_run (blob b) y = None
 
 -- how many places there are in all runs
+abbrev pub total_of : {R : Type 0} → (R → ℕ) → List R → ℕ
+total_of count [] = 0
+total_of count (r ∷ rs) = count r + total_of count rs
+
 abbrev pub total_count : List Run → ℕ
-total_count [] = 0
-total_count (r ∷ rs) = r.count + total_count rs
+total_count rs = total_of (λ r. r.count) rs
 
 -- a message asks for no more values than this
 abbrev pub most_values : ℕ

@@ -12,7 +12,8 @@ use Rattle.sn_tree.specs.Trees.{Nodes, with_payloads}
 use Rattle.sn_world.specs.declared.stage.Stage.{Stage}
 use Rattle.sn_world.specs.Definitions.{Definitions, definitions_of}
 use Rattle.sn_world.specs.Nodes.{Content, content_of, live_in}
-use Rattle.sn_world.specs.Buffers.{Buffer, buffers_of, live_buffers}
+use Rattle.sn_mem.specs.Buffers.{Buffer, buffers_of}
+use Rattle.sn_world.specs.Buffers.{live_buffers}
 
 -- The tree of nodes, the definitions, the 128 audio buses, the 1,024 control buses, and what is at each of the 1,024 numbers of buffers; for each client whether it is notified of what
 -- happens to nodes; the id that is chosen next, where one is left; and, which nothing changes, the frames a second and the words from

@@ -1,3 +1,4 @@
+use sn_osc::Message;
 use sn_reply::Reason;
 use sn_tree::Action;
 
@@ -22,6 +23,16 @@ pub enum BusCommand {
     ZeroBuffer,
     /// `/b_query`
     QueryBuffers,
+    /// `/b_set`
+    SetSamples,
+    /// `/b_setn`
+    SetSampleRuns,
+    /// `/b_fill`
+    FillSamples,
+    /// `/b_get`
+    GetSamples,
+    /// `/b_getn`
+    GetSampleRuns,
     /// `/sync`
     Sync,
     /// `/d_recv`
@@ -73,11 +84,16 @@ pub enum NodeCommand {
     Order,
 }
 
+/// How deep completion messages may nest.
+pub const MOST_COMPLETIONS: u32 = 8;
+
 /// What a crate of commands did with a message.
-#[derive(Clone, Copy, Debug, PartialEq, Eq)]
+#[derive(Debug, Drop)]
 pub enum Handled {
     /// The command was carried out.
     Done,
+    /// The command was carried out, and this is the completion message that it carries, which is to act next.
+    Completion(Message),
     /// `/quit` was carried out: the server ends.
     Quit,
     /// `/clearSched` was accepted: the entries that are due after this boundary are to be dropped.

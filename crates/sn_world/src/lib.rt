@@ -3,7 +3,6 @@
 
 mod arguments;
 mod buffer_repetition;
-mod buffers;
 mod command;
 mod defs;
 mod emptying;
@@ -22,8 +21,7 @@ pub use arguments::{Pair, Single, Triple, pairs, singles, some_of, triples};
 pub use buffer_repetition::{
     BufferNumber, NewBuffer, SampleFill, SampleIndex, SampleRun, SampleValue,
 };
-pub use buffers::{BUFFERS, Buffers};
-pub use command::{BusCommand, Handled, NodeCommand};
+pub use command::{BusCommand, Handled, MOST_COMPLETIONS, NodeCommand};
 pub use defs::Defs;
 pub use emptying::{DeepFree, FreeAll};
 pub use endings::{Ending, Endings};

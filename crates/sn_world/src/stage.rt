@@ -2,11 +2,10 @@
 ghost use Rattle.std.specs.Prelude.{◌≤◌, IfOk};
 ghost use Rattle.sn_world.specs.Opening.{IsOpening};
 
-use crate::buffers::Buffers;
 use crate::defs::Defs;
 use crate::flags::Flags;
 use sn_def::{Controls, Def};
-use sn_mem::Extent;
+use sn_mem::{Buffers, Extent};
 use sn_pool::{POOL_BASE, Pool};
 use sn_ports::NoMemory;
 use sn_tree::Tree;

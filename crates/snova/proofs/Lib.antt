@@ -1,1 +1,2 @@
 pub mod ByWordsLemmas
+pub mod ServeLemmas

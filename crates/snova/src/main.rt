@@ -1,21 +1,38 @@
-//! A sound server: reads a file of commands, and writes its sound and its replies.
+//! A sound server: reads a file of commands, or serves a connection, and writes its sound and its replies.
 #![tactic(auto)]
 
 ghost use Rattle.std.specs.Prelude.{◌<◌, ◌^◌, length};
 
+mod clock;
+mod listening;
 mod running;
+mod serving;
 
+use listening::{report_served, serve_on_nothing, serve_on_port};
 use running::run;
+use serving::Served;
 use sn_osc::PacketKind;
 use sn_ports::{Calls, FileSink, FileSource, MemorySink, MemorySource, NoMemory, Open, Text, Word};
 use sn_server::{Outcome, StreamFault};
-use sn_words::settings;
+use sn_words::{serve_words, settings};
+use std::net::Net;
 use std::process::ExitCode;
-use std::rt::{Env, Files};
+use std::rt::{Clock, Env, Files};
 use std::thread::Threads;
 use std::{env, fs, io};
 
 const CANNOT_OPEN: u8 = 9;
+
+/// What came of the words.
+#[derive(Clone, Copy, Debug)]
+enum Course {
+    /// A file of commands was rendered.
+    Rendered(Outcome),
+    /// A connection was served.
+    Served(Served),
+    /// A file could not be opened, or the port not bound.
+    NotOpened,
+}
 
 /// The words after the program's name. Words that are no text count as none.
 fn given<H: Env + AllocGlobal>(rt: &H) -> Result<Vec<String>, NoMemory> {
@@ -82,21 +99,55 @@ fn run_on_nothing<H: AllocGlobal + Threads + Sync>(
     ))
 }
 
-/// What came of the words, or None where a file can't be opened.
-fn outcome<H: Env + Files + AllocGlobal + Threads + Sync>(
+/// Renders the file that the words name.
+fn render_files<H: Files + AllocGlobal + Threads + Sync>(
     rt: &H,
-) -> Result<Option<Outcome>, NoMemory> {
+    args: &[String],
+    words: &[Word],
+) -> Result<Course, NoMemory>
+    requires { length words.now < 2 ^ 32 }
+{
+    match args {
+        [.., commands, sound, replies] if settings(words).is_ok() => {
+            let paths = [commands.as_str(), sound.as_str(), replies.as_str()];
+            match run_on_files(rt, words, paths) {
+                Ok(outcome) => Ok(Course::Rendered(outcome)),
+                Err(_) => Ok(Course::NotOpened),
+            }
+        }
+        _ => Ok(Course::Rendered(run_on_nothing(rt, words)?)),
+    }
+}
+
+/// Serves a connection at the port that the words name.
+fn serve_port<H: Files + Clock + Net + AllocGlobal + Threads + Sync>(
+    rt: &H,
+    args: &[String],
+    words: &[Word],
+) -> Result<Course, NoMemory>
+    requires { length words.now < 2 ^ 32 }
+{
+    match (args, serve_words(words)) {
+        ([.., sound], Ok(chosen)) => match serve_on_port(rt, words, &chosen, sound.as_str()) {
+            Ok(served) => Ok(Course::Served(served)),
+            Err(_) => Ok(Course::NotOpened),
+        },
+        _ => Ok(Course::Served(serve_on_nothing(rt, words)?)),
+    }
+}
+
+/// Does what the words of the command line say.
+fn carry_out<H: Env + Files + Clock + Net + AllocGlobal + Threads + Sync>(
+    rt: &H,
+) -> Result<Course, NoMemory> {
     let args = given(rt)?;
     let words = as_words(rt, &args)?;
     if u32::try_from(words.len()).is_err() {
         return Err(NoMemory);
     }
-    match args.as_slice() {
-        [.., commands, sound, replies] if settings(&words).is_ok() => {
-            let paths = [commands.as_str(), sound.as_str(), replies.as_str()];
-            Ok(run_on_files(rt, &words, paths).ok())
-        }
-        _ => Ok(Some(run_on_nothing(rt, &words)?)),
+    match args.first() {
+        Some(first) if first.as_str() == "serve" => serve_port(rt, &args, &words),
+        _ => render_files(rt, &args, &words),
     }
 }
 
@@ -143,12 +194,16 @@ fn report(rt: &impl Print, outcome: Outcome) -> io::Result<()> {
 }
 
 fn main(rt: HostRuntime) -> io::Result<ExitCode> {
-    match outcome(&rt).unwrap_or(Some(Outcome::NoMemory)) {
-        Some(outcome) => {
+    match carry_out(&rt).unwrap_or(Course::Rendered(Outcome::NoMemory)) {
+        Course::Rendered(outcome) => {
             report(&rt, outcome)?;
             Ok(ExitCode::from(outcome.status()))
         }
-        None => {
+        Course::Served(served) => {
+            report_served(&rt, served)?;
+            Ok(ExitCode::from(served.status()))
+        }
+        Course::NotOpened => {
             println!(rt; "cannot open")?;
             Ok(ExitCode::from(CANNOT_OPEN))
         }

@@ -1,7 +1,10 @@
 use crate::running::run;
+use crate::serving::{Served, serve};
 use sn_osc::PacketKind;
-use sn_ports::{Calls, MemorySink, MemorySource, NoMemory, Open, Text, Word};
-use sn_server::{Outcome, StreamFault};
+use sn_ports::{
+    Calls, Event, Fed, Link, MemorySink, MemorySource, NoMemory, Open, PlayedLink, Text, Word,
+};
+use sn_server::{Ended, Outcome, StreamFault};
 use std::test::Fail;
 use std::thread::Threads;
 
@@ -298,5 +301,37 @@ fn a_synth_is_heard(rt: HostRuntime) -> Result<(), Fail> {
     assert_eq!(rt; sound.len(), 172);
     assert!(rt; sound.iter().skip(44).take(4).eq([0, 0, 0x79, 0x07].iter()));
     assert_eq!(rt; ran.replies.taken(), RECEIVED.as_slice());
+    Ok(())
+}
+
+#[test]
+fn a_connection_is_served(rt: HostRuntime) -> Result<(), Fail> {
+    let alloc = rt.alloc();
+    let packet = Event::Bytes(Text::from_slice(alloc, &SYNC)?);
+    let events = vec![in alloc; packet, Event::Ticks(1)]?;
+    let mut link = PlayedLink::new(alloc, events, 1000, calls(&rt, &[])?)?;
+    let mut sound = MemorySink::new(alloc, 1000, 100, calls(&rt, &[])?)?;
+    let words = words(&rt, &["serve", "5000", "out"])?;
+    assert!(rt; words.len() < 10);
+    let served = serve(&rt, alloc, &words, 0, &mut link, &mut sound, &Open);
+    assert_eq!(rt; served, Served::Ran(Ended::Closed));
+    assert_eq!(rt; link.sent(), SYNCED.as_slice());
+    assert_eq!(rt; sound.taken().len(), 256);
+    assert!(rt; sound.taken().iter().all(|b| *b == 0));
+    Ok(())
+}
+
+#[test]
+fn a_port_that_is_refused(rt: HostRuntime) -> Result<(), Fail> {
+    let alloc = rt.alloc();
+    let packet = Event::Bytes(Text::from_slice(alloc, &SYNC)?);
+    let events = vec![in alloc; packet]?;
+    let mut link = PlayedLink::new(alloc, events, 1000, calls(&rt, &[])?)?;
+    let mut sound = MemorySink::new(alloc, 1000, 100, calls(&rt, &[])?)?;
+    let words = words(&rt, &["serve", "0", "out"])?;
+    assert!(rt; words.len() < 10);
+    let served = serve(&rt, alloc, &words, 0, &mut link, &mut sound, &Open);
+    assert_eq!(rt; served, Served::BadWords { index: 1 });
+    assert_eq!(rt; link.next(&mut [0; 32]), Ok(Fed::Bytes(20)));
     Ok(())
 }

@@ -4,7 +4,7 @@ use Rattle.std.specs.Int.{w32}
 use Rattle.std.proofs.lemmas.Int.{to_z-of_z}
 use Rattle.sn_mem.specs.declared.extents.Extent.{Extent}
 use Rattle.sn_osc.specs.Shape.{argument_of}
-use Rattle.sn_pool.specs.declared.places.BufferPlace.{BufferPlace}
+use Rattle.sn_mem.specs.declared.buffers.BufferPlace.{BufferPlace}
 use Rattle.sn_pool.specs.Pools.{PoolState, times, without_extent}
 use Rattle.sn_reply.specs.declared.replies.To.TheVariants.{Client}
 use Rattle.sn_reply.specs.Replies.{ReplyShape}

@@ -4,9 +4,9 @@ use Rattle.std.specs.Int.{w32}
 use Rattle.std.proofs.lemmas.Int.{to_z-of_z}
 use Rattle.sn_reply.specs.declared.replies.To.TheVariants.{Client}
 use Rattle.sn_world.specs.declared.stage.Stage.{Stage}
-use Rattle.sn_world.specs.Buffers.{samples_of}
+use Rattle.sn_mem.specs.Buffers.{samples_of}
 use Rattle.sn_world.specs.BufferNumbers.{at_number, done_with}
-use Rattle.sn_pool.specs.declared.places.BufferPlace.{BufferPlace}
+use Rattle.sn_mem.specs.declared.buffers.BufferPlace.{BufferPlace}
 use Rattle.sn_buscmd.specs.Samples.{Places}
 use Rattle.sn_buscmd.proofs.MakingLemmas.{live_if, full_row, made_pictures, made_row}
 use Rattle.sn_buscmd.proofs.SampleLemmas.{filled-entirely, length-samples}

@@ -4,7 +4,7 @@ use Rattle.std.specs.Int.{w32}
 use Rattle.std.proofs.lemmas.Int.{to_z-of_z}
 use Rattle.sn_osc.specs.Shape.{argument_of}
 use Rattle.sn_reply.specs.declared.replies.To.TheVariants.{Client}
-use Rattle.sn_world.specs.Buffers.{samples_of}
+use Rattle.sn_mem.specs.Buffers.{samples_of}
 use Rattle.sn_world.specs.BufferNumbers.{at_number, done_with}
 use Rattle.sn_world.specs.BufferCommands.{zeros}
 use Rattle.sn_buscmd.proofs.SampleLemmas.{filled-entirely, length-samples}

@@ -1,9 +1,10 @@
-use Rattle.std.proofs.Common.{subst, sym, map}
+use Rattle.std.proofs.Common.{◌≡◌, ℕ, List, ap, subst, sym, ◌∙◌, map}
 use Rattle.sn_osc.specs.Shape.{argument_of}
 use Rattle.sn_world.specs.declared.command.BusCommand.{BusCommand}
 use Rattle.sn_world.specs.World.{turn_of}
 use Rattle.sn_world.specs.Commands.{bus_row}
 use Rattle.sn_world.specs.Answers.{Follows}
+use Rattle.sn_buscmd.proofs.RunningLemmas.{unless-followed}
 use Rattle.sn_buscmd.proofs.running.run_row.Goals as goal
 
 pub returns-in-Set-clause-row : goal.returns-in-Set-clause-row
@@ -23,6 +24,31 @@ returns-in-Fill-clause-row g c =
     let stage = c.args.stage.now in
     subst (λ (v : BusCommand). Follows c.run_fill.result (bus_row v c.args.from (map argument_of c.args.arguments.now) (turn_of stage (g.P.Port.words c.args.port.now) c.args.replies.now)) (turn_of stage (g.P.Port.words c.run_fill.new.port) c.args.replies.now))
     (sym c.in-Fill.is) (c.run_fill.ensures.row c.args.from stage c.args.replies.now c.requires.pictures)
+
+pub returns-in-SetSamples-clause-row : goal.returns-in-SetSamples-clause-row
+returns-in-SetSamples-clause-row g c =
+    let stage = c.args.stage.now in
+    subst (λ (v : BusCommand). Follows c.run_set_samples.result (bus_row v c.args.from (map argument_of c.args.arguments.now) (turn_of stage (g.P.Port.words c.args.port.now) c.args.replies.now)) (turn_of stage (g.P.Port.words c.run_set_samples.new.port) c.args.replies.now))
+    (sym c.in-SetSamples.is) (c.run_set_samples.ensures.row c.args.from c.args.replies.now)
+
+pub returns-in-SetSampleRuns-clause-row : goal.returns-in-SetSampleRuns-clause-row
+returns-in-SetSampleRuns-clause-row g c =
+    let stage = c.args.stage.now in
+    subst (λ (v : BusCommand). Follows c.run_set_sample_runs.result (bus_row v c.args.from (map argument_of c.args.arguments.now) (turn_of stage (g.P.Port.words c.args.port.now) c.args.replies.now)) (turn_of stage (g.P.Port.words c.run_set_sample_runs.new.port) c.args.replies.now))
+    (sym c.in-SetSampleRuns.is) (c.run_set_sample_runs.ensures.row c.args.from c.args.replies.now)
+
+pub returns-in-FillSamples-clause-row : goal.returns-in-FillSamples-clause-row
+returns-in-FillSamples-clause-row g c =
+    let stage = c.args.stage.now in
+    subst (λ (v : BusCommand). Follows c.run_fill_samples.result (bus_row v c.args.from (map argument_of c.args.arguments.now) (turn_of stage (g.P.Port.words c.args.port.now) c.args.replies.now)) (turn_of stage (g.P.Port.words c.run_fill_samples.new.port) c.args.replies.now))
+    (sym c.in-FillSamples.is) (c.run_fill_samples.ensures.row c.args.from c.args.replies.now)
+
+pub returns-in-GetSampleRuns-clause-unchanged : goal.returns-in-GetSampleRuns-clause-unchanged
+returns-in-GetSampleRuns-clause-unchanged g c =
+    let stage = c.args.stage.now in
+    let asked = c.run_get_sample_runs in
+    unless-followed (asked.new.replies ≡ c.args.replies.now) (turn_of stage (g.P.Port.words asked.new.port) asked.new.replies ≡ turn_of stage (g.P.Port.words c.args.port.now) c.args.replies.now)
+    asked.result (λ said. ap (λ (ws : List ℕ). turn_of stage ws asked.new.replies) asked.ensures.words ∙ ap (turn_of stage (g.P.Port.words c.args.port.now)) said) asked.ensures.untold
 
 pub returns-in-Free-clause-row : goal.returns-in-Free-clause-row
 returns-in-Free-clause-row g c =

@@ -1,5 +1,5 @@
 use Rattle.std.proofs.Common.{◌≡◌, ◌-◌, replicate}
-use Rattle.sn_world.specs.Buffers.{samples_of}
+use Rattle.sn_mem.specs.Buffers.{samples_of}
 use Rattle.sn_world.specs.BufferNumbers.{set_from}
 use Rattle.sn_buscmd.specs.Samples.{KeepsAround}
 use Rattle.sn_buscmd.proofs.samples.fill_samples.Given as goal

@@ -1,7 +1,7 @@
 use Rattle.std.proofs.Common.{subst}
 use Rattle.sn_osc.specs.Shape.{Shape, message_of}
 use Rattle.sn_osc.specs.Grammar.{Spells}
-use Rattle.sn_buscmd.proofs.TestLemmas.{decoded_answerable}
+use Rattle.sn_buscmd.proofs.CompletingLemmas.{decoded_answerable}
 use Rattle.sn_buscmd.proofs.tests.decoded.Goals as goal
 
 pub returns : goal.returns

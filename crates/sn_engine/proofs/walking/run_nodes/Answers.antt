@@ -12,8 +12,8 @@ loop-visit-init g c =
     let stage = c.args.stage.now in
     let all : c.into_iter-visit-iterator.result ≡ running_labels stage.tree.attached = c.into_iter-visit-iterator.ensures.into_iter_gives ∙ c.walk-visit-items.ensures in
     record {
-      words = ap (λ (ls : List (Label Held)). walk_words stage.rate c.args.block ls (g.P.Port.words c.args.port.now)) all;
-      held = subst (HoldEach stage.rate stage.pool.region) (sym all) (running_held stage.rate stage.pool.region stage.tree.attached c.requires.pictures.synths);
+      words = ap (λ (ls : List (Label Held)). walk_words stage.rate c.args.block stage.buffers ls (g.P.Port.words c.args.port.now)) all;
+      held = subst (HoldEach stage.rate stage.pool.region stage.buffers) (sym all) (running_held stage.rate stage.pool.region stage.buffers stage.tree.attached c.requires.pictures.synths c.requires.pictures.base c.requires.pictures.buffers.each c.requires.pictures.apart);
       foot = refl;
       rest = refl;
     }
@@ -24,8 +24,8 @@ returns g c =
     let before = g.P.Port.words c.args.port.now in
     let after = g.P.Port.words c.loop-visit.port in
     let none : c.loop-visit.visit-iterator ≡ [] = c.in-None.ensures.steps.0 in
-    let words : after ≡ walk_words stage.rate c.args.block (running_labels stage.tree.attached) before =
-    sym (ap (λ (ls : List (Label Held)). walk_words stage.rate c.args.block ls after) none) ∙ c.loop-visit.invariant.words in
+    let words : after ≡ walk_words stage.rate c.args.block stage.buffers (running_labels stage.tree.attached) before =
+    sym (ap (λ (ls : List (Label Held)). walk_words stage.rate c.args.block stage.buffers ls after) none) ∙ c.loop-visit.invariant.words in
     let len = length_walked stage c.args.block before after c.requires.pictures words in
     record {
       world = world_walked stage c.args.block before after c.requires.pictures words;

@@ -5,7 +5,7 @@ use Rattle.std.proofs.lemmas.Int.{to_z-of_z}
 use Rattle.sn_tree.specs.Trees.{Label, running_labels}
 use Rattle.sn_world.specs.declared.stage.Held.{Held}
 use Rattle.sn_world.specs.SettleWords.{held_triggers, held_endings, walk_triggers, walk_endings}
-use Rattle.sn_world.proofs.Walking.{HoldEach, running_held}
+use Rattle.sn_settle.proofs.Labels.{HoldEach, running_held}
 use Rattle.sn_settle.specs.Telling.{CanLook, AreSeen}
 use Rattle.sn_settle.proofs.Sending.{IsUnderway, underway_none, underway_can, underway_next, underway_all}
 use Rattle.sn_settle.proofs.looking.look_at_all.Goals as goal

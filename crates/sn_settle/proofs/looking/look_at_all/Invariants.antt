@@ -2,7 +2,7 @@
 use Rattle.std.proofs.Common.{◌≡◌}
 use Rattle.sn_tree.specs.Trees.{running_labels}
 use Rattle.sn_world.specs.SettleWords.{walk_triggers, walk_endings}
-use Rattle.sn_world.proofs.Walking.{HoldEach}
+use Rattle.sn_settle.proofs.Labels.{HoldEach}
 use Rattle.sn_settle.proofs.Sending.{IsUnderway}
 use Rattle.sn_settle.proofs.looking.look_at_all.Given as goal
 

@@ -2,7 +2,7 @@ use Rattle.std.proofs.Common.{◌≡◌, ap, sym, subst, refl, ◌∙◌, List, 
 use Rattle.sn_tree.specs.Trees.{Label, running_labels}
 use Rattle.sn_world.specs.declared.stage.Held.{Held}
 use Rattle.sn_world.specs.SettleWords.{settled_walk}
-use Rattle.sn_world.proofs.Walking.{HoldEach, running_held}
+use Rattle.sn_settle.proofs.Labels.{HoldEach, running_held}
 use Rattle.sn_settle.proofs.words.settle_words.Goals as goal
 
 pub loop-visit-init : goal.loop-visit-init

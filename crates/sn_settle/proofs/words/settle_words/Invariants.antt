@@ -2,7 +2,7 @@
 use Rattle.std.proofs.Common.{◌≡◌}
 use Rattle.sn_tree.specs.Trees.{running_labels}
 use Rattle.sn_world.specs.SettleWords.{settled_walk}
-use Rattle.sn_world.proofs.Walking.{HoldEach}
+use Rattle.sn_settle.proofs.Labels.{HoldEach}
 use Rattle.sn_settle.proofs.words.settle_words.Given as goal
 
 abbrev pub invariant-loop-visit : goal.invariant-loop-visit

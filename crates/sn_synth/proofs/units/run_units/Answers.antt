@@ -28,8 +28,8 @@ pub run_kind-requires-clause-can : goal.run_kind-requires-clause-can
 run_kind-requires-clause-can g c =
     let lt : c.loop-unit.unit-index < length c.args.units.now = omega arith in
     let next = next_at c.args.now.now.rate (length c.args.scratch.now.values) (length c.loop-unit.scratch.wires) c.loop-unit.place (c.args.at + units_words c.args.now.now.rate c.args.units.now) c.args.units.now c.loop-unit.unit-index c.unit-item.result lt c.unit-item.is c.loop-unit.invariant.ahead in
-    can_at c.args.now.now.rate c.numbered.result.rate (g.P.Port.foot c.args.port.now) (g.P.Port.foot c.loop-unit.port) c.args.at (units_words c.args.now.now.rate c.args.units.now) c.loop-unit.place (length c.args.scratch.now.values) (length c.loop-unit.scratch.wires) (length c.resize.new.self) c.state_words-len.result
-    c.args.scratch.now.values c.loop-unit.scratch.wires c.gather.new.blocks c.args.units.now c.loop-unit.unit-index c.unit-item.result lt c.unit-item.is next.fits c.requires.outputs c.resize.ensures c.state_words-len.ensures c.requires.apart c.requires.state c.loop-unit.invariant.foot c.loop-unit.invariant.low next.size
+    can_at c.args.now.now.rate c.numbered.result.rate (g.P.Port.foot c.args.port.now) (g.P.Port.foot c.loop-unit.port) c.args.buffers.now c.args.at (units_words c.args.now.now.rate c.args.units.now) c.loop-unit.place (length c.args.scratch.now.values) (length c.loop-unit.scratch.wires) (length c.resize.new.self) c.state_words-len.result
+    c.args.scratch.now.values c.loop-unit.scratch.wires c.gather.new.blocks c.args.units.now c.loop-unit.unit-index c.unit-item.result lt c.unit-item.is next.fits c.requires.outputs c.resize.ensures c.state_words-len.ensures c.requires.apart c.requires.state c.requires.buffers c.loop-unit.invariant.foot c.loop-unit.invariant.low next.size
     (gathered c.args.scratch.now.values c.loop-unit.scratch.values c.loop-unit.scratch.wires c.gather.new.blocks c.unit-item.result c.as_slice.result.now c.gather.ensures c.as_slice.ensures c.loop-unit.invariant.values)
     (ap (λ (n : Now). n.rate) c.numbered.ensures)
 
@@ -37,7 +37,7 @@ pub append-requires : goal.append-requires
 append-requires g c =
     let lt : c.loop-unit.unit-index < length c.args.units.now = omega arith in
     let next = next_at c.args.now.now.rate (length c.args.scratch.now.values) (length c.loop-unit.scratch.wires) c.loop-unit.place (c.args.at + units_words c.args.now.now.rate c.args.units.now) c.args.units.now c.loop-unit.unit-index c.unit-item.result lt c.unit-item.is c.loop-unit.invariant.ahead in
-    let long = outputs_are (length c.args.scratch.now.values) (length c.loop-unit.scratch.wires) (length c.resize.new.self) c.unit-item.result c.numbered.result (g.P.Port.words c.loop-unit.port) c.loop-unit.place c.state_words-len.result c.gather.new.blocks next.fits c.resize.ensures in
+    let long = outputs_are (length c.args.scratch.now.values) (length c.loop-unit.scratch.wires) (length c.resize.new.self) c.unit-item.result c.numbered.result c.args.buffers.now (g.P.Port.words c.loop-unit.port) c.loop-unit.place c.state_words-len.result c.gather.new.blocks next.fits c.resize.ensures in
     let room = next.room in
     rw c.run_kind.ensures.outputs (omega arith)
 
@@ -46,11 +46,11 @@ loop-unit-preserved g c =
     let lt : c.loop-unit.unit-index < length c.args.units.now = omega arith in
     let i = c.loop-unit.invariant in
     let next = next_at c.args.now.now.rate (length c.args.scratch.now.values) (length c.loop-unit.scratch.wires) c.loop-unit.place (c.args.at + units_words c.args.now.now.rate c.args.units.now) c.args.units.now c.loop-unit.unit-index c.unit-item.result lt c.unit-item.is i.ahead in
-    let long = outputs_are (length c.args.scratch.now.values) (length c.loop-unit.scratch.wires) (length c.resize.new.self) c.unit-item.result c.numbered.result (g.P.Port.words c.loop-unit.port) c.loop-unit.place c.state_words-len.result c.gather.new.blocks next.fits c.resize.ensures in
+    let long = outputs_are (length c.args.scratch.now.values) (length c.loop-unit.scratch.wires) (length c.resize.new.self) c.unit-item.result c.numbered.result c.args.buffers.now (g.P.Port.words c.loop-unit.port) c.loop-unit.place c.state_words-len.result c.gather.new.blocks next.fits c.resize.ensures in
     let wires : length c.append.new.self ≡ length c.loop-unit.scratch.wires + c.unit-item.result.outputs =
     ap (λ (ws : List (List ℤ)). length ws) c.append.ensures ∙ (length-append c.loop-unit.scratch.wires c.run_kind.new.outputs ∙ ap (λ n. length c.loop-unit.scratch.wires + n) (ap (λ (ws : List (List ℤ)). length ws) c.run_kind.ensures.outputs ∙ long)) in
     record {
-      going = unit_more c.args.now.now.rate c.args.now.now.block c.args.now.now.node c.args.scratch.now.values c.args.units.now (begun (g.P.Port.words c.args.port.now) c.args.at)
+      going = unit_more c.args.now.now.rate c.args.now.now.block c.args.now.now.node c.args.buffers.now c.args.scratch.now.values c.args.units.now (begun (g.P.Port.words c.args.port.now) c.args.at)
           (record { words = g.P.Port.words c.loop-unit.port; wires = c.loop-unit.scratch.wires; at = c.loop-unit.place; number = c.loop-unit.number })
           c.loop-unit.unit-index c.unit-item.result c.numbered.result (g.P.Port.words c.run_kind.new.port) c.gather.new.blocks c.run_kind.new.outputs c.append.new.self (length c.resize.new.self) c.state_words-len.result
           lt c.unit-item.is i.going

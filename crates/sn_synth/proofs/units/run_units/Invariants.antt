@@ -7,7 +7,7 @@ use Rattle.sn_synth.proofs.units.run_units.Given as goal
 abbrev pub invariant-loop-unit : goal.invariant-loop-unit
 invariant-loop-unit g l = record {
   going : ◌≡◌ {A = Going} (record { words = g.P.Port.words l.port; wires = l.scratch.wires; at = l.place; number = l.number })
-      (after_units l.now.rate l.now.block l.now.node l.initial.scratch.values (take l.unit-index l.units) (begun (g.P.Port.words l.initial.port) l.at));
+      (after_units l.now.rate l.now.block l.now.node l.buffers l.initial.scratch.values (take l.unit-index l.units) (begun (g.P.Port.words l.initial.port) l.at));
   ahead : Ahead l.now.rate (length l.initial.scratch.values) (length l.scratch.wires) l.place (l.at + units_words l.now.rate l.units) (drop l.unit-index l.units);
   low : l.at ≤ l.place;
   count : l.number ≡ l.unit-index;

@@ -1,0 +1,5 @@
+use Rattle.sn_buscmd.proofs.SampleRowLemmas.{head_free}
+use Rattle.sn_buscmd.proofs.sample_questions.push_answers.Goals as goal
+
+pub push_answer-requires-clause-free : goal.push_answer-requires-clause-free
+push_answer-requires-clause-free g c = head_free (g.R.Judged.judge c.args.words.len) c.args.all.now c.loop-repetition.repetition-index c.repetition-item.result c.loop-repetition-test.true c.repetition-item.is c.loop-repetition.invariant.free

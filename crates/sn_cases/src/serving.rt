@@ -1,0 +1,107 @@
+//! The connection of a case, tried.
+ghost use Rattle.std.specs.Prelude.{IfOk, IfSome, OnOk};
+ghost use Rattle.sn_ports.specs.Links.{ArePlayable, IsPlayable};
+
+use crate::case::{Case, Connection, Step};
+use crate::trial::{CAPACITY, Verdict};
+use sn_pcm::Settings;
+use sn_ports::{Calls, Event, Events, MemorySink, NoMemory, Open, PlayedLink, Text};
+use sn_server::{Ended, serve_one};
+use std::alloc::Global;
+use std::thread::Threads;
+
+/// The most blocks that are due at once.
+const MOST_TICKS: u32 = 1024;
+
+/// The event of a step, where it says something.
+fn event_of(alloc: Global, step: &Step) -> Result<Option<Event>, NoMemory>
+    ensures { IfOk result (λ found. IfSome found IsPlayable) }
+{
+    match step {
+        Step::Bytes(bytes) => {
+            let text = Text::from_slice(alloc, bytes.as_slice())?;
+            if text.len() == 0 {
+                return Ok(None);
+            }
+            Ok(Some(Event::Bytes(text)))
+        }
+        Step::Ticks(count) => {
+            let count = *count;
+            if count == 0 || count > MOST_TICKS {
+                return Ok(None);
+            }
+            Ok(Some(Event::Ticks(count)))
+        }
+    }
+}
+
+fn put_event(events: &mut Events, event: Event) -> Result<(), NoMemory>
+    requires playable { IsPlayable event }
+    requires before { ArePlayable events.old.items }
+    ensures { OnOk result (ArePlayable events.new.items) }
+{
+    events.push(event)?;
+    Ok(())
+}
+
+/// The events of steps.
+fn events_of(alloc: Global, steps: &[Step]) -> Result<Events, NoMemory>
+    ensures { IfOk result (λ events. ArePlayable events.items) }
+{
+    let mut events = Vec::new(alloc);
+    for step in steps {
+        match event_of(alloc, step)? {
+            Some(event) => put_event(&mut events, event)?,
+            None => {}
+        }
+    }
+    Ok(events)
+}
+
+fn judged(
+    alloc: Global,
+    case: &Case,
+    ended: Ended,
+    sound: &[u8],
+    sent: &[u8],
+) -> Result<Verdict, NoMemory> {
+    match &case.connection {
+        Some(connection) if connection.ending == Some(ended) => {}
+        _ => return Ok(Verdict::Ending),
+    }
+    if sent != case.replies.as_slice() {
+        let first = sent.get(..64).unwrap_or(sent);
+        return Ok(Verdict::Replies(Text::from_slice(alloc, first)?));
+    }
+    if sound != case.sound.as_slice() {
+        let first = sound.get(..64).unwrap_or(sound);
+        return Ok(Verdict::Sound(Text::from_slice(alloc, first)?));
+    }
+    Ok(Verdict::Agrees)
+}
+
+/// Serves the connection of a case in memory.
+pub fn try_connection<H: AllocGlobal + Threads + Sync>(
+    rt: &H,
+    case: &Case,
+    connection: &Connection,
+    settings: &Settings,
+) -> Result<Verdict, NoMemory> {
+    let alloc = rt.alloc();
+    let events = events_of(alloc, &connection.steps)?;
+    let mut link = PlayedLink::new(alloc, events, CAPACITY, Calls::from_vec(Vec::new(alloc)))?;
+    let mut sound = MemorySink::new(alloc, CAPACITY, 65536, Calls::from_vec(Vec::new(alloc)))?;
+    let ended = serve_one(
+        rt,
+        alloc,
+        settings,
+        connection.base,
+        &mut link,
+        &mut sound,
+        &Open,
+    );
+    match ended {
+        Ended::NoMemory => Err(NoMemory),
+        _ => judged(alloc, case, ended, sound.taken(), link.sent()),
+    }
+}

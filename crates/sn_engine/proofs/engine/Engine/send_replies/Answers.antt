@@ -1,0 +1,29 @@
+use Rattle.std.proofs.Common.{◌≡◌, ◌≤◌, [], List, ℕ, length, slice_set, get_or, arith, ap, ◌∙◌}
+use Rattle.std.specs.Prelude.{vec_capacity}
+use Rattle.sn_tree.specs.Trees.{running_labels}
+use Rattle.sn_world.specs.SettleWords.{walk_room}
+use Rattle.sn_engine.specs.Running.{Running}
+use Rattle.sn_engine.proofs.DrainLemmas.{still_room, bytes_set, as_long}
+use Rattle.sn_engine.proofs.engine.Engine.send_replies.Goals as goal
+
+pub invariant_of-self : goal.invariant_of-self
+invariant_of-self g c =
+    let i = c.self.invariant in
+    let e = c.self.inside in
+    let d = c.index_mut.result.now in
+    let more : (get_or e.replies.items c.args.client d).spare ≤ c.send_text.new.text.spare = omega (arith, ap (λ t. t.spare) c.index_mut.ensures.value, c.send_text.ensures.room) in (
+      i.0,
+      i.1,
+      still_room e.standing e.sound.spare (vec_capacity e.samples) (walk_room (running_labels e.stage.tree.attached)) e.endings.spare e.replies.items c.args.client d c.send_text.new.text more i.2,
+      i.3,
+      i.4,
+      omega (arith, i.5, as_long e.replies.items c.args.client c.send_text.new.text),
+    )
+
+abbrev with_replies : Running → List (List ℕ) → Running
+with_replies r replies = record r { replies = replies }
+
+pub returns-clause-kept : goal.returns-clause-kept
+returns-clause-kept g c =
+    let drained = bytes_set c.self.inside.replies.items c.args.client c.send_text.new.text c.send_text.ensures.bytes ∙ ap (λ r. slice_set r.replies c.args.client []) c.self.view_is in
+    λ i. with_replies (c.self.view_is i) (drained i)

@@ -1,0 +1,5 @@
+pub mod Runs
+pub mod Marking
+pub mod Finding
+pub mod Placing
+pub mod Containing

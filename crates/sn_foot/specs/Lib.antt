@@ -1,0 +1,4 @@
+pub mod Canonical
+pub mod Footprints
+pub mod Marks
+pub mod Walks

@@ -1,0 +1,11 @@
+pub mod Shapes
+pub mod Ordering
+pub mod Parting
+pub mod Numbers
+pub mod Filling
+pub mod Planning
+pub mod Freeing
+pub mod Drafting
+pub mod Lowest
+pub mod Coming
+pub mod Resources

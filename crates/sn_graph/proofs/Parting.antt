@@ -1,0 +1,114 @@
+-- A row keeps the synths of its nodes, and which of them are parted.
+use Rattle.std.proofs.Common.{◌≡◌, ℤ, Bool, true, false, ◌&&◌, ◌||◌, List, [], ◌∷◌, ◌++◌, sym, refl, ap, ◌∙◌, append_assoc}
+use Rattle.std.proofs.Math.Bool.{or_assoc}
+use Rattle.std.proofs.lemmas.List.{append-nil}
+use Rattle.std.specs.Ordering.{int_eq}
+use Rattle.sn_graph.specs.declared.nodes.Voice.{Voice}
+use Rattle.sn_graph.specs.Voices.{Running, none, synth, group, voices, has}
+use Rattle.sn_graph.specs.Rows.{Row, done, job, split, more}
+use Rattle.sn_graph.specs.Plans.{close, followed, members, joined, keep, part, row_of, rows_of}
+use Rattle.sn_graph.proofs.Shapes.{is_parted, heard, heard_all, heard_list, parts, parts_all, parts_list}
+
+pub or-false : (x : Bool) → (x || false) ≡ x
+or-false true = refl
+or-false false = refl
+
+pub and-false : (x : Bool) → (x && false) ≡ false
+and-false true = refl
+and-false false = refl
+
+pub has-append : (xs ys : List Voice) (a : ℤ) → has (xs ++ ys) a ≡ (has xs a || has ys a)
+has-append [] ys a = refl
+has-append (x ∷ xs) ys a = rw (has-append xs ys a) (sym (or_assoc (int_eq x.id a) (has xs a) (has ys a)))
+
+pub heard-close : (run : List Voice) (r : Row) → heard (close run r) ≡ run ++ heard r
+heard-close [] r = refl
+heard-close (s ∷ ss) r = refl
+
+pub heard-followed : (x y : Row) → heard (followed x y) ≡ heard x ++ heard y
+heard-followed done y = refl
+heard-followed (job ss x) y = rw (heard-followed x y) (sym (append_assoc ss (heard x) (heard y)))
+heard-followed (split ms x) y = rw (heard-followed x y) (sym (append_assoc (heard_all ms) (heard x) (heard y)))
+
+pub heard-members : (r : Row) (rs : List Row) → heard_all (members r rs) ≡ heard r ++ heard_list rs
+heard-members r [] = sym (append-nil (heard r))
+heard-members r (q ∷ rs) = ap (λ (l : List Voice). heard r ++ l) (heard-members q rs)
+
+pub heard-joined : (rs : List Row) → heard (joined rs) ≡ heard_list rs
+heard-joined [] = refl
+heard-joined (r ∷ []) = sym (append-nil (heard r))
+heard-joined (r ∷ q ∷ rs) = append-nil (heard r ++ heard_all (members q rs)) ∙ ap (λ (l : List Voice). heard r ++ l) (heard-members q rs)
+
+pub heard-keep : (r : Row) (rs : List Row) → heard_list (keep r rs) ≡ heard r ++ heard_list rs
+heard-keep done rs = refl
+heard-keep (job ss a) rs = refl
+heard-keep (split ms a) rs = refl
+
+pub heard-part : (run : List Voice) (r through rest : Row) → heard through ≡ run ++ heard rest → heard (part run r through rest) ≡ run ++ (heard r ++ heard rest)
+heard-part run done through rest e = e
+heard-part run (job ss a) through rest e = heard-close run (followed (job ss a) rest) ∙ ap (λ (l : List Voice). run ++ l) (heard-followed (job ss a) rest)
+heard-part run (split ms a) through rest e = heard-close run (followed (split ms a) rest) ∙ ap (λ (l : List Voice). run ++ l) (heard-followed (split ms a) rest)
+
+-- the joined synths of the jobs are those of the nodes
+mutual
+  pub heard-row : (run : List Voice) (nodes : Running) → heard (row_of run nodes) ≡ run ++ voices nodes
+  heard-row run none = heard-close run done
+  heard-row run (synth s rest) = heard-row (run ++ s ∷ []) rest ∙ append_assoc run (s ∷ []) (voices rest)
+  heard-row run (group true inner rest) =
+      heard-part run (joined (rows_of inner)) (row_of run rest) (row_of [] rest) (heard-row run rest ∙ ap (λ (l : List Voice). run ++ l) (sym (heard-row [] rest)))
+      ∙ rw (heard-joined (rows_of inner), heard-rows inner, heard-row [] rest) refl
+  heard-row run (group false inner rest) =
+      heard-part run (row_of [] inner) (row_of run rest) (row_of [] rest) (heard-row run rest ∙ ap (λ (l : List Voice). run ++ l) (sym (heard-row [] rest)))
+      ∙ rw (heard-row [] inner, heard-row [] rest) refl
+
+  pub heard-rows : (nodes : Running) → heard_list (rows_of nodes) ≡ voices nodes
+  heard-rows none = refl
+  heard-rows (synth s rest) = ap (λ (l : List Voice). s ∷ l) (heard-rows rest)
+  heard-rows (group true inner rest) = heard-keep (joined (rows_of inner)) (rows_of rest) ∙ rw (heard-joined (rows_of inner), heard-rows inner, heard-rows rest) refl
+  heard-rows (group false inner rest) = heard-keep (row_of [] inner) (rows_of rest) ∙ rw (heard-row [] inner, heard-rows rest) refl
+
+pub parts-close : (run : List Voice) (r : Row) (a b : ℤ) → parts (close run r) a b ≡ parts r a b
+parts-close [] r a b = refl
+parts-close (s ∷ ss) r a b = refl
+
+pub parts-followed : (x y : Row) (a b : ℤ) → parts (followed x y) a b ≡ (parts x a b || parts y a b)
+parts-followed done y a b = refl
+parts-followed (job ss x) y a b = parts-followed x y a b
+parts-followed (split ms x) y a b = rw (parts-followed x y a b) (sym (or_assoc (parts_all ms a b) (parts x a b) (parts y a b)))
+
+pub parts-members : (r : Row) (rs : List Row) (a b : ℤ) → parts_all (members r rs) a b ≡ parts_list (r ∷ rs) a b
+parts-members r [] a b = sym (rw (and-false (has (heard r) a)) (or-false (parts r a b)))
+parts-members r (q ∷ rs) a b = rw (heard-members q rs, parts-members q rs a b) refl
+
+pub parts-joined : (rs : List Row) (a b : ℤ) → parts (joined rs) a b ≡ parts_list rs a b
+parts-joined [] a b = refl
+parts-joined (r ∷ []) a b = parts-members r [] a b
+parts-joined (r ∷ q ∷ rs) a b = or-false (parts_all (more r (members q rs)) a b) ∙ parts-members r (q ∷ rs) a b
+
+pub parts-keep : (r : Row) (rs : List Row) (a b : ℤ) → parts_list (keep r rs) a b ≡ parts_list (r ∷ rs) a b
+parts-keep done rs a b = refl
+parts-keep (job ss x) rs a b = refl
+parts-keep (split ms x) rs a b = refl
+
+pub parts-part : (run : List Voice) (r through rest : Row) (a b : ℤ) → parts through a b ≡ parts rest a b → parts (part run r through rest) a b ≡ (parts r a b || parts rest a b)
+parts-part run done through rest a b e = e
+parts-part run (job ss x) through rest a b e = parts-close run (followed (job ss x) rest) a b ∙ parts-followed (job ss x) rest a b
+parts-part run (split ms x) through rest a b e = parts-close run (followed (split ms x) rest) a b ∙ parts-followed (split ms x) rest a b
+
+-- what is parted in the row is parted in the nodes
+mutual
+  pub parts-row : (run : List Voice) (nodes : Running) (a b : ℤ) → parts (row_of run nodes) a b ≡ is_parted false nodes a b
+  parts-row run none a b = parts-close run done a b
+  parts-row run (synth s rest) a b = parts-row (run ++ s ∷ []) rest a b
+  parts-row run (group true inner rest) a b =
+      parts-part run (joined (rows_of inner)) (row_of run rest) (row_of [] rest) a b (parts-row run rest a b ∙ sym (parts-row [] rest a b))
+      ∙ rw (parts-joined (rows_of inner) a b, parts-rows inner a b, parts-row [] rest a b) refl
+  parts-row run (group false inner rest) a b =
+      parts-part run (row_of [] inner) (row_of run rest) (row_of [] rest) a b (parts-row run rest a b ∙ sym (parts-row [] rest a b))
+      ∙ rw (parts-row [] inner a b, parts-row [] rest a b) refl
+
+  pub parts-rows : (nodes : Running) (a b : ℤ) → parts_list (rows_of nodes) a b ≡ is_parted true nodes a b
+  parts-rows none a b = refl
+  parts-rows (synth s rest) a b = rw (heard-rows rest, or-false (int_eq s.id a), parts-rows rest a b) refl
+  parts-rows (group true inner rest) a b = parts-keep (joined (rows_of inner)) (rows_of rest) a b ∙ rw (heard-joined (rows_of inner), heard-rows inner, heard-rows rest, parts-joined (rows_of inner) a b, parts-rows inner a b, parts-rows rest a b) refl
+  parts-rows (group false inner rest) a b = parts-keep (row_of [] inner) (rows_of rest) a b ∙ rw (heard-row [] inner, heard-rows rest, parts-row [] inner a b, parts-rows rest a b) refl

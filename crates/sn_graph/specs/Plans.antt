@@ -1,0 +1,122 @@
+-- The plan of running synths.
+use Rattle.std.specs.Prelude.{◌≡◌, ◌↔◌, ℕ, ◌+◌, ◌*◌, ◌<◌, ◌≤◌, ℤ, Bool, true, false, ◌&&◌, ◌||◌, if◌then◌else◌, List, [], ◌∷◌, ◌++◌, length}
+use Rattle.std.specs.Ordering.{int_eq}
+use Rattle.sn_mem.specs.Words.{Clash}
+use Rattle.sn_round.specs.declared.jobs.Job.{Job}
+use Rattle.sn_round.specs.Jobs.{job_at, Ordered}
+use Rattle.sn_graph.specs.declared.nodes.Voice.{Voice}
+use Rattle.sn_graph.specs.Voices.{Running, none, synth, group, voices, ids_of, has}
+use Rattle.sn_graph.specs.Rows.{Row, Members, done, job, split, one, more, jobs}
+
+-- a synth is among them
+abbrev pub has_voice : Running → Bool
+has_voice none = false
+has_voice (synth s rest) = true
+has_voice (group g inner rest) = has_voice inner || has_voice rest
+
+-- an open run of synths is one job
+abbrev pub close : List Voice → Row → Row
+close [] r = r
+close (v ∷ vs) r = job (v ∷ vs) r
+
+abbrev pub followed : Row → Row → Row
+followed done r = r
+followed (job vs a) r = job vs (followed a r)
+followed (split ms a) r = split ms (followed a r)
+
+abbrev pub members : Row → List Row → Members
+members r [] = one r
+members r (q ∷ rs) = more r (members q rs)
+
+-- two members or more are split
+abbrev pub joined : List Row → Row
+joined [] = done
+joined (r ∷ []) = r
+joined (r ∷ q ∷ rs) = split (more r (members q rs)) done
+
+-- a member without a job is left out
+abbrev pub keep : Row → List Row → List Row
+keep done rs = rs
+keep (job vs a) rs = job vs a ∷ rs
+keep (split ms a) rs = split ms a ∷ rs
+
+-- a part without a job does not end the open run
+abbrev pub part : List Voice → Row → Row → Row → Row
+part run done through rest = through
+part run (job vs a) through rest = close run (followed (job vs a) rest)
+part run (split ms a) through rest = close run (followed (split ms a) rest)
+
+-- The row of nodes that are rendered in order, after an open run of synths, and the rows of the members of a split group.
+abbrev mutual
+  pub row_of : List Voice → Running → Row
+  row_of run none = close run done
+  row_of run (synth v rest) = row_of (run ++ v ∷ []) rest
+  row_of run (group g inner rest) = part run (if g then joined (rows_of inner) else row_of [] inner) (row_of run rest) (row_of [] rest)
+
+  pub rows_of : Running → List Row
+  rows_of none = []
+  rows_of (synth v rest) = job (v ∷ []) done ∷ rows_of rest
+  rows_of (group g inner rest) = keep (if g then joined (rows_of inner) else row_of [] inner) (rows_of rest)
+
+-- the row of a group
+abbrev pub inner_row : Bool → Running → Row
+inner_row g inner = if g then joined (rows_of inner) else row_of [] inner
+
+-- the plan of these nodes
+abbrev pub plan_of : Running → List Job
+plan_of nodes = jobs 0 [] (row_of [] nodes)
+
+-- ---- what a plan promises
+
+abbrev pub joined_synths : List Job → List ℤ
+joined_synths [] = []
+joined_synths (j ∷ js) = j.synths ++ joined_synths js
+
+-- how many predecessors the jobs have
+abbrev pub edges : List Job → ℕ
+edges [] = 0
+edges (j ∷ js) = length j.before + edges js
+
+abbrev pub has_id : List ℤ → ℤ → Bool
+has_id [] a = false
+has_id (x ∷ xs) a = int_eq x a || has_id xs a
+
+-- the synth is among those of the job
+abbrev pub Plays : List Job → ℕ → ℤ → Type 0
+Plays js i a = has_id ((job_at js i).synths) a ≡ true
+
+-- The lowest group that holds both synths is split. The nodes are the children of a group that is split or not.
+abbrev pub lowest_is_split : Bool → Running → ℤ → ℤ → Bool
+lowest_is_split g none a b = g
+lowest_is_split g (synth v rest) a b = lowest_is_split g rest a b
+lowest_is_split g (group h inner rest) a b = if has (voices inner) a && has (voices inner) b then lowest_is_split h inner a b else lowest_is_split g rest a b
+
+pub record IsPlanned (nodes : Running) (js : List Job) : Type 0 where
+  -- the synths of the jobs, joined, are those of the nodes in the order of the walk
+  pub synths : joined_synths js ≡ ids_of (voices nodes)
+  -- of jobs with synths, one is ordered before another exactly where it stands before it and the lowest group that holds the synths of both is not split
+  pub ordered : (i j : ℕ) (a b : ℤ) → Plays js i a → Plays js j b → Ordered js i j ↔ ((i < j) × (lowest_is_split false nodes a b ≡ false))
+  -- there are at most twice as many predecessors as jobs
+  pub few : edges js ≤ 2 * length js
+
+-- ---- what makes it free of races
+
+-- no synth of one member clashes with a synth of another
+abbrev pub IsClearOf : Voice → List Voice → Type 0
+IsClearOf s [] = Unit {0}
+IsClearOf s (t ∷ ts) = (Clash s.foot t.foot → ⊥) × IsClearOf s ts
+
+abbrev pub AreClear : List Voice → List Voice → Type 0
+AreClear [] ts = Unit {0}
+AreClear (s ∷ ss) ts = IsClearOf s ts × AreClear ss ts
+
+abbrev pub MembersAreClear : Running → Type 0
+MembersAreClear none = Unit {0}
+MembersAreClear (synth s rest) = IsClearOf s (voices rest) × MembersAreClear rest
+MembersAreClear (group g inner rest) = AreClear (voices inner) (voices rest) × MembersAreClear rest
+
+-- nor does one in any split group
+abbrev pub SplitsAreClear : Running → Type 0
+SplitsAreClear none = Unit {0}
+SplitsAreClear (synth s rest) = SplitsAreClear rest
+SplitsAreClear (group g inner rest) = (g ≡ true → MembersAreClear inner) × (SplitsAreClear inner × SplitsAreClear rest)

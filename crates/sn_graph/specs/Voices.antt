@@ -1,0 +1,51 @@
+-- Running synths, and the nodes that hold them.
+use Rattle.std.specs.Prelude.{◌≡◌, ℤ, Bool, false, ◌||◌, List, [], ◌∷◌, ◌++◌}
+use Rattle.std.specs.Ordering.{int_eq}
+use Rattle.sn_mem.specs.declared.extents.Extent.{Extent}
+use Rattle.sn_mem.specs.declared.extents.Foot.{Foot}
+use Rattle.sn_graph.specs.declared.nodes.Voice.{Voice}
+use Rattle.std.specs.List.{All}
+use Rattle.sn_foot.specs.Canonical.{Ends, canonical}
+
+-- The children of a group that run, each group with its own. The flag of a group says whether it is split.
+pub data Running : Type 0 where
+  none : Running
+  synth : Voice → Running → Running
+  group : Bool → Running → Running → Running
+
+-- all running synths, in the order of the walk
+abbrev pub voices : Running → List Voice
+voices none = []
+voices (synth v rest) = v ∷ voices rest
+voices (group g inner rest) = voices inner ++ voices rest
+
+abbrev pub ids_of : List Voice → List ℤ
+ids_of [] = []
+ids_of (v ∷ vs) = v.id ∷ ids_of vs
+
+-- a synth with this id is among them
+abbrev pub has : List Voice → ℤ → Bool
+has [] a = false
+has (v ∷ vs) a = int_eq v.id a || has vs a
+
+-- no id stands twice
+abbrev pub Once : List Voice → Type 0
+Once [] = Unit {0}
+Once (v ∷ vs) = (has vs v.id ≡ false) × Once vs
+
+-- the words that synths may read, and those that they may write
+abbrev pub all_reads : List Voice → List Extent
+all_reads [] = []
+all_reads (v ∷ vs) = v.foot.reads ++ all_reads vs
+
+abbrev pub all_writes : List Voice → List Extent
+all_writes [] = []
+all_writes (v ∷ vs) = v.foot.writes ++ all_writes vs
+
+abbrev pub foot_of : List Voice → Foot
+foot_of vs = record { reads = canonical (all_reads vs); writes = canonical (all_writes vs) }
+
+-- the words of each have numbers
+abbrev pub AreWithin : List Voice → Type 0
+AreWithin [] = Unit {0}
+AreWithin (v ∷ vs) = (All Ends v.foot.reads × All Ends v.foot.writes) × AreWithin vs

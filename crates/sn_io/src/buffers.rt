@@ -1,0 +1,180 @@
+//! One block of a unit on a buffer.
+ghost use Rattle.std.specs.Prelude.{◌≡◌, ◌≤◌, ◌∷◌, [], true, length, pos, replicate};
+ghost use Rattle.sn_def.specs.Units.{row_of};
+ghost use Rattle.sn_def.specs.declared.table.Words.TheVariants.{Fixed};
+ghost use Rattle.sn_mem.specs.Words.{MayWrite};
+ghost use Rattle.sn_mem.specs.Blocks.{put, window};
+ghost use Rattle.sn_io.specs.Positions.{indexed};
+ghost use Rattle.sn_io.specs.BufferUnits.{is_buffer_unit, chosen, usable, signals_from, length_in, play_frames, record_frames};
+ghost use Rattle.sn_io.specs.BuffersOverWords.{usable_place, place_frames, onto_buffer, gathered_from, buffer_unit_over};
+ghost use Rattle.sn_io.specs.Conditions.{IsWholeIfSome, MayReadBuffer, MayWriteBuffer, MayReachBuffer};
+
+use crate::buffer_samples::{gather, scatter};
+use crate::channels::control_number;
+use crate::playing::PlayBuf;
+use crate::positions::{indexed, walk_frames};
+use crate::recording::RecordBuf;
+use sn_def::{Kind, Now};
+use sn_mem::{Blocks, BufferPlace, Buffers, Extent, Port};
+
+/// The buffer whose number is that of the first input.
+pub(crate) fn chosen(buffers: &Buffers, inputs: &Blocks) -> Option<BufferPlace>
+    requires { 1 ≤ length inputs.now }
+    ensures { result ≡ chosen inputs.now buffers.now }
+{
+    match control_number(i64::from(inputs.at(0, 0))) {
+        Some(number) => buffers.place(number),
+        None => None,
+    }
+}
+
+/// A buffer, where it has so many channels.
+fn usable(place: Option<BufferPlace>, channels: usize) -> Option<BufferPlace>
+    ensures { result ≡ usable (λ p. p.channels) channels place }
+{
+    match place {
+        Some(place) => {
+            if place.channels as usize == channels {
+                Some(place)
+            } else {
+                None
+            }
+        }
+        None => None,
+    }
+}
+
+fn frames_of(place: Option<BufferPlace>) -> Option<u32>
+    ensures { result ≡ place_frames place }
+{
+    match place {
+        Some(place) => Some(place.frames),
+        None => None,
+    }
+}
+
+/// PlayBuf buf# step trig start loop done!
+fn play<P: Port>(buffers: &Buffers, port: &mut P, at: u32, inputs: &Blocks, outputs: &mut Blocks)
+    requires inputs { 6 ≤ length inputs.now }
+    requires whole { IsWholeIfSome (chosen inputs.now buffers.now) }
+    requires reads { MayReadBuffer (P.foot port.old) (chosen inputs.now buffers.now) }
+    requires state { MayWrite (P.foot port.old) at 4 }
+    ensures words { P.words port.new ≡ put (P.words port.old) at (play_frames (place_frames (usable_place (length outputs.old) inputs.now buffers.now)) (window (P.words port.old) at 4) inputs.now).0 }
+    ensures outputs { outputs.new ≡ gathered_from (P.words port.new) (usable_place (length outputs.old) inputs.now buffers.now) (play_frames (place_frames (usable_place (length outputs.old) inputs.now buffers.now)) (window (P.words port.old) at 4) inputs.now).1 (length outputs.old) }
+    ensures foot { P.foot port.new ≡ P.foot port.old }
+    ensures rest { P.rest port.new ≡ P.rest port.old }
+{
+    let place = usable(chosen(buffers, inputs), outputs.len());
+    let unit = PlayBuf {
+        frames: frames_of(place),
+    };
+    let frames = walk_frames(&unit, port, at, inputs);
+    gather(port, place, &frames, outputs);
+}
+
+/// RecordBuf buf# run loop done! signals
+fn record<P: Port>(buffers: &Buffers, port: &mut P, at: u32, inputs: &Blocks)
+    requires inputs { 4 ≤ length inputs.now }
+    requires whole { IsWholeIfSome (chosen inputs.now buffers.now) }
+    requires writes { MayWriteBuffer (P.foot port.old) (chosen inputs.now buffers.now) }
+    requires state { MayWrite (P.foot port.old) at 2 }
+    ensures words { P.words port.new ≡ onto_buffer inputs.now 4 (record_frames (place_frames (usable_place (signals_from 4 inputs.now) inputs.now buffers.now)) (window (P.words port.old) at 2) inputs.now).1 (usable_place (signals_from 4 inputs.now) inputs.now buffers.now) (put (P.words port.old) at (record_frames (place_frames (usable_place (signals_from 4 inputs.now) inputs.now buffers.now)) (window (P.words port.old) at 2) inputs.now).0) }
+    ensures foot { P.foot port.new ≡ P.foot port.old }
+    ensures rest { P.rest port.new ≡ P.rest port.old }
+{
+    let place = usable(chosen(buffers, inputs), inputs.len() - 4);
+    let unit = RecordBuf {
+        frames: frames_of(place),
+    };
+    let frames = walk_frames(&unit, port, at, inputs);
+    scatter(port, place, inputs, 4, &frames);
+}
+
+/// BufRd buf# index
+fn read<P: Port>(buffers: &Buffers, port: &mut P, inputs: &Blocks, outputs: &mut Blocks)
+    requires inputs { 2 ≤ length inputs.now }
+    requires whole { IsWholeIfSome (chosen inputs.now buffers.now) }
+    requires reads { MayReadBuffer (P.foot port.old) (chosen inputs.now buffers.now) }
+    ensures outputs { outputs.new ≡ gathered_from (P.words port.old) (usable_place (length outputs.old) inputs.now buffers.now) (indexed (place_frames (usable_place (length outputs.old) inputs.now buffers.now)) inputs.now) (length outputs.old) }
+    ensures words { P.words port.new ≡ P.words port.old }
+    ensures foot { P.foot port.new ≡ P.foot port.old }
+    ensures rest { P.rest port.new ≡ P.rest port.old }
+{
+    let place = usable(chosen(buffers, inputs), outputs.len());
+    let frames = indexed(frames_of(place), inputs);
+    gather(port, place, &frames, outputs);
+}
+
+/// BufWr buf# index signals
+fn write<P: Port>(buffers: &Buffers, port: &mut P, inputs: &Blocks)
+    requires inputs { 2 ≤ length inputs.now }
+    requires whole { IsWholeIfSome (chosen inputs.now buffers.now) }
+    requires writes { MayWriteBuffer (P.foot port.old) (chosen inputs.now buffers.now) }
+    ensures words { P.words port.new ≡ onto_buffer inputs.now 2 (indexed (place_frames (usable_place (signals_from 2 inputs.now) inputs.now buffers.now)) inputs.now) (usable_place (signals_from 2 inputs.now) inputs.now buffers.now) (P.words port.old) }
+    ensures foot { P.foot port.new ≡ P.foot port.old }
+    ensures rest { P.rest port.new ≡ P.rest port.old }
+{
+    let place = usable(chosen(buffers, inputs), inputs.len() - 2);
+    let frames = indexed(frames_of(place), inputs);
+    scatter(port, place, inputs, 2, &frames);
+}
+
+/// The number of frames, 0 where there is no buffer.
+fn length_in(frames: Option<u32>) -> u32
+    ensures { result ≡ length_in frames }
+{
+    frames.unwrap_or(0)
+}
+
+/// BufFrames buf#
+fn count(buffers: &Buffers, inputs: &Blocks, outputs: &mut Blocks)
+    requires inputs { 1 ≤ length inputs.now }
+    requires whole { IsWholeIfSome (chosen inputs.now buffers.now) }
+    ensures outputs { outputs.new ≡ replicate 64 (pos (length_in (place_frames (chosen inputs.now buffers.now)))) ∷ [] }
+{
+    let frames = length_in(frames_of(chosen(buffers, inputs)));
+    outputs.clear();
+    outputs.push_equal(frames as i32);
+}
+
+/// Runs PlayBuf, RecordBuf, BufRd, BufWr or BufFrames for a block of 64 frames, with its state in
+/// the words of `state`.
+///
+/// The inputs are those of its row in their order. `outputs` comes with as many blocks as the unit
+/// has outputs, and these take the place of what it held.
+#[tactic(auto, unfolding(crate::specs::BuffersOverWords::buffer_unit_over, sn_def::specs::Units::row_of))]
+pub fn run_buffer_unit<P: Port>(
+    kind: Kind,
+    _now: &Now,
+    buffers: &Buffers,
+    port: &mut P,
+    state: Extent,
+    inputs: &Blocks,
+    outputs: &mut Blocks,
+)
+    requires kind { is_buffer_unit kind ≡ true }
+    requires inputs { length (row_of kind).inputs ≤ length inputs.now }
+    requires size { (row_of kind).words ≡ Fixed state.len }
+    requires state { MayWrite (P.foot port.old) state.at state.len }
+    requires buffer { MayReachBuffer kind (P.foot port.old) inputs.now buffers.now }
+    ensures words { P.words port.new ≡ (buffer_unit_over kind _now.now (length outputs.old) buffers.now (P.words port.old) state.at state.len inputs.now).0 }
+    ensures outputs { outputs.new ≡ (buffer_unit_over kind _now.now (length outputs.old) buffers.now (P.words port.old) state.at state.len inputs.now).1 }
+    ensures foot { P.foot port.new ≡ P.foot port.old }
+    ensures rest { P.rest port.new ≡ P.rest port.old }
+{
+    let at = state.at;
+    match kind {
+        Kind::PlayBuf => play(buffers, port, at, inputs, outputs),
+        Kind::RecordBuf => {
+            outputs.clear();
+            record(buffers, port, at, inputs);
+        }
+        Kind::BufRd => read(buffers, port, inputs, outputs),
+        Kind::BufWr => {
+            outputs.clear();
+            write(buffers, port, inputs);
+        }
+        Kind::BufFrames => count(buffers, inputs, outputs),
+        _ => {}
+    }
+}

@@ -1,0 +1,33 @@
+-- The whole frames at the front of bytes that came over a connection.
+use Rattle.std.specs.Prelude.{ℕ, zero, suc, List, [], ◌∷◌, ◌++◌, length}
+use Rattle.sn_osc.specs.Frames.{FirstFrame, cut, bad_size, frame, first_frame}
+
+-- the packets' bytes of the frames, and the bytes behind the last frame
+pub record Unpacked : Type 0 where
+  pub packets : List (List ℕ)
+  pub rest : List ℕ
+
+abbrev pub no_frame : List ℕ → Unpacked
+no_frame bytes = record { packets = []; rest = bytes }
+
+abbrev pub one_more : List ℕ → Unpacked → Unpacked
+one_more packet u = record { packets = packet ∷ u.packets; rest = u.rest }
+
+-- a frame in front, where one stands there, and then those behind it
+abbrev pub after_first : FirstFrame → List ℕ → (List ℕ → Unpacked) → Unpacked
+after_first cut bytes more = no_frame bytes
+after_first (bad_size size) bytes more = no_frame bytes
+after_first (frame packet rest) bytes more = one_more packet (more rest)
+
+-- the first frames, at most so many
+abbrev pub first_frames : ℕ → List ℕ → Unpacked
+first_frames zero bytes = no_frame bytes
+first_frames (suc most) bytes = after_first (first_frame bytes) bytes (first_frames most)
+
+-- all whole frames at the front; there are fewer than bytes
+abbrev pub unpacked : List ℕ → Unpacked
+unpacked bytes = first_frames (length bytes) bytes
+
+-- more bytes come behind what is left
+abbrev pub joined_to : Unpacked → List ℕ → Unpacked
+joined_to u more = record { packets = u.packets ++ (unpacked (u.rest ++ more)).packets; rest = (unpacked (u.rest ++ more)).rest }

@@ -1,0 +1,69 @@
+-- Events that are taken one after another.
+use Rattle.std.proofs.Common.{◌≡◌, ◌≤◌, ◌<◌, ◌+◌, ℕ, zero, suc, List, [], ◌∷◌, ◌++◌, length, take, drop, map, Option, Some, None, ◌∙◌, refl, sym, ap, arith, append-nil, take-append-drop, take_all}
+use Rattle.std.specs.List.{slice_get}
+use Rattle.std.proofs.lemmas.List.{drop-drop, length-drop}
+use Rattle.sn_ports.specs.Octets.{Octets}
+use Rattle.sn_ports.specs.Links.{LinkEvent, bytes, with_rest, IsFront, KeepsEvents, events_left, event_of}
+use Rattle.sn_ports.specs.declared.links.Event.{Event}
+use Rattle.sn_ports.specs.declared.links.Event.TheVariants as event
+
+pub keeps_events-trans : (a b c : Option (List LinkEvent)) → KeepsEvents a b → KeepsEvents b c → KeepsEvents a c
+keeps_events-trans None b c p q = tt
+keeps_events-trans (Some x) None c p q = absurd p
+keeps_events-trans (Some x) (Some y) None p q = absurd q
+keeps_events-trans (Some x) (Some y) (Some z) p q = q ∙ p
+
+-- ---- events that are played
+
+-- the list from an element on
+from_item : {A : Type 0} (xs : List A) (i : ℕ) (x : A) → slice_get xs i ≡ Some x → drop i xs ≡ x ∷ drop (suc i) xs
+from_item [] i x h = absurd cc
+from_item (y ∷ xs) zero x h = let same : y ≡ x = cc in ap (λ z. z ∷ xs) same
+from_item (y ∷ xs) (suc i) x h = from_item xs i x h
+
+from_event : (es : List Event) (i : ℕ) (e : Event) → slice_get es i ≡ Some e → drop i es ≡ e ∷ drop (i + 1) es
+from_event es i e h =
+    let next : suc i ≡ i + 1 = omega arith in
+    from_item es i e h ∙ ap (λ (k : ℕ). e ∷ drop k es) next
+
+with_some : (rest : List ℕ) (others : List LinkEvent) → 0 < length rest → with_rest rest others ≡ bytes rest ∷ others
+with_some [] others h = absurd (omega (arith, h))
+with_some (b ∷ rest) others h = refl
+
+none_given : (es : List Event) → events_left 0 es ≡ map event_of es
+none_given [] = refl
+none_given (event.Bytes t ∷ es) = refl
+none_given (event.Ticks n ∷ es) = refl
+
+abbrev at_bytes : ℕ → Octets → List Event → List LinkEvent
+at_bytes given t es = events_left given (event.Bytes t ∷ es)
+
+-- part of the bytes of an event is given
+pub front_given : (es : List Event) (at given n : ℕ) (t : Octets) (into : List ℕ) → slice_get es at ≡ Some (event.Bytes t) → n < length (drop given t.bytes)
+    → take n into ≡ take n (drop given t.bytes) → IsFront (events_left given (drop at es)) (events_left (given + n) (drop at es)) (take n into)
+front_given es at given n t into is part same =
+    let here : drop at es ≡ event.Bytes t ∷ drop (at + 1) es = from_event es at (event.Bytes t) is in
+    let others = map event_of (drop (at + 1) es) in
+    let rest = drop (given + n) t.bytes in
+    let some : 0 < length rest = omega (arith, part, length-drop given t.bytes, length-drop (given + n) t.bytes) in
+    let whole : take n into ++ rest ≡ drop given t.bytes = ap (λ (p : List ℕ). p ++ rest) same ∙ ap (λ (r : List ℕ). take n (drop given t.bytes) ++ r) (sym (drop-drop n given t.bytes)) ∙ take-append-drop n (drop given t.bytes) in
+    record {
+      rest = rest;
+      others = others;
+      next = ap (events_left given) here ∙ ap (λ (b : List ℕ). bytes b ∷ others) (sym whole);
+      left = ap (events_left (given + n)) here ∙ sym (with_some rest others some);
+    }
+
+-- what was left of the bytes of an event is given
+pub all_given : (es : List Event) (at given n : ℕ) (t : Octets) (into : List ℕ) → slice_get es at ≡ Some (event.Bytes t) → length (drop given t.bytes) ≤ n
+    → take n into ≡ take n (drop given t.bytes) → IsFront (events_left given (drop at es)) (events_left 0 (drop (at + 1) es)) (take n into)
+all_given es at given n t into is whole same =
+    let here : drop at es ≡ event.Bytes t ∷ drop (at + 1) es = from_event es at (event.Bytes t) is in
+    let others = map event_of (drop (at + 1) es) in
+    let all : take n into ++ [] ≡ drop given t.bytes = append-nil (take n into) ∙ same ∙ take_all n (drop given t.bytes) whole in
+    record {
+      rest = [];
+      others = others;
+      next = ap (events_left given) here ∙ ap (λ (b : List ℕ). bytes b ∷ others) (sym all);
+      left = none_given (drop (at + 1) es);
+    }

@@ -1,0 +1,47 @@
+use Rattle.std.proofs.Common.{◌≡◌, ◌<◌, ◌≤◌, ◌-◌, ◌+◌, List, ℕ, Some, length, take, drop, refl, ap, ◌∙◌, arith, subst, take_all, get_or}
+use Rattle.std.specs.List.{slice_get}
+use Rattle.std.proofs.lemmas.List.{length-drop}
+use Rattle.std.proofs.lemmas.Option.{slice_get_read}
+use Rattle.sn_ports.specs.Links.{IsFront, events_left}
+use Rattle.sn_ports.specs.declared.links.Event.TheVariants as event
+use Rattle.sn_ports.proofs.LinkLemmas.{front_given, all_given}
+use Rattle.sn_ports.proofs.played.PlayedLinkLink.next.Goals as goal
+
+-- what is left of a text
+rest_of : (text bytes : List ℕ) (given : ℕ) → text ≡ bytes → take (length text - given) (drop given text) ≡ drop given bytes
+rest_of text bytes given is =
+    take_all (length text - given) (drop given text) (omega (arith, length-drop given text)) ∙ ap (drop given) is
+
+-- the element at a place
+here_is : {A : Type 0} (es : List A) (at : ℕ) (x y : A) → at < length es → x ≡ get_or es at x → x ≡ y → slice_get es at ≡ Some y
+here_is es at x y within is same = slice_get_read es (length es) at x refl within is ∙ ap (λ z. Some z) same
+
+pub returns-then-count-left-clause-events : goal.returns-then-count-left-clause-events
+returns-then-count-left-clause-events c =
+    let i = c.self.inside in
+    let n = c.give-count.result in
+    let t = c.in-Some-Bytes.text in
+    let is = ap (λ l. l.left) c.self.view_is ∙ ap (λ l. l.left) c.begins.ensures.counts in
+    let at : slice_get i.events.items i.at ≡ Some (event.Bytes t) =
+    subst (λ es. slice_get es i.at ≡ Some (event.Bytes t)) c.deref.ensures.value
+    (here_is c.deref.result.now i.at c.in-Some-Bytes.field-0.now (event.Bytes t) c.in-Some-Bytes.ensures.lookup.3.0 c.in-Some-Bytes.ensures.lookup.1 c.in-Some-Bytes.field-0-is) in
+    let rest = rest_of c.as_slice.result.now t.bytes i.given c.as_slice.ensures in
+    let part : n < length (drop i.given t.bytes) = subst (λ (r : List ℕ). n < length r) rest c.if-count-left.true in
+    let same : take n c.give-count.new.into ≡ take n (drop i.given t.bytes) = c.give-count.ensures.bytes ∙ ap (take n) rest in
+    let f = front_given i.events.items i.at i.given n t c.give-count.new.into at part same in
+    subst (λ o. IsFront o (events_left (i.given + n) (drop i.at i.events.items)) (take n c.give-count.new.into)) is f
+
+pub returns-else-count-left-clause-events : goal.returns-else-count-left-clause-events
+returns-else-count-left-clause-events c =
+    let i = c.self.inside in
+    let n = c.give-count.result in
+    let t = c.in-Some-Bytes.text in
+    let is = ap (λ l. l.left) c.self.view_is ∙ ap (λ l. l.left) c.begins.ensures.counts in
+    let at : slice_get i.events.items i.at ≡ Some (event.Bytes t) =
+    subst (λ es. slice_get es i.at ≡ Some (event.Bytes t)) c.deref.ensures.value
+    (here_is c.deref.result.now i.at c.in-Some-Bytes.field-0.now (event.Bytes t) c.in-Some-Bytes.ensures.lookup.3.0 c.in-Some-Bytes.ensures.lookup.1 c.in-Some-Bytes.field-0-is) in
+    let rest = rest_of c.as_slice.result.now t.bytes i.given c.as_slice.ensures in
+    let whole : length (drop i.given t.bytes) ≤ n = omega (arith, c.if-count-left.false, ap length rest) in
+    let same : take n c.give-count.new.into ≡ take n (drop i.given t.bytes) = c.give-count.ensures.bytes ∙ ap (take n) rest in
+    let f = all_given i.events.items i.at i.given n t c.give-count.new.into at whole same in
+    subst (λ o. IsFront o (events_left 0 (drop (i.at + 1) i.events.items)) (take n c.give-count.new.into)) is f

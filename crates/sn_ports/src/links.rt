@@ -1,0 +1,59 @@
+ghost use Rattle.std.specs.Prelude.{◌<◌, List, ℕ, length};
+ghost use Rattle.std.specs.Io.KnownBytes.{Keeps, WriteAppends};
+ghost use Rattle.std.specs.declared.option.Option.{Option};
+ghost use Rattle.sn_ports.specs.Causes.{HasCause};
+ghost use Rattle.sn_ports.specs.Links.{LinkEvent, KeepsEvents, NextTakes, FeedsWithin};
+ghost use Rattle.sn_ports.specs.Transfer.{WritesSome};
+
+use crate::failed::Failed;
+use crate::text::Text;
+
+/// What comes over a connection.
+#[derive(Debug, Drop)]
+pub enum Event {
+    /// Bytes, one or more.
+    Bytes(Text),
+    /// So many blocks are due, 1 to 1,024.
+    Ticks(u32),
+}
+
+/// Events, the next one first.
+pub type Events = Vec<Event>;
+
+/// What a link gave.
+#[derive(Clone, Copy, Debug, PartialEq, Eq)]
+pub enum Fed {
+    /// So many bytes, one or more.
+    Bytes(usize),
+    /// So many blocks are due, 1 to 1,024.
+    Ticks(u32),
+    /// Nothing more comes.
+    End,
+}
+
+/// A connection: what comes over it, in order, and where replies go.
+pub trait Link {
+    /// The events that are left, where it tells them.
+    ghost left: { Self → Option (List LinkEvent) };
+
+    /// The bytes that were sent, where it tells them.
+    ghost sent: { Self → Option (List ℕ) };
+
+    /// How often it has failed.
+    ghost faults: { Self → ℕ };
+
+    /// Moves a front of the bytes that come next into `into`, or takes the blocks that are due next.
+    fn next(&mut self, into: &mut [u8]) -> Result<Fed, Failed>
+        requires room { 0 < length into.old }
+        ensures bound { FeedsWithin result into.new }
+        ensures events { NextTakes (left self.old) (left self.new) result into.new }
+        ensures sent { Keeps (sent self.old) (sent self.new) }
+        ensures cause { HasCause (faults self.old) (faults self.new) result };
+
+    /// Sends a front of the piece, of at least one byte where there is one.
+    fn send(&mut self, piece: &[u8]) -> Result<usize, Failed>
+        ensures bound { WritesSome result piece.now }
+        ensures bytes { WriteAppends (sent self.old) (sent self.new) result piece.now }
+        ensures events { KeepsEvents (left self.old) (left self.new) }
+        ensures cause { HasCause (faults self.old) (faults self.new) result };
+}

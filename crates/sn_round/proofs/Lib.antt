@@ -1,0 +1,3 @@
+pub mod Scripting
+pub mod Orders
+pub mod Inverses

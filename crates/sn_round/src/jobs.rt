@@ -1,0 +1,98 @@
+//! The jobs of a round.
+ghost use Rattle.std.specs.Prelude.{◌≡◌, ◌++◌, ◌∷◌, [], OnOk, OnErr};
+
+use sn_mem::Foot;
+use sn_ports::NoMemory;
+use std::alloc::Global;
+use std::marker::Model;
+
+/// A list of ids of nodes.
+#[derive(Drop)]
+pub struct Ids {
+    items: Vec<i32>,
+}
+
+impl Model for Ids {
+    ghost use Rattle.std.specs.Prelude.{List, ℤ};
+
+    ghost Value = { List ℤ };
+
+    ghost view = { λ s. s.items.items };
+}
+
+impl Ids {
+    /// No ids.
+    pub fn new(alloc: Global) -> Ids
+        ensures { result ≡ [] }
+    {
+        Ids {
+            items: Vec::new(alloc),
+        }
+    }
+
+    /// Puts an id at the end. An `Err` changes nothing.
+    pub fn push(&mut self, id: i32) -> Result<(), NoMemory>
+        ensures ok { OnOk result (self.new ≡ self.old ++ id ∷ []) }
+        ensures err { OnErr result (self.new ≡ self.old) }
+    {
+        self.items.push(id)?;
+        Ok(())
+    }
+
+    pub fn as_slice(&self) -> &[i32]
+        ensures { result.now ≡ self.now }
+    {
+        &self.items
+    }
+}
+
+/// A list of jobs, by their positions.
+#[derive(Drop)]
+pub struct Jobs {
+    items: Vec<u32>,
+}
+
+impl Model for Jobs {
+    ghost use Rattle.std.specs.Prelude.{List, ℕ};
+
+    ghost Value = { List ℕ };
+
+    ghost view = { λ s. s.items.items };
+}
+
+impl Jobs {
+    /// No jobs.
+    pub fn new(alloc: Global) -> Jobs
+        ensures { result ≡ [] }
+    {
+        Jobs {
+            items: Vec::new(alloc),
+        }
+    }
+
+    /// Puts a job at the end. An `Err` changes nothing.
+    pub fn push(&mut self, job: u32) -> Result<(), NoMemory>
+        ensures ok { OnOk result (self.new ≡ self.old ++ job ∷ []) }
+        ensures err { OnErr result (self.new ≡ self.old) }
+    {
+        self.items.push(job)?;
+        Ok(())
+    }
+
+    pub fn as_slice(&self) -> &[u32]
+        ensures { result.now ≡ self.now }
+    {
+        &self.items
+    }
+}
+
+/// A job of a round: the synths that it renders in order, the words that it may touch, and the jobs that end before it begins.
+///
+/// A joint has no synths and touches nothing.
+#[derive(Drop)]
+pub struct Job {
+    pub synths: Ids,
+    pub foot: Foot,
+    /// Its predecessors.
+    pub before: Jobs,
+}

@@ -1,0 +1,26 @@
+//! Laws of the jobs of a round.
+ghost use Rattle.std.specs.Prelude.{◌≡◌, ◌<◌, ℕ, List, length};
+ghost use Rattle.sn_mem.specs.declared.extents.Foot.{Foot};
+ghost use Rattle.sn_mem.specs.Words.{Clash};
+ghost use Rattle.sn_round.specs.declared.jobs.Job.{Job};
+ghost use Rattle.sn_round.specs.Jobs.{AreJobs, IsRaceFree, Ordered, foot_at};
+ghost use Rattle.sn_round.specs.Scripts.{IsScript, sequential};
+
+use crate::work::Work;
+
+/// A law: a job that is ordered before another stands before it.
+pub fn ordered_rises()
+    ensures { (jobs : List Job) (i j : ℕ) → AreJobs jobs → Ordered jobs i j → i < j }
+{}
+
+/// A law: of two jobs that clash, the lower is ordered before the higher.
+pub fn lower_comes_first()
+    ensures { (jobs : List Job) (i j : ℕ) → AreJobs jobs → IsRaceFree jobs → i < j → j < length jobs → Clash (foot_at jobs i) (foot_at jobs j) → Ordered jobs i j }
+{}
+
+/// A law: what the jobs of a work make of some words, one job after the other, is a script.
+pub fn sequential_is_a_script<W: Work>(work: &W)
+    ensures { (jobs : List Job) (base : List ℕ) → W.jobs work.now ≡ length jobs → ((j : ℕ) → j < length jobs → W.foot_of work.now j ≡ foot_at jobs j) → IsScript jobs (length base) (sequential (W.outcome work.now) (length jobs) base) }
+{
+    let _ = work;
+}

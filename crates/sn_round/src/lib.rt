@@ -1,0 +1,13 @@
+//! Rounds of jobs over shared words.
+#![tactic(auto)]
+
+mod jobs;
+mod laws;
+mod plan;
+mod successors;
+mod work;
+
+pub use jobs::{Ids, Job, Jobs};
+pub use laws::{lower_comes_first, ordered_rises, sequential_is_a_script};
+pub use plan::Plan;
+pub use work::Work;

@@ -1,0 +1,90 @@
+//! The jobs of a round, with their successors.
+ghost use Rattle.std.specs.Prelude.{◌≡◌, ◌<◌, IfOk, length};
+ghost use Rattle.sn_round.specs.Jobs.{AreJobs, job_at, foot_at, predecessors, successors};
+
+use crate::jobs::{Ids, Job, Jobs};
+use crate::successors::successors_of;
+use sn_mem::Foot;
+use sn_ports::NoMemory;
+use std::alloc::Global;
+use std::marker::Model;
+
+/// The jobs of a round, in the order of the walk. Contracts see the list of them.
+#[derive(Drop)]
+pub struct Plan {
+    jobs: Vec<Job>,
+    // The successors of each job.
+    after: Vec<Jobs>,
+}
+
+impl Model for Plan {
+    ghost use Rattle.std.specs.Prelude.{List, ◌≡◌};
+    ghost use Rattle.sn_round.specs.declared.jobs.Job.{Job};
+    ghost use Rattle.sn_round.specs.Jobs.{AreJobs, all_successors};
+
+    ghost Value = { List Job };
+
+    ghost view = { λ p. p.jobs.items };
+
+    ghost invariant = { λ p. AreJobs p.jobs.items × (p.after.items ≡ all_successors p.jobs.items) };
+}
+
+impl Plan {
+    /// A round of these jobs.
+    pub fn new(alloc: Global, jobs: Vec<Job>) -> Result<Plan, NoMemory>
+        requires { AreJobs jobs.items }
+        ensures { IfOk result (λ plan. plan ≡ jobs.items) }
+    {
+        let after = successors_of(alloc, &jobs)?;
+        Ok(Plan { jobs, after })
+    }
+
+    /// How many jobs there are, joints among them.
+    pub fn jobs(&self) -> u32
+        ensures { result ≡ length self.now }
+    {
+        self.jobs.len() as u32
+    }
+
+    /// The synths of a job, in the order in which they are rendered.
+    pub fn synths(&self, job: u32) -> &Ids
+        requires { job < length self.now }
+        ensures { result.now ≡ (job_at self.now job).synths }
+    {
+        let job = &self.jobs[job as usize];
+        &job.synths
+    }
+
+    /// The jobs that end before a job begins.
+    pub fn predecessors(&self, job: u32) -> &Jobs
+        requires { job < length self.now }
+        ensures { result.now ≡ predecessors self.now job }
+    {
+        let job = &self.jobs[job as usize];
+        &job.before
+    }
+
+    /// The jobs of which a job is a predecessor, in order.
+    pub fn successors(&self, job: u32) -> &Jobs
+        requires { job < length self.now }
+        ensures { result.now ≡ successors self.now job }
+    {
+        &self.after[job as usize]
+    }
+
+    /// The words that a job may touch.
+    pub fn foot(&self, job: u32) -> &Foot
+        requires { job < length self.now }
+        ensures { result.now ≡ foot_at self.now job }
+    {
+        let job = &self.jobs[job as usize];
+        &job.foot
+    }
+
+    /// A law: there are fewer than 2^32 jobs, and the predecessors of each stand before it, each once.
+    pub fn is_well_formed(&self)
+        ensures { AreJobs self.now }
+    {
+        let _ = &self.jobs;
+    }
+}

@@ -1,0 +1,308 @@
+-- A connection goes on from event to event.
+use Rattle.std.proofs.Common.{◌≡◌, ℕ, zero, suc, ◌+◌, ◌-◌, ◌<◌, ◌≤◌, ◌^◌, ◌||◌, Bool, true, false, leb, Result, Ok, Err, ℤ, List, [], ◌∷◌, ◌++◌, length, Option, Some, None, refl, sym, ap, subst, ◌∙◌, append_assoc, append-nil, arith, ◌⊎◌, inl, inr}
+use Rattle.std.specs.Prelude.{if◌then◌else◌, nat_le}
+use Rattle.std.specs.Io.KnownBytes.{Appends, Keeps}
+use Rattle.std.specs.Result.{IsErrAnd}
+use Rattle.std.proofs.KnownBytes.{Appends-trans, Appends-kept}
+use Rattle.sn_osc.specs.Frames.{FirstFrame, cut, bad_size, first_frame}
+use Rattle.sn_osc.specs.Framed.{fed_with}
+use Rattle.sn_osc.specs.Framing.{Framing}
+use Rattle.sn_osc.specs.Reading.{read}
+use Rattle.sn_osc.specs.Shape.{Shape}
+use Rattle.sn_osc.specs.Unpacking.{unpacked}
+use Rattle.sn_osc.specs.declared.fault.PacketFault.{PacketFault}
+use Rattle.sn_pcm.specs.declared.settings.Settings.{Settings}
+use Rattle.sn_pcm.specs.Pcm.{pcm}
+use Rattle.sn_reply.specs.Frames.{frames_to, with_frames}
+use Rattle.sn_reply.specs.Replies.{ReplyShape}
+use Rattle.sn_reply.proofs.FrameLaws.{first_sent, none_sent, as_many}
+use Rattle.sn_world.specs.Settling.{settled}
+use Rattle.sn_world.specs.Walk.{walk}
+use Rattle.sn_engine.specs.Arriving.{offer_entries, nothing_offered}
+use Rattle.sn_engine.specs.Boundary.{unsaid, turn_at, quits_at}
+use Rattle.sn_engine.specs.Entries.{entries_of}
+use Rattle.sn_engine.specs.Outputs.{outputs}
+use Rattle.sn_engine.specs.Refusing.{bad_packet}
+use Rattle.sn_engine.specs.Running.{Running, at_boundary, with_block, with_settled, turn_settled, flow_at, flow_of}
+use Rattle.sn_engine.specs.declared.standing.Flow.{Flow}
+use Rattle.sn_engine.specs.declared.standing.Flow.TheVariants as flows
+use Rattle.sn_server.specs.Going.{to_first, after_block}
+use Rattle.sn_server.specs.Play.{Session, boundary}
+use Rattle.sn_server.specs.declared.ended.Ended.{Ended}
+use Rattle.sn_server.specs.declared.ended.Ended.TheVariants.{Quit, NoMemory, Closed, Cut, BadFrame, LinkFault, SoundFault, Worn}
+use Rattle.sn_server.specs.PlayEvents.{Live, Over, Course, going, ended, ends, arrive_one, arrive_each, with_offer, keep, receive, is_worn, worn, unless_worn, after_tick, tick}
+use Rattle.sn_server.specs.Served.{WhereGiven}
+use Rattle.sn_server.specs.Serving.{engine_of, framer_of, with_packet, with_packets, IsBad, IsLive, IsReady, HasEnded, GoesOn, Follows, IsTickEnd, IsTicked, HasQuit, IsWornOut, HasLeft}
+use Rattle.sn_server.proofs.GoingLemmas.{pcm-append}
+use Rattle.sn_server.proofs.JoiningLemmas.{not_worn}
+
+abbrev pub saying : List ℕ → Running → Running
+saying t r = record r { replies = t ∷ [] }
+
+pub one_sent : (rs : List ReplyShape) (t : List ℕ) → with_frames 0 rs (t ∷ []) ≡ (t ++ frames_to 0 rs) ∷ []
+one_sent rs t = first_sent 0 rs t [] ∙ ap (λ (ts : List (List ℕ)). (t ++ frames_to 0 rs) ∷ ts) (none_sent 1 rs)
+
+-- ---- frames
+
+-- replies wait behind those that were sent
+pub record Owes (s : Settings) (done : List ℕ) (v : Live) (e : Running) : Type 0 where
+  pub pending : List ℕ
+  pub engine : e ≡ saying pending (engine_of s v)
+  pub all : done ++ pending ≡ v.session.replies
+
+abbrev with_session : Live → Session → Live
+with_session v p = record v { session = p }
+
+abbrev engine_saying : Settings → Live → List (List ℕ) → Running
+engine_saying s v ts = record (engine_of s v) { replies = ts }
+
+arrived_one : (s : Settings) (done : List ℕ) (v : Live) (e : Running) (x : Result Shape PacketFault) → Owes s done v e → Owes s done (with_session v (arrive_one v.block x v.session)) (with_packet x e)
+arrived_one s done v e (Ok x) o =
+    let said = (offer_entries v.block 0 (entries_of x) (nothing_offered v.session.waiting)).replies in
+    record {
+      pending = o.pending ++ frames_to 0 said;
+      engine = ap (with_packet (Ok x)) o.engine ∙ ap (engine_saying s (with_session v (arrive_one v.block (Ok x) v.session))) (one_sent said o.pending);
+      all = sym (append_assoc done o.pending (frames_to 0 said)) ∙ ap (λ (t : List ℕ). t ++ frames_to 0 said) o.all;
+    }
+arrived_one s done v e (Err fault) o =
+    let said = bad_packet 0 ∷ [] in
+    record {
+      pending = o.pending ++ frames_to 0 said;
+      engine = ap (with_packet (Err fault)) o.engine ∙ ap (engine_saying s (with_session v (arrive_one v.block (Err fault) v.session))) (one_sent said o.pending);
+      all = sym (append_assoc done o.pending (frames_to 0 said)) ∙ ap (λ (t : List ℕ). t ++ frames_to 0 said) o.all;
+    }
+
+arrived_each : (s : Settings) (done : List ℕ) (packets : List (List ℕ)) (v : Live) (e : Running) → Owes s done v e → Owes s done (with_session v (arrive_each v.block packets v.session)) (with_packets packets e)
+arrived_each s done [] v e o = o
+arrived_each s done (p ∷ ps) v e o = arrived_each s done ps (with_session v (arrive_one v.block (read p) v.session)) (with_packet (read p) e) (arrived_one s done v e (read p) o)
+
+sound_of_one : (b : ℕ) (x : Result Shape PacketFault) (p : Session) → (arrive_one b x p).samples ≡ p.samples
+sound_of_one b (Ok x) p = refl
+sound_of_one b (Err fault) p = refl
+
+sound_of_each : (b : ℕ) (packets : List (List ℕ)) (p : Session) → (arrive_each b packets p).samples ≡ p.samples
+sound_of_each b [] p = refl
+sound_of_each b (packet ∷ packets) p = sound_of_each b packets (arrive_one b (read packet) p) ∙ sound_of_one b (read packet) p
+
+-- the connection where what stands behind the last whole frame is kept
+abbrev pub after_piece : List ℕ → Live → Live
+after_piece piece v = record {
+  session = arrive_each v.block (unpacked (v.kept ++ piece)).packets v.session;
+  block = v.block;
+  kept = (unpacked (v.kept ++ piece)).rest;
+  fed = v.fed + length piece;
+}
+
+pub received : (s : Settings) (v : Live) (piece : List ℕ) (so sn ro rm rn : Option (List ℕ)) (e0 e1 e2 : Running) (f0 f1 f2 : Framing) → IsLive s so sn ro rm v e0 f0
+    → f1 ≡ fed_with piece f0 → e1 ≡ with_packets (unpacked f1.kept).packets e0 → f2 ≡ record f1 { kept = (unpacked f1.kept).rest }
+    → Appends rm rn (to_first e1.replies) → e2 ≡ record e1 { replies = [] ∷ [] } → IsLive s so sn ro rn (after_piece piece v) e2 f2
+received s v piece so sn ro rm rn e0 e1 e2 f0 f1 f2 live fed offered kept sent empty =
+    let packets = (unpacked (v.kept ++ piece)).packets in
+    let piece_fed : f1 ≡ fed_with piece (framer_of v) = fed ∙ ap (fed_with piece) live.framer in
+    let o = arrived_each s v.session.replies packets v (engine_of s v) (record { pending = []; engine = refl; all = append-nil v.session.replies }) in
+    let engine : e1 ≡ saying o.pending (engine_of s (with_session v (arrive_each v.block packets v.session))) =
+    offered ∙ (λ i. with_packets (unpacked (piece_fed i).kept).packets (live.engine i)) ∙ o.engine in
+    record {
+      engine = empty ∙ ap (λ (r : Running). record r { replies = [] ∷ [] }) engine;
+      framer = kept ∙ ap (λ (f : Framing). record f { kept = (unpacked f.kept).rest }) piece_fed;
+      sound = subst (λ xs. Appends so sn (pcm s xs)) (sym (sound_of_each v.block packets v.session)) live.sound;
+      sent = subst (Appends ro rn) o.all (Appends-trans ro rm rn v.session.replies o.pending live.sent (subst (Appends rm rn) (ap (λ r. to_first r.replies) engine) sent));
+    }
+
+pub received_whole : (s : Settings) (v : Live) (piece : List ℕ) (so sn ro rn : Option (List ℕ)) (e : Running) (f : Framing) → IsLive s so sn ro rn (after_piece piece v) e f → first_frame f.kept ≡ cut
+    → GoesOn s so sn ro rn (receive piece v) e f
+received_whole s v piece so sn ro rn e f live stops =
+    let w = after_piece piece v in
+    let at : first_frame w.kept ≡ cut = ap (λ (g : Framing). first_frame g.kept) (sym live.framer) ∙ stops in
+    record { live = w; course = ap (λ x. keep x w.kept w.fed w.block w.session) at; stands = live }
+
+bad_end : (s : Settings) (v : Live) (piece : List ℕ) (so sn ro rn : Option (List ℕ)) (e : Running) (f : Framing) (size : ℤ) → IsLive s so sn ro rn (after_piece piece v) e f
+    → first_frame f.kept ≡ bad_size size → HasEnded s so sn ro rn (receive piece v) (BadFrame size)
+bad_end s v piece so sn ro rn e f size live stops =
+    let w = after_piece piece v in
+    let at : first_frame w.kept ≡ bad_size size = ap (λ (g : Framing). first_frame g.kept) (sym live.framer) ∙ stops in
+    record {
+      over = record { session = w.session; ending = BadFrame size };
+      course = ap (λ x. keep x w.kept w.fed w.block w.session) at;
+      ending = refl;
+      sound = live.sound;
+      sent = live.sent;
+    }
+
+pub received_bad : (s : Settings) (v : Live) (piece : List ℕ) (so sn ro rn : Option (List ℕ)) (e : Running) (f : Framing) (how : Ended) → IsLive s so sn ro rn (after_piece piece v) e f
+    → IsBad (first_frame f.kept) how → WhereGiven how (HasEnded s so sn ro rn (receive piece v) how)
+received_bad s v piece so sn ro rn e f (BadFrame size) live stops = bad_end s v piece so sn ro rn e f size live stops
+received_bad s v piece so sn ro rn e f Quit live stops = absurd stops
+received_bad s v piece so sn ro rn e f NoMemory live stops = absurd stops
+received_bad s v piece so sn ro rn e f Closed live stops = absurd stops
+received_bad s v piece so sn ro rn e f (Cut kept) live stops = absurd stops
+received_bad s v piece so sn ro rn e f LinkFault live stops = absurd stops
+received_bad s v piece so sn ro rn e f SoundFault live stops = absurd stops
+received_bad s v piece so sn ro rn e f (Worn n blocks) live stops = absurd stops
+
+-- ---- blocks
+
+-- of one client stays one
+pub boundary_alone : (r : Running) → length r.replies ≡ 1 → length (at_boundary r).replies ≡ 1
+boundary_alone r alone = as_many 0 (turn_at r.block r.waiting r.world).replies r.replies ∙ alone
+
+pub block_alone : (r : Running) → length r.replies ≡ 1 → length (with_settled (with_block r)).replies ≡ 1
+block_alone r alone = as_many 0 (turn_settled (with_block r)).replies r.replies ∙ alone
+
+quits_by : (b : Bool) → flow_of b ≡ flows.Quit → b ≡ true
+quits_by true e = refl
+quits_by false e = absurd cc
+
+goes_by : (b : Bool) → flow_of b ≡ flows.On → b ≡ false
+goes_by false e = refl
+goes_by true e = absurd cc
+
+after_quit : (s : Settings) (n : ℕ) (v : Live) → v.fed < 4611686018427387904 → v.block < 4611686018427387904 → flow_at (engine_of s v) ≡ flows.Quit → tick s (suc n) v ≡ ends (boundary v.block v.session) Quit
+after_quit s n v few less quits =
+    not_worn v (if quits_at v.block v.session.waiting v.session.world then ends (boundary v.block v.session) Quit else tick s n (after_tick s v)) few less ∙ ap (λ (b : Bool). if b then ends (boundary v.block v.session) Quit else tick s n (after_tick s v)) (quits_by (quits_at v.block v.session.waiting v.session.world) quits)
+
+pub after_one : (s : Settings) (n : ℕ) (v : Live) → v.fed < 4611686018427387904 → v.block < 4611686018427387904 → flow_at (engine_of s v) ≡ flows.On → tick s (suc n) v ≡ tick s n (after_tick s v)
+after_one s n v few less goes =
+    not_worn v (if quits_at v.block v.session.waiting v.session.world then ends (boundary v.block v.session) Quit else tick s n (after_tick s v)) few less ∙ ap (λ (b : Bool). if b then ends (boundary v.block v.session) Quit else tick s n (after_tick s v)) (goes_by (quits_at v.block v.session.waiting v.session.world) goes)
+
+pub ticked : (s : Settings) (v : Live) (so sm sn ro rm rn : Option (List ℕ)) (e0 e1 : Running) (f : Framing) → IsLive s so sm ro rm v e0 f
+    → e1 ≡ record (after_block e0) { sound = []; replies = [] ∷ [] } → Appends sm sn (after_block e0).sound → Appends rm rn (to_first (after_block e0).replies)
+    → IsLive s so sn ro rn (after_tick s v) e1 f
+ticked s v so sm sn ro rm rn e0 e1 f live done sounded replied =
+    let p = boundary v.block v.session in
+    let walked = walk v.block p.world in
+    let samples = outputs s v.block walked in
+    let first = (turn_at v.block v.session.waiting v.session.world).replies in
+    let said = λ (n : ℕ). (settled n (unsaid walked)).replies in
+    let block : v.block + 1 - 1 ≡ v.block = omega arith in
+    let sent : with_frames 0 (said (v.block + 1 - 1)) (with_frames 0 first ([] ∷ [])) ≡ (frames_to 0 first ++ frames_to 0 (said v.block)) ∷ [] =
+    ap (with_frames 0 (said (v.block + 1 - 1))) (one_sent first []) ∙ one_sent (said (v.block + 1 - 1)) (frames_to 0 first) ∙ ap (λ (n : ℕ). (frames_to 0 first ++ frames_to 0 (said n)) ∷ []) block in
+    let replies : to_first (after_block e0).replies ≡ frames_to 0 first ++ frames_to 0 (said v.block) = ap (λ (r : Running). to_first (after_block r).replies) live.engine ∙ ap to_first sent in
+    record {
+      engine = done ∙ ap (λ (r : Running). record (after_block r) { sound = []; replies = [] ∷ [] }) live.engine
+          ∙ ap (λ (n : ℕ). record (engine_of s (after_tick s v)) { world = (settled n (unsaid walked)).world }) block;
+      framer = live.framer;
+      sound = subst (Appends so sn) (sym (pcm-append s v.session.samples samples))
+          (Appends-trans so sm sn (pcm s v.session.samples) (pcm s samples) live.sound (subst (Appends sm sn) (ap (λ (r : Running). (after_block r).sound) live.engine) sounded));
+      sent = subst (Appends ro rn) (sym (append_assoc v.session.replies (frames_to 0 first) (frames_to 0 (said v.block))))
+          (Appends-trans ro rm rn v.session.replies (frames_to 0 first ++ frames_to 0 (said v.block)) live.sent (subst (Appends rm rn) replies replied));
+    }
+
+pub quitted : (s : Settings) (n : ℕ) (v : Live) (so sm sn ro rm rn : Option (List ℕ)) (e : Running) (f : Framing) → IsLive s so sm ro rm v e f
+    → v.fed < 4611686018427387904 → v.block < 4611686018427387904 → flow_at e ≡ flows.Quit → Keeps sm sn → Appends rm rn (to_first (at_boundary e).replies) → HasEnded s so sn ro rn (tick s (suc n) v) Quit
+quitted s n v so sm sn ro rm rn e f live few less quits silent replied =
+    let first = (turn_at v.block v.session.waiting v.session.world).replies in
+    let replies : to_first (at_boundary e).replies ≡ frames_to 0 first = ap (λ (r : Running). to_first (at_boundary r).replies) live.engine ∙ ap to_first (one_sent first []) in
+    record {
+      over = record { session = boundary v.block v.session; ending = Quit };
+      course = after_quit s n v few less (subst (λ r. flow_at r ≡ flows.Quit) live.engine quits);
+      ending = refl;
+      sound = Appends-kept so sm sn (pcm s v.session.samples) live.sound silent;
+      sent = Appends-trans ro rm rn v.session.replies (frames_to 0 first) live.sent (subst (Appends rm rn) replies replied);
+    }
+
+-- so many ticks are left of a course
+pub record IsTicking (s : Settings) (so sn ro rn : Option (List ℕ)) (c : Course) (left : ℕ) (e : Running) (f : Framing) : Type 0 where
+  pub live : Live
+  pub course : tick s left live ≡ c
+  pub stands : IsLive s so sn ro rn live e f
+
+pub ticks_on : (s : Settings) (so sm sn ro rm rn : Option (List ℕ)) (c : Course) (left less : ℕ) (e0 e1 : Running) (f : Framing) → IsTicking s so sm ro rm c left e0 f → left ≡ suc less → HasLeft e0 f
+    → IsTicked sm sn rm rn e0 e1 → IsTicking s so sn ro rn c less e1 f
+ticks_on s so sm sn ro rm rn c left less e0 e1 f i more enough t =
+    let v = i.live in
+    let few : v.fed < 4611686018427387904 = omega (arith, enough.fed, ap (λ (g : Framing). g.fed) i.stands.framer) in
+    let before : v.block < 4611686018427387904 = omega (arith, enough.block, ap (λ (r : Running). r.block) i.stands.engine) in
+    let goes : flow_at (engine_of s v) ≡ flows.On = ap (λ (r : Running). flow_at r) (sym i.stands.engine) ∙ t.flow in
+    record {
+      live = after_tick s v;
+      course = sym (after_one s less v few before goes) ∙ ap (λ (n : ℕ). tick s n v) (sym more) ∙ i.course;
+      stands = ticked s v so sm sn ro rm rn e0 e1 f i.stands t.engine t.sound t.replies;
+    }
+
+pub ticked_ready : (so sn ro rn : Option (List ℕ)) (e0 e1 : Running) (f : Framing) → IsReady e0 f → IsTicked so sn ro rn e0 e1 → IsReady e1 f
+ticked_ready so sn ro rn e0 e1 f r t = record {
+  standing = ap (λ (r : Running). r.standing) t.engine;
+  silent = ap (λ (r : Running). r.sound) t.engine;
+  said = ap (λ (r : Running). r.replies) t.engine;
+  puts = omega (arith, r.puts, ap (λ (r : Running). r.waiting.puts) t.engine);
+  fed = r.fed;
+  kept = r.kept;
+}
+
+pub ticked_block : (so sn ro rn : Option (List ℕ)) (e0 e1 : Running) → IsTicked so sn ro rn e0 e1 → e1.block ≡ e0.block + 1
+ticked_block so sn ro rn e0 e1 t = ap (λ (r : Running). r.block) t.engine
+
+pub all_ticked : (s : Settings) (so sn ro rn : Option (List ℕ)) (c : Course) (left : ℕ) (e : Running) (f : Framing) → IsTicking s so sn ro rn c left e f → left ≡ 0 → GoesOn s so sn ro rn c e f
+all_ticked s so sn ro rn c left e f i none = record { live = i.live; course = sym i.course ∙ ap (λ (n : ℕ). tick s n i.live) none; stands = i.stands }
+
+-- ---- ends
+
+pub given : (how : Ended) (P : Type 0) → P → WhereGiven how P
+given Quit P p = p
+given Closed P p = p
+given (Cut kept) P p = p
+given (BadFrame size) P p = p
+given (Worn n blocks) P p = p
+given NoMemory P p = tt
+given LinkFault P p = tt
+given SoundFault P p = tt
+
+pub given_so : (how : Ended) (P Q : Type 0) → (P → Q) → WhereGiven how P → WhereGiven how Q
+given_so Quit P Q f p = f p
+given_so Closed P Q f p = f p
+given_so (Cut kept) P Q f p = f p
+given_so (BadFrame size) P Q f p = f p
+given_so (Worn n blocks) P Q f p = f p
+given_so NoMemory P Q f p = tt
+given_so LinkFault P Q f p = tt
+given_so SoundFault P Q f p = tt
+
+-- it is worn out
+pub worn_is : (s : Settings) (so sn ro rn : Option (List ℕ)) (v : Live) (e : Running) (f : Framing) (how : Ended) → IsLive s so sn ro rn v e f → IsWornOut e f how → (is_worn v ≡ true) × ((worn v).ending ≡ how)
+worn_is s so sn ro rn v e f how live w = (
+  sym (λ i. nat_le 4611686018427387904 (live.framer i).fed || nat_le 4611686018427387904 (live.engine i).block) ∙ w.most,
+  sym (λ i. Worn (live.framer i).fed (live.engine i).block) ∙ sym w.numbers,
+)
+
+pub worn_tick : (s : Settings) (so sn ro rn : Option (List ℕ)) (c : Course) (left less : ℕ) (e : Running) (f : Framing) (how : Ended) → IsTicking s so sn ro rn c left e f → left ≡ suc less → IsWornOut e f how
+    → HasEnded s so sn ro rn c how
+worn_tick s so sn ro rn c left less e f how i more w =
+    let v = i.live in
+    let is = worn_is s so sn ro rn v e f how i.stands w in
+    let rest = if quits_at v.block v.session.waiting v.session.world then ends (boundary v.block v.session) Quit else tick s less (after_tick s v) in
+    record {
+      over = worn v;
+      course = sym i.course ∙ ap (λ (n : ℕ). tick s n v) more ∙ ap (λ (b : Bool). if b then ended (worn v) else rest) is.0;
+      ending = is.1;
+      sound = i.stands.sound;
+      sent = i.stands.sent;
+    }
+
+quit_tick : (s : Settings) (so sm sn ro rm rn : Option (List ℕ)) (c : Course) (left less : ℕ) (e : Running) (f : Framing) → IsTicking s so sm ro rm c left e f → left ≡ suc less → HasLeft e f → HasQuit sm sn rm rn e
+    → HasEnded s so sn ro rn c Quit
+quit_tick s so sm sn ro rm rn c left less e f i more enough q =
+    let v = i.live in
+    let few : v.fed < 4611686018427387904 = omega (arith, enough.fed, ap (λ (g : Framing). g.fed) i.stands.framer) in
+    let before : v.block < 4611686018427387904 = omega (arith, enough.block, ap (λ (r : Running). r.block) i.stands.engine) in
+    let h = quitted s less v so sm sn ro rm rn e f i.stands few before q.flow q.sound q.replies in
+    record { over = h.over; course = sym i.course ∙ ap (λ (n : ℕ). tick s n v) more ∙ h.course; ending = h.ending; sound = h.sound; sent = h.sent }
+
+abbrev pub failed : Ended → Result (Unit {0}) Ended
+failed how = Err how
+
+pub ended_tick : (s : Settings) (so sm sn ro rm rn : Option (List ℕ)) (c : Course) (left less : ℕ) (e : Running) (f : Framing) (how : Ended) → IsTicking s so sm ro rm c left e f → left ≡ suc less → HasLeft e f
+    → IsTickEnd how → (failed how ≡ failed Quit → HasQuit sm sn rm rn e) → WhereGiven how (HasEnded s so sn ro rn c how)
+ended_tick s so sm sn ro rm rn c left less e f Quit i more enough is quit = quit_tick s so sm sn ro rm rn c left less e f i more enough (quit refl)
+ended_tick s so sm sn ro rm rn c left less e f NoMemory i more enough is quit = tt
+ended_tick s so sm sn ro rm rn c left less e f LinkFault i more enough is quit = tt
+ended_tick s so sm sn ro rm rn c left less e f SoundFault i more enough is quit = tt
+ended_tick s so sm sn ro rm rn c left less e f Closed i more enough is quit = absurd is
+ended_tick s so sm sn ro rm rn c left less e f (Cut kept) i more enough is quit = absurd is
+ended_tick s so sm sn ro rm rn c left less e f (BadFrame size) i more enough is quit = absurd is
+ended_tick s so sm sn ro rm rn c left less e f (Worn n blocks) i more enough is quit = absurd is
+
+pub follows_err : (s : Settings) (so sn ro rn : Option (List ℕ)) (c : Course) (e : Running) (f : Framing) (r : Result (Unit {0}) Ended) (how : Ended) → IsErrAnd r (λ k. k ≡ how)
+    → WhereGiven how (HasEnded s so sn ro rn c how) → Follows s so sn ro rn c e f r
+follows_err s so sn ro rn c e f (Ok x) how is h = absurd is
+follows_err s so sn ro rn c e f (Err k) how is h = subst (λ (k : Ended). WhereGiven k (HasEnded s so sn ro rn c k)) (sym is) h

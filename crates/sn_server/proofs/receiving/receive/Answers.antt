@@ -1,0 +1,36 @@
+use Rattle.std.proofs.Common.{◌≡◌, [], ◌∷◌, List, ℕ, Option, Some, None, subst}
+use Rattle.sn_osc.specs.Frames.{first_frame}
+use Rattle.sn_osc.specs.Unpacking.{unpacked}
+use Rattle.sn_server.specs.PlayEvents.{Live, receive}
+use Rattle.sn_server.specs.Serving.{IsLive, GoesOn, Stops}
+use Rattle.sn_server.proofs.PacketLemmas.{received_ready, received_block, received_alone}
+use Rattle.sn_server.proofs.ServingLemmas.{received, received_whole, received_bad}
+use Rattle.sn_server.proofs.receiving.receive.Goals as goal
+
+pub send_replies-requires : goal.send_replies-requires
+send_replies-requires g c = record { alone = received_alone c.args.engine.now c.take_packets.new.engine (unpacked c.feed.new.self.kept).packets c.in_ok-bad.ensures.engine c.requires.ready.said }
+
+pub returns-in-Some-clause-follows : goal.returns-in-Some-clause-follows
+returns-in-Some-clause-follows g c = λ s v so sn ro live.
+    let e2 = c.send_replies.new.engine in
+    let f2 = c.take_packets.new.framer in
+    let stands = received s v c.args.piece.now so sn ro (g.L.Link.sent c.args.link.now) (g.L.Link.sent c.send_replies.new.link) c.args.engine.now c.take_packets.new.engine e2 c.args.framer.now c.feed.new.self f2
+    live c.in_ok-feed.ensures.ok c.in_ok-bad.ensures.engine c.in_ok-bad.ensures.framer c.in_ok-send_replies.ensures.sent c.send_replies.ensures.kept in
+    received_bad s v c.args.piece.now so sn ro (g.L.Link.sent c.send_replies.new.link) e2 f2 c.in-Some.how stands (subst (Stops (first_frame f2.kept)) c.in-Some.is c.in_ok-bad.ensures.stops)
+
+pub returns-in-None-clause-follows : goal.returns-in-None-clause-follows
+returns-in-None-clause-follows g c = λ s v so sn ro live.
+    let e2 = c.send_replies.new.engine in
+    let f2 = c.take_packets.new.framer in
+    let stands = received s v c.args.piece.now so sn ro (g.L.Link.sent c.args.link.now) (g.L.Link.sent c.send_replies.new.link) c.args.engine.now c.take_packets.new.engine e2 c.args.framer.now c.feed.new.self f2
+    live c.in_ok-feed.ensures.ok c.in_ok-bad.ensures.engine c.in_ok-bad.ensures.framer c.in_ok-send_replies.ensures.sent c.send_replies.ensures.kept in
+    received_whole s v c.args.piece.now so sn ro (g.L.Link.sent c.send_replies.new.link) e2 f2 stands (subst (Stops (first_frame f2.kept)) c.in-None.is c.in_ok-bad.ensures.stops)
+
+pub returns-in-None-clause-ready : goal.returns-in-None-clause-ready
+returns-in-None-clause-ready g c =
+    let f2 = c.take_packets.new.framer in
+    received_ready c.args.engine.now c.take_packets.new.engine c.send_replies.new.engine c.args.framer.now c.feed.new.self f2 c.args.piece.now c.requires.ready c.in_ok-feed.ensures.ok
+    c.in_ok-bad.ensures.engine c.in_ok-bad.ensures.framer c.send_replies.ensures.kept c.in_ok-bad.ensures.puts c.requires.fed (subst (Stops (first_frame f2.kept)) c.in-None.is c.in_ok-bad.ensures.stops)
+
+pub returns-in-None-clause-block : goal.returns-in-None-clause-block
+returns-in-None-clause-block g c = received_block c.args.engine.now c.take_packets.new.engine c.send_replies.new.engine (unpacked c.feed.new.self.kept).packets c.in_ok-bad.ensures.engine c.send_replies.ensures.kept

@@ -1,0 +1,41 @@
+use Rattle.std.proofs.Common.{◌≡◌, ◌∙◌, length, ap, le_refl, arith}
+use Rattle.sn_server.proofs.EventLemmas.{begins_serving, begins_ready, serves_on, serves_to, as_long}
+use Rattle.sn_server.proofs.serving.serve.Goals as goal
+
+pub loop-how-init : goal.loop-how-init
+loop-how-init g c =
+    let s = c.args.settings.now in
+    record {
+      serving = begins_serving s c.args.base (g.L.Link.left c.args.link.now) (g.O.Sink.taken c.args.sound.now) (g.L.Link.sent c.args.link.now) c.in-Ok.engine c.new-framer.result c.in-Ok.ensures c.new-framer.ensures;
+      ready = begins_ready s c.args.base c.in-Ok.engine c.new-framer.result c.in-Ok.ensures c.new-framer.ensures;
+      room = c.in-Ok-room.ensures;
+      link_later = le_refl _;
+      sound_later = le_refl _;
+    }
+
+pub loop-how-preserved : goal.loop-how-preserved
+loop-how-preserved g c =
+    let s = c.args.settings.now in
+    let l = c.loop-how in
+    let i = l.invariant in
+    let n = c.serve_event.new in
+    let r = c.in-Ok-serve_event.ensures in
+    record {
+      serving = serves_on s c.args.base (g.L.Link.left c.args.link.now) (g.L.Link.left l.link) (g.L.Link.left n.link) (g.O.Sink.taken c.args.sound.now) (g.O.Sink.taken l.sound) (g.O.Sink.taken n.sound)
+          (g.L.Link.sent c.args.link.now) (g.L.Link.sent l.link) (g.L.Link.sent n.link) l.engine n.engine l.framer n.framer i.serving
+          (r.took s i.serving.live (g.O.Sink.taken c.args.sound.now) (g.L.Link.sent c.args.link.now) i.serving.stands);
+      ready = r.ready;
+      room = as_long l.room.len l.room.items n.room l.room.ok.0 (c.serve_event.auto.room ∙ ap length c.deref_mut.ensures.value) ∙ i.room;
+      link_later = omega (arith, i.link_later, c.serve_event.ensures.link_later);
+      sound_later = omega (arith, i.sound_later, c.serve_event.ensures.sound_later);
+    }
+
+pub returns-in-Err-clause-served : goal.returns-in-Err-clause-served
+returns-in-Err-clause-served g c =
+    let s = c.args.settings.now in
+    let l = c.loop-how in
+    let i = l.invariant in
+    let n = c.serve_event.new in
+    serves_to s c.args.base (g.L.Link.left c.args.link.now) (g.L.Link.left l.link) (g.L.Link.left n.link) (g.O.Sink.taken c.args.sound.now) (g.O.Sink.taken l.sound) (g.O.Sink.taken n.sound)
+    (g.L.Link.sent c.args.link.now) (g.L.Link.sent l.link) (g.L.Link.sent n.link) l.engine l.framer c.in-Err.how i.serving
+    (c.in-Err.ensures.took s i.serving.live (g.O.Sink.taken c.args.sound.now) (g.L.Link.sent c.args.link.now) i.serving.stands)

@@ -1,0 +1,19 @@
+-- The ticks that are left give what all of them would.
+use Rattle.std.proofs.Common.{◌≡◌, ◌≤◌, ◌+◌, ◌-◌, List, ℕ, Option}
+use Rattle.sn_pcm.specs.declared.settings.Settings.{Settings}
+use Rattle.sn_ports.specs.Links.{KeepsEvents}
+use Rattle.sn_server.specs.PlayEvents.{Live, tick}
+use Rattle.sn_server.specs.Serving.{IsLive, IsReady}
+use Rattle.sn_server.proofs.ServingLemmas.{IsTicking}
+use Rattle.sn_server.proofs.ticking.ticks.Given as goal
+
+abbrev pub invariant-loop-number : goal.invariant-loop-number
+invariant-loop-number g l = record {
+  follows : (s : Settings) (v : Live) (so ro : Option (List ℕ)) → IsLive s so (g.O.Sink.taken l.fn.sound) ro (g.L.Link.sent l.fn.link) v l.fn.engine l.framer
+      → IsTicking s so (g.O.Sink.taken l.sound) ro (g.L.Link.sent l.link) (tick s l.count v) (l.count - l.number) l.engine l.framer;
+  ready : IsReady l.engine l.framer;
+  block : l.engine.block ≡ l.fn.engine.block + l.number;
+  events : KeepsEvents (g.L.Link.left l.fn.link) (g.L.Link.left l.link);
+  link_later : g.L.Link.faults l.fn.link ≤ g.L.Link.faults l.link;
+  sound_later : g.O.Sink.faults l.fn.sound ≤ g.O.Sink.faults l.sound;
+}

@@ -1,0 +1,175 @@
+-- How far a connection has come that is served.
+use Rattle.std.specs.Prelude.{◌≡◌, ◌≤◌, ◌<◌, ◌+◌, ◌^◌, ◌||◌, nat_le, Bool, true, false, ℕ, ℤ, List, [], ◌∷◌, length, Option, None, Some, Result, Ok, Err, ⊤}
+use Rattle.std.specs.Io.KnownBytes.{Appends, Keeps}
+use Rattle.sn_ports.specs.Links.{LinkEvent, bytes, ticks, Takes, Known}
+use Rattle.sn_osc.specs.Framing.{Framing}
+use Rattle.sn_osc.specs.Reading.{read}
+use Rattle.sn_osc.specs.Shape.{Shape}
+use Rattle.sn_osc.specs.declared.fault.PacketFault.{PacketFault}
+use Rattle.sn_osc.specs.Frames.{FirstFrame, cut, bad_size, frame, first_frame}
+use Rattle.sn_pcm.specs.declared.settings.Settings.{Settings}
+use Rattle.sn_pcm.specs.Pcm.{pcm}
+use Rattle.sn_engine.specs.Arriving.{with_offered}
+use Rattle.sn_engine.specs.Entries.{entries_of}
+use Rattle.sn_engine.specs.Refusing.{with_bad_packet}
+use Rattle.sn_engine.specs.Running.{Running, at_boundary, flow_at}
+use Rattle.sn_engine.specs.declared.standing.Flow.TheVariants.{On}
+use Rattle.sn_engine.specs.declared.standing.Flow.TheVariants as flows
+use Rattle.sn_engine.specs.declared.standing.Standing.TheVariants.{Settled}
+use Rattle.sn_server.specs.declared.ended.Ended.{Ended}
+use Rattle.sn_server.specs.declared.ended.Ended.TheVariants.{Quit, NoMemory, Closed, Cut, BadFrame, LinkFault, SoundFault, Worn}
+use Rattle.sn_server.specs.Going.{to_first, after_block}
+use Rattle.sn_server.specs.PlayEvents.{Live, Over, Course, going, ended, after_event, after_events, at_end, beginning}
+use Rattle.sn_server.specs.Served.{TakesEach, WhereGiven}
+
+-- ---- how far it has come
+
+-- this is the end at a bad size
+abbrev pub IsBad : FirstFrame → Ended → Type 0
+IsBad first (BadFrame size) = first ≡ bad_size size
+IsBad first Quit = ⊥
+IsBad first NoMemory = ⊥
+IsBad first Closed = ⊥
+IsBad first (Cut kept) = ⊥
+IsBad first LinkFault = ⊥
+IsBad first SoundFault = ⊥
+IsBad first (Worn n blocks) = ⊥
+
+-- what stands behind the last whole frame: the front of a frame, or a bad size
+abbrev pub Stops : FirstFrame → Option Ended → Type 0
+Stops first None = first ≡ cut
+Stops first (Some how) = IsBad first how
+
+-- an end before the last event
+abbrev pub StaysOpen : Ended → Type 0
+StaysOpen Closed = ⊥
+StaysOpen (Cut kept) = ⊥
+StaysOpen Quit = ⊤
+StaysOpen (BadFrame size) = ⊤
+StaysOpen (Worn n blocks) = ⊤
+StaysOpen NoMemory = ⊤
+StaysOpen LinkFault = ⊤
+StaysOpen SoundFault = ⊤
+
+-- an end at a boundary or at its block
+abbrev pub IsTickEnd : Ended → Type 0
+IsTickEnd Closed = ⊥
+IsTickEnd (Cut kept) = ⊥
+IsTickEnd Quit = ⊤
+IsTickEnd (BadFrame size) = ⊥
+IsTickEnd (Worn n blocks) = ⊥
+IsTickEnd NoMemory = ⊤
+IsTickEnd LinkFault = ⊤
+IsTickEnd SoundFault = ⊤
+
+-- the bytes of a frame come to an engine, from client 0
+abbrev pub with_packet : Result Shape PacketFault → Running → Running
+with_packet (Ok x) r = with_offered 0 (entries_of x) r
+with_packet (Err fault) r = with_bad_packet 0 r
+
+abbrev pub with_packets : List (List ℕ) → Running → Running
+with_packets [] r = r
+with_packets (packet ∷ packets) r = with_packets packets (with_packet (read packet) r)
+
+-- an engine of one client at a boundary, of which nothing is still to be written
+abbrev pub engine_of : Settings → Live → Running
+engine_of s v = record {
+  settings = s;
+  world = v.session.world;
+  waiting = v.session.waiting;
+  block = v.block;
+  standing = Settled;
+  sound = [];
+  replies = [] ∷ [];
+}
+
+abbrev pub framer_of : Live → Framing
+framer_of v = record { kept = v.kept; fed = v.fed }
+
+-- An engine and a framer hold what a connection does, and what it gave was written.
+pub record IsLive (s : Settings) (so sn ro rn : Option (List ℕ)) (v : Live) (e : Running) (f : Framing) : Type 0 where
+  pub engine : e ≡ engine_of s v
+  pub framer : f ≡ framer_of v
+  pub sound : Appends so sn (pcm s v.session.samples)
+  pub sent : Appends ro rn v.session.replies
+
+-- a connection that has ended, and what it gave was written
+pub record HasEnded (s : Settings) (so sn ro rn : Option (List ℕ)) (c : Course) (how : Ended) : Type 0 where
+  pub over : Over
+  pub course : c ≡ ended over
+  pub ending : over.ending ≡ how
+  pub sound : Appends so sn (pcm s over.session.samples)
+  pub sent : Appends ro rn over.session.replies
+
+pub record GoesOn (s : Settings) (so sn ro rn : Option (List ℕ)) (c : Course) (e : Running) (f : Framing) : Type 0 where
+  pub live : Live
+  pub course : c ≡ going live
+  pub stands : IsLive s so sn ro rn live e f
+
+-- where it has come by a step, and what the step answers
+abbrev pub Follows : Settings → Option (List ℕ) → Option (List ℕ) → Option (List ℕ) → Option (List ℕ) → Course → Running → Framing → Result Unit Ended → Type 0
+Follows s so sn ro rn c e f (Ok x) = GoesOn s so sn ro rn c e f
+Follows s so sn ro rn c e f (Err how) = WhereGiven how (HasEnded s so sn ro rn c how)
+
+-- an engine and a framer that can take what comes: no more entries were put than bytes were used
+pub record IsReady (e : Running) (f : Framing) : Type 0 where
+  pub standing : e.standing ≡ Settled
+  pub silent : e.sound ≡ []
+  pub said : e.replies ≡ [] ∷ []
+  pub puts : e.waiting.puts + length f.kept ≤ f.fed
+  pub fed : f.fed ≤ 2 ^ 62
+  pub kept : length f.kept ≤ 65540
+
+-- A boundary, its block and its settling, and what came of them was written.
+pub record IsTicked (so sn ro rn : Option (List ℕ)) (old new : Running) : Type 0 where
+  pub flow : flow_at old ≡ On
+  pub engine : new ≡ record (after_block old) { sound = []; replies = [] ∷ [] }
+  pub sound : Appends so sn (after_block old).sound
+  pub replies : Appends ro rn (to_first (after_block old).replies)
+
+-- A boundary at which `/quit` was accepted, and its replies were sent.
+pub record HasQuit (so sn ro rn : Option (List ℕ)) (old : Running) : Type 0 where
+  pub flow : flow_at old ≡ flows.Quit
+  pub sound : Keeps so sn
+  pub replies : Appends ro rn (to_first (at_boundary old).replies)
+
+-- as many bytes came, or as many blocks were done, as may
+pub record IsWornOut (e : Running) (f : Framing) (how : Ended) : Type 0 where
+  pub numbers : how ≡ Worn f.fed e.block
+  pub most : (nat_le (2 ^ 62) f.fed || nat_le (2 ^ 62) e.block) ≡ true
+
+-- more can be taken
+pub record HasLeft (e : Running) (f : Framing) : Type 0 where
+  pub fed : f.fed < 2 ^ 62
+  pub block : e.block < 2 ^ 62
+
+-- ---- one event after another
+
+-- a step took an event, which gives its course
+pub record TookEvent (lo ln : Option (List LinkEvent)) (P : LinkEvent → Type 0) : Type 0 where
+  pub event : LinkEvent
+  pub taken : Known lo ln (λ old new. Takes old new event)
+  pub gives : P event
+
+-- The events that were taken end a course so, and what it gave was written.
+pub record EndsBy (s : Settings) (lo ln : Option (List LinkEvent)) (so sn ro rn : Option (List ℕ)) (c : Course) (how : Ended) : Type 0 where
+  pub events : List LinkEvent
+  pub taken : Known lo ln (λ old new. TakesEach old events new)
+  pub over : Over
+  pub course : at_end (after_events s events c) ≡ over
+  pub ending : over.ending ≡ how
+  pub sound : Appends so sn (pcm s over.session.samples)
+  pub sent : Appends ro rn over.session.replies
+
+-- an event was taken, or this is the end
+abbrev pub Took : Settings → Option (List LinkEvent) → Option (List LinkEvent) → Option (List ℕ) → Option (List ℕ) → Option (List ℕ) → Option (List ℕ) → Live → Running → Framing → Result Unit Ended → Type 0
+Took s lo ln so sn ro rn v e f (Ok x) = TookEvent lo ln (λ x. GoesOn s so sn ro rn (after_event s x (going v)) e f)
+Took s lo ln so sn ro rn v e f (Err how) = WhereGiven how (EndsBy s lo ln so sn ro rn (going v) how)
+
+-- the events so far have given this
+pub record IsServing (s : Settings) (base : ℕ) (lo ln : Option (List LinkEvent)) (so sn ro rn : Option (List ℕ)) (e : Running) (f : Framing) : Type 0 where
+  pub events : List LinkEvent
+  pub taken : Known lo ln (λ old new. TakesEach old events new)
+  pub live : Live
+  pub course : after_events s events (going (beginning s base)) ≡ going live
+  pub stands : IsLive s so sn ro rn live e f

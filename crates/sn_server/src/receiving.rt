@@ -1,0 +1,112 @@
+//! Bytes that come over a connection: whole frames are taken out of them, and what these make is sent.
+ghost use Rattle.std.specs.Prelude.{◌≡◌, ◌≤◌, ◌<◌, ◌+◌, ◌^◌, ◌∷◌, [], List, ℕ, Option, IfOk, IfErr, OnOk, Err, length};
+ghost use Rattle.std.specs.Io.KnownBytes.{Appends};
+ghost use Rattle.sn_ports.specs.Causes.{Rose};
+ghost use Rattle.sn_ports.specs.Links.{KeepsEvents};
+ghost use Rattle.sn_osc.specs.Frames.{first_frame};
+ghost use Rattle.sn_osc.specs.Reading.{read};
+ghost use Rattle.sn_osc.specs.Unpacking.{unpacked};
+ghost use Rattle.sn_pcm.specs.declared.settings.Settings.{Settings};
+ghost use Rattle.sn_engine.specs.declared.standing.Standing.TheVariants.{Settled};
+ghost use Rattle.sn_server.specs.Going.{to_first};
+ghost use Rattle.sn_server.specs.PlayEvents.{Live, receive};
+ghost use Rattle.sn_server.specs.Serving.{IsLive, Follows, IsReady, Stops, StaysOpen, with_packet, with_packets};
+ghost use Rattle.sn_server.specs.declared.ended.Ended.{Ended};
+
+use crate::ended::Ended;
+use sn_engine::Engine;
+use sn_osc::{Framer, Undecoded, Unframed, decode};
+use sn_ports::{Link, NoMemory};
+use std::alloc::Global;
+
+/// Offers the packet that the bytes spell, or answers that they spell none.
+fn take_packet(alloc: Global, engine: &mut Engine, bytes: &[u8]) -> Result<(), NoMemory>
+    requires settled { engine.old.standing ≡ Settled }
+    requires block { engine.old.block < 2 ^ 62 }
+    requires puts { engine.old.waiting.puts + length bytes.now ≤ 2 ^ 62 }
+    requires size { 4 ≤ length bytes.now }
+    ensures packet { OnOk result (engine.new ≡ with_packet (read bytes.now) engine.old) }
+    ensures puts { OnOk result (engine.new.waiting.puts ≤ engine.old.waiting.puts + length bytes.now) }
+{
+    match decode(alloc, bytes) {
+        Ok(packet) => {
+            engine.offer(alloc, packet, 0)?;
+            Ok(())
+        }
+        Err(Undecoded::Bad(_)) => engine.refuse_packet(alloc, 0),
+        Err(Undecoded::NoMemory) => Err(NoMemory),
+    }
+}
+
+/// Takes every whole frame that is kept. Gives the end at the bad size that stands behind them, if one does.
+fn take_packets(
+    alloc: Global,
+    engine: &mut Engine,
+    framer: &mut Framer,
+) -> Result<Option<Ended>, NoMemory>
+    requires settled { engine.old.standing ≡ Settled }
+    requires block { engine.old.block < 2 ^ 62 }
+    requires puts { engine.old.waiting.puts + length framer.old.kept ≤ 2 ^ 62 }
+    ensures engine { OnOk result (engine.new ≡ with_packets (unpacked framer.old.kept).packets engine.old) }
+    ensures framer { OnOk result (framer.new ≡ record framer.old { kept = (unpacked framer.old.kept).rest }) }
+    ensures stops { IfOk result (λ bad. Stops (first_frame framer.new.kept) bad) }
+    ensures puts { OnOk result (engine.new.waiting.puts + length framer.new.kept ≤ engine.old.waiting.puts + length framer.old.kept) }
+{
+    loop {
+        match framer.next() {
+            Ok(Some(frame)) => take_packet(alloc, engine, frame.bytes.as_slice())?,
+            Ok(None) => return Ok(None),
+            Err(Unframed::Bad { size, .. }) => return Ok(Some(Ended::BadFrame { size })),
+            Err(Unframed::NoMemory) => return Err(NoMemory),
+        }
+    }
+}
+
+/// Sends the replies that are still to be sent.
+pub fn send_replies<L: Link>(engine: &mut Engine, link: &mut L) -> Result<(), Ended>
+    requires alone { length engine.old.replies ≡ 1 }
+    ensures sent { OnOk result (Appends (L.sent link.old) (L.sent link.new) (to_first engine.old.replies)) }
+    ensures kept { engine.new ≡ record engine.old { replies = [] ∷ [] } }
+    ensures only { IfErr result (λ how. how ≡ Ended.LinkFault) }
+    ensures cause { result ≡ Err Ended.LinkFault → Rose (L.faults link.old) (L.faults link.new) }
+    ensures later { L.faults link.old ≤ L.faults link.new }
+    ensures events { KeepsEvents (L.left link.old) (L.left link.new) }
+{
+    match engine.send_replies(0, link) {
+        Ok(()) => Ok(()),
+        Err(_) => Err(Ended::LinkFault),
+    }
+}
+
+/// Takes bytes that came: whole frames are offered, and what they made is sent.
+pub fn receive<L: Link>(
+    alloc: Global,
+    engine: &mut Engine,
+    framer: &mut Framer,
+    piece: &[u8],
+    link: &mut L,
+) -> Result<(), Ended>
+    requires ready { IsReady engine.old framer.old }
+    requires block { engine.old.block < 2 ^ 62 }
+    requires fed { framer.old.fed + length piece.now ≤ 2 ^ 62 }
+    requires new { framer.old.fed < 2 ^ 62 }
+    requires few { length piece.now ≤ 65536 }
+    ensures follows { (s : Settings) (v : Live) (so sn ro : Option (List ℕ)) → IsLive s so sn ro (L.sent link.old) v engine.old framer.old
+        → Follows s so sn ro (L.sent link.new) (receive piece.now v) engine.new framer.new result }
+    ensures ready { OnOk result (IsReady engine.new framer.new) }
+    ensures fed { OnOk result (framer.new.fed ≡ framer.old.fed + length piece.now) }
+    ensures block { OnOk result (engine.new.block ≡ engine.old.block) }
+    ensures events { KeepsEvents (L.left link.old) (L.left link.new) }
+    ensures open { IfErr result StaysOpen }
+    ensures sound { result ≡ Err Ended.SoundFault → ⊥ }
+    ensures cause { result ≡ Err Ended.LinkFault → Rose (L.faults link.old) (L.faults link.new) }
+    ensures later { L.faults link.old ≤ L.faults link.new }
+{
+    framer.feed(piece)?;
+    let bad = take_packets(alloc, engine, framer)?;
+    send_replies(engine, link)?;
+    match bad {
+        Some(how) => Err(how),
+        None => Ok(()),
+    }
+}

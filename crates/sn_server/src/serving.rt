@@ -1,0 +1,170 @@
+//! One connection: what comes over it is taken, event by event, and what comes of it is written.
+ghost use Rattle.std.specs.Prelude.{◌≡◌, ◌⊎◌, ◌≤◌, ◌<◌, ◌+◌, ◌^◌, ℕ, List, Option, Some, IfErr, OnOk, Err, length};
+ghost use Rattle.sn_ports.specs.Causes.{Rose};
+ghost use Rattle.sn_ports.specs.Links.{LinkEvent};
+ghost use Rattle.sn_pcm.specs.declared.settings.Settings.{Settings};
+ghost use Rattle.sn_server.specs.PlayEvents.{Live, bytes_in, closing, play_events};
+ghost use Rattle.sn_server.specs.Served.{Served, AtClose};
+ghost use Rattle.sn_server.specs.Serving.{IsLive, IsReady, HasLeft, Took};
+ghost use Rattle.sn_server.specs.declared.ended.Ended.{Ended};
+
+use crate::ended::Ended;
+use crate::receiving::receive;
+use crate::stream::room;
+use crate::ticking::{MOST, check_worn, ticks};
+use sn_engine::Engine;
+use sn_osc::Framer;
+use sn_pcm::Settings;
+use sn_ports::{Fed, Gate, Link, Sink};
+use std::alloc::Global;
+use std::thread::Threads;
+
+/// How many bytes are asked for at once.
+const PIECE: usize = 65536;
+
+/// As many entries wait as may.
+const MOST_ENTRIES: u32 = 65536;
+
+/// How a connection ends over which nothing more comes.
+fn closing(framer: &Framer) -> Ended
+    ensures { result ≡ closing framer.now.kept }
+{
+    match framer.kept() {
+        0 => Ended::Closed,
+        kept => Ended::Cut { kept },
+    }
+}
+
+/// Takes the next event, and does what it asks for.
+fn take_event<H: Threads + Sync, L: Link, O: Sink, G: Gate>(
+    rt: &H,
+    alloc: Global,
+    engine: &mut Engine,
+    framer: &mut Framer,
+    room: &mut [u8],
+    link: &mut L,
+    sound: &mut O,
+    gate: &G,
+) -> Result<(), Ended>
+    requires ready { IsReady engine.old framer.old }
+    requires left { HasLeft engine.old framer.old }
+    requires room { 0 < length room.old }
+    requires few { length room.old ≤ 65536 }
+    ensures took { (s : Settings) (v : Live) (so ro : Option (List ℕ)) → IsLive s so (O.taken sound.old) ro (L.sent link.old) v engine.old framer.old
+        → Took s (L.left link.old) (L.left link.new) so (O.taken sound.new) ro (L.sent link.new) v engine.new framer.new result }
+    ensures ready { OnOk result (IsReady engine.new framer.new) }
+    ensures more { OnOk result (engine.old.block + framer.old.fed < engine.new.block + framer.new.fed) }
+    ensures later_block { OnOk result (engine.old.block ≤ engine.new.block) }
+    ensures later_fed { OnOk result (framer.old.fed ≤ framer.new.fed) }
+    ensures close { IfErr result (λ how. AtClose how (L.left link.old) (L.left link.new)) }
+    ensures link { result ≡ Err Ended.LinkFault → Rose (L.faults link.old) (L.faults link.new) }
+    ensures sound { result ≡ Err Ended.SoundFault → Rose (O.faults sound.old) (O.faults sound.new) }
+    ensures link_later { L.faults link.old ≤ L.faults link.new }
+    ensures sound_later { O.faults sound.old ≤ O.faults sound.new }
+{
+    let most = (room.len() as u64).min(MOST - framer.fed()) as usize;
+    let into = &mut room[..most];
+    match link.next(into) {
+        Ok(Fed::Bytes(count)) => receive(alloc, engine, framer, &into[..count], link),
+        Ok(Fed::Ticks(count)) => ticks(rt, alloc, engine, framer, count, link, sound, gate),
+        Ok(Fed::End) => Err(closing(framer)),
+        Err(_) => Err(Ended::LinkFault),
+    }
+}
+
+/// Takes the next event, unless as many bytes came, or as many blocks were done, as may.
+fn serve_event<H: Threads + Sync, L: Link, O: Sink, G: Gate>(
+    rt: &H,
+    alloc: Global,
+    engine: &mut Engine,
+    framer: &mut Framer,
+    room: &mut [u8],
+    link: &mut L,
+    sound: &mut O,
+    gate: &G,
+) -> Result<(), Ended>
+    requires ready { IsReady engine.old framer.old }
+    requires room { 0 < length room.old }
+    requires few { length room.old ≤ 65536 }
+    ensures took { (s : Settings) (v : Live) (so ro : Option (List ℕ)) → IsLive s so (O.taken sound.old) ro (L.sent link.old) v engine.old framer.old
+        → Took s (L.left link.old) (L.left link.new) so (O.taken sound.new) ro (L.sent link.new) v engine.new framer.new result }
+    ensures ready { OnOk result (IsReady engine.new framer.new) }
+    ensures left { OnOk result (HasLeft engine.old framer.old) }
+    ensures more { OnOk result (engine.old.block + framer.old.fed < engine.new.block + framer.new.fed) }
+    ensures later_block { OnOk result (engine.old.block ≤ engine.new.block) }
+    ensures later_fed { OnOk result (framer.old.fed ≤ framer.new.fed) }
+    ensures close { IfErr result (λ how. AtClose how (L.left link.old) (L.left link.new)) }
+    ensures link { result ≡ Err Ended.LinkFault → Rose (L.faults link.old) (L.faults link.new) }
+    ensures sound { result ≡ Err Ended.SoundFault → Rose (O.faults sound.old) (O.faults sound.new) }
+    ensures link_later { L.faults link.old ≤ L.faults link.new }
+    ensures sound_later { O.faults sound.old ≤ O.faults sound.new }
+{
+    check_worn(engine, framer)?;
+    take_event(rt, alloc, engine, framer, room, link, sound, gate)
+}
+
+/// Takes event after event, until the connection ends.
+fn serve<H: Threads + Sync, L: Link, O: Sink, G: Gate>(
+    rt: &H,
+    alloc: Global,
+    settings: &Settings,
+    base: u64,
+    link: &mut L,
+    sound: &mut O,
+    gate: &G,
+) -> Ended
+    ensures served { Served settings.now base (L.left link.old) (L.left link.new) (O.taken sound.old) (O.taken sound.new) (L.sent link.old) (L.sent link.new) result }
+    ensures close { AtClose result (L.left link.old) (L.left link.new) }
+    ensures link { result ≡ Ended.LinkFault → Rose (L.faults link.old) (L.faults link.new) }
+    ensures sound { result ≡ Ended.SoundFault → Rose (O.faults sound.old) (O.faults sound.new) }
+{
+    let Ok(mut engine) = Engine::open(alloc, settings, base, Some(MOST_ENTRIES), 1) else {
+        return Ended::NoMemory;
+    };
+    let Ok(mut room) = room(alloc, PIECE) else {
+        return Ended::NoMemory;
+    };
+    let mut framer = Framer::new(alloc);
+    loop {
+        match serve_event(
+            rt,
+            alloc,
+            &mut engine,
+            &mut framer,
+            &mut room,
+            link,
+            sound,
+            gate,
+        ) {
+            Ok(()) => {}
+            Err(how) => return how,
+        }
+    }
+}
+
+/// Serves one connection until it ends, with block 0 at the time tag `base`.
+///
+/// Each whole frame that comes is taken at once, and what it makes is sent. Each block that is due comes after its boundary, and then its
+/// sound is written and its replies are sent.
+pub fn serve_one<H: Threads + Sync, L: Link, O: Sink, G: Gate>(
+    rt: &H,
+    alloc: Global,
+    settings: &Settings,
+    base: u64,
+    link: &mut L,
+    sound: &mut O,
+    gate: &G,
+) -> Ended
+    // What was taken gives this end, and what it gives was written, where the objects tell it.
+    ensures served { Served settings.now base (L.left link.old) (L.left link.new) (O.taken sound.old) (O.taken sound.new) (L.sent link.old) (L.sent link.new) result }
+    // No event is left where nothing more comes.
+    ensures close { AtClose result (L.left link.old) (L.left link.new) }
+    // A fault has its cause.
+    ensures link { result ≡ Ended.LinkFault → Rose (L.faults link.old) (L.faults link.new) }
+    ensures sound { result ≡ Ended.SoundFault → Rose (O.faults sound.old) (O.faults sound.new) }
+    // Where no count rises, the answer is the end that all events give, or want of memory.
+    ensures complete { (events : List LinkEvent) → L.left link.old ≡ Some events → bytes_in events < 2 ^ 62 → (Rose (L.faults link.old) (L.faults link.new) → ⊥)
+        → (Rose (O.faults sound.old) (O.faults sound.new) → ⊥) → (result ≡ (play_events settings.now base events).ending) ⊎ (result ≡ Ended.NoMemory) }
+{
+    serve(rt, alloc, settings, base, link, sound, gate)
+}

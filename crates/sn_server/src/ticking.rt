@@ -1,0 +1,137 @@
+//! Blocks of a connection: boundaries, each with its block unless the server ends at it.
+ghost use Rattle.std.specs.Prelude.{◌≡◌, ◌⊎◌, ◌≤◌, ◌<◌, ◌+◌, ◌^◌, ◌∷◌, [], List, ℕ, Option, IfErr, OnOk, Err, length};
+ghost use Rattle.std.specs.Io.KnownBytes.{Appends};
+ghost use Rattle.sn_ports.specs.Causes.{Rose};
+ghost use Rattle.sn_ports.specs.Links.{KeepsEvents};
+ghost use Rattle.sn_pcm.specs.declared.settings.Settings.{Settings};
+ghost use Rattle.sn_engine.specs.Running.{with_block, with_settled};
+ghost use Rattle.sn_engine.specs.declared.standing.Standing.TheVariants.{Settled, Bounded};
+ghost use Rattle.sn_server.specs.Going.{to_first};
+ghost use Rattle.sn_server.specs.PlayEvents.{Live, tick};
+ghost use Rattle.sn_server.specs.Serving.{IsLive, Follows, IsReady, StaysOpen, IsTickEnd, IsTicked, HasQuit, IsWornOut, HasLeft};
+ghost use Rattle.sn_server.specs.declared.ended.Ended.{Ended};
+
+use crate::ended::Ended;
+use crate::receiving::send_replies;
+use sn_engine::{Engine, Flow};
+use sn_osc::Framer;
+use sn_ports::{Gate, Link, Sink};
+use std::alloc::Global;
+use std::thread::Threads;
+
+/// As many bytes may come, and as many blocks may be done.
+pub const MOST: u64 = 4611686018427387904;
+
+/// Writes the sound that is still to be written.
+fn write_sound<O: Sink>(engine: &mut Engine, sound: &mut O) -> Result<(), Ended>
+    ensures written { OnOk result (Appends (O.taken sound.old) (O.taken sound.new) engine.old.sound) }
+    ensures kept { engine.new ≡ record engine.old { sound = [] } }
+    ensures only { IfErr result (λ how. how ≡ Ended.SoundFault) }
+    ensures cause { result ≡ Err Ended.SoundFault → Rose (O.faults sound.old) (O.faults sound.new) }
+    ensures later { O.faults sound.old ≤ O.faults sound.new }
+{
+    match engine.drain_sound(sound) {
+        Ok(()) => Ok(()),
+        Err(_) => Err(Ended::SoundFault),
+    }
+}
+
+/// The block after a boundary and its settling, and what comes of them is written.
+fn render_block<H: Threads + Sync, L: Link, O: Sink, G: Gate>(
+    rt: &H,
+    engine: &mut Engine,
+    link: &mut L,
+    sound: &mut O,
+    gate: &G,
+) -> Result<(), Ended>
+    requires bounded { engine.old.standing ≡ Bounded }
+    requires alone { length engine.old.replies ≡ 1 }
+    requires block { engine.old.block < 2 ^ 62 }
+    ensures engine { OnOk result (engine.new ≡ record (with_settled (with_block engine.old)) { sound = []; replies = [] ∷ [] }) }
+    ensures written { OnOk result (Appends (O.taken sound.old) (O.taken sound.new) (with_settled (with_block engine.old)).sound) }
+    ensures sent { OnOk result (Appends (L.sent link.old) (L.sent link.new) (to_first (with_settled (with_block engine.old)).replies)) }
+    ensures only { IfErr result (λ how. (how ≡ Ended.SoundFault) ⊎ (how ≡ Ended.LinkFault)) }
+    ensures events { KeepsEvents (L.left link.old) (L.left link.new) }
+    ensures link { result ≡ Err Ended.LinkFault → Rose (L.faults link.old) (L.faults link.new) }
+    ensures sound { result ≡ Err Ended.SoundFault → Rose (O.faults sound.old) (O.faults sound.new) }
+    ensures link_later { L.faults link.old ≤ L.faults link.new }
+    ensures sound_later { O.faults sound.old ≤ O.faults sound.new }
+{
+    engine.blocks(rt, 1, gate);
+    engine.settle();
+    write_sound(engine, sound)?;
+    send_replies(engine, link)
+}
+
+/// A boundary and, unless `/quit` was accepted at it, its block. What comes of them is written.
+fn tick<H: Threads + Sync, L: Link, O: Sink, G: Gate>(
+    rt: &H,
+    alloc: Global,
+    engine: &mut Engine,
+    link: &mut L,
+    sound: &mut O,
+    gate: &G,
+) -> Result<(), Ended>
+    requires settled { engine.old.standing ≡ Settled }
+    requires alone { length engine.old.replies ≡ 1 }
+    requires block { engine.old.block < 2 ^ 62 }
+    ensures block { OnOk result (IsTicked (O.taken sound.old) (O.taken sound.new) (L.sent link.old) (L.sent link.new) engine.old engine.new) }
+    ensures quit { result ≡ Err Ended.Quit → HasQuit (O.taken sound.old) (O.taken sound.new) (L.sent link.old) (L.sent link.new) engine.old }
+    ensures only { IfErr result IsTickEnd }
+    ensures events { KeepsEvents (L.left link.old) (L.left link.new) }
+    ensures link { result ≡ Err Ended.LinkFault → Rose (L.faults link.old) (L.faults link.new) }
+    ensures sound { result ≡ Err Ended.SoundFault → Rose (O.faults sound.old) (O.faults sound.new) }
+    ensures link_later { L.faults link.old ≤ L.faults link.new }
+    ensures sound_later { O.faults sound.old ≤ O.faults sound.new }
+{
+    match engine.boundary(alloc)? {
+        Flow::On => render_block(rt, engine, link, sound, gate),
+        Flow::Quit => {
+            send_replies(engine, link)?;
+            Err(Ended::Quit)
+        }
+    }
+}
+
+/// Refuses to go on where as many bytes came, or as many blocks were done, as may.
+pub fn check_worn(engine: &Engine, framer: &Framer) -> Result<(), Ended>
+    ensures ok { OnOk result (HasLeft engine.now framer.now) }
+    ensures worn { IfErr result (IsWornOut engine.now framer.now) }
+{
+    let bytes = framer.fed();
+    let blocks = engine.block();
+    if bytes >= MOST || blocks >= MOST {
+        return Err(Ended::Worn { bytes, blocks });
+    }
+    Ok(())
+}
+
+/// So many boundaries, each with its block unless `/quit` was accepted at it.
+pub fn ticks<H: Threads + Sync, L: Link, O: Sink, G: Gate>(
+    rt: &H,
+    alloc: Global,
+    engine: &mut Engine,
+    framer: &Framer,
+    count: u32,
+    link: &mut L,
+    sound: &mut O,
+    gate: &G,
+) -> Result<(), Ended>
+    requires ready { IsReady engine.old framer.now }
+    ensures follows { (s : Settings) (v : Live) (so ro : Option (List ℕ)) → IsLive s so (O.taken sound.old) ro (L.sent link.old) v engine.old framer.now
+        → Follows s so (O.taken sound.new) ro (L.sent link.new) (tick s count v) engine.new framer.now result }
+    ensures ready { OnOk result (IsReady engine.new framer.now) }
+    ensures block { OnOk result (engine.new.block ≡ engine.old.block + count) }
+    ensures open { IfErr result StaysOpen }
+    ensures events { KeepsEvents (L.left link.old) (L.left link.new) }
+    ensures link { result ≡ Err Ended.LinkFault → Rose (L.faults link.old) (L.faults link.new) }
+    ensures sound { result ≡ Err Ended.SoundFault → Rose (O.faults sound.old) (O.faults sound.new) }
+    ensures link_later { L.faults link.old ≤ L.faults link.new }
+    ensures sound_later { O.faults sound.old ≤ O.faults sound.new }
+{
+    for number in 0..count {
+        check_worn(engine, framer)?;
+        tick(rt, alloc, engine, link, sound, gate)?;
+    }
+    Ok(())
+}

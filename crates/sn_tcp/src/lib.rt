@@ -1,0 +1,12 @@
+//! A TCP connection as a link: bytes as they come, and blocks as a clock says that they are due.
+#![tactic(auto)]
+
+mod laws;
+mod line;
+mod link;
+mod pace;
+#[cfg(test)]
+mod tests;
+
+pub use laws::blocks_come_due;
+pub use link::TcpLink;

@@ -1,0 +1,128 @@
+//! A socket and a clock.
+ghost use Rattle.std.specs.Prelude.{◌<◌, ◌^◌, length, IfOk, IfSome};
+ghost use Rattle.std.specs.Io.{WritesAtMost};
+ghost use Rattle.sn_ports.specs.Links.{FeedsWithin, IsFed};
+
+use crate::pace::{Pace, whole_millis};
+use libc::net::{POLLIN, poll};
+use libc::types::pollfd;
+use sn_ports::Fed;
+use std::io;
+use std::io::{Read, Write};
+use std::net::OpenStream;
+use std::os::fd::AsRawFd;
+use std::time::{Clock, Duration};
+
+/// A socket, and a clock by whose time its blocks are due.
+#[derive(Drop)]
+pub(crate) struct Line<S, C> {
+    socket: S,
+    clock: C,
+    start: Duration,
+    pace: Pace,
+    /// Blocks were given last, so that the socket has its turn.
+    listens: bool,
+}
+
+impl<S: Read + Write + OpenStream + AsRawFd + Drop, C: Clock + Drop> Line<S, C> {
+    /// A line whose first block is due now. What is sent over it is not held back.
+    pub(crate) fn new(socket: S, clock: C, rate: u32) -> io::Result<Self>
+        requires { 0 < rate }
+    {
+        socket.set_nodelay(true)?;
+        let start = clock.monotonic()?;
+        Ok(Line {
+            socket,
+            clock,
+            start,
+            pace: Pace::new(rate),
+            listens: false,
+        })
+    }
+
+    /// Nanoseconds since the start.
+    fn nanos(&self) -> io::Result<u128>
+        ensures { IfOk result (λ nanos. nanos < 2 ^ 94) }
+    {
+        let now = self.clock.monotonic()?;
+        Ok(now.saturating_sub(self.start).as_nanos())
+    }
+
+    /// Whether something can be read, once it can or so many nanoseconds have passed.
+    fn is_readable(&self, nanos: u64) -> io::Result<bool> {
+        let mut asked = [pollfd {
+            fd: self.socket.as_raw_fd(),
+            events: POLLIN,
+            revents: 0,
+        }];
+        let millis = i32::try_from(whole_millis(nanos)).unwrap_or(i32::MAX);
+        if poll(&mut asked, millis) >= 0 {
+            return Ok(asked[0].revents != 0);
+        }
+        match io::Error::from_raw_os_error(os::errno()) {
+            error if error.kind() == io::ErrorKind::Interrupted => Ok(false),
+            error => Err(error),
+        }
+    }
+
+    /// What comes within so many nanoseconds.
+    fn listen(&mut self, nanos: u64, into: &mut [u8]) -> io::Result<Option<Fed>>
+        ensures { IfOk result (λ fed. IfSome fed (IsFed into.new)) }
+    {
+        if !self.is_readable(nanos)? {
+            return Ok(None);
+        }
+        self.listens = false;
+        match self.socket.read(into)? {
+            0 => Ok(Some(Fed::End)),
+            count => Ok(Some(Fed::Bytes(count))),
+        }
+    }
+
+    /// What comes without a wait, where the socket has its turn.
+    fn listen_in_turn(&mut self, into: &mut [u8]) -> io::Result<Option<Fed>>
+        ensures { IfOk result (λ fed. IfSome fed (IsFed into.new)) }
+    {
+        if self.listens {
+            self.listen(0, into)
+        } else {
+            Ok(None)
+        }
+    }
+
+    /// The blocks that are due and were not given, or else what comes until one is.
+    fn tick_or_listen(&mut self, into: &mut [u8]) -> io::Result<Option<Fed>>
+        ensures { IfOk result (λ fed. IfSome fed (IsFed into.new)) }
+    {
+        let nanos = self.nanos()?;
+        let count = self.pace.take_due(nanos);
+        if count == 0 {
+            let wait = self.pace.until_next(nanos);
+            return self.listen(wait, into);
+        }
+        self.listens = true;
+        Ok(Some(Fed::Ticks(count)))
+    }
+
+    /// Waits for the next event.
+    pub(crate) fn next(&mut self, into: &mut [u8]) -> io::Result<Fed>
+        ensures { FeedsWithin result into.new }
+    {
+        for _ in 0..u64::MAX {
+            if let Some(fed) = self.listen_in_turn(into)? {
+                return Ok(fed);
+            }
+            if let Some(fed) = self.tick_or_listen(into)? {
+                return Ok(fed);
+            }
+        }
+        Err(io::Error::other("waited too often"))
+    }
+
+    /// Sends a front of the piece.
+    pub(crate) fn send(&mut self, piece: &[u8]) -> io::Result<usize>
+        ensures { WritesAtMost result piece.now }
+    {
+        self.socket.write(piece)
+    }
+}

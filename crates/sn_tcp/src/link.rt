@@ -1,0 +1,72 @@
+ghost use Rattle.std.specs.Prelude.{◌≡◌, ◌<◌, ◌≤◌, None, IfOk};
+ghost use Rattle.sn_ports.specs.Causes.{Rose};
+
+use crate::line::Line;
+use sn_ports::{Failed, Fed, Link};
+use std::io;
+use std::io::{Read, Write};
+use std::net::OpenStream;
+use std::os::fd::AsRawFd;
+use std::time::Clock;
+
+/// A link over a TCP connection. It tells no content, and counts each failure.
+///
+/// It gives bytes as soon as the socket has them, and blocks when the clock says that they are due: block k after k * 64 / rate
+/// seconds. It waits in the socket up to the time of the next block, in whole milliseconds. After a pause it gives the blocks that
+/// are due, 1,024 at a time, and the bytes that came take turns with them.
+#[derive(Drop)]
+pub struct TcpLink<S, C> {
+    line: Line<S, C>,
+    faults: u64,
+}
+
+impl<S: Read + Write + OpenStream + AsRawFd + Drop, C: Clock + Drop> TcpLink<S, C> {
+    /// A link over this socket that has not failed, and whose block 0 is due now.
+    pub fn new(socket: S, clock: C, rate: u32) -> io::Result<Self>
+        requires { 0 < rate }
+        ensures { IfOk result (λ link. link.faults ≡ 0) }
+    {
+        Ok(TcpLink {
+            line: Line::new(socket, clock, rate)?,
+            faults: 0,
+        })
+    }
+
+    /// Counts a failure.
+    fn fails(&mut self) -> Failed
+        ensures later { self.old.faults ≤ self.new.faults }
+        ensures rose { Rose self.old.faults self.new.faults }
+    {
+        self.faults = self.faults.saturating_add(1);
+        Failed
+    }
+
+    /// How many calls failed.
+    pub fn faults(&self) -> u64
+        ensures { result ≡ self.now.faults }
+    {
+        self.faults
+    }
+}
+
+impl<S: Read + Write + OpenStream + AsRawFd + Drop, C: Clock + Drop> Link for TcpLink<S, C> {
+    ghost left = { λ _. None };
+
+    ghost sent = { λ _. None };
+
+    ghost faults = { λ link. link.faults };
+
+    fn next(&mut self, into: &mut [u8]) -> Result<Fed, Failed> {
+        match self.line.next(into) {
+            Ok(fed) => Ok(fed),
+            Err(_) => Err(self.fails()),
+        }
+    }
+
+    fn send(&mut self, piece: &[u8]) -> Result<usize, Failed> {
+        match self.line.send(piece) {
+            Ok(count) if count > 0 || piece.is_empty() => Ok(count),
+            _ => Err(self.fails()),
+        }
+    }
+}

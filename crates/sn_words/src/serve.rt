@@ -1,0 +1,83 @@
+//! The words `serve [key=value ..] PORT SOUND`.
+ghost use Rattle.std.specs.Prelude.{◌≡◌, ◌≤◌, ◌<◌, ◌^◌, length, Ok, Err, IfOk, IfErr, IfSome};
+ghost use Rattle.sn_fixed.specs.Natural.{natural};
+ghost use Rattle.sn_words.specs.Choices.{numbers};
+ghost use Rattle.sn_words.specs.Serving.{between, port_word, port_of, serve_words_of};
+
+use crate::choices::{chosen, first_bad};
+use crate::lines::{BadWord, begins_with};
+use sn_fixed::natural;
+use sn_pcm::Settings;
+use sn_ports::Word;
+
+/// What the words `serve [key=value ..] PORT SOUND` choose.
+#[derive(Clone, Copy, Debug)]
+pub struct ServeWords {
+    /// How to play.
+    pub settings: Settings,
+    /// Where to listen: 1 to 65,535.
+    pub port: u16,
+}
+
+/// The words between the first one and the last two.
+fn between(words: &[Word]) -> &[Word]
+    requires { 3 ≤ length words.now }
+    ensures { result.now ≡ between words.now }
+{
+    &words[1..words.len() - 2]
+}
+
+/// The word before the last.
+fn port_word(words: &[Word]) -> &[u8]
+    requires { 3 ≤ length words.now }
+    ensures { result.now ≡ port_word words.now }
+{
+    words[words.len() - 2].as_slice()
+}
+
+/// The port that decimal digits without a leading zero name.
+fn port_of(word: &[u8]) -> Option<u16>
+    ensures value { result ≡ port_of (natural word.now) }
+    ensures named { IfSome result (λ n. 0 < n) }
+{
+    match natural(word) {
+        Some(number) if 1 <= number && number <= 65_535 => Some(number as u16),
+        _ => None,
+    }
+}
+
+/// The settings and the port that the words `serve [key=value ..] PORT SOUND` choose.
+///
+/// The keys are those of [`settings`](crate::settings). A port is 1 to 65535, in decimal digits without a leading zero.
+///
+/// # Errors
+///
+/// Index 0 where there are no words or the first is not `serve`; the number of words where there are
+/// fewer than three; else the index of the first bad word.
+#[tactic(auto, unfolding(crate::specs::Serving::serve_words_of))]
+pub fn serve_words(words: &[Word]) -> Result<ServeWords, BadWord>
+    requires { length words.now < 2 ^ 32 }
+    ensures ok { IfOk result (λ s. serve_words_of words.now ≡ Ok (record { settings = numbers s.settings; port = s.port })) }
+    ensures err { IfErr result (λ b. serve_words_of words.now ≡ Err b.index) }
+    ensures port { IfOk result (λ s. 0 < s.port) }
+{
+    if !begins_with(b"serve", words) {
+        return Err(BadWord { index: 0 });
+    }
+    let count = words.len() as u32;
+    if count < 3 {
+        return Err(BadWord { index: count });
+    }
+    if let Some(at) = first_bad(between(words)) {
+        return Err(BadWord {
+            index: at as u32 + 1,
+        });
+    }
+    match port_of(port_word(words)) {
+        Some(port) => Ok(ServeWords {
+            settings: chosen(between(words)),
+            port,
+        }),
+        None => Err(BadWord { index: count - 2 }),
+    }
+}

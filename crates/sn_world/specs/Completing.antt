@@ -1,0 +1,45 @@
+-- Completion messages: what a command carries behind its own arguments.
+use Rattle.std.specs.Prelude.{ℕ, ◌-◌, List, [], ◌∷◌, length, take, Option, Some, None, Result, Ok, Err}
+use Rattle.sn_osc.specs.Shape.{Argument, int, blob, MessageShape, Shape, message, bundle}
+use Rattle.sn_osc.specs.Reading.{read}
+use Rattle.sn_osc.specs.declared.fault.PacketFault.{PacketFault}
+use Rattle.sn_world.specs.declared.command.BusCommand.{BusCommand}
+use Rattle.sn_world.specs.declared.command.BusCommand.TheVariants as buses
+
+-- ---- the blob behind the arguments of a command, which their kinds tell
+
+abbrev pub behind_frames : List Argument → Option (List ℕ)
+behind_frames (int n ∷ int frames ∷ blob b ∷ []) = Some b
+behind_frames (int n ∷ int frames ∷ int channels ∷ blob b ∷ []) = Some b
+behind_frames _ = None
+
+abbrev pub behind_number : List Argument → Option (List ℕ)
+behind_number (int n ∷ blob b ∷ []) = Some b
+behind_number _ = None
+
+abbrev pub behind_text : List Argument → Option (List ℕ)
+behind_text (blob text ∷ blob b ∷ []) = Some b
+behind_text _ = None
+
+-- `/b_alloc`, `/b_free`, `/b_zero` and `/d_recv` may carry one
+abbrev pub carried : BusCommand → List Argument → Option (List ℕ)
+carried buses.AllocBuffer = behind_frames
+carried buses.FreeBuffer = behind_number
+carried buses.ZeroBuffer = behind_number
+carried buses.Receive = behind_text
+carried _ = λ xs. None
+
+-- the arguments in front of it
+abbrev pub own : List Argument → List Argument
+own xs = take (length xs - 1) xs
+
+-- ---- the message that a blob spells, where it spells one
+
+abbrev pub one_message : Result Shape PacketFault → Option MessageShape
+one_message (Ok (message m)) = Some m
+one_message (Ok (bundle tag inner)) = None
+one_message (Err fault) = None
+
+abbrev pub message_in : Option (List ℕ) → Option MessageShape
+message_in None = None
+message_in (Some b) = one_message (read b)

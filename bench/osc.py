@@ -153,6 +153,10 @@ def sc_defs():
     m = d.sig("BinaryOpUGen", AUDIO, [a, 0.0009765625], special=MUL)
     d.ugen("Out", AUDIO, [d["out"], m], 0)
     out["quiet"] = d.scgf()
+    # step: a control's value onto a control bus
+    d = Def("step", value=1, out=0)
+    d.ugen("Out", CONTROL, [d["out"], d["value"]], 0)
+    out["step"] = d.scgf()
     # voice and mix8: the two definitions of the drill
     d = Def("voice", freq=440, out=16)
     a = d.sig("SinOsc", AUDIO, [d["freq"], 0.0])
@@ -179,6 +183,7 @@ def snova_defs():
                     "a = SinOsc freq 0\ne = Line 0.01 0 dur 0\nm = Mul a e\nOut.ar out m\n",
         "quiet": "control freq 440000\ncontrol out 0\n"
                  "a = SinOsc freq 0\nm = Mul a 16384\nOut.ar out m\n",
+        "step": "control value 1\ncontrol out 0\nOut.kr out value\n",
         "voice": "control freq 440000\ncontrol out 16\n"
                  "a = SinOsc freq 0\ne = Line 0.25 0 500 2\nm = Mul a e\nOut.ar out m\n",
         "mix8": "a b c d e f g h = In.ar 16\ni = Add a b\nj = Add c d\n"

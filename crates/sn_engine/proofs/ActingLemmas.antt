@@ -1,5 +1,5 @@
 -- Entries that act while they are taken from the queue.
-use Rattle.std.proofs.Common.{◌≡◌, ℕ, ◌<◌, suc, Bool, true, false, cond, ◌||◌, List, [], ◌∷◌, length, map, filter, Option, Some, None, refl, sym, ap, subst, ◌∙◌, arith}
+use Rattle.std.proofs.Common.{◌≡◌, ◌⊎◌, inl, inr, ℕ, ◌<◌, suc, Bool, true, false, cond, ◌||◌, List, [], ◌∷◌, length, map, filter, Option, Some, None, refl, sym, ap, subst, ◌∙◌, arith}
 use Rattle.std.specs.Prelude.{not, if◌then◌else◌, Result, Ok, Err}
 use Rattle.sn_ports.specs.declared.failed.NoMemory.{NoMemory}
 use Rattle.sn_reply.specs.declared.reason.Reason.{Reason}
@@ -7,7 +7,7 @@ use Rattle.sn_world.specs.declared.command.Handled.{Handled}
 use Rattle.sn_world.specs.declared.command.Handled.TheVariants.{Done, Completion, Quit, ClearSched, Failed, NotMine}
 use Rattle.sn_world.specs.Ending.{Next, nothing}
 use Rattle.sn_world.specs.Answers.{Handles, IsNext, TellsNext}
-use Rattle.sn_world.specs.Commands.{next_in}
+use Rattle.sn_world.specs.Commands.{next_in, either as first_there}
 use Rattle.std.specs.Option.{option_map}
 use Rattle.std.specs.List.{AllByRecursion}
 use Rattle.sn_osc.specs.Shape.{MessageShape, message_of}
@@ -127,3 +127,17 @@ cleared-answerable now mid new is all = subst (λ (q : WaitingList). AllAnswerab
         at : (b : Bool) → AllAnswerable (filter test ws) → AllAnswerable (cond b (w ∷ filter test ws) (filter test ws))
         at true rest = (all.0, rest)
         at false rest = rest
+
+-- ---- the first row that is there
+
+still_first : (o other : Option (Result Turn Reason)) (t : Turn) → o ≡ Some (Ok t) → first_there o other ≡ Some (Ok t)
+still_first o other t e = ap (λ x. first_there x other) e
+
+-- a command on nodes that was carried out is its own row
+pub done_there : (h : Handled) (o other : Option (Result Turn Reason)) (t : Turn) → (h ≡ Done) ⊎ ((h ≡ Quit) ⊎ (h ≡ ClearSched)) → Handles (Ok h) o t → first_there o other ≡ Some (Ok t)
+done_there h o other t (inl e) row = still_first o other t (subst (λ x. Handles (Ok x) o t) e row)
+done_there h o other t (inr (inl e)) row = still_first o other t (subst (λ x. Handles (Ok x) o t) e row)
+done_there h o other t (inr (inr e)) row = still_first o other t (subst (λ x. Handles (Ok x) o t) e row)
+
+pub handles_done : (r : Result Handled NoMemory) (o : Option (Result Turn Reason)) (t after : Turn) → r ≡ Ok Done → t ≡ after → o ≡ Some (Ok after) → Handles r o t
+handles_done r o t after is same row = subst (λ x. Handles x o t) (sym is) (row ∙ ap (λ x. Some (Ok x)) (sym same))

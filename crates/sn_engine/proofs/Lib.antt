@@ -8,3 +8,7 @@ pub mod HearingLemmas
 pub mod SettleLemmas
 pub mod DrainLemmas
 pub mod OfferLemmas
+mod Bounded
+pub mod SeekingLemmas
+pub mod ToldLemmas
+pub mod QuietLemmas

@@ -5,6 +5,7 @@ use Rattle.sn_ports.specs.Octets.{Octets, bytes_of}
 use Rattle.sn_pcm.specs.Allowed.{is_rate, is_within}
 use Rattle.sn_pcm.specs.declared.settings.Settings.{Settings}
 use Rattle.sn_queue.specs.Waiting.{WaitingList}
+use Rattle.sn_clash.specs.declared.clash.Clash.{Clash}
 use Rattle.sn_engine.specs.Running.{Running, opened}
 use Rattle.sn_engine.specs.declared.standing.Standing.TheVariants.{Settled}
 use Rattle.sn_world.specs.declared.stage.Stage.{Stage}
@@ -12,14 +13,14 @@ use Rattle.sn_world.specs.World.{World, world_of}
 use Rattle.sn_world.specs.Opening.{opening, IsOpening}
 use Rattle.sn_world.proofs.OpeningLaws.{opens}
 
-abbrev pub begun : Settings → World → WaitingList → List ℕ → List (List ℕ) → Running
-begun s world waiting sound replies = record { settings = s; world = world; waiting = waiting; block = 0; standing = Settled; sound = sound; replies = replies }
+abbrev pub begun : Settings → World → WaitingList → List Clash → List ℕ → List (List ℕ) → Running
+begun s world waiting clashes sound replies = record { settings = s; world = world; waiting = waiting; clashes = clashes; block = 0; standing = Settled; sound = sound; replies = replies }
 
-pub opens_engine : (s : Settings) (base : ℕ) (limit : Option ℕ) (clients n : ℕ) (stage : Stage) (words : List ℕ) (q : WaitingList) (sound : List ℕ) (replies : List (List ℕ)) → IsOpening s.rate s.memory clients stage
-    → words ≡ replicate n 0 → q ≡ record { base = base; rate = s.rate; limit = limit; puts = 0; waiting = [] } → sound ≡ [] → replies ≡ replicate clients [] → begun s (world_of stage words) q sound replies ≡ opened s base limit clients
-opens_engine s base limit clients n stage words q sound replies o zeros waits silent none =
+pub opens_engine : (s : Settings) (base : ℕ) (limit : Option ℕ) (clients n : ℕ) (stage : Stage) (words : List ℕ) (q : WaitingList) (clashes : List Clash) (sound : List ℕ) (replies : List (List ℕ)) → IsOpening s.rate s.memory clients stage
+    → words ≡ replicate n 0 → q ≡ record { base = base; rate = s.rate; limit = limit; puts = 0; waiting = [] } → clashes ≡ [] → sound ≡ [] → replies ≡ replicate clients [] → begun s (world_of stage words) q clashes sound replies ≡ opened s base limit clients
+opens_engine s base limit clients n stage words q clashes sound replies o zeros waits clear silent none =
     let world : world_of stage words ≡ opening s.rate s.memory clients = ap (world_of stage) zeros ∙ opens s.rate s.memory clients n stage o in
-    λ i. begun s (world i) (waits i) (silent i) (none i)
+    λ i. begun s (world i) (waits i) (clear i) (silent i) (none i)
 
 pub one_more_silent : (n : ℕ) (texts more : List Octets) (t : Octets) → map bytes_of texts ≡ replicate n [] → more ≡ texts ++ t ∷ [] → t.bytes ≡ [] → map bytes_of more ≡ replicate (n + 1) []
 one_more_silent n texts more t silent put none =

@@ -1,11 +1,15 @@
 -- A boundary between two blocks: the entries that are due act.
-use Rattle.std.specs.Prelude.{ℕ, zero, suc, Bool, false, not, ◌||◌, if◌then◌else◌, List, [], ◌∷◌, filter}
+use Rattle.std.specs.Prelude.{ℕ, zero, suc, Bool, false, not, ◌||◌, if◌then◌else◌, List, [], ◌∷◌, ◌++◌, filter}
 use Rattle.sn_osc.specs.Shape.{MessageShape}
 use Rattle.sn_queue.specs.Waiting.{Waiting, WaitingList}
 use Rattle.sn_queue.specs.Steps.{is_due}
 use Rattle.sn_world.specs.World.{World, Turn}
 use Rattle.sn_world.specs.Ending.{Next, nothing, quitting, clearing, completing, is_clearing, is_quitting}
 use Rattle.sn_world.specs.Commands.{deepest, command, next_after}
+use Rattle.sn_reply.specs.Replies.{ReplyShape}
+use Rattle.sn_clash.specs.declared.clash.Clash.{Clash}
+use Rattle.sn_clash.specs.Clashing.{clashes_of}
+use Rattle.sn_engine.specs.Clashing.{told_clashes}
 use Rattle.sn_engine.specs.declared.acting.Asked.{Asked}
 
 -- the turn after a message, and what is still done besides
@@ -82,6 +86,14 @@ unsaid w = record { world = w; replies = [] }
 -- the world and the replies after the entries that are due acted in their order
 abbrev pub turn_at : ℕ → WaitingList → World → Turn
 turn_at b q w = act_entries (due_at b q) (unsaid w)
+
+-- the clashes of its members, once those entries acted
+abbrev pub clashes_at : ℕ → WaitingList → World → List Clash
+clashes_at b q w = clashes_of (turn_at b q w).world
+
+-- the replies at it, and then those that tell of the clashes that were not there at the boundary before
+abbrev pub replies_at : ℕ → WaitingList → List Clash → World → List ReplyShape
+replies_at b q before w = (turn_at b q w).replies ++ told_clashes before (clashes_at b q w)
 
 -- what waits after it
 abbrev pub waiting_at : ℕ → WaitingList → World → WaitingList

@@ -7,3 +7,6 @@ pub mod Running
 pub mod Keeping
 pub mod Arriving
 pub mod Refusing
+pub mod Clashing
+pub mod Seeking
+pub mod Holding

@@ -12,15 +12,17 @@ use Rattle.sn_engine.specs.declared.standing.Standing.{Standing}
 use Rattle.sn_engine.specs.declared.standing.Standing.TheVariants.{Settled, Bounded, Rendered, Spent}
 use Rattle.sn_engine.specs.declared.standing.Flow.{Flow}
 use Rattle.sn_engine.specs.declared.standing.Flow.TheVariants.{On, Quit}
-use Rattle.sn_engine.specs.Boundary.{unsaid, turn_at, waiting_at, quits_at}
+use Rattle.sn_clash.specs.declared.clash.Clash.{Clash}
+use Rattle.sn_engine.specs.Boundary.{unsaid, turn_at, clashes_at, replies_at, waiting_at, quits_at}
 use Rattle.sn_engine.specs.Outputs.{outputs}
 
--- the settings, which nothing changes; the world, what waits, the number of the next block and how far it is; and the bytes that are
+-- the settings, which nothing changes; the world, what waits, the clashes of the last boundary, the number of the next block and how far it is; and the bytes that are
 -- still to be written: of the sound, and for each client of the replies
 pub record Running : Type 0 where
   pub settings : Settings
   pub world : World
   pub waiting : WaitingList
+  pub clashes : List Clash
   pub block : ℕ
   pub standing : Standing
   pub sound : List ℕ
@@ -32,6 +34,7 @@ opened s base limit clients = record {
   settings = s;
   world = opening s.rate s.memory clients;
   waiting = record { base = base; rate = s.rate; limit = limit; puts = 0; waiting = [] };
+  clashes = [];
   block = 0;
   standing = Settled;
   sound = [];
@@ -43,8 +46,9 @@ abbrev pub at_boundary : Running → Running
 at_boundary r = record r {
   world = (turn_at r.block r.waiting r.world).world;
   waiting = waiting_at r.block r.waiting r.world;
+  clashes = clashes_at r.block r.waiting r.world;
   standing = Bounded;
-  replies = with_frames 0 (turn_at r.block r.waiting r.world).replies r.replies;
+  replies = with_frames 0 (replies_at r.block r.waiting r.clashes r.world) r.replies;
 }
 
 abbrev pub flow_of : Bool → Flow

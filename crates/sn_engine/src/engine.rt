@@ -11,7 +11,7 @@ ghost use Rattle.sn_engine.specs.Refusing.{with_bad_packet};
 ghost use Rattle.sn_engine.specs.Running.{Running, IsQuiet, opened, at_boundary, flow_at, with_block, with_settled};
 ghost use Rattle.sn_engine.specs.declared.standing.Standing.TheVariants.{Settled, Bounded, Rendered, Spent};
 
-use crate::acting::act_due;
+use crate::bounding::act_boundary;
 use crate::entry::entries;
 use crate::offering::offer_entries;
 use crate::refusing::bad_packet;
@@ -19,6 +19,7 @@ use crate::room::reserve_settling;
 use crate::settling::settle_before;
 use crate::standing::{Flow, Standing};
 use crate::walking::{hear_block, run_nodes};
+use sn_clash::Clashes;
 use sn_mem::{PlainPort, Scratch};
 use sn_osc::Packet;
 use sn_pcm::{Settings, frames};
@@ -53,6 +54,9 @@ pub struct Engine {
     // How many bytes each client may be sent of the settling that comes.
     room: u32,
     queue: Queue,
+    // The clashes of the last boundary, and whether nothing changed since they were taken.
+    clashes: Clashes,
+    clashes_hold: bool,
     block: u64,
     standing: Standing,
     sound: Text,
@@ -73,15 +77,17 @@ impl Model for Engine {
     ghost use Rattle.sn_tree.specs.Trees.{running_labels};
     ghost use Rattle.sn_world.specs.SettleWords.{walk_room};
     ghost use Rattle.sn_engine.specs.Keeping.{HasRoom, IsRoom};
+    ghost use Rattle.sn_engine.specs.Holding.{StillHold};
 
     ghost Value = { Running };
 
     ghost coded = { Prim.hlevel (codes, nodes_code, finite.code) };
 
-    ghost view = { λ e. record { settings = e.settings; world = world_of e.stage e.port.words.items; waiting = e.queue; block = e.block; standing = e.standing; sound = e.sound.bytes; replies = map bytes_of e.replies.items } };
+    ghost view = { λ e. record { settings = e.settings; world = world_of e.stage e.port.words.items; waiting = e.queue; clashes = e.clashes; block = e.block; standing = e.standing; sound = e.sound.bytes; replies = map bytes_of e.replies.items } };
 
     ghost invariant = { λ e. Pictures e.stage e.port.words.items × AllAnswerable e.queue.waiting × HasRoom e.standing e.sound.spare (vec_capacity e.samples) (walk_room (running_labels e.stage.tree.attached)) e.endings.spare e.replies.items
-        × IsRoom e.standing e.room (walk_room (running_labels e.stage.tree.attached)) × (e.room < 2 ^ 30) × (length e.replies.items ≤ 4) };
+        × IsRoom e.standing e.room (walk_room (running_labels e.stage.tree.attached)) × (e.room < 2 ^ 30) × (length e.replies.items ≤ 4)
+        × StillHold e.clashes_hold e.stage e.clashes };
 }
 
 /// Nothing to send to so many clients.
@@ -142,6 +148,8 @@ impl Engine {
             endings: Endings::new(alloc),
             room: 0,
             queue: Queue::new(alloc, base, settings.rate, limit),
+            clashes: Clashes::new(alloc),
+            clashes_hold: false,
             block: 0,
             standing: Standing::Settled,
             sound: Text::new(alloc),
@@ -234,14 +242,19 @@ impl Engine {
         self.samples.reserve(BLOCK_SAMPLES)?;
         self.sound.reserve(BLOCK_BYTES)?;
         let mut said = Replies::new(alloc);
-        let quits = act_due(
+        let hold = self.clashes_hold;
+        self.clashes_hold = false;
+        let quits = act_boundary(
             alloc,
             &mut self.stage,
             &mut self.port,
             &mut self.queue,
             self.block,
+            &mut self.clashes,
+            hold,
             &mut said,
         )?;
+        self.clashes_hold = true;
         send(alloc, &mut self.replies, 0, said)?;
         self.room = reserve_settling(&self.stage, &mut self.endings, &mut self.replies)?;
         self.standing = Standing::Bounded;
@@ -283,13 +296,14 @@ impl Engine {
         requires block { self.old.block < 2 ^ 63 }
         ensures { self.new ≡ with_settled self.old }
     {
-        settle_before(
+        let ended = settle_before(
             &mut self.stage,
             &mut self.port,
             self.block,
             &mut self.endings,
             &mut self.replies,
         );
+        self.clashes_hold = self.clashes_hold && !ended;
         self.standing = Standing::Settled;
         self.room = 0;
     }

@@ -2,6 +2,9 @@
 #![tactic(auto)]
 
 mod acting;
+mod before;
+mod bounding;
+mod clashing;
 mod engine;
 mod entry;
 mod laws;

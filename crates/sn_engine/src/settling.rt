@@ -1,5 +1,5 @@
 //! The settling of a block, and what each client is sent of it.
-ghost use Rattle.std.specs.Prelude.{◌≡◌, ◌≤◌, ◌<◌, ◌-◌, ◌^◌, [], map, length};
+ghost use Rattle.std.specs.Prelude.{◌≡◌, ◌≤◌, ◌<◌, ◌-◌, ◌^◌, [], false, map, length};
 ghost use Rattle.sn_ports.specs.Octets.{bytes_of};
 ghost use Rattle.sn_reply.specs.Frames.{with_frames};
 ghost use Rattle.sn_tree.specs.Trees.{running_labels};
@@ -14,20 +14,22 @@ use sn_ports::Text;
 use sn_settle::settle;
 use sn_world::{Endings, Stage};
 
-/// Settles the block before block `next`: clients are sent what they are told of it. It takes no memory.
+/// Settles the block before block `next`: clients are sent what they are told of it. Tells whether a unit ended in it: where none did,
+/// the stage stays as it is. It takes no memory.
 pub fn settle_before<P: Port>(
     stage: &mut Stage,
     port: &mut P,
     next: u64,
     endings: &mut Endings,
     replies: &mut [Text],
-)
+) -> bool
     requires pictures { Pictures stage.old (P.words port.old) }
     requires foot { WritesWorld (P.foot port.old) stage.old.pool.region }
     requires next { next < 2 ^ 63 }
     requires clients { length replies.old ≤ 4 }
     requires room { CanSettle (walk_room (running_labels stage.old.tree.attached)) endings.old.spare replies.old }
     ensures world { world_of stage.new (P.words port.new) ≡ (settled (next - 1) (turn_of stage.old (P.words port.old) [])).world }
+    ensures same { result ≡ false → stage.new ≡ stage.old }
     ensures sent { map bytes_of replies.new ≡ with_frames 0 (settled (next - 1) (turn_of stage.old (P.words port.old) [])).replies (map bytes_of replies.old) }
     ensures clients { length replies.new ≡ length replies.old }
     ensures pictures { Pictures stage.new (P.words port.new) }
@@ -36,5 +38,5 @@ pub fn settle_before<P: Port>(
     ensures foot { P.foot port.new ≡ P.foot port.old }
     ensures rest { P.rest port.new ≡ P.rest port.old }
 {
-    settle(stage, port, next.saturating_sub(1), endings, replies);
+    settle(stage, port, next.saturating_sub(1), endings, replies)
 }

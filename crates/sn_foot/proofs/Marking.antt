@@ -147,7 +147,7 @@ at_controls Write Buffer controls marks n lt = unchanged marks n controls
 
 -- ---- nodes
 
-long_held : (access : Access) (bank : Bank) (h : Held) (marks : List Bool) → length (by_held access bank h marks) ≡ length marks
+pub long_held : (access : Access) (bank : Bank) (h : Held) (marks : List Bool) → length (by_held access bank h marks) ≡ length marks
 long_held access bank held.Group marks = refl
 long_held access bank (held.Synth def controls state) marks =
     long_units access bank controls (definition_of def.value).units (by_controls access bank controls marks) ∙ long_controls access bank controls marks
@@ -160,7 +160,7 @@ at_synth access bank controls us marks n lt =
     ∙ ap (λ b. b || list_any (λ u. unit_uses access controls u (resource bank n)) us) (at_controls access bank controls marks n lt)
     ∙ or_assoc (at marks n) (list_any (λ c. control_uses access c (resource bank n)) controls) (list_any (λ u. unit_uses access controls u (resource bank n)) us)
 
-at_held : (access : Access) (bank : Bank) (h : Held) (marks : List Bool) (n : ℕ) → n < length marks → at (by_held access bank h marks) n ≡ (at marks n || held_uses access h (resource bank n))
+pub at_held : (access : Access) (bank : Bank) (h : Held) (marks : List Bool) (n : ℕ) → n < length marks → at (by_held access bank h marks) n ≡ (at marks n || held_uses access h (resource bank n))
 at_held Read bank held.Group marks n lt = or_nothing (at marks n)
 at_held Write bank held.Group marks n lt = or_nothing (at marks n)
 at_held Read bank (held.Synth def controls state) marks n lt = at_synth Read bank controls (definition_of def.value).units marks n lt

@@ -52,7 +52,7 @@ fn buffer_place(buffers: &Buffers, number: u32) -> Option<Extent>
 }
 
 /// Where a resource lies, or `None` where it is not there.
-fn place_of(buffers: &Buffers, bank: Bank, number: u32) -> Option<Extent>
+pub fn place_of(buffers: &Buffers, bank: Bank, number: u32) -> Option<Extent>
     ensures { result ≡ place_of buffers.now (resource bank number) }
 {
     match bank {

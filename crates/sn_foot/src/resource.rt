@@ -14,14 +14,19 @@ pub enum Resource {
 /// How a resource is used.
 #[derive(Clone, Copy)]
 pub enum Access {
+    /// It is read.
     Read,
+    /// It is written.
     Write,
 }
 
 /// A sort of resources.
 #[derive(Clone, Copy)]
 pub enum Bank {
+    /// Audio buses.
     Audio,
+    /// Control buses.
     Control,
+    /// Buffers.
     Buffer,
 }

@@ -9,3 +9,10 @@ pub mod Drafting
 pub mod Lowest
 pub mod Coming
 pub mod Resources
+pub mod Linking
+pub mod Staging
+pub mod Counting
+pub mod Clearing
+pub mod Worlds
+pub mod Naming
+pub mod Distinctly

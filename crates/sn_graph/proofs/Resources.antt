@@ -19,18 +19,18 @@ use Rattle.sn_graph.specs.Disjoint.{AreDisjoint}
 
 -- ---- how often a word is covered
 
-covered_one : (b : Bool) → b ≡ true → ◌≡◌ {A = ℕ} (if b then 1 else 0) 1
+pub covered_one : (b : Bool) → b ≡ true → ◌≡◌ {A = ℕ} (if b then 1 else 0) 1
 covered_one true h = refl
 covered_one false h = absurd (true≢false (sym h))
 
-overlaps_has : (x : ℕ) (es : List Extent) → has es x ≡ true → 1 ≤ overlaps x es
+pub overlaps_has : (x : ℕ) (es : List Extent) → has es x ≡ true → 1 ≤ overlaps x es
 overlaps_has x [] h = absurd (true≢false (sym h))
 overlaps_has x (e ∷ es) h = ⊎_elim
     (λ (c : covers e x ≡ true). let one = covered_one (covers e x) c in omega (arith, one))
     (λ (c : has es x ≡ true). omega (arith, overlaps_has x es c))
     (or_cases (covers e x) (has es x) h)
 
-overlaps_append : (x : ℕ) (es fs : List Extent) → overlaps x (es ++ fs) ≡ overlaps x es + overlaps x fs
+pub overlaps_append : (x : ℕ) (es fs : List Extent) → overlaps x (es ++ fs) ≡ overlaps x es + overlaps x fs
 overlaps_append x [] fs = omega arith
 overlaps_append x (e ∷ es) fs = omega (arith, overlaps_append x es fs)
 
@@ -53,7 +53,7 @@ two_buffers x (suc n) (suc m) (p ∷ ps) l h k = omega (arith, two_buffers x n m
 
 -- ---- what a word of a resource says
 
-covers_from : (e : Extent) (x : ℕ) → covers e x ≡ true → (e.at ≤ x) × (x < e.at + e.len)
+pub covers_from : (e : Extent) (x : ℕ) → covers e x ≡ true → (e.at ≤ x) × (x < e.at + e.len)
 covers_from e x h = let p = and_parts (nat_le e.at x) (nat_lt x (e.at + e.len)) h in (leb-true e.at x p.0, ltb-true x (e.at + e.len) p.1)
 
 covers_first : (e : Extent) → 1 ≤ e.len → covers e e.at ≡ true

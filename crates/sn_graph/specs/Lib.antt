@@ -4,3 +4,6 @@ pub mod Plans
 pub mod Inputs
 pub mod Disjoint
 pub mod Drafts
+pub mod Stages
+pub mod Pieces
+pub mod Clear

@@ -1,13 +1,37 @@
 //! Laws of the clashes of nodes.
-ghost use Rattle.std.specs.Prelude.{◌↔◌, ◌++◌, List, Option};
+ghost use Rattle.std.specs.Prelude.{◌≡◌, ◌↔◌, ◌++◌, ℕ, ℤ, true, List, Option};
+ghost use Rattle.std.specs.List.{All};
 ghost use Rattle.sn_mem.specs.declared.buffers.BufferPlace.{BufferPlace};
 ghost use Rattle.sn_mem.specs.Words.{Clash};
+ghost use Rattle.sn_mem.specs.Buffers.{live_places};
 ghost use Rattle.sn_world.specs.declared.stage.Held.{Held};
+ghost use Rattle.sn_world.specs.Pictures.{Pictures, live_held};
+ghost use Rattle.sn_foot.specs.Canonical.{Ends};
 ghost use Rattle.sn_foot.specs.Footprints.{Clash as FootprintsClash, foot_of, footprint_of, states_of};
+ghost use Rattle.sn_graph.specs.Clear.{IsClashing};
 ghost use Rattle.sn_graph.specs.Disjoint.{AreDisjoint};
+ghost use Rattle.sn_graph.specs.Stages.{clashing_in, is_listed};
+
+use sn_world::Stage;
 
 /// A law: where no two of the buses, the buffers and the states share a word, the words of some nodes clash with those of others
 /// exactly where their footprints clash. A synth's own state clashes with nothing.
 pub fn feet_clash_as_footprints()
     ensures { (buffers : List (Option BufferPlace)) (first second : List Held) → AreDisjoint buffers (states_of first ++ states_of second) → Clash (foot_of buffers first) (foot_of buffers second) ↔ FootprintsClash (footprint_of buffers first) (footprint_of buffers second) }
 {}
+
+/// A law: a stage that stands for a world meets what its plan asks for, and no two of its buses, buffers and states share a word.
+pub fn worlds_are_disjoint(stage: &Stage)
+    ensures buffers { (words : List ℕ) → Pictures stage.now words → All Ends (live_places stage.now.buffers) }
+    ensures states { (words : List ℕ) → Pictures stage.now words → All Ends (live_held stage.now.tree.attached) }
+    ensures disjoint { (words : List ℕ) → Pictures stage.now words → AreDisjoint stage.now.buffers (live_held stage.now.tree.attached) }
+{
+    let _ = stage;
+}
+
+/// A law: the clashes of a stage name just the parallel groups that the walk reaches and of which two members clash.
+pub fn clashes_name_the_groups(stage: &Stage)
+    ensures { (id : ℤ) → (is_listed (clashing_in stage.now) id ≡ true) ↔ IsClashing stage.now.buffers stage.now.tree.attached id }
+{
+    stage.tree.ids_are_distinct();
+}

@@ -4,7 +4,13 @@
 mod jobs;
 mod laws;
 mod nodes;
+mod parts;
+mod stages;
 
 pub use jobs::plan_of_nodes;
-pub use laws::feet_clash_as_footprints;
+pub use laws::{clashes_name_the_groups, feet_clash_as_footprints, worlds_are_disjoint};
 pub use nodes::{Running, Voice};
+pub use stages::plan;
+
+#[cfg(test)]
+mod tests;

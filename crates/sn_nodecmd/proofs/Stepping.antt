@@ -7,7 +7,6 @@ use Rattle.sn_mem.specs.declared.extents.Extent.{Extent}
 use Rattle.sn_reply.specs.Replies.{ReplyShape}
 use Rattle.sn_reply.specs.declared.reason.Reason.TheVariants as Reasons
 use Rattle.sn_tree.specs.declared.node.NodeKind.{NodeKind}
-use Rattle.sn_tree.specs.declared.node.NodeKind.TheVariants as kinds
 use Rattle.sn_tree.specs.declared.node.NodeView.{NodeView}
 use Rattle.sn_tree.specs.declared.node.TreeFault.TheVariants as faults
 use Rattle.sn_tree.specs.declared.node.Action.{Action}
@@ -201,26 +200,26 @@ keeps_added true id kind action target tree before there =
       held = λ rate region h. two.held rate region (one.held rate region h);
     }
 
-pub keeps_group : (old new : Stage) (id action target : ℤ) (next : Option ℤ) → node_refusal (Some id) action target old.tree.attached ≡ None
-    → new ≡ record old { tree = added (replaces action) id kinds.Group (action_for action) target held.Group old.tree; next_id = next } → Keeps old new
-keeps_group old new id action target next allowed is =
-    keeps_with old new (added (replaces action) id kinds.Group (action_for action) target held.Group old.tree) next (keeps_added (replaces action) id kinds.Group (action_for action) target old.tree (goes_before action) (target_there (Some id) action target old.tree.attached allowed)) is
+pub keeps_group : (old new : Stage) (kind : NodeKind) (id action target : ℤ) (next : Option ℤ) → node_refusal (Some id) action target old.tree.attached ≡ None
+    → new ≡ record old { tree = added (replaces action) id kind (action_for action) target held.Group old.tree; next_id = next } → Keeps old new
+keeps_group old new kind id action target next allowed is =
+    keeps_with old new (added (replaces action) id kind (action_for action) target held.Group old.tree) next (keeps_added (replaces action) id kind (action_for action) target old.tree (goes_before action) (target_there (Some id) action target old.tree.attached allowed)) is
 
-pub group_made : (old new : Stage) (r : NewNode) (id : ℤ) (old_replies mid_replies new_replies : List ReplyShape)
+pub group_made : (old new : Stage) (kind : NodeKind) (r : NewNode) (id : ℤ) (old_replies mid_replies new_replies : List ReplyShape)
     → ((w : World) → w.notify ≡ old.notify → told_if (replaces r.action) (views_below r.target old.tree.attached) (let t : Turn = record { world = w; replies = old_replies } in t) ≡ record { world = w; replies = mid_replies })
-    → new ≡ record old { tree = added (replaces r.action) id kinds.Group (action_for r.action) r.target held.Group old.tree; next_id = next_after old.next_id r.id }
+    → new ≡ record old { tree = added (replaces r.action) id kind (action_for r.action) r.target held.Group old.tree; next_id = next_after old.next_id r.id }
     → ((words : List ℕ) → turn_of new words new_replies ≡ told Went id (turn_of new words mid_replies))
-    → (words : List ℕ) → act_with kinds.Group r (Some id) (turn_of old words old_replies) ≡ turn_of new words new_replies
-group_made old new r id old_replies mid_replies new_replies tells is told_now words =
+    → (words : List ℕ) → act_with kind r (Some id) (turn_of old words old_replies) ≡ turn_of new words new_replies
+group_made old new kind r id old_replies mid_replies new_replies tells is told_now words =
     let w = world_of old words in
     let f = content_of words in
     let views : views_below r.target w.nodes ≡ views_below r.target old.tree.attached = views-payloads f (negsuc 0) (negsuc 0) r.target old.tree.attached in
     let ends : told_replaced r (turn_of old words old_replies) ≡ turn_of old words mid_replies = ap (λ (vs : List (ℤ × NodeView)). told_if (replaces r.action) vs (turn_of old words old_replies)) views ∙ tells w refl in
-    let nodes : placed r (leaf id kinds.Group group) w.nodes ≡ with_payloads f (added (replaces r.action) id kinds.Group (action_for r.action) r.target held.Group old.tree).attached =
-    ap (left_by (replaces r.action) r.target) (put-payloads f (action_for r.action) r.target (leaf id kinds.Group held.Group) old.tree.attached)
-    ∙ left-payloads f (replaces r.action) r.target (put (action_for r.action) r.target (leaf id kinds.Group held.Group) old.tree.attached)
-    ∙ ap (with_payloads f) (sym (added_attached (replaces r.action) id kinds.Group (action_for r.action) r.target held.Group old.tree)) in
-    ap (λ (t : Turn). told Went id (let u : Turn = record { world = with_group kinds.Group r id w; replies = t.replies } in u)) ends
+    let nodes : placed r (leaf id kind group) w.nodes ≡ with_payloads f (added (replaces r.action) id kind (action_for r.action) r.target held.Group old.tree).attached =
+    ap (left_by (replaces r.action) r.target) (put-payloads f (action_for r.action) r.target (leaf id kind held.Group) old.tree.attached)
+    ∙ left-payloads f (replaces r.action) r.target (put (action_for r.action) r.target (leaf id kind held.Group) old.tree.attached)
+    ∙ ap (with_payloads f) (sym (added_attached (replaces r.action) id kind (action_for r.action) r.target held.Group old.tree)) in
+    ap (λ (t : Turn). told Went id (let u : Turn = record { world = with_group kind r id w; replies = t.replies } in u)) ends
     ∙ ap (λ (n : Nodes Content). told Went id (let t : Turn = record { world = record w { nodes = n; next_id = next_after old.next_id r.id }; replies = mid_replies } in t)) nodes
     ∙ ap (λ (s : Stage). told Went id (turn_of s words mid_replies)) (sym is)
     ∙ sym (told_now words)

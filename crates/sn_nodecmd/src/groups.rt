@@ -1,10 +1,11 @@
 //! Groups that are made.
-ghost use Rattle.std.specs.Prelude.{◌≡◌, ◌+◌, ◌*◌, ◌^◌, ◌<◌, map, length, OnOk, Some, None, List, ℕ};
-ghost use Rattle.sn_tree.specs.declared.node.NodeKind.TheVariants as kinds;
+ghost use Rattle.std.specs.Prelude.{◌≡◌, ◌+◌, ◌*◌, ◌^◌, ◌<◌, map, length, OnOk, IfOk, Some, None, List, ℕ};
+ghost use Rattle.std.specs.Option.{option_map};
 ghost use Rattle.sn_tree.specs.Steps.{HasRoom};
 ghost use Rattle.sn_osc.specs.Shape.{argument_of};
 ghost use Rattle.sn_world.specs.World.{World, Turn, turn_of};
-ghost use Rattle.sn_world.specs.NewNodes.{group_row, node_refusal, act_with};
+ghost use Rattle.sn_world.specs.Rows.{triples};
+ghost use Rattle.sn_world.specs.NewNodes.{of_kind, new_group, group_row, node_refusal, act_with};
 ghost use Rattle.sn_world.specs.Answers.{Continues, Follows, UnlessFollowed};
 ghost use Rattle.sn_world.specs.Pictures.{Pictures};
 ghost use Rattle.sn_nodecmd.specs.Folding.{IsAtRest, Keeps};
@@ -17,30 +18,63 @@ use sn_osc::Arg;
 use sn_ports::NoMemory;
 use sn_reply::{Reason, Replies};
 use sn_tree::NodeKind;
-use sn_world::{Held, NewNode, NodeEvent, NodeId, Stage, some_of, triples};
+use sn_world::{Held, NewGroup, NewNode, NodeEvent, NodeId, Stage, Triple, some_of};
 use std::alloc::Global;
+
+fn new_group(kind: NodeKind, id: &Arg, action: &Arg, target: &Arg) -> Option<NewGroup>
+    ensures { result ≡ new_group kind (argument_of id.now) (argument_of action.now) (argument_of target.now) }
+{
+    match NewNode::from_three(id, action, target) {
+        Some(node) => Some(NewGroup { kind, node }),
+        None => None,
+    }
+}
+
+/// Groups of a kind, each of three arguments.
+fn groups_of(
+    alloc: Global,
+    kind: NodeKind,
+    arguments: &[Arg],
+) -> Result<Option<Vec<NewGroup>>, NoMemory>
+    ensures { IfOk result (λ found. option_map (λ v. v.items) found ≡ triples (new_group kind) (map argument_of arguments.now)) }
+{
+    let mut found = Vec::new(alloc);
+    let mut rest = arguments;
+    while let [id, action, target, after @ ..] = rest {
+        let Some(one) = new_group(kind, id, action, target) else {
+            return Ok(None);
+        };
+        found.push(one)?;
+        rest = after;
+    }
+    if rest.is_empty() {
+        Ok(Some(found))
+    } else {
+        Ok(None)
+    }
+}
 
 /// Makes a group that nothing is against, and tells of it.
 fn make_group(
     alloc: Global,
     stage: &mut Stage,
     node: &NodeId,
-    new: &NewNode,
+    group: &NewGroup,
     replies: &mut Replies,
 ) -> Result<(), NoMemory>
-    requires allowed { node_refusal (Some node.now.id) new.now.action new.now.target stage.old.tree.attached ≡ None }
+    requires allowed { node_refusal (Some node.now.id) group.now.node.action group.now.node.target stage.old.tree.attached ≡ None }
     requires room { HasRoom stage.old.tree.journal }
-    ensures row { OnOk result ((words : List ℕ) → act_with kinds.Group new.now (Some node.now.id) (turn_of stage.old words replies.old) ≡ turn_of stage.new words replies.new) }
+    ensures row { OnOk result ((words : List ℕ) → act_with group.now.kind group.now.node (Some node.now.id) (turn_of stage.old words replies.old) ≡ turn_of stage.new words replies.new) }
     ensures keeps { Keeps stage.old stage.new }
     ensures continues { Continues replies.old replies.new }
 {
-    tell_replaced(alloc, &stage.tree, &stage.notify, new, replies)?;
-    add(&mut stage.tree, node, NodeKind::Group, new, Held::Group)?;
-    stage.next_id = next_after(stage.next_id, new);
+    tell_replaced(alloc, &stage.tree, &stage.notify, &group.node, replies)?;
+    add(&mut stage.tree, node, group.kind, &group.node, Held::Group)?;
+    stage.next_id = next_after(stage.next_id, &group.node);
     tell(alloc, stage, NodeEvent::Went, node, replies)
 }
 
-impl Repetition for NewNode {
+impl Repetition for NewGroup {
     ghost use Rattle.sn_world.specs.NewNodes.{judge_group, act_group};
 
     ghost judge = { judge_group };
@@ -53,10 +87,10 @@ impl Repetition for NewNode {
         stage: &mut Stage,
         replies: &mut Replies,
     ) -> Result<Option<Reason>, NoMemory> {
-        let Some(node) = id_for(stage.next_id, self) else {
+        let Some(node) = id_for(stage.next_id, &self.node) else {
             return Ok(Some(Reason::IdInUse));
         };
-        if let Some(reason) = refusal(&stage.tree, &node, self) {
+        if let Some(reason) = refusal(&stage.tree, &node, &self.node) {
             return Ok(Some(reason));
         }
         make_group(alloc, stage, &node, self, replies)?;
@@ -64,24 +98,25 @@ impl Repetition for NewNode {
     }
 }
 
-/// `/g_new` (id action target)..
+/// `/g_new` and `/p_new` (id action target)..
 pub fn run_new_groups(
     alloc: Global,
     stage: &mut Stage,
+    kind: NodeKind,
     arguments: &[Arg],
     replies: &mut Replies,
 ) -> Result<Option<Reason>, NoMemory>
     requires rest { IsAtRest stage.old }
     requires few { 16 * length arguments.now + 2 ^ 20 < 2 ^ 31 }
-    ensures row { (from : ℕ) (words : List ℕ) → Follows result (group_row from (map argument_of arguments.now) (turn_of stage.old words replies.old)) (turn_of stage.new words replies.new) }
+    ensures row { (from : ℕ) (words : List ℕ) → Follows result (group_row kind from (map argument_of arguments.now) (turn_of stage.old words replies.old)) (turn_of stage.new words replies.new) }
     ensures unchanged { UnlessFollowed result (stage.new ≡ stage.old) }
     ensures untold { UnlessFollowed result (replies.new ≡ replies.old) }
     ensures pictures { (words : List ℕ) → Pictures stage.old words → Pictures stage.new words }
     ensures clients { stage.new.notify ≡ stage.old.notify }
     ensures region { stage.new.pool.region ≡ stage.old.pool.region }
 {
-    let Some(nodes) = some_of(triples::<NewNode>(alloc, arguments)?) else {
+    let Some(groups) = some_of(groups_of(alloc, kind, arguments)?) else {
         return Ok(Some(Reason::Arguments));
     };
-    each(alloc, stage, &nodes, replies)
+    each(alloc, stage, &groups, replies)
 }

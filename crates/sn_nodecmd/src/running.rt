@@ -30,7 +30,7 @@ use sn_mem::Port;
 use sn_osc::{Arg, Body, Message};
 use sn_ports::NoMemory;
 use sn_reply::{Reason, Replies};
-use sn_tree::Action;
+use sn_tree::{Action, NodeKind};
 use sn_world::{Handled, NodeCommand, Stage};
 use std::alloc::Global;
 
@@ -60,6 +60,9 @@ fn node_command_of(address: &[u8]) -> Option<NodeCommand>
     }
     if address == b"/g_new".as_slice() {
         return Some(NodeCommand::NewGroup);
+    }
+    if address == b"/p_new".as_slice() {
+        return Some(NodeCommand::NewParallel);
     }
     if address == b"/n_free".as_slice() {
         return Some(NodeCommand::Free);
@@ -143,7 +146,12 @@ fn run_row<P: Port>(
         NodeCommand::SetRuns => run_set(alloc, stage, RunForm::Values, arguments),
         NodeCommand::FillRuns => run_set(alloc, stage, RunForm::Fill, arguments),
         NodeCommand::MapControls => run_map(alloc, stage, arguments),
-        NodeCommand::NewGroup => run_new_groups(alloc, stage, arguments, replies),
+        NodeCommand::NewGroup => {
+            run_new_groups(alloc, stage, NodeKind::Group, arguments, replies)
+        }
+        NodeCommand::NewParallel => {
+            run_new_groups(alloc, stage, NodeKind::Parallel, arguments, replies)
+        }
         NodeCommand::Free => run_free(alloc, stage, arguments, replies),
         NodeCommand::FreeAll => run_free_all(alloc, stage, arguments, replies),
         NodeCommand::DeepFree => run_deep_free(alloc, stage, arguments, replies),

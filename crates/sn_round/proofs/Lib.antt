@@ -1,3 +1,5 @@
 pub mod Scripting
 pub mod Orders
 pub mod Inverses
+pub mod Following
+pub mod Rising

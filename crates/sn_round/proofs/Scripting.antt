@@ -25,6 +25,10 @@ module _ (f : ℕ → List ℕ → List ℕ) where
       let z : 0 + i ≡ i = omega arith in
       ap (list_at (sequential f n ws)) s ∙ (next 0 n i ws l ∙ ap (λ m. f m (list_at (sequential f n ws) i)) z)
 
+  pub sequential_first : (n : ℕ) (ws : List ℕ) → list_at (sequential f n ws) 0 ≡ ws
+  sequential_first zero ws = refl
+  sequential_first (suc n) ws = refl
+
   wide : (n size i : ℕ) (ws : List ℕ) → ((j : ℕ) (us : List ℕ) → j < n → length (f j us) ≡ length us) → length ws ≡ size → i ≤ n → length (list_at (sequential f n ws) i) ≡ size
   wide zero size zero ws h e l = e
   wide (suc n) size zero ws h e l = e

@@ -8,6 +8,12 @@ mod successors;
 mod work;
 
 pub use jobs::{Ids, Job, Jobs};
-pub use laws::{lower_comes_first, ordered_rises, sequential_is_a_script};
+pub use laws::{
+    lower_comes_first, ordered_rises, sequential_goes_on, sequential_is_a_script,
+    successors_are_the_inverse,
+};
 pub use plan::Plan;
 pub use work::Work;
+
+#[cfg(test)]
+mod tests;

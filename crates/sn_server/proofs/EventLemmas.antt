@@ -15,7 +15,7 @@ use Rattle.sn_engine.specs.Running.{Running, opened}
 use Rattle.sn_server.specs.declared.ended.Ended.{Ended}
 use Rattle.sn_server.specs.declared.ended.Ended.TheVariants.{Quit, NoMemory, Closed, Cut, BadFrame, LinkFault, SoundFault, Worn}
 use Rattle.sn_server.specs.PlayEvents.{Live, Over, Course, going, ended, event, is_worn, worn, unless_worn, after_event, after_events, at_end, closing, closed, beginning, over_events, play_events, bytes_in}
-use Rattle.sn_server.specs.Served.{TakesEach, WhereGiven, IsServed, Served, AtClose}
+use Rattle.sn_server.specs.Served.{TakesEach, WhileOpen, WhereGiven, IsServed, Served, AtClose}
 use Rattle.sn_server.specs.Serving.{engine_of, framer_of, IsLive, IsReady, HasEnded, GoesOn, Follows, StaysOpen, IsWornOut, HasLeft, TookEvent, EndsBy, Took, IsServing}
 use Rattle.sn_server.proofs.JoiningLemmas.{not_worn, some_left, events_both}
 use Rattle.sn_server.proofs.ServingLemmas.{given, given_so, worn_is}
@@ -48,6 +48,12 @@ takes_both (e ∷ es) fs a b c p q =
     let (between, first, others) = p in
     (between, first, takes_both es fs between b c others q)
 
+-- events, and then others, while it goes on
+open_both : (s : Settings) (es fs : List LinkEvent) (c : Course) → WhileOpen s es c → WhileOpen s fs (after_events s es c) → WhileOpen s (es ++ fs) c
+open_both s [] fs c p q = q
+open_both s (e ∷ es) fs (ended o) p q = absurd p
+open_both s (e ∷ es) fs (going v) p q = (p.0, open_both s es fs (after_event s e (going v)) p.1 q)
+
 -- ---- one event
 
 pub fed_bytes : (lo ln : Option (List LinkEvent)) (into : List ℕ) (n : ℕ) (x : Fed) → x ≡ fed.Bytes n → Known lo ln (λ a b. Feeds a b into x) → Known lo ln (λ old new. Takes old new (bytes (take n into)))
@@ -75,13 +81,16 @@ goes v c left = ap (λ (b : Bool). if b then ended (worn v) else c) left
 pub took_event : (s : Settings) (lo ln : Option (List LinkEvent)) (so sm sn ro rm rn : Option (List ℕ)) (v : Live) (e0 e : Running) (f0 f : Framing) (x : LinkEvent) (r : Result (Unit {0}) Ended)
     → IsLive s so sm ro rm v e0 f0 → HasLeft e0 f0 → Known lo ln (λ old new. Takes old new x) → Follows s so sn ro rn (event s x v) e f r → Took s lo ln so sn ro rn v e f r
 took_event s lo ln so sm sn ro rm rn v e0 e f0 f x (Ok u) live enough taken on =
-    let at : after_event s x (going v) ≡ event s x v = goes v (event s x v) (live_left s so sm ro rm v e0 f0 live enough) in
-    record { event = x; taken = taken; gives = record { live = on.live; course = at ∙ on.course; stands = on.stands } }
+    let open_still = live_left s so sm ro rm v e0 f0 live enough in
+    let at : after_event s x (going v) ≡ event s x v = goes v (event s x v) open_still in
+    record { event = x; while_open = open_still; taken = taken; gives = record { live = on.live; course = at ∙ on.course; stands = on.stands } }
 took_event s lo ln so sm sn ro rm rn v e0 e f0 f x (Err how) live enough taken on =
-    let at : after_event s x (going v) ≡ event s x v = goes v (event s x v) (live_left s so sm ro rm v e0 f0 live enough) in
+    let open_still = live_left s so sm ro rm v e0 f0 live enough in
+    let at : after_event s x (going v) ≡ event s x v = goes v (event s x v) open_still in
     given_so how (HasEnded s so sn ro rn (event s x v) how) (EndsBy s lo ln so sn ro rn (going v) how) (λ h. record {
       events = x ∷ [];
       taken = known_so lo ln (λ old new. Takes old new x) (λ old new. TakesEach old (x ∷ []) new) (λ a b t. (b, t, refl)) taken;
+      while_open = (open_still, tt);
       over = h.over;
       course = ap (λ c. at_end c) (at ∙ h.course);
       ending = h.ending;
@@ -95,6 +104,7 @@ pub took_none : (s : Settings) (lo ln : Option (List LinkEvent)) (so sn ro rn : 
 took_none s lo ln so sn ro rn v e f how live enough none is = given how (EndsBy s lo ln so sn ro rn (going v) how) (record {
   events = [];
   taken = known_so lo ln (λ old new. (old ≡ []) × (new ≡ [])) (λ old new. new ≡ old) (λ a b t. t.1 ∙ sym t.0) none;
+  while_open = tt;
   over = closed v;
   course = ap (λ (b : Bool). if b then worn v else closed v) (live_left s so sn ro rn v e f live enough);
   ending = sym (is ∙ ap (λ (g : Framing). closing g.kept) live.framer);
@@ -136,6 +146,7 @@ took_worn s lo so sn ro rn v e f (Err k) how same live w =
     given k (EndsBy s lo lo so sn ro rn (going v) k) (record {
       events = [];
       taken = known_same lo (λ old new. new ≡ old) (λ a. refl);
+      while_open = tt;
       over = worn v;
       course = ap (λ (b : Bool). if b then worn v else closed v) is.0;
       ending = is.1 ∙ sym same;
@@ -162,6 +173,7 @@ pub begins_serving : (s : Settings) (base : ℕ) (lo : Option (List LinkEvent)) 
 begins_serving s base lo so ro e f engine framer = record {
   events = [];
   taken = known_same lo (λ old new. new ≡ old) (λ a. refl);
+  while_open = tt;
   live = beginning s base;
   course = refl;
   stands = begun_live s base so ro e f engine framer;
@@ -178,12 +190,13 @@ begins_ready s base e f engine framer = record {
 }
 
 pub serves_on : (s : Settings) (base : ℕ) (lo lm ln : Option (List LinkEvent)) (so sm sn ro rm rn : Option (List ℕ)) (e0 e1 : Running) (f0 f1 : Framing) → (i : IsServing s base lo lm so sm ro rm e0 f0)
-    → TookEvent lm ln (λ x. GoesOn s so sn ro rn (after_event s x (going i.live)) e1 f1) → IsServing s base lo ln so sn ro rn e1 f1
+    → TookEvent lm ln i.live (λ x. GoesOn s so sn ro rn (after_event s x (going i.live)) e1 f1) → IsServing s base lo ln so sn ro rn e1 f1
 serves_on s base lo lm ln so sm sn ro rm rn e0 e1 f0 f1 i t =
     let x = t.event in
     record {
       events = i.events ++ x ∷ [];
       taken = known_both lo lm ln (λ old new. TakesEach old i.events new) (λ old new. Takes old new x) (λ old new. TakesEach old (i.events ++ x ∷ []) new) (λ a b c p q. takes_both i.events (x ∷ []) a b c p (c, q, refl)) i.taken t.taken;
+      while_open = open_both s i.events (x ∷ []) (going (beginning s base)) i.while_open (subst (λ c. WhileOpen s (x ∷ []) c) (sym i.course) (t.while_open, tt));
       live = t.gives.live;
       course = events_both s i.events (x ∷ []) (going (beginning s base)) ∙ ap (λ c. after_event s x c) i.course ∙ t.gives.course;
       stands = t.gives.stands;
@@ -196,6 +209,7 @@ serves_to s base lo lm ln so sm sn ro rm rn e f how i given_end = given_so how (
     record {
       events = i.events ++ h.events;
       taken = known_both lo lm ln (λ old new. TakesEach old i.events new) (λ old new. TakesEach old h.events new) (λ old new. TakesEach old (i.events ++ h.events) new) (λ a b c p q. takes_both i.events h.events a b c p q) i.taken h.taken;
+      while_open = open_both s i.events h.events (going (beginning s base)) i.while_open (subst (λ c. WhileOpen s h.events c) (sym i.course) h.while_open);
       ending = ap (λ (o : Over). o.ending) whole ∙ h.ending;
       sound = subst (λ (o : Over). Appends so sn (pcm s o.session.samples)) (sym whole) h.sound;
       sent = subst (λ (o : Over). Appends ro rn o.session.replies) (sym whole) h.sent;

@@ -22,7 +22,8 @@ use Rattle.sn_world.specs.Walk.{walk}
 use Rattle.sn_world.specs.Settling.{settled}
 use Rattle.sn_world.specs.Opening.{opening}
 use Rattle.sn_osc.specs.Shape.{Shape}
-use Rattle.sn_engine.specs.Boundary.{unsaid, turn_at, waiting_at}
+use Rattle.sn_clash.specs.declared.clash.Clash.{Clash}
+use Rattle.sn_engine.specs.Boundary.{unsaid, turn_at, waiting_at, clashes_at, replies_at}
 use Rattle.sn_engine.specs.Outputs.{frame_of, frames_of, outputs}
 use Rattle.sn_engine.specs.declared.standing.Standing.TheVariants.{Settled}
 use Rattle.sn_reply.specs.Replies.{ReplyShape}
@@ -50,13 +51,19 @@ same_turn p r world waiting = λ i. turn_at r.block (waiting i) (world i)
 boundary_waiting : (p : Session) (r : Running) → r.world ≡ p.world → r.waiting ≡ p.waiting → (at_boundary r).waiting ≡ (boundary r.block p).waiting
 boundary_waiting p r world waiting = λ i. waiting_at r.block (waiting i) (world i)
 
-boundary_replies : (p : Session) (r : Running) (out : List ℕ) → length r.replies ≡ 1 → r.world ≡ p.world → r.waiting ≡ p.waiting → out ++ to_first r.replies ≡ p.replies
+boundary_clashes : (p : Session) (r : Running) → r.world ≡ p.world → r.waiting ≡ p.waiting → (at_boundary r).clashes ≡ (boundary r.block p).clashes
+boundary_clashes p r world waiting = λ i. clashes_at r.block (waiting i) (world i)
+
+same_replies : (p : Session) (r : Running) → r.world ≡ p.world → r.waiting ≡ p.waiting → r.clashes ≡ p.clashes → replies_at r.block r.waiting r.clashes r.world ≡ replies_at r.block p.waiting p.clashes p.world
+same_replies p r world waiting clashes = λ i. replies_at r.block (waiting i) (clashes i) (world i)
+
+boundary_replies : (p : Session) (r : Running) (out : List ℕ) → length r.replies ≡ 1 → r.world ≡ p.world → r.waiting ≡ p.waiting → r.clashes ≡ p.clashes → out ++ to_first r.replies ≡ p.replies
     → out ++ to_first (at_boundary r).replies ≡ (boundary r.block p).replies
-boundary_replies p r out alone world waiting so_far =
-    ap (λ (t : List ℕ). out ++ t) (first_more (turn_at r.block r.waiting r.world).replies r.replies alone)
-    ∙ ap (λ t. out ++ (to_first r.replies ++ frames_to 0 t.replies)) (same_turn p r world waiting)
-    ∙ sym (append_assoc out (to_first r.replies) (frames_to 0 (turn_at r.block p.waiting p.world).replies))
-    ∙ ap (λ (t : List ℕ). t ++ frames_to 0 (turn_at r.block p.waiting p.world).replies) so_far
+boundary_replies p r out alone world waiting clashes so_far =
+    ap (λ (t : List ℕ). out ++ t) (first_more (replies_at r.block r.waiting r.clashes r.world) r.replies alone)
+    ∙ ap (λ (rs : List ReplyShape). out ++ (to_first r.replies ++ frames_to 0 rs)) (same_replies p r world waiting clashes)
+    ∙ sym (append_assoc out (to_first r.replies) (frames_to 0 (replies_at r.block p.waiting p.clashes p.world)))
+    ∙ ap (λ (t : List ℕ). t ++ frames_to 0 (replies_at r.block p.waiting p.clashes p.world)) so_far
 
 -- ---- what was written
 
@@ -86,6 +93,7 @@ begins s total so ro r stands = record {
   stands = stands;
   world = refl;
   waiting = refl;
+  clashes = refl;
   sound = sym (append-nil r.sound);
   replies = refl;
   sound_taken = nothing_more so;
@@ -110,18 +118,18 @@ settled_world p r world waiting =
 
 -- an engine of one client after a boundary
 pub still_alone : (r : Running) → length r.replies ≡ 1 → length (at_boundary r).replies ≡ 1
-still_alone r alone = as_many 0 (turn_at r.block r.waiting r.world).replies r.replies ∙ alone
+still_alone r alone = as_many 0 (replies_at r.block r.waiting r.clashes r.world) r.replies ∙ alone
 
 pub settled_alone : (r : Running) → length r.replies ≡ 1 → length (after_block r).replies ≡ 1
 settled_alone r alone = as_many 0 (turn_settled (with_block (at_boundary r))).replies (at_boundary r).replies ∙ still_alone r alone
 
-block_replies : (s : Settings) (p : Session) (r : Running) (out : List ℕ) → length r.replies ≡ 1 → r.world ≡ p.world → r.waiting ≡ p.waiting → out ++ to_first r.replies ≡ p.replies
+block_replies : (s : Settings) (p : Session) (r : Running) (out : List ℕ) → length r.replies ≡ 1 → r.world ≡ p.world → r.waiting ≡ p.waiting → r.clashes ≡ p.clashes → out ++ to_first r.replies ≡ p.replies
     → out ++ to_first (after_block r).replies ≡ (settle r.block (play_block s r.block (boundary r.block p))).replies
-block_replies s p r out alone world waiting so_far =
+block_replies s p r out alone world waiting clashes so_far =
     let rs = (turn_settled (with_block (at_boundary r))).replies in
     ap (λ (t : List ℕ). out ++ t) (first_more rs (at_boundary r).replies (still_alone r alone))
     ∙ sym (append_assoc out (to_first (at_boundary r).replies) (frames_to 0 rs))
-    ∙ (λ i. boundary_replies p r out alone world waiting so_far i ++ frames_to 0 (settled_world p r world waiting i).replies)
+    ∙ (λ i. boundary_replies p r out alone world waiting clashes so_far i ++ frames_to 0 (settled_world p r world waiting i).replies)
 
 pub goes_on : (s : Settings) (begun : Running) (total left : ℕ) (so sm sn ro rm rn : Option (List ℕ)) (old new : Running)
     → IsGoing s begun total (suc left) so sm ro rm old → IsBlock sm sn rm rn old new → IsGoing s begun total left so sn ro rn new
@@ -142,6 +150,7 @@ goes_on s begun total left so sm sn ro rm rn old new g b =
       };
       world = world;
       waiting = b.waiting ∙ boundary_waiting p old g.world g.waiting;
+      clashes = b.clashes ∙ boundary_clashes p old g.world g.waiting;
       sound =
           append_assoc g.sound_out b.sound.piece new.sound
           ∙ ap (λ (t : List ℕ). g.sound_out ++ t) (sym b.sound.parts)
@@ -149,7 +158,7 @@ goes_on s begun total left so sm sn ro rm rn old new g b =
       replies =
           append_assoc g.replies_out b.replies.piece (to_first new.replies)
           ∙ ap (λ (t : List ℕ). g.replies_out ++ t) (sym b.replies.parts)
-          ∙ block_replies s p old g.replies_out g.stands.alone g.world g.waiting g.replies;
+          ∙ block_replies s p old g.replies_out g.stands.alone g.world g.waiting g.clashes g.replies;
       sound_taken = written_more _ _ _ _ _ _ g.sound_taken b.sound;
       replies_taken = written_more _ _ _ _ _ _ g.replies_taken b.replies;
     }
@@ -215,16 +224,17 @@ ended s begun total so sm sn ro rm rn r g e =
     let at : r.block ≡ begun.block + total = omega (arith, g.count) in
     record {
       sound = subst (Appends so sn) (g.sound ∙ ap (λ (p : Session). begun.sound ++ pcm s p.samples) g.plays) (Appends-trans _ _ _ _ _ g.sound_taken e.sound);
-      replies = subst (Appends ro rn) (boundary_replies g.session r g.replies_out g.stands.alone g.world g.waiting g.replies ∙ ap (λ (p : Session). (boundary r.block p).replies) g.plays ∙ ap (λ (n : ℕ). (boundary n final).replies) at) (Appends-trans _ _ _ _ _ g.replies_taken e.replies);
+      replies = subst (Appends ro rn) (boundary_replies g.session r g.replies_out g.stands.alone g.world g.waiting g.clashes g.replies ∙ ap (λ (p : Session). (boundary r.block p).replies) g.plays ∙ ap (λ (n : ℕ). (boundary n final).replies) at) (Appends-trans _ _ _ _ _ g.replies_taken e.replies);
     }
 
-abbrev make : World → WaitingList → List ℤ → List ℕ → Session
-make world waiting samples replies = record { world = world; waiting = waiting; samples = samples; replies = replies }
+abbrev make : World → WaitingList → List Clash → List ℤ → List ℕ → Session
+make world waiting clashes samples replies = record { world = world; waiting = waiting; clashes = clashes; samples = samples; replies = replies }
 
 -- an engine that opened and was offered all packets, with the head of the sound
 pub record IsOpened (s : Settings) (packets : List Shape) (r : Running) : Type 0 where
   pub world : r.world ≡ opening s.rate s.memory 1
   pub waiting : r.waiting ≡ arrived s packets
+  pub clashes : r.clashes ≡ []
   pub block : r.block ≡ 0
   pub sound : r.sound ≡ header_bytes s (data_len s (last_of s packets))
   pub replies : to_first r.replies ≡ []
@@ -234,7 +244,7 @@ pub all_played : (s : Settings) (packets : List Shape) (r : Running) (so sn ro r
     → Appends so sn (sound_of s packets) × Appends ro rn (replies_of s packets)
 all_played s packets r so sn ro rn o e =
     let last = last_of s packets in
-    let p : session_of r ≡ begun s packets = session_is (session_of r) (begun s packets) o.world o.waiting refl o.replies in
+    let p : session_of r ≡ begun s packets = session_is (session_of r) (begun s packets) o.world o.waiting o.clashes refl o.replies in
     let final : blocks s last r.block (session_of r) ≡ blocks s last 0 (begun s packets) = ap (λ (n : ℕ). blocks s last n (session_of r)) o.block ∙ ap (blocks s last 0) p in
     let size : data_len s last ≡ length (pcm s (blocks s last 0 (begun s packets)).samples) = sym (data_made s last 0 (begun s packets) refl) in
     let head : r.sound ≡ header_bytes s (length (pcm s (blocks s last 0 (begun s packets)).samples)) = o.sound ∙ ap (header_bytes s) size in
@@ -243,10 +253,8 @@ all_played s packets r so sn ro rn o e =
       subst (Appends ro rn) (ap (λ (q : Session). (boundary (r.block + last) q).replies) final ∙ ap (λ (n : ℕ). (boundary n (blocks s last 0 (begun s packets))).replies) at) e.replies,
     )
   where
-    session_is : (p q : Session) → p.world ≡ q.world → p.waiting ≡ q.waiting → p.samples ≡ q.samples → p.replies ≡ q.replies → p ≡ q
-    session_is p q a b c d =
-        ap (λ (w : World). make w p.waiting p.samples p.replies) a ∙ ap (λ (l : WaitingList). make q.world l p.samples p.replies) b
-        ∙ ap (λ (xs : List ℤ). make q.world q.waiting xs p.replies) c ∙ ap (λ (bs : List ℕ). make q.world q.waiting q.samples bs) d
+    session_is : (p q : Session) → p.world ≡ q.world → p.waiting ≡ q.waiting → p.clashes ≡ q.clashes → p.samples ≡ q.samples → p.replies ≡ q.replies → p ≡ q
+    session_is p q a b e c d = λ i. make (a i) (b i) (e i) (c i) (d i)
 
 pub on_ok : {T E A B : Type 0} (r : Result T E) → (A → B) → OnOk r A → OnOk r B
 on_ok (Ok x) f h = f h
@@ -269,6 +277,7 @@ block_done so sn ro rn old settled wrote new done sounded replied alone alone' s
   clients = alone' ∙ sym (settled_alone old alone);
   world = ap (λ r. r.world) replied ∙ ap (λ r. r.world) sounded ∙ ap (λ r. r.world) done;
   waiting = ap (λ r. r.waiting) replied ∙ ap (λ r. r.waiting) sounded ∙ ap (λ r. r.waiting) done;
+  clashes = ap (λ r. r.clashes) replied ∙ ap (λ r. r.clashes) sounded ∙ ap (λ r. r.clashes) done;
   block = ap (λ r. r.block) replied ∙ ap (λ r. r.block) sounded ∙ ap (λ r. r.block) done;
   sound = subst (λ (t : List ℕ). IsWritten t new.sound so sn) (ap (λ r. r.sound) done) (subst (λ (t : List ℕ). IsWritten settled.sound t so sn) (sym (ap (λ r. r.sound) replied)) sound);
   replies = subst (λ (t : List (List ℕ)). IsWritten (to_first t) (to_first new.replies) ro rn) (ap (λ r. r.replies) sounded ∙ ap (λ r. r.replies) done) replies;

@@ -97,7 +97,7 @@ done_played s None so sn ro rn bytes packets blocks n e are frames last is ended
 done_played s (Some stream) so sn ro rn bytes packets blocks n e are frames last is ended same =
     let ended_last = subst (λ (k : ℕ). IsEnded s (record e { sound = header_bytes s (data_len s k) }) k so sn ro rn) last ended in
     let begun = subst (λ (r : Running). IsEnded s (record r { sound = header_bytes s (data_len s (last_of s packets)) }) (last_of s packets) so sn ro rn) is ended_last in
-    let bytes_out = all_played s packets (record (arrived_engine s packets) { sound = header_bytes s (data_len s (last_of s packets)) }) so sn ro rn (record { world = refl; waiting = refl; block = refl; sound = refl; replies = refl }) begun in
+    let bytes_out = all_played s packets (record (arrived_engine s packets) { sound = header_bytes s (data_len s (last_of s packets)) }) so sn ro rn (record { world = refl; waiting = refl; clashes = refl; block = refl; sound = refl; replies = refl }) begun in
     (packets, subst (Frames packets) are frames, sym (done_is blocks n same) ∙ last, bytes_out.0, bytes_out.1)
 
 -- the answer of a stream whose sound is too long

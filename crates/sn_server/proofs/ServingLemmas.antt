@@ -19,7 +19,7 @@ use Rattle.sn_reply.proofs.FrameLaws.{first_sent, none_sent, as_many}
 use Rattle.sn_world.specs.Settling.{settled}
 use Rattle.sn_world.specs.Walk.{walk}
 use Rattle.sn_engine.specs.Arriving.{offer_entries, nothing_offered}
-use Rattle.sn_engine.specs.Boundary.{unsaid, turn_at, quits_at}
+use Rattle.sn_engine.specs.Boundary.{unsaid, replies_at, quits_at}
 use Rattle.sn_engine.specs.Entries.{entries_of}
 use Rattle.sn_engine.specs.Outputs.{outputs}
 use Rattle.sn_engine.specs.Refusing.{bad_packet}
@@ -144,7 +144,7 @@ received_bad s v piece so sn ro rn e f (Worn n blocks) live stops = absurd stops
 
 -- of one client stays one
 pub boundary_alone : (r : Running) → length r.replies ≡ 1 → length (at_boundary r).replies ≡ 1
-boundary_alone r alone = as_many 0 (turn_at r.block r.waiting r.world).replies r.replies ∙ alone
+boundary_alone r alone = as_many 0 (replies_at r.block r.waiting r.clashes r.world) r.replies ∙ alone
 
 pub block_alone : (r : Running) → length r.replies ≡ 1 → length (with_settled (with_block r)).replies ≡ 1
 block_alone r alone = as_many 0 (turn_settled (with_block r)).replies r.replies ∙ alone
@@ -172,7 +172,7 @@ ticked s v so sm sn ro rm rn e0 e1 f live done sounded replied =
     let p = boundary v.block v.session in
     let walked = walk v.block p.world in
     let samples = outputs s v.block walked in
-    let first = (turn_at v.block v.session.waiting v.session.world).replies in
+    let first = replies_at v.block v.session.waiting v.session.clashes v.session.world in
     let said = λ (n : ℕ). (settled n (unsaid walked)).replies in
     let block : v.block + 1 - 1 ≡ v.block = omega arith in
     let sent : with_frames 0 (said (v.block + 1 - 1)) (with_frames 0 first ([] ∷ [])) ≡ (frames_to 0 first ++ frames_to 0 (said v.block)) ∷ [] =
@@ -191,7 +191,7 @@ ticked s v so sm sn ro rm rn e0 e1 f live done sounded replied =
 pub quitted : (s : Settings) (n : ℕ) (v : Live) (so sm sn ro rm rn : Option (List ℕ)) (e : Running) (f : Framing) → IsLive s so sm ro rm v e f
     → v.fed < 4611686018427387904 → v.block < 4611686018427387904 → flow_at e ≡ flows.Quit → Keeps sm sn → Appends rm rn (to_first (at_boundary e).replies) → HasEnded s so sn ro rn (tick s (suc n) v) Quit
 quitted s n v so sm sn ro rm rn e f live few less quits silent replied =
-    let first = (turn_at v.block v.session.waiting v.session.world).replies in
+    let first = replies_at v.block v.session.waiting v.session.clashes v.session.world in
     let replies : to_first (at_boundary e).replies ≡ frames_to 0 first = ap (λ (r : Running). to_first (at_boundary r).replies) live.engine ∙ ap to_first (one_sent first []) in
     record {
       over = record { session = boundary v.block v.session; ending = Quit };

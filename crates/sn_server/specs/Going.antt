@@ -13,7 +13,7 @@ to_first replies = slice_index_or replies 0 []
 
 -- the session that an engine begins with
 abbrev pub session_of : Running → Session
-session_of r = record { world = r.world; waiting = r.waiting; samples = []; replies = to_first r.replies }
+session_of r = record { world = r.world; waiting = r.waiting; clashes = r.clashes; samples = []; replies = to_first r.replies }
 
 -- an engine of these settings and of one client, at a boundary
 pub record IsAtBoundary (s : Settings) (r : Running) : Type 0 where
@@ -32,6 +32,7 @@ pub record IsGoing (s : Settings) (begun : Running) (total left : ℕ) (so sn ro
   pub stands : IsAtBoundary s r
   pub world : r.world ≡ session.world
   pub waiting : r.waiting ≡ session.waiting
+  pub clashes : r.clashes ≡ session.clashes
   pub sound : sound_out ++ r.sound ≡ begun.sound ++ pcm s session.samples
   pub replies : replies_out ++ to_first r.replies ≡ session.replies
   pub sound_taken : Appends so sn sound_out
@@ -54,6 +55,7 @@ pub record IsBlock (so sn ro rn : Option (List ℕ)) (old new : Running) : Type 
   pub clients : length new.replies ≡ length (after_block old).replies
   pub world : new.world ≡ (after_block old).world
   pub waiting : new.waiting ≡ (after_block old).waiting
+  pub clashes : new.clashes ≡ (after_block old).clashes
   pub block : new.block ≡ old.block + 1
   pub sound : IsWritten (after_block old).sound new.sound so sn
   pub replies : IsWritten (to_first (after_block old).replies) (to_first new.replies) ro rn

@@ -1,6 +1,6 @@
 -- What each outcome of a run says.
 use Rattle.std.specs.Prelude.{◌≡◌, ◌⊎◌, ◌<◌, ◌≤◌, ◌+◌, ℕ, List, length, Option, IfSome}
-use Rattle.std.specs.Io.KnownBytes.{Appends, Keeps}
+use Rattle.std.specs.Io.KnownBytes.{Appends, Consumes, IsAtEnd, Keeps}
 use Rattle.sn_osc.specs.Shape.{Shape}
 use Rattle.sn_pcm.specs.declared.settings.Settings.{Settings}
 use Rattle.sn_pcm.specs.Sound.{data_len}
@@ -53,3 +53,20 @@ IsUntouched (Done n) so sn ro rn = Unit {0}
 IsUntouched NoMemory so sn ro rn = Unit {0}
 IsUntouched SoundFault so sn ro rn = Unit {0}
 IsUntouched ReplyFault so sn ro rn = Unit {0}
+
+-- so many bytes were taken
+abbrev pub Takes : ℕ → Option (List ℕ) → Option (List ℕ) → Type 0
+Takes n old new = (front : List ℕ) × Consumes old new front × (length front ≡ n)
+
+-- What is taken of the stream: all of it; of one that is too long as many bytes as show it; a front of one on which the source failed; and
+-- nothing where the words are refused.
+abbrev pub TakesStream : Outcome → Option (List ℕ) → Option (List ℕ) → Type 0
+TakesStream (Done n) old new = IsAtEnd new
+TakesStream (BadStream packet place fault) old new = IsAtEnd new
+TakesStream (LongSound n) old new = IsAtEnd new
+TakesStream (LongStream n) old new = Takes n old new
+TakesStream ReadFault old new = (front : List ℕ) × Consumes old new front
+TakesStream SoundFault old new = IsAtEnd new
+TakesStream ReplyFault old new = IsAtEnd new
+TakesStream NoMemory old new = Keeps old new ⊎ IsAtEnd new
+TakesStream (BadWords i) old new = Keeps old new

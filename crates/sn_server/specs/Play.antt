@@ -10,23 +10,26 @@ use Rattle.sn_world.specs.World.{World}
 use Rattle.sn_world.specs.Walk.{walk}
 use Rattle.sn_world.specs.Settling.{settled}
 use Rattle.sn_world.specs.Opening.{opening}
-use Rattle.sn_engine.specs.Boundary.{unsaid, turn_at, waiting_at}
+use Rattle.sn_clash.specs.declared.clash.Clash.{Clash}
+use Rattle.sn_engine.specs.Boundary.{unsaid, turn_at, waiting_at, clashes_at, replies_at}
 use Rattle.sn_engine.specs.Entries.{Timed, entries_of}
 use Rattle.sn_engine.specs.Outputs.{outputs}
 
--- what is played: the world, what waits, the samples of the sound so far, frame by frame, and the bytes of the replies so far
+-- what is played: the world, what waits, the clashes of the last boundary, the samples of the sound so far, frame by frame, and the bytes of the replies so far
 pub record Session : Type 0 where
   pub world : World
   pub waiting : WaitingList
+  pub clashes : List Clash
   pub samples : List ℤ
   pub replies : List ℕ
 
--- At boundary b the entries that are due act in their order.
+-- At boundary b the entries that are due act in their order. Then the clashes that were not there at the boundary before are told.
 abbrev pub boundary : ℕ → Session → Session
 boundary b p = record p {
   world = (turn_at b p.waiting p.world).world;
   waiting = waiting_at b p.waiting p.world;
-  replies = p.replies ++ frames_to 0 (turn_at b p.waiting p.world).replies;
+  clashes = clashes_at b p.waiting p.world;
+  replies = p.replies ++ frames_to 0 (replies_at b p.waiting p.clashes p.world);
 }
 
 -- the walk of block b, and its sound
@@ -64,7 +67,7 @@ abbrev pub last_of : Settings → List Shape → ℕ
 last_of s packets = unwrap_or (last_due (arrived s packets)) 0
 
 abbrev pub begun : Settings → List Shape → Session
-begun s packets = record { world = opening s.rate s.memory 1; waiting = arrived s packets; samples = []; replies = [] }
+begun s packets = record { world = opening s.rate s.memory 1; waiting = arrived s packets; clashes = []; samples = []; replies = [] }
 
 -- all blocks, and the boundary after the last
 abbrev pub played : Settings → List Shape → Session

@@ -118,7 +118,7 @@ at_end (going v) = if is_worn v then worn v else closed v
 -- nothing has come, and block 0 begins at a time
 abbrev pub beginning : Settings → ℕ → Live
 beginning s base = record {
-  session = record { world = opening s.rate s.memory 1; waiting = record { base = base; rate = s.rate; limit = Some 65536; puts = 0; waiting = [] }; samples = []; replies = [] };
+  session = record { world = opening s.rate s.memory 1; waiting = record { base = base; rate = s.rate; limit = Some 65536; puts = 0; waiting = [] }; clashes = []; samples = []; replies = [] };
   block = 0;
   kept = [];
   fed = 0;

@@ -19,8 +19,8 @@ use Rattle.sn_engine.specs.declared.standing.Standing.TheVariants.{Settled}
 use Rattle.sn_server.specs.declared.ended.Ended.{Ended}
 use Rattle.sn_server.specs.declared.ended.Ended.TheVariants.{Quit, NoMemory, Closed, Cut, BadFrame, LinkFault, SoundFault, Worn}
 use Rattle.sn_server.specs.Going.{to_first, after_block}
-use Rattle.sn_server.specs.PlayEvents.{Live, Over, Course, going, ended, after_event, after_events, at_end, beginning}
-use Rattle.sn_server.specs.Served.{TakesEach, WhereGiven}
+use Rattle.sn_server.specs.PlayEvents.{Live, Over, Course, going, ended, is_worn, after_event, after_events, at_end, beginning}
+use Rattle.sn_server.specs.Served.{TakesEach, WhileOpen, WhereGiven}
 
 -- ---- how far it has come
 
@@ -77,6 +77,7 @@ engine_of s v = record {
   settings = s;
   world = v.session.world;
   waiting = v.session.waiting;
+  clashes = v.session.clashes;
   block = v.block;
   standing = Settled;
   sound = [];
@@ -145,16 +146,18 @@ pub record HasLeft (e : Running) (f : Framing) : Type 0 where
 
 -- ---- one event after another
 
--- a step took an event, which gives its course
-pub record TookEvent (lo ln : Option (List LinkEvent)) (P : LinkEvent → Type 0) : Type 0 where
+-- a step took an event, which gives its course, while more could be taken
+pub record TookEvent (lo ln : Option (List LinkEvent)) (v : Live) (P : LinkEvent → Type 0) : Type 0 where
   pub event : LinkEvent
+  pub while_open : is_worn v ≡ false
   pub taken : Known lo ln (λ old new. Takes old new event)
   pub gives : P event
 
--- The events that were taken end a course so, and what it gave was written.
+-- The events that were taken end a course so, none was taken after its end, and what it gave was written.
 pub record EndsBy (s : Settings) (lo ln : Option (List LinkEvent)) (so sn ro rn : Option (List ℕ)) (c : Course) (how : Ended) : Type 0 where
   pub events : List LinkEvent
   pub taken : Known lo ln (λ old new. TakesEach old events new)
+  pub while_open : WhileOpen s events c
   pub over : Over
   pub course : at_end (after_events s events c) ≡ over
   pub ending : over.ending ≡ how
@@ -163,13 +166,14 @@ pub record EndsBy (s : Settings) (lo ln : Option (List LinkEvent)) (so sn ro rn 
 
 -- an event was taken, or this is the end
 abbrev pub Took : Settings → Option (List LinkEvent) → Option (List LinkEvent) → Option (List ℕ) → Option (List ℕ) → Option (List ℕ) → Option (List ℕ) → Live → Running → Framing → Result Unit Ended → Type 0
-Took s lo ln so sn ro rn v e f (Ok x) = TookEvent lo ln (λ x. GoesOn s so sn ro rn (after_event s x (going v)) e f)
+Took s lo ln so sn ro rn v e f (Ok x) = TookEvent lo ln v (λ x. GoesOn s so sn ro rn (after_event s x (going v)) e f)
 Took s lo ln so sn ro rn v e f (Err how) = WhereGiven how (EndsBy s lo ln so sn ro rn (going v) how)
 
 -- the events so far have given this
 pub record IsServing (s : Settings) (base : ℕ) (lo ln : Option (List LinkEvent)) (so sn ro rn : Option (List ℕ)) (e : Running) (f : Framing) : Type 0 where
   pub events : List LinkEvent
   pub taken : Known lo ln (λ old new. TakesEach old events new)
+  pub while_open : WhileOpen s events (going (beginning s base))
   pub live : Live
   pub course : after_events s events (going (beginning s base)) ≡ going live
   pub stands : IsLive s so sn ro rn live e f

@@ -1,11 +1,11 @@
 ghost use Rattle.std.specs.Prelude.{◌≡◌, ◌⊎◌, ◌↔◌, ◌<◌, ◌≤◌, ◌+◌, ◌^◌, ℕ, List, [], Some, None, IfSome, IfOk, OnOk, length, map, unwrap_or};
-ghost use Rattle.std.specs.Io.KnownBytes.{Appends, IsAtEnd};
+ghost use Rattle.std.specs.Io.KnownBytes.{Appends};
 ghost use Rattle.sn_osc.specs.Shape.{shape};
 ghost use Rattle.sn_pcm.specs.Sound.{data_len, header_bytes};
 ghost use Rattle.sn_ports.specs.Causes.{Rose};
 ghost use Rattle.sn_server.specs.Arriving.{ArePut, IsBegun};
 ghost use Rattle.sn_server.specs.Going.{IsAtBoundary, IsEnded};
-ghost use Rattle.sn_server.specs.Outcomes.{Played, IsTooLong, IsAnswer, HasAnswer, IsUntouched};
+ghost use Rattle.sn_server.specs.Outcomes.{Played, IsTooLong, IsAnswer, HasAnswer, IsUntouched, TakesStream};
 ghost use Rattle.sn_server.specs.Play.{arrive, arrived};
 ghost use Rattle.sn_engine.specs.Running.{opened};
 ghost use Rattle.sn_osc.specs.Frames.{Frames, StreamFaultAt};
@@ -97,7 +97,7 @@ fn run_stream<H: Threads + Sync, S: Source, O: Sink, R: Sink, G: Gate>(
     ensures answer { IsAnswer settings.now (S.left source.old) result }
     ensures done { (n : ℕ) → result ≡ Outcome.Done n → Played settings.now (S.left source.old) n
         (O.taken sound.old) (O.taken sound.new) (R.taken replies.old) (R.taken replies.new) }
-    ensures end { (n : ℕ) → result ≡ Outcome.Done n → IsAtEnd (S.left source.new) }
+    ensures taken { TakesStream result (S.left source.old) (S.left source.new) }
     ensures read { result ≡ Outcome.ReadFault → Rose (S.faults source.old) (S.faults source.new) }
     ensures sound { result ≡ Outcome.SoundFault → Rose (O.faults sound.old) (O.faults sound.new) }
     ensures reply { result ≡ Outcome.ReplyFault → Rose (R.faults replies.old) (R.faults replies.new) }
@@ -152,7 +152,8 @@ pub fn render<H: Threads + Sync, S: Source, O: Sink, R: Sink, G: Gate>(
     // What was done is the sequential walk of the stream, where the objects tell their bytes.
     ensures done { (n : ℕ) → result ≡ Outcome.Done n → Played settings.now (S.left source.old) n
         (O.taken sound.old) (O.taken sound.new) (R.taken replies.old) (R.taken replies.new) }
-    ensures end { (n : ℕ) → result ≡ Outcome.Done n → IsAtEnd (S.left source.new) }
+    // What was read of the stream, at each answer.
+    ensures taken { TakesStream result (S.left source.old) (S.left source.new) }
     // Every other answer but want of memory has its cause.
     ensures answer { IsAnswer settings.now (S.left source.old) result }
     ensures read { result ≡ Outcome.ReadFault → Rose (S.faults source.old) (S.faults source.new) }
@@ -161,7 +162,7 @@ pub fn render<H: Threads + Sync, S: Source, O: Sink, R: Sink, G: Gate>(
     // Where no count rises, the answer is the one that the stream has, or want of memory.
     ensures complete { (bytes : List ℕ) (answer : Outcome) → S.left source.old ≡ Some bytes → HasAnswer settings.now bytes answer → (Rose (S.faults source.old) (S.faults source.new) → ⊥)
         → (Rose (O.faults sound.old) (O.faults sound.new) → ⊥) → (Rose (R.faults replies.old) (R.faults replies.new) → ⊥) → (result ≡ answer) ⊎ (result ≡ Outcome.NoMemory) }
-    // A refusal takes nothing.
+    // A refusal writes nothing.
     ensures untouched { IsUntouched result (O.taken sound.old) (O.taken sound.new) (R.taken replies.old) (R.taken replies.new) }
 {
     run_stream(rt, alloc, settings, source, sound, replies, gate)

@@ -1,5 +1,5 @@
 ghost use Rattle.std.specs.Prelude.{◌≡◌, ◌≤◌, ◌<◌, ◌+◌, ◌^◌, ◌++◌, List, ℕ, length, map, IfOk, IfSome, OnOk, OnErr, MatchOption, IsTrue};
-ghost use Rattle.std.specs.Io.KnownBytes.{IsAtEnd};
+ghost use Rattle.std.specs.Io.KnownBytes.{Consumes, IsAtEnd, Keeps};
 ghost use Rattle.sn_ports.specs.Causes.{Rose};
 ghost use Rattle.sn_osc.specs.Shape.{Shape, shape};
 ghost use Rattle.sn_osc.specs.Grammar.{Spells};
@@ -7,6 +7,7 @@ ghost use Rattle.sn_osc.specs.Bytes.{frame_bytes};
 ghost use Rattle.sn_osc.specs.declared.fault.StreamFault.{StreamFault};
 ghost use Rattle.sn_osc.specs.Frames.{is_frame_size, Frames, first_frame, instead, FrameFault, StreamFaultAt};
 ghost use Rattle.sn_server.specs.declared.stream.Unframed.TheVariants as unframed;
+ghost use Rattle.sn_server.specs.Outcomes.{Takes};
 ghost use Rattle.sn_server.specs.Stream.{IfBad, IsFound, IsRefused};
 
 use sn_osc::{Elements, NoFrame, Packet, StreamFault, Undecoded, decode, first_frame};
@@ -60,12 +61,16 @@ pub fn room(alloc: Global, len: usize) -> Result<Vec<u8>, AllocError>
 
 /// Reads a stream to its end.
 ///
-/// `TooLong` comes where 16,777,217 bytes were taken, and `Failed` only where the source's count of faults rose.
+/// `TooLong` comes where 16,777,217 bytes were taken, and `Failed` only where the source's count of faults rose. Nothing was taken where
+/// memory ran out.
 pub fn read_stream<S: Source>(alloc: Global, source: &mut S) -> Result<Vec<u8>, Unread>
     ensures bytes { IfOk result (λ v. IfSome (S.left source.old) (λ xs. v.items ≡ xs)) }
     ensures end { OnOk result (IsAtEnd (S.left source.new)) }
     ensures size { IfOk result (λ v. length v.items ≤ 16777216) }
     ensures too_long { result ≡ Err Unread.TooLong → IfSome (S.left source.old) (λ xs. 16777216 < length xs) }
+    ensures front { result ≡ Err Unread.TooLong → Takes 16777217 (S.left source.old) (S.left source.new) }
+    ensures some { result ≡ Err Unread.Failed → (given : List ℕ) × Consumes (S.left source.old) (S.left source.new) given }
+    ensures none { result ≡ Err Unread.NoMemory → Keeps (S.left source.old) (S.left source.new) }
     ensures failed { result ≡ Err Unread.Failed → Rose (S.faults source.old) (S.faults source.new) }
 {
     let Ok(mut bytes) = room(alloc, MOST_BYTES + 1) else {

@@ -1,5 +1,5 @@
 //! What happens after a block.
-ghost use Rattle.std.specs.Prelude.{◌≡◌, ◌≤◌, ◌<◌, ◌*◌, ◌^◌, [], length};
+ghost use Rattle.std.specs.Prelude.{◌≡◌, ◌≤◌, ◌<◌, ◌*◌, ◌^◌, [], false, length};
 ghost use Rattle.sn_tree.specs.Trees.{running_labels};
 ghost use Rattle.sn_world.specs.Pictures.{Pictures, WritesWorld};
 ghost use Rattle.sn_world.specs.Settling.{settled};
@@ -15,7 +15,8 @@ use sn_ports::Text;
 use sn_world::{Endings, Stage};
 
 /// Settles a block that was just walked: first its triggers are told. Then the units that ended in it pause or free their synths, which
-/// is told too. What is told is put behind the bytes that wait for each client, by their numbers.
+/// is told too. What is told is put behind the bytes that wait for each client, by their numbers. Tells whether a unit ended: where
+/// none did, the stage stays as it is.
 ///
 /// It takes no memory: each client's bytes have room for 48 bytes for each unit of a running synth that sends triggers or ends, and
 /// `endings` has room for as many.
@@ -25,7 +26,7 @@ pub fn settle<P: Port>(
     block: u64,
     endings: &mut Endings,
     outs: &mut [Text],
-)
+) -> bool
     requires pictures { Pictures stage.old (P.words port.old) }
     requires foot { WritesWorld (P.foot port.old) stage.old.pool.region }
     requires block { block < 2 ^ 63 }
@@ -33,6 +34,7 @@ pub fn settle<P: Port>(
     requires bytes { HaveRoom (48 * walk_room (running_labels stage.old.tree.attached)) outs.old }
     requires room { walk_room (running_labels stage.old.tree.attached) ≤ endings.old.spare }
     ensures world { world_of stage.new (P.words port.new) ≡ (settled block (turn_of stage.old (P.words port.old) [])).world }
+    ensures same { result ≡ false → stage.new ≡ stage.old }
     ensures sent { AreSent (settled block (turn_of stage.old (P.words port.old) [])).replies outs.old outs.new }
     ensures pictures { Pictures stage.new (P.words port.new) }
     ensures clients { stage.new.notify ≡ stage.old.notify }
@@ -44,8 +46,9 @@ pub fn settle<P: Port>(
     endings.clear();
     look_at_all(port, stage, block, endings, outs);
     if endings.as_slice().is_empty() {
-        return;
+        return false;
     }
     settle_words(port, stage);
     act_all(stage, endings.as_slice(), outs);
+    true
 }

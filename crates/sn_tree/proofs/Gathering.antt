@@ -7,7 +7,7 @@ use Rattle.std.proofs.lemmas.Bool.{cases_Bool, or_from, or_parts}
 use Rattle.std.proofs.lemmas.List.{append-nil}
 use Rattle.std.proofs.lemmas.List.Elements.{All-nil, All-cons, All-append}
 use Rattle.sn_tree.specs.declared.entry.Entry.{Entry}
-use Rattle.sn_tree.specs.Trees.{Nodes, none, node, count, holds, ids, children, with_payloads}
+use Rattle.sn_tree.specs.Trees.{Nodes, none, node, count, holds, ids, children, subtree, with_payloads}
 use Rattle.sn_tree.specs.Faults.{is_synth}
 use Rattle.sn_tree.specs.Order.{Key, entry_of, flat, tree_of, IsFlat, length-flat, take_at, drop_at}
 use Rattle.sn_tree.specs.Places.{Spotted}
@@ -17,7 +17,7 @@ use Rattle.sn_tree.specs.Model.{NodeTree}
 use Rattle.sn_tree.specs.Kept.{payload_of, IsRooted, shown}
 use Rattle.sn_tree.specs.Steps.{occurrences, AllDistinct}
 use Rattle.sn_tree.specs.Below.{top_ids, synth_ids, synths_of}
-use Rattle.sn_tree.proofs.PayloadLaws.{holds-payloads, children-payloads}
+use Rattle.sn_tree.proofs.PayloadLaws.{holds-payloads, children-payloads, subtree-payloads}
 use Rattle.sn_tree.proofs.Distinct.{occurs-node}
 use Rattle.sn_tree.proofs.Viewing.{cut_tree, first_back}
 
@@ -156,6 +156,12 @@ root_below id nodes r d =
     at false true b p = p
     at false false b p = refl
 
+root_whole : (nodes : Nodes Key) → IsRooted nodes → subtree (pos 0) nodes ≡ nodes
+root_whole nodes r =
+    ap (subtree (pos 0)) r.is
+    ∙ ap (λ (y : ℤ). if int_eq y (pos 0) then node r.label r.below none else if holds (pos 0) r.below then subtree (pos 0) r.below else none) r.id
+    ∙ sym r.is
+
 -- the same of the tree that they stand for
 
 module _ {P : Type 0} (root : P) (slots : List (Option P)) (nodes : Arranged) (saved : Option SavedNodes) (tree : NodeTree P) (e : shown root slots nodes saved ≡ tree) where
@@ -165,6 +171,14 @@ module _ {P : Type 0} (root : P) (slots : List (Option P)) (nodes : Arranged) (s
       ∙ (ap (holds (pos 0)) (children-payloads (payload_of root slots) id nodes.attached)
       ∙ (holds-payloads (payload_of root slots) (pos 0) (children id nodes.attached)
       ∙ root_below id nodes.attached r d))
+
+  pub whole_shown : IsRooted nodes.attached → subtree (pos 0) tree.attached ≡ tree.attached
+  whole_shown r =
+      let is = ap (λ (t : NodeTree P). t.attached) e in
+      sym (ap (subtree (pos 0)) is)
+      ∙ (subtree-payloads (payload_of root slots) (pos 0) nodes.attached
+      ∙ (ap (with_payloads (payload_of root slots)) (root_whole nodes.attached r)
+      ∙ is))
 
   pub tops_shown : (id : ℤ) → top_ids (children id nodes.attached) ≡ top_ids (children id tree.attached)
   tops_shown id =

@@ -415,6 +415,13 @@ impl<P: Drop> Tree<P> {
         let _ = &self.order;
     }
 
+    /// A law: all attached nodes are the root and those below it.
+    pub fn root_holds_all(&self)
+        ensures { subtree (pos 0) self.now.attached ≡ self.now.attached }
+    {
+        let _ = &self.order;
+    }
+
     /// A law: the root lies below no node.
     pub fn root_is_on_top(&self, id: i32)
         ensures { holds (pos 0) (children id self.now.attached) ≡ false }

@@ -7,6 +7,7 @@ use Rattle.sn_reply.specs.declared.reason.Reason.{Reason}
 use Rattle.sn_reply.specs.declared.reason.Reason.TheVariants.{UnknownCommand, ArgumentType, Arguments}
 use Rattle.sn_reply.specs.Failing.{fail_message}
 use Rattle.sn_tree.specs.declared.node.Action.TheVariants.{Head, Tail, Before, After}
+use Rattle.sn_tree.specs.declared.node.NodeKind.TheVariants as kinds
 use Rattle.sn_world.specs.declared.command.BusCommand.{BusCommand}
 use Rattle.sn_world.specs.declared.command.BusCommand.TheVariants as buses
 use Rattle.sn_world.specs.declared.command.NodeCommand.{NodeCommand}
@@ -164,6 +165,7 @@ node_command_of address =
     else if bytes_eq address (codes "/n_fill") then Some nodes.FillRuns
     else if bytes_eq address (codes "/n_map") then Some nodes.MapControls
     else if bytes_eq address (codes "/g_new") then Some nodes.NewGroup
+    else if bytes_eq address (codes "/p_new") then Some nodes.NewParallel
     else if bytes_eq address (codes "/n_free") then Some nodes.Free
     else if bytes_eq address (codes "/g_freeAll") then Some nodes.FreeAll
     else if bytes_eq address (codes "/g_deepFree") then Some nodes.DeepFree
@@ -186,7 +188,8 @@ node_row nodes.SetControls = set_controls_row
 node_row nodes.SetRuns = set_runs_row
 node_row nodes.FillRuns = fill_runs_row
 node_row nodes.MapControls = map_row
-node_row nodes.NewGroup = group_row
+node_row nodes.NewGroup = group_row kinds.Group
+node_row nodes.NewParallel = group_row kinds.Parallel
 node_row nodes.Free = free_row
 node_row nodes.FreeAll = free_all_row
 node_row nodes.DeepFree = deep_free_row

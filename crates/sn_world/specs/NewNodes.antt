@@ -5,7 +5,6 @@ use Rattle.sn_osc.specs.Shape.{Argument, int, string, blob}
 use Rattle.sn_reply.specs.declared.reason.Reason.{Reason}
 use Rattle.sn_reply.specs.declared.reason.Reason.TheVariants as Reasons
 use Rattle.sn_tree.specs.declared.node.NodeKind.{NodeKind}
-use Rattle.sn_tree.specs.declared.node.NodeKind.TheVariants as kinds
 use Rattle.sn_tree.specs.declared.node.Action.{Action}
 use Rattle.sn_tree.specs.declared.node.Action.TheVariants.{Head, Tail, Before, After}
 use Rattle.sn_tree.specs.declared.node.NodeView.{NodeView}
@@ -13,6 +12,7 @@ use Rattle.sn_tree.specs.Trees.{Nodes, none, put, leaf, subtree, without, holds,
 use Rattle.sn_tree.specs.Views.{views_below}
 use Rattle.sn_tree.specs.Faults.{is_missing, is_in_synth, is_beside_root}
 use Rattle.sn_world.specs.declared.notices.NodeEvent.TheVariants.{Went}
+use Rattle.sn_world.specs.declared.repetition.NewGroup.{NewGroup}
 use Rattle.sn_world.specs.declared.repetition.NewNode.{NewNode}
 use Rattle.sn_world.specs.Freeing.{told_ends}
 use Rattle.sn_world.specs.Nodes.{Content, group}
@@ -92,7 +92,7 @@ node_refusal id action target nodes = first_of (
     ∷ (nat_lt 4096 (count (left_by (replaces action) target nodes) + 1), Reasons.TooManyNodes)
     ∷ [])
 
--- ---- `/g_new` (id action target)..
+-- ---- `/g_new`, `/p_new` (id action target)..
 
 -- an id is -1 or more
 abbrev pub is_asked : ℤ → Bool
@@ -108,8 +108,15 @@ new_node (int id) (blob b) z = None
 new_node (string s) y z = None
 new_node (blob b) y z = None
 
-abbrev pub judge_group : World → NewNode → Option Reason
-judge_group w r = node_refusal (id_for w.next_id r.id) r.action r.target w.nodes
+abbrev pub of_kind : NodeKind → Option NewNode → Option NewGroup
+of_kind kind None = None
+of_kind kind (Some r) = Some (record { kind = kind; node = r })
+
+abbrev pub new_group : NodeKind → Argument → Argument → Argument → Option NewGroup
+new_group kind x y z = of_kind kind (new_node x y z)
+
+abbrev pub judge_group : World → NewGroup → Option Reason
+judge_group w r = node_refusal (id_for w.next_id r.node.id) r.node.action r.node.target w.nodes
 
 -- the world with an empty group; an id that was chosen is used up
 abbrev pub with_group : NodeKind → NewNode → ℤ → World → World
@@ -119,8 +126,8 @@ abbrev pub act_with : NodeKind → NewNode → Option ℤ → Turn → Turn
 act_with kind r None t = t
 act_with kind r (Some id) t = told Went id (record (told_replaced r t) { world = with_group kind r id t.world })
 
-abbrev pub act_group : NewNode → Turn → Turn
-act_group r t = act_with kinds.Group r (id_for t.world.next_id r.id) t
+abbrev pub act_group : NewGroup → Turn → Turn
+act_group r t = act_with r.kind r.node (id_for t.world.next_id r.node.id) t
 
-abbrev pub group_row : ℕ → List Argument → Turn → Result Turn Reason
-group_row from xs = row judge_group act_group (some_of (triples new_node xs))
+abbrev pub group_row : NodeKind → ℕ → List Argument → Turn → Result Turn Reason
+group_row kind from xs = row judge_group act_group (some_of (triples (new_group kind) xs))

@@ -66,6 +66,8 @@ pub enum NodeCommand {
     MapControls,
     /// `/g_new`
     NewGroup,
+    /// `/p_new`
+    NewParallel,
     /// `/n_free`
     Free,
     /// `/g_freeAll`

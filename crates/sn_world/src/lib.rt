@@ -30,7 +30,7 @@ pub use names::Names;
 pub use node_repetition::{NodeMove, NodeQuery, RunFlag};
 pub use notices::{NodeEvent, event_message, notify};
 pub use ordering::NodePlace;
-pub use repetition::{BusFill, BusNumber, BusValue, NewNode, NodeId, Run};
+pub use repetition::{BusFill, BusNumber, BusValue, NewGroup, NewNode, NodeId, Run};
 pub use runs::{ValueRun, value_runs};
 pub use stage::{Held, Stage};
 pub use tree_query::TreeQuery;

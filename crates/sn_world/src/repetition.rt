@@ -1,3 +1,5 @@
+use sn_tree::NodeKind;
+
 /// The number of a control bus.
 #[derive(Clone, Copy, Debug, PartialEq, Eq)]
 pub struct BusNumber {
@@ -32,6 +34,13 @@ pub struct NewNode {
     pub id: i32,
     pub action: i32,
     pub target: i32,
+}
+
+/// A group that is made, and of which kind: a plain one, or one whose members may be rendered beside each other.
+#[derive(Clone, Copy, Debug, PartialEq, Eq)]
+pub struct NewGroup {
+    pub kind: NodeKind,
+    pub node: NewNode,
 }
 
 /// The id of a node.

@@ -1,8 +1,7 @@
 ghost use Rattle.std.specs.Prelude.{◌≡◌, ◌⊎◌, ◌<◌, ◌^◌, ◌↔◌, ℕ, List, Some, Ok, Err, length};
-ghost use Rattle.std.specs.Io.KnownBytes.{IsAtEnd};
 ghost use Rattle.sn_ports.specs.Causes.{Rose};
 ghost use Rattle.sn_pcm.specs.declared.settings.Settings.{Settings};
-ghost use Rattle.sn_server.specs.Outcomes.{Played, IsAnswer, HasAnswer, IsUntouched};
+ghost use Rattle.sn_server.specs.Outcomes.{Played, IsAnswer, HasAnswer, IsUntouched, TakesStream};
 ghost use Rattle.sn_server.specs.declared.outcome.Outcome.{Outcome};
 ghost use Rattle.sn_words.specs.Choices.{numbers};
 ghost use Rattle.sn_words.specs.Words.{settings_of, bad_word};
@@ -30,7 +29,9 @@ pub fn run<H: Threads + Sync, S: Source, O: Sink, R: Sink, G: Gate>(
     // What was done is the sequential walk of the stream, by the settings of the words, where the objects tell their bytes.
     ensures done { (n : ℕ) → result ≡ Outcome.Done n → (s : Settings) × AreChosen words.now s × Played s (S.left source.old) n
         (O.taken sound.old) (O.taken sound.new) (R.taken replies.old) (R.taken replies.new) }
-    ensures end { (n : ℕ) → result ≡ Outcome.Done n → IsAtEnd (S.left source.new) }
+
+    // What was read of the stream, at each answer.
+    ensures taken { TakesStream result (S.left source.old) (S.left source.new) }
 
     // Every other answer but want of memory has its cause.
     ensures words { (i : ℕ) → (result ≡ Outcome.BadWords i) ↔ (settings_of words.now ≡ Err i) }
@@ -45,7 +46,7 @@ pub fn run<H: Threads + Sync, S: Source, O: Sink, R: Sink, G: Gate>(
         → (Rose (S.faults source.old) (S.faults source.new) → ⊥) → (Rose (O.faults sound.old) (O.faults sound.new) → ⊥) → (Rose (R.faults replies.old) (R.faults replies.new) → ⊥)
         → (result ≡ answer) ⊎ (result ≡ Outcome.NoMemory)) }
 
-    // A refusal takes nothing.
+    // A refusal writes nothing.
     ensures untouched { IsUntouched result (O.taken sound.old) (O.taken sound.new) (R.taken replies.old) (R.taken replies.new) }
 {
     match settings(words) {

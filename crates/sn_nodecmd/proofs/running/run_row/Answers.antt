@@ -61,6 +61,17 @@ returns-in-NewGroup-clause-pictures g c = c.run_new_groups.ensures.pictures (g.P
 pub run_new_groups-requires-clause-rest : goal.run_new_groups-requires-clause-rest
 run_new_groups-requires-clause-rest g c = at_rest c.args.stage.now (g.P.Port.words c.args.port.now) c.requires.pictures
 
+pub returns-in-NewParallel-clause-row : goal.returns-in-NewParallel-clause-row
+returns-in-NewParallel-clause-row g c =
+    subst (λ (v : NodeCommand). Follows c.run_new_groups-in-NewParallel.result (node_row v c.args.from (map argument_of c.args.arguments.now) (turn_of c.args.stage.now (g.P.Port.words c.args.port.now) c.args.replies.now)) (turn_of c.run_new_groups-in-NewParallel.new.stage (g.P.Port.words c.args.port.now) c.run_new_groups-in-NewParallel.new.replies))
+    (sym c.in-NewParallel.is) (c.run_new_groups-in-NewParallel.ensures.row c.args.from (g.P.Port.words c.args.port.now))
+
+pub returns-in-NewParallel-clause-unchanged : goal.returns-in-NewParallel-clause-unchanged
+returns-in-NewParallel-clause-unchanged g c = same_turn c.run_new_groups-in-NewParallel.result c.args.stage.now c.run_new_groups-in-NewParallel.new.stage (g.P.Port.words c.args.port.now) c.args.replies.now c.run_new_groups-in-NewParallel.new.replies c.run_new_groups-in-NewParallel.ensures.unchanged c.run_new_groups-in-NewParallel.ensures.untold
+
+pub returns-in-NewParallel-clause-pictures : goal.returns-in-NewParallel-clause-pictures
+returns-in-NewParallel-clause-pictures g c = c.run_new_groups-in-NewParallel.ensures.pictures (g.P.Port.words c.args.port.now) c.requires.pictures
+
 pub returns-in-Free-clause-row : goal.returns-in-Free-clause-row
 returns-in-Free-clause-row g c =
     subst (λ (v : NodeCommand). Follows c.run_free.result (node_row v c.args.from (map argument_of c.args.arguments.now) (turn_of c.args.stage.now (g.P.Port.words c.args.port.now) c.args.replies.now)) (turn_of c.run_free.new.stage (g.P.Port.words c.args.port.now) c.run_free.new.replies))

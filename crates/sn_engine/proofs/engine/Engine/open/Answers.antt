@@ -9,8 +9,8 @@ use Rattle.sn_world.proofs.OpeningLaws.{opens_pictured}
 use Rattle.sn_engine.proofs.engine.Engine.open.Goals as goal
 
 pub returns : goal.returns
-returns c = opens_engine c.args.settings.now c.args.base c.args.limit c.args.clients (10368 + c.args.settings.now.memory) c.in_ok-new.field-0 c.in_ok-new-2.field-0.words.items c.new-6.result _ _
-    c.in_ok-new.ensures c.in_ok-new-2.ensures c.new-6.ensures c.new-7.ensures c.in_ok-silent.ensures
+returns c = opens_engine c.args.settings.now c.args.base c.args.limit c.args.clients (10368 + c.args.settings.now.memory) c.in_ok-new.field-0 c.in_ok-new-2.field-0.words.items c.new-6.result _ _ _
+    c.in_ok-new.ensures c.in_ok-new-2.ensures c.new-6.ensures c.new-7.ensures c.new-8.ensures c.in_ok-silent.ensures
 
 pub invariant_of-result : goal.invariant_of-result
 invariant_of-result c =
@@ -25,4 +25,5 @@ invariant_of-result c =
       tt,
       omega arith,
       omega (arith, c.requires.clients, ap length c.in_ok-silent.ensures, length-map c.in_ok-silent.field-0.items bytes_of, length-replicate {A = List ℕ} c.args.clients []),
+      λ e. absurd cc,
     )

@@ -18,6 +18,7 @@ invariant_of-self g c =
       i.3,
       i.4,
       omega (arith, i.5, as_long e.replies.items c.args.client c.send_text.new.text),
+      i.6,
     )
 
 abbrev with_replies : Running → List (List ℕ) → Running

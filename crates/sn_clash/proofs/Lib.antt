@@ -1,0 +1,9 @@
+pub mod Firsts
+pub mod Marking
+pub mod Least
+pub mod Putting
+pub mod Members
+pub mod Stacking
+pub mod Reaching
+pub mod Worlds
+pub mod Numbers

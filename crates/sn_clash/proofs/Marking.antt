@@ -1,0 +1,142 @@
+-- What is marked is what is used.
+use Rattle.std.proofs.Common.{◌≡◌, ◌<◌, ℕ, ◌+◌, ◌*◌, ◌==◌, Bool, true, false, ◌&&◌, ◌||◌, List, [], ◌∷◌, Option, None, sym, refl, ap, subst, ◌∙◌, ⊎_elim, arith, length}
+use Rattle.std.specs.Prelude.{slice_set, slice_index_or, nat_lt, is_some}
+use Rattle.std.proofs.lemmas.Bool.{and_parts, cases_eq, eq-eqb, ne_eqb, ltb-true}
+use Rattle.std.proofs.lemmas.List.{length-set, get_or-set_same, get_or-set_other}
+use Rattle.sn_mem.specs.declared.buffers.BufferPlace.{BufferPlace}
+use Rattle.sn_foot.specs.declared.resource.Access.{Access}
+use Rattle.sn_foot.specs.declared.resource.Access.TheVariants.{Read, Write}
+use Rattle.sn_foot.specs.declared.resource.Resource.{Resource}
+use Rattle.sn_foot.specs.declared.resource.Resource.TheVariants.{Audio, Control, Buffer}
+use Rattle.sn_foot.specs.Footprints.{Footprint}
+use Rattle.sn_clash.specs.declared.uses.Use.{Use}
+use Rattle.sn_clash.specs.declared.marks.Mark.{Mark}
+use Rattle.sn_clash.specs.Clashing.{is_there, number_of}
+use Rattle.sn_clash.specs.Using.{footprint_in, is_access, is_same, uses_in}
+use Rattle.sn_clash.specs.Marking.{mark_of, mark_use, mark_uses, marked_in, more, place, unmarked}
+use Rattle.sn_clash.specs.Passing.{either, no_use}
+
+or_nothing : (a : Bool) → a ≡ (a || false)
+or_nothing true = refl
+or_nothing false = refl
+
+or_all : (a : Bool) → true ≡ (a || true)
+or_all true = refl
+or_all false = refl
+
+or_assoc : (a b c : Bool) → ((a || b) || c) ≡ (a || (b || c))
+or_assoc true b c = refl
+or_assoc false b c = refl
+
+and_nothing : (a : Bool) → false ≡ (a && false)
+and_nothing true = refl
+and_nothing false = refl
+
+masked_or : (t a b : Bool) → (t && (a || b)) ≡ ((t && a) || (t && b))
+masked_or true a b = refl
+masked_or false a b = refl
+
+pub guarded : (t a b : Bool) → (t ≡ true → a ≡ b) → (t && a) ≡ (t && b)
+guarded true a b f = f refl
+guarded false a b f = refl
+
+-- ---- places
+
+same_number : (a b m n : ℕ) → (a ≡ b → m ≡ n) → (m ≡ n → a ≡ b) → (a == b) ≡ (m == n)
+same_number a b m n f g =
+    ⊎_elim
+    (λ (e : m ≡ n). eq-eqb a b (g e) ∙ sym (eq-eqb m n e))
+    (λ (d : m ≡ n → ⊥). ne_eqb a b (λ e. d (f e)) ∙ sym (ne_eqb m n d))
+    (cases_eq m n)
+
+same_place : (q r : Resource) → (place q == place r) ≡ is_same q r
+same_place (Audio m) (Audio n) = same_number (3 * m) (3 * n) m n (λ e. omega (arith, e)) (λ e. omega (arith, e))
+same_place (Audio m) (Control n) = ne_eqb (3 * m) (3 * n + 1) (λ e. omega (arith, e))
+same_place (Audio m) (Buffer n) = ne_eqb (3 * m) (3 * n + 2) (λ e. omega (arith, e))
+same_place (Control m) (Audio n) = ne_eqb (3 * m + 1) (3 * n) (λ e. omega (arith, e))
+same_place (Control m) (Control n) = same_number (3 * m + 1) (3 * n + 1) m n (λ e. omega (arith, e)) (λ e. omega (arith, e))
+same_place (Control m) (Buffer n) = ne_eqb (3 * m + 1) (3 * n + 2) (λ e. omega (arith, e))
+same_place (Buffer m) (Audio n) = ne_eqb (3 * m + 2) (3 * n) (λ e. omega (arith, e))
+same_place (Buffer m) (Control n) = ne_eqb (3 * m + 2) (3 * n + 1) (λ e. omega (arith, e))
+same_place (Buffer m) (Buffer n) = same_number (3 * m + 2) (3 * n + 2) m n (λ e. omega (arith, e)) (λ e. omega (arith, e))
+
+pub low_number : (buffers : List (Option BufferPlace)) (r : Resource) → is_there buffers r ≡ true → number_of r < 1024
+low_number buffers (Audio n) h = omega (arith, ltb-true n 128 h)
+low_number buffers (Control n) h = ltb-true n 1024 h
+low_number buffers (Buffer n) h = ltb-true n 1024 (and_parts (nat_lt n 1024) (is_some (slice_index_or buffers n None)) h).0
+
+low_place : (r : Resource) → number_of r < 1024 → place r < 3072
+low_place (Audio n) h = omega (arith, h)
+low_place (Control n) h = omega (arith, h)
+low_place (Buffer n) h = omega (arith, h)
+
+-- ---- uses
+
+abbrev bit : Access → Mark → Bool
+bit Read m = m.read
+bit Write m = m.written
+
+more_bit : (a b : Access) (m : Mark) → bit a (more b m) ≡ (bit a m || (is_access a b && true))
+more_bit Read Read m = or_all m.read
+more_bit Read Write m = or_nothing m.read
+more_bit Write Read m = or_nothing m.written
+more_bit Write Write m = or_all m.written
+
+one_marked : (a : Access) (u : Use) (marks : List Mark) (r : Resource) → place r < length marks →
+    bit a (mark_of (mark_use u marks) r) ≡ (bit a (mark_of marks r) || (is_access a u.access && is_same u.resource r))
+one_marked a u marks r lt =
+    let old : Bool = bit a (mark_of marks r) in
+    ⊎_elim
+    (λ (e : place u.resource ≡ place r).
+    ap (λ (m : Mark). bit a m)
+    (ap (λ k. slice_index_or (slice_set marks k (more u.access (slice_index_or marks k unmarked))) (place r) unmarked) e
+    ∙ get_or-set_same marks (place r) (more u.access (mark_of marks r)) unmarked lt)
+    ∙ more_bit a u.access (mark_of marks r)
+    ∙ ap (λ b. old || (is_access a u.access && b)) (sym (sym (same_place u.resource r) ∙ eq-eqb (place u.resource) (place r) e)))
+    (λ (d : place u.resource ≡ place r → ⊥).
+    ap (λ (m : Mark). bit a m) (get_or-set_other marks (place u.resource) (place r) (more u.access (mark_of marks u.resource)) unmarked (λ e. d (sym e)))
+    ∙ or_nothing old
+    ∙ ap (λ b. old || b) (and_nothing (is_access a u.access) ∙ ap (λ b. is_access a u.access && b) (sym (sym (same_place u.resource r) ∙ ne_eqb (place u.resource) (place r) d))))
+    (cases_eq (place u.resource) (place r))
+
+long_use : (u : Use) (marks : List Mark) → length (mark_use u marks) ≡ length marks
+long_use u marks = length-set marks (place u.resource) (more u.access (mark_of marks u.resource))
+
+pub long_uses : (us : List Use) (marks : List Mark) → length (mark_uses us marks) ≡ length marks
+long_uses [] marks = refl
+long_uses (u ∷ us) marks = long_uses us (mark_use u marks) ∙ long_use u marks
+
+all_marked : (a : Access) (us : List Use) (marks : List Mark) (r : Resource) → place r < length marks → bit a (mark_of (mark_uses us marks) r) ≡ (bit a (mark_of marks r) || uses_in a us r)
+all_marked a [] marks r lt = or_nothing (bit a (mark_of marks r))
+all_marked a (u ∷ us) marks r lt =
+    all_marked a us (mark_use u marks) r (subst (λ k. place r < k) (sym (long_use u marks)) lt)
+    ∙ ap (λ b. b || uses_in a us r) (one_marked a u marks r lt)
+    ∙ or_assoc (bit a (mark_of marks r)) (is_access a u.access && is_same u.resource r) (uses_in a us r)
+
+-- ---- footprints
+
+module _ (buffers : List (Option BufferPlace)) where
+  marked_bit : (a : Access) (us : List Use) (marks : List Mark) (r : Resource) → length marks ≡ 3072 →
+      (is_there buffers r && bit a (mark_of (mark_uses us marks) r)) ≡ ((is_there buffers r && bit a (mark_of marks r)) || (is_there buffers r && uses_in a us r))
+  marked_bit a us marks r long =
+      guarded (is_there buffers r) (bit a (mark_of (mark_uses us marks) r)) (bit a (mark_of marks r) || uses_in a us r)
+      (λ h. all_marked a us marks r (subst (λ k. place r < k) (sym long) (low_place r (low_number buffers r h))))
+      ∙ masked_or (is_there buffers r) (bit a (mark_of marks r)) (uses_in a us r)
+
+  pub together : (us : List Use) (marks : List Mark) → length marks ≡ 3072 →
+      marked_in (is_there buffers) (mark_uses us marks) ≡ either (marked_in (is_there buffers) marks) (footprint_in (is_there buffers) us)
+  together us marks long = λ i. record { reads = λ r. marked_bit Read us marks r long i; writes = λ r. marked_bit Write us marks r long i }
+
+  pub nothing_marked : (marks : List Mark) → ((n : ℕ) → slice_index_or marks n unmarked ≡ unmarked) → marked_in (is_there buffers) marks ≡ no_use
+  nothing_marked marks none = λ i. record {
+    reads = λ r. (ap (λ (m : Mark). is_there buffers r && m.read) (none (place r)) ∙ sym (and_nothing (is_there buffers r))) i;
+    writes = λ r. (ap (λ (m : Mark). is_there buffers r && m.written) (none (place r)) ∙ sym (and_nothing (is_there buffers r))) i;
+  }
+
+  -- uses are marked where nothing was
+  pub uses_marked : (us : List Use) (marks new : List Mark) → length marks ≡ 3072 → ((n : ℕ) → slice_index_or marks n unmarked ≡ unmarked) → new ≡ mark_uses us marks →
+      marked_in (is_there buffers) new ≡ footprint_in (is_there buffers) us
+  uses_marked us marks new long none e =
+      ap (λ (ms : List Mark). marked_in (is_there buffers) ms) e
+      ∙ together us marks long
+      ∙ ap (λ (f : Footprint). either f (footprint_in (is_there buffers) us)) (nothing_marked marks none)

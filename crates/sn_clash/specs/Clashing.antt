@@ -1,0 +1,99 @@
+-- Which members of parallel groups clash.
+use Rattle.std.specs.Prelude.{ℕ, ℤ, nat_lt, Bool, true, false, ◌&&◌, ◌||◌, if◌then◌else◌, List, [], ◌∷◌, ◌++◌, map, take, slice_index_or, Option, None, is_some}
+use Rattle.std.specs.List.{filter, list_any}
+use Rattle.sn_mem.specs.Blocks.{table}
+use Rattle.sn_tree.specs.declared.node.NodeKind.{NodeKind}
+use Rattle.sn_tree.specs.declared.node.NodeKind.TheVariants as kinds
+use Rattle.sn_tree.specs.Trees.{Label, Nodes, none, node, running_labels}
+use Rattle.sn_world.specs.declared.stage.Stage.{Stage}
+use Rattle.sn_world.specs.Nodes.{Content, group, synth}
+use Rattle.sn_world.specs.World.{World}
+use Rattle.sn_foot.specs.declared.resource.Resource.{Resource}
+use Rattle.sn_foot.specs.declared.resource.Resource.TheVariants.{Audio, Control, Buffer}
+use Rattle.sn_foot.specs.Footprints.{Footprint, synth_reads, synth_writes, held_reads, held_writes}
+use Rattle.sn_clash.specs.declared.clash.Clash.{Clash}
+
+-- ---- resources
+
+-- A resource is an audio bus 0 to 127, a control bus 0 to 1,023, or a buffer 0 to 1,023 that is allocated.
+abbrev pub is_there : {B : Type 0} → List (Option B) → Resource → Bool
+is_there buffers (Audio n) = nat_lt n 128
+is_there buffers (Control n) = nat_lt n 1024
+is_there buffers (Buffer n) = nat_lt n 1024 && is_some (slice_index_or buffers n None)
+
+abbrev pub number_of : Resource → ℕ
+number_of (Audio n) = n
+number_of (Control n) = n
+number_of (Buffer n) = n
+
+-- audio buses, control buses, and buffers, each by their numbers
+unfoldable pub resources : List Resource
+resources = table Audio 128 ++ (table Control 1024 ++ table Buffer 1024)
+
+-- one of two footprints writes what the other reads or writes
+abbrev pub clash_on : Footprint → Footprint → Resource → Bool
+clash_on a b r = (a.writes r && (b.reads r || b.writes r)) || (b.writes r && (a.reads r || a.writes r))
+
+-- ---- members of a group
+
+-- a member of a group, and what is used by all that the walk finds at it and below it
+pub record Member : Type 0 where
+  pub id : ℤ
+  pub uses : Footprint
+
+-- the clashes of a member with each of those after it, by the resources in their order
+abbrev pub clashes_with : ℤ → Member → List Member → List Clash
+clashes_with id a [] = []
+clashes_with id a (b ∷ bs) =
+    map (λ r. record { group = id; first = a.id; second = b.id; resource = r }) (filter (clash_on a.uses b.uses) resources)
+    ++ clashes_with id a bs
+
+-- all clashes of members, those of the first of them first
+abbrev pub clashes_among : ℤ → List Member → List Clash
+clashes_among id [] = []
+clashes_among id (a ∷ bs) = clashes_with id a bs ++ clashes_among id bs
+
+-- ---- nodes
+
+abbrev pub is_parallel : NodeKind → Bool
+is_parallel kinds.Synth = false
+is_parallel kinds.Group = false
+is_parallel kinds.Parallel = true
+
+-- nodes with payloads of some sort, of which two tests tell what each reads and writes
+module _ {P : Type 0} (there : Resource → Bool) (reads writes : P → Resource → Bool) where
+  -- the resources that are there and that one of these reads, and those that one of them writes
+  abbrev pub footprint : List (Label P) → Footprint
+  footprint labels = record {
+    reads = λ r. there r && list_any (λ l. reads l.payload r) labels;
+    writes = λ r. there r && list_any (λ l. writes l.payload r) labels;
+  }
+
+  -- nodes beside each other: a paused one uses nothing
+  abbrev pub members : Nodes P → List Member
+  members none = []
+  members (node label below after) = record { id = label.id; uses = footprint (running_labels (node label below none)) } ∷ members after
+
+  -- the first clash of the members of each parallel group that the walk reaches, in the order of the walk
+  abbrev pub clashes : Nodes P → List Clash
+  clashes none = []
+  clashes (node label below after) =
+      if label.running
+      then (if is_parallel label.kind then take 1 (clashes_among label.id (members below)) else []) ++ (clashes below ++ clashes after)
+      else clashes after
+
+-- ---- a world and a stage
+
+abbrev pub content_reads : Content → Resource → Bool
+content_reads group r = false
+content_reads (synth s) r = synth_reads s.definition.units s.controls r
+
+abbrev pub content_writes : Content → Resource → Bool
+content_writes group r = false
+content_writes (synth s) r = synth_writes s.definition.units s.controls r
+
+abbrev pub clashes_of : World → List Clash
+clashes_of w = clashes (is_there w.buffers) content_reads content_writes w.nodes
+
+abbrev pub clashes_in : Stage → List Clash
+clashes_in stage = clashes (is_there stage.buffers) held_reads held_writes stage.tree.attached

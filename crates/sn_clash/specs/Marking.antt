@@ -1,0 +1,69 @@
+-- Marks of how resources are used, in a list by their places.
+use Rattle.std.specs.Prelude.{ℕ, ◌+◌, ◌*◌, ◌==◌, nat_lt, Bool, true, false, ◌&&◌, ◌||◌, if◌then◌else◌, List, [], ◌∷◌, slice_set, slice_index_or, Option, Some, None}
+use Rattle.sn_foot.specs.declared.resource.Access.{Access}
+use Rattle.sn_foot.specs.declared.resource.Access.TheVariants.{Read, Write}
+use Rattle.sn_foot.specs.declared.resource.Resource.{Resource}
+use Rattle.sn_foot.specs.declared.resource.Resource.TheVariants.{Audio, Control, Buffer}
+use Rattle.sn_foot.specs.Footprints.{Footprint}
+use Rattle.sn_clash.specs.declared.uses.Use.{Use}
+use Rattle.sn_clash.specs.declared.marks.Mark.{Mark}
+use Rattle.sn_clash.specs.Clashing.{number_of}
+
+-- ---- marks
+
+-- the sorts take turns, so that each resource has a place of its own
+abbrev pub place : Resource → ℕ
+place (Audio n) = 3 * n
+place (Control n) = 3 * n + 1
+place (Buffer n) = 3 * n + 2
+
+abbrev pub unmarked : Mark
+unmarked = record { read = false; written = false }
+
+abbrev pub mark_of : List Mark → Resource → Mark
+mark_of marks r = slice_index_or marks (place r) unmarked
+
+-- the mark of what is used once more
+abbrev pub more : Access → Mark → Mark
+more Read m = record { read = true; written = m.written }
+more Write m = record { read = m.read; written = true }
+
+-- one more use is marked, where its resource has a place
+abbrev pub mark_use : Use → List Mark → List Mark
+mark_use u marks = slice_set marks (place u.resource) (more u.access (mark_of marks u.resource))
+
+abbrev pub mark_uses : List Use → List Mark → List Mark
+mark_uses [] marks = marks
+mark_uses (u ∷ us) marks = mark_uses us (mark_use u marks)
+
+-- of the resources that are there, those that are marked
+abbrev pub marked_in : (Resource → Bool) → List Mark → Footprint
+marked_in there marks = record { reads = λ r. there r && (mark_of marks r).read; writes = λ r. there r && (mark_of marks r).written }
+
+-- ---- uses that clash with what is marked
+
+-- one of the two writes
+abbrev pub meets : Access → Mark → Bool
+meets Read m = m.written
+meets Write m = m.read || m.written
+
+abbrev pub hits : (Resource → Bool) → List Mark → Use → Bool
+hits there marks u = meets u.access (mark_of marks u.resource) && there u.resource
+
+abbrev pub rank : Resource → ℕ
+rank (Audio n) = 0
+rank (Control n) = 1
+rank (Buffer n) = 2
+
+-- audio buses, control buses, and buffers, each by their numbers
+abbrev pub comes_before : Resource → Resource → Bool
+comes_before a b = nat_lt (rank a) (rank b) || ((rank a == rank b) && nat_lt (number_of a) (number_of b))
+
+abbrev pub first_of : Option Resource → Resource → Resource
+first_of None r = r
+first_of (Some least) r = if comes_before least r then least else r
+
+-- the first resource on which uses clash with what is marked, or an earlier one
+abbrev pub first_hit : (Resource → Bool) → List Mark → List Use → Option Resource → Option Resource
+first_hit there marks [] least = least
+first_hit there marks (u ∷ us) least = first_hit there marks us (if hits there marks u then Some (first_of least u.resource) else least)

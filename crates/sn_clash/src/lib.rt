@@ -1,0 +1,21 @@
+//! Which members of parallel groups clash.
+#![tactic(auto)]
+
+mod clash;
+mod entry;
+mod groups;
+mod laws;
+mod marks;
+mod pairs;
+mod passing;
+mod sharing;
+mod uses;
+mod using;
+mod walking;
+
+pub use clash::{Clash, Clashes};
+pub use laws::world_has_the_clashes;
+pub use walking::clashes;
+
+#[cfg(test)]
+mod tests;

@@ -1,0 +1,127 @@
+//! Marks of how resources are used.
+ghost use Rattle.std.specs.Prelude.{◌≡◌, length, slice_index_or, ℕ, List, Option, IfOk};
+ghost use Rattle.sn_mem.specs.declared.buffers.BufferPlace as buffer;
+ghost use Rattle.sn_clash.specs.Clashing.{is_there};
+ghost use Rattle.sn_clash.specs.Using.{footprint_in};
+ghost use Rattle.sn_clash.specs.Marking.{mark_of, mark_use, mark_uses, marked_in, more, place, unmarked};
+
+use crate::uses::Use;
+use sn_foot::{Access, Resource};
+use sn_ports::NoMemory;
+use std::alloc::Global;
+use std::marker::Model;
+
+/// How a resource is used.
+#[derive(Clone, Copy)]
+pub struct Mark {
+    pub read: bool,
+    pub written: bool,
+}
+
+/// How many resources there are at most: 1,024 of each sort.
+const PLACES: usize = 3072;
+
+/// The place of a resource among the marks.
+fn place(resource: Resource) -> usize
+    ensures { result ≡ place resource }
+{
+    match resource {
+        Resource::Audio(number) => 3 * number as usize,
+        Resource::Control(number) => 3 * number as usize + 1,
+        Resource::Buffer(number) => 3 * number as usize + 2,
+    }
+}
+
+/// The mark of what is used once more.
+fn more(mark: Mark, access: Access) -> Mark
+    ensures { result ≡ more access mark }
+{
+    match access {
+        Access::Read => Mark {
+            read: true,
+            written: mark.written,
+        },
+        Access::Write => Mark {
+            read: mark.read,
+            written: true,
+        },
+    }
+}
+
+/// So many marks of what is not used.
+fn unmarked(alloc: Global, count: usize) -> Result<Vec<Mark>, NoMemory>
+    ensures long { IfOk result (λ marks. length marks.items ≡ count) }
+    ensures none { IfOk result (λ marks. (n : ℕ) → slice_index_or marks.items n unmarked ≡ unmarked) }
+{
+    let mark = Mark {
+        read: false,
+        written: false,
+    };
+    Ok(vec![in alloc; mark; count]?)
+}
+
+/// The mark of each resource, by its place.
+#[derive(Drop)]
+pub struct Marks {
+    marks: Vec<Mark>,
+}
+
+impl Model for Marks {
+    ghost use Rattle.std.specs.Prelude.{List};
+    ghost use Rattle.sn_clash.specs.declared.marks.Mark.{Mark};
+
+    ghost Value = { List Mark };
+
+    ghost view = { λ m. m.marks.items };
+}
+
+impl Marks {
+    /// Nothing is marked.
+    pub fn new(alloc: Global) -> Result<Marks, NoMemory>
+        ensures long { IfOk result (λ marks. length marks ≡ 3072) }
+        ensures none { IfOk result (λ marks. (n : ℕ) → slice_index_or marks n unmarked ≡ unmarked) }
+    {
+        let marks = unmarked(alloc, PLACES)?;
+        Ok(Marks { marks })
+    }
+
+    /// The mark of a resource.
+    pub fn of(&self, resource: Resource) -> Mark
+        ensures { result ≡ mark_of self.now resource }
+    {
+        self.marks.get(place(resource)).copied().unwrap_or(Mark {
+            read: false,
+            written: false,
+        })
+    }
+
+    /// Marks a use, where its resource has a place.
+    #[tactic(auto, using(std::proofs::lemmas::List::set_past))]
+    fn mark(&mut self, used: &Use)
+        ensures { self.new ≡ mark_use used.now self.old }
+    {
+        let index = place(used.resource);
+        if index >= self.marks.len() {
+            return;
+        }
+        self.marks[index] = more(self.of(used.resource), used.access);
+    }
+
+    /// Marks uses.
+    pub fn mark_all(&mut self, uses: &[Use])
+        ensures { self.new ≡ mark_uses uses.now self.old }
+    {
+        for used in uses {
+            self.mark(used);
+        }
+    }
+
+    /// Uses are marked, and nothing else.
+    pub fn of_uses(alloc: Global, uses: &[Use]) -> Result<Marks, NoMemory>
+        ensures { IfOk result (λ marks. (buffers : List (Option buffer.BufferPlace)) → marked_in (is_there buffers) marks ≡ footprint_in (is_there buffers) uses.now) }
+    {
+        let mut marks = Marks::new(alloc)?;
+        marks.mark_all(uses);
+        Ok(marks)
+    }
+}

@@ -1,0 +1,31 @@
+use Rattle.std.proofs.Common.{rules}
+use Rattle.sn_osc.specs.Shape.{message_of}
+use Rattle.sn_world.specs.World.{turn_of}
+use Rattle.sn_world.specs.Commands.{run_node, run_bus, either as first_there}
+use Rattle.sn_engine.proofs.ActingLemmas.{done_there, handles_done}
+use Rattle.sn_engine.proofs.acting.run_known.Goals as goal
+use Rattle.sn_engine.proofs.acting.run_known.Goals.{in-NotMine, in-Failed, in-Done, in-Completion}
+
+pub returns-clause-row : goal.returns-clause-row
+returns-clause-row g c =
+    let m = message_of c.args.message.now in
+    let t = turn_of c.args.stage.now (g.P.Port.words c.args.port.now) c.args.replies.now in
+    let after = turn_of c.run_node_command.new.stage (g.P.Port.words c.run_node_command.new.port) c.run_node_command.new.replies in
+    elim c.match-branch-2.branch [
+      | in-NotMine w ↦ search rules
+      | in-Failed w ↦ search rules
+      | in-Done w ↦
+          handles_done c.match-branch-2.result (first_there (run_node c.args.from m t) (run_bus c.args.from m t)) (turn_of c.match-branch-2.stage (g.P.Port.words c.match-branch-2.port) c.match-branch-2.replies) after
+          w.result-is (λ i. turn_of (w.stage-is i) (g.P.Port.words (w.port-is i)) (w.replies-is i))
+          (done_there c.in_ok-reason.field-0 (run_node c.args.from m t) (run_bus c.args.from m t) after w.in-Done.is c.in_ok-reason.ensures.row)
+      | in-Completion w ↦ search rules
+    ]
+
+pub returns-clause-pictures : goal.returns-clause-pictures
+returns-clause-pictures g c =
+    elim c.match-branch-2.branch [
+      | in-NotMine w ↦ search rules
+      | in-Failed w ↦ search rules
+      | in-Done w ↦ search rules
+      | in-Completion w ↦ search rules
+    ]

@@ -1,0 +1,50 @@
+use Rattle.std.proofs.Common.{◌≡◌, ◌∙◌, ap, List}
+use Rattle.sn_reply.specs.Replies.{ReplyShape}
+use Rattle.sn_queue.specs.Waiting.{WaitingList}
+use Rattle.sn_world.specs.World.{world_of}
+use Rattle.sn_engine.specs.Boundary.{due_at, left_at, entries_ask}
+use Rattle.sn_engine.proofs.QuietLemmas as quiet
+use Rattle.sn_engine.proofs.Bounded.{a_turn, acted_turn, acted_clashes, acted_replies}
+use Rattle.sn_engine.proofs.bounding.act_boundary.Goals as goal
+
+pub returns-then-not-has_due-clause-world : goal.returns-then-not-has_due-clause-world
+returns-then-not-has_due-clause-world g c = quiet.same_world c.args.now c.args.queue.now c.has_due.result c.has_due.ensures c.if-not-has_due.true (world_of c.args.stage.now (g.P.Port.words c.args.port.now))
+
+pub returns-then-not-has_due-clause-quit : goal.returns-then-not-has_due-clause-quit
+returns-then-not-has_due-clause-quit g c = quiet.goes_on c.args.now c.args.queue.now c.has_due.result c.has_due.ensures c.if-not-has_due.true (world_of c.args.stage.now (g.P.Port.words c.args.port.now))
+
+pub returns-then-not-has_due-clause-left : goal.returns-then-not-has_due-clause-left
+returns-then-not-has_due-clause-left g c = quiet.all_wait c.args.now c.args.queue.now c.has_due.result c.has_due.ensures c.if-not-has_due.true (world_of c.args.stage.now (g.P.Port.words c.args.port.now))
+
+pub returns-then-not-has_due-clause-clashes : goal.returns-then-not-has_due-clause-clashes
+returns-then-not-has_due-clause-clashes g c = quiet.same_clashes c.args.now c.args.queue.now c.has_due.result c.has_due.ensures c.if-not-has_due.true (world_of c.args.stage.now (g.P.Port.words c.args.port.now)) c.args.held.now (c.requires.hold c.if-hold.true (g.P.Port.words c.args.port.now))
+
+pub returns-then-not-has_due-clause-hold : goal.returns-then-not-has_due-clause-hold
+returns-then-not-has_due-clause-hold g c = λ _. c.requires.hold c.if-hold.true
+
+pub returns-then-not-has_due-clause-replies : goal.returns-then-not-has_due-clause-replies
+returns-then-not-has_due-clause-replies g c = quiet.nothing_said c.args.now c.args.queue.now c.has_due.result c.has_due.ensures c.if-not-has_due.true (world_of c.args.stage.now (g.P.Port.words c.args.port.now)) c.args.held.now (c.requires.hold c.if-hold.true (g.P.Port.words c.args.port.now)) c.args.said.now c.requires.silent
+
+pub returns-clause-world : goal.returns-clause-world
+returns-clause-world g c =
+    ap (λ t. t.world) (acted_turn c.args.now c.args.queue.now (world_of c.args.stage.now (g.P.Port.words c.args.port.now)) (world_of c.act_due.new.stage (g.P.Port.words c.act_due.new.port)) c.args.said.now c.act_due.new.replies c.requires.silent c.in_ok-quits.ensures.acts)
+
+pub returns-clause-quit : goal.returns-clause-quit
+returns-clause-quit g c =
+    c.in_ok-quits.ensures.quit ∙ ap (λ (rs : List ReplyShape). (entries_ask (due_at c.args.now c.args.queue.now) (a_turn (world_of c.args.stage.now (g.P.Port.words c.args.port.now)) rs)).quit) c.requires.silent
+
+pub returns-clause-left : goal.returns-clause-left
+returns-clause-left g c =
+    c.in_ok-quits.ensures.left ∙ ap (λ (rs : List ReplyShape). let q : WaitingList = record c.args.queue.now { waiting = left_at c.args.now c.args.queue.now (a_turn (world_of c.args.stage.now (g.P.Port.words c.args.port.now)) rs) } in q) c.requires.silent
+
+pub returns-clause-clashes : goal.returns-clause-clashes
+returns-clause-clashes g c =
+    acted_clashes c.args.now c.args.queue.now (world_of c.args.stage.now (g.P.Port.words c.args.port.now)) (world_of c.act_due.new.stage (g.P.Port.words c.act_due.new.port)) c.act_due.new.replies c.take_clashes.new.held
+    (acted_turn c.args.now c.args.queue.now _ _ c.args.said.now c.act_due.new.replies c.requires.silent c.in_ok-quits.ensures.acts)
+    (c.in_ok-take_clashes.ensures.held (g.P.Port.words c.act_due.new.port))
+
+pub returns-clause-replies : goal.returns-clause-replies
+returns-clause-replies g c =
+    acted_replies c.args.now c.args.queue.now (world_of c.args.stage.now (g.P.Port.words c.args.port.now)) (world_of c.act_due.new.stage (g.P.Port.words c.act_due.new.port)) c.act_due.new.replies c.take_clashes.new.said c.args.held.now
+    (acted_turn c.args.now c.args.queue.now _ _ c.args.said.now c.act_due.new.replies c.requires.silent c.in_ok-quits.ensures.acts)
+    (c.in_ok-take_clashes.ensures.told (g.P.Port.words c.act_due.new.port))

@@ -1,0 +1,29 @@
+use Rattle.std.proofs.Common.{◌≡◌, ◌≤◌, true, false, List, length, ap, sym, ◌∙◌, subst, arith, rules}
+use Rattle.std.specs.Vec.{with_items}
+use Rattle.std.proofs.lemmas.Bool.{not-true}
+use Rattle.std.proofs.lemmas.List.{with_items_is, places}
+use Rattle.sn_ports.specs.Octets.{Octets}
+use Rattle.sn_world.specs.declared.stage.Stage.{Stage}
+use Rattle.sn_engine.specs.Holding.{AreClashesOf}
+use Rattle.sn_engine.proofs.engine.Engine.settle.Goals.{then-self, else-self}
+use Rattle.sn_engine.proofs.engine.Engine.settle.Goals as goal
+
+pub invariant_of-self : goal.invariant_of-self
+invariant_of-self c =
+    let i = c.self.invariant in
+    let e = c.self.inside in
+    let out = with_items e.replies c.settle_before-ended.new.replies in
+    let is : out.items ≡ c.settle_before-ended.new.replies = with_items_is e.replies c.settle_before-ended.new.replies (search (rules, places)) in
+    let first : c.deref_mut.result.now ≡ e.replies.items = search rules in
+    let few : length out.items ≤ 4 = omega (arith, ap (λ (ts : List Octets). length ts) is, c.settle_before-ended.ensures.clients, ap (λ (ts : List Octets). length ts) first, i.5) in (
+      c.settle_before-ended.ensures.pictures,
+      i.1,
+      tt,
+      tt,
+      omega arith,
+      few,
+      λ on. elim c.if-self.branch [
+        | then-self w ↦ subst (λ (s : Stage). AreClashesOf s e.clashes) (sym (c.settle_before-ended.ensures.same (not-true c.settle_before-ended.result (sym w.self-is ∙ on)))) (i.6 w.if-self.true)
+        | else-self w ↦ absurd cc
+      ],
+    )

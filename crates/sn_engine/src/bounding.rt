@@ -1,0 +1,56 @@
+//! What happens at a boundary.
+ghost use Rattle.std.specs.Prelude.{◌≡◌, [], true, length, IfOk, OnOk};
+ghost use Rattle.sn_world.specs.World.{world_of};
+ghost use Rattle.sn_world.specs.Pictures.{Pictures, WritesWorld};
+ghost use Rattle.sn_engine.specs.Answerable.{AllAnswerable};
+ghost use Rattle.sn_engine.specs.Boundary.{turn_at, waiting_at, clashes_at, replies_at, quits_at};
+ghost use Rattle.sn_engine.specs.Holding.{StillHold};
+
+use crate::acting::act_due;
+use crate::clashing::take_clashes;
+use sn_clash::Clashes;
+use sn_mem::Port;
+use sn_ports::NoMemory;
+use sn_queue::Queue;
+use sn_reply::Replies;
+use sn_world::Stage;
+use std::alloc::Global;
+
+/// The entries that are due at boundary `now` act in their order, and then the clashes are taken: those that were not there at the
+/// boundary before are told. Where none is due, and the clashes that are held still hold, nothing is to be done. Tells whether the
+/// server ends.
+pub fn act_boundary<P: Port>(
+    alloc: Global,
+    stage: &mut Stage,
+    port: &mut P,
+    queue: &mut Queue,
+    now: u64,
+    held: &mut Clashes,
+    hold: bool,
+    said: &mut Replies,
+) -> Result<bool, NoMemory>
+    requires silent { said.old ≡ [] }
+    requires waiting { AllAnswerable queue.old.waiting }
+    requires hold { StillHold hold stage.old held.old }
+    requires pictures { Pictures stage.old (P.words port.old) }
+    requires foot { WritesWorld (P.foot port.old) stage.old.pool.region }
+    ensures world { OnOk result (world_of stage.new (P.words port.new) ≡ (turn_at now queue.old (world_of stage.old (P.words port.old))).world) }
+    ensures quit { IfOk result (λ q. q ≡ quits_at now queue.old (world_of stage.old (P.words port.old))) }
+    ensures left { OnOk result (queue.new ≡ waiting_at now queue.old (world_of stage.old (P.words port.old))) }
+    ensures clashes { OnOk result (held.new ≡ clashes_at now queue.old (world_of stage.old (P.words port.old))) }
+    ensures hold { OnOk result (StillHold true stage.new held.new) }
+    ensures replies { OnOk result (said.new ≡ replies_at now queue.old held.old (world_of stage.old (P.words port.old))) }
+    ensures waiting { AllAnswerable queue.new.waiting }
+    ensures pictures { Pictures stage.new (P.words port.new) }
+    ensures region { stage.new.pool.region ≡ stage.old.pool.region }
+    ensures len { length (P.words port.new) ≡ length (P.words port.old) }
+    ensures foot { P.foot port.new ≡ P.foot port.old }
+    ensures rest { P.rest port.new ≡ P.rest port.old }
+{
+    if hold && !queue.has_due(now) {
+        return Ok(false);
+    }
+    let quits = act_due(alloc, stage, port, queue, now, said)?;
+    take_clashes(alloc, stage, held, said)?;
+    Ok(quits)
+}

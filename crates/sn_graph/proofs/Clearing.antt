@@ -1,0 +1,262 @@
+-- Where no two members of a split group clash, their synths are clear of each other.
+use Rattle.std.proofs.Common.{◌≡◌, ◌≤◌, ◌⊎◌, inl, inr, ⊎_elim, ℕ, ◌+◌, ℤ, Bool, true, false, ◌||◌, ◌&&◌, not, if◌then◌else◌, List, [], ◌∷◌, ◌++◌, map, Option, sym, refl, ap, ◌∙◌, subst, arith, true≢false}
+use Rattle.std.specs.Prelude.{is_some}
+use Rattle.std.specs.List.{list_any}
+use Rattle.std.specs.Ordering.{int_eq}
+use Rattle.std.proofs.lemmas.Bool.{cond_both, or_cases, or_left, or_right, and_parts, and_from, cases_Bool}
+use Rattle.std.proofs.lemmas.List.{append-nil}
+use Rattle.sn_mem.specs.declared.extents.Extent.{Extent}
+use Rattle.sn_mem.specs.declared.buffers.BufferPlace.{BufferPlace}
+use Rattle.sn_mem.specs.Words.{covers, has, Clash}
+use Rattle.sn_mem.specs.Buffers.{overlaps}
+use Rattle.sn_tree.specs.declared.node.NodeKind.{NodeKind}
+use Rattle.sn_tree.specs.declared.node.NodeKind.TheVariants as kinds
+use Rattle.sn_tree.specs.Trees as trees
+use Rattle.sn_tree.specs.Trees.{Label, Nodes, holds, running_labels, subtree}
+use Rattle.sn_world.specs.declared.stage.Held.{Held}
+use Rattle.sn_world.specs.Pictures.{held_extents, live_held}
+use Rattle.sn_foot.specs.declared.resource.Resource.{Resource}
+use Rattle.sn_foot.specs.Footprints.{footprint_of, foot_of, held_reads, held_writes, place_of, states_of}
+use Rattle.sn_foot.specs.Footprints.{Clash as FootprintsClash}
+use Rattle.sn_graph.specs.declared.nodes.Voice.{Voice}
+use Rattle.sn_graph.specs.Voices.{Running, none, voices}
+use Rattle.sn_graph.specs.Plans.{IsClearOf, AreClear, MembersAreClear, SplitsAreClear}
+use Rattle.sn_graph.specs.Stages.{is_listed, with_node, running_of}
+use Rattle.sn_graph.specs.Disjoint.{AreDisjoint}
+use Rattle.sn_graph.specs.Clear.{held_of, ClashesWithNone, NoneClash, AreListed}
+use Rattle.sn_graph.proofs.Resources.{overlaps_has, overlaps_append, clash_agrees}
+
+-- ---- nodes among others
+
+abbrev AmongHeld : Held → List Held → Type 0
+AmongHeld h [] = ⊥
+AmongHeld h (k ∷ ks) = (h ≡ k) ⊎ AmongHeld h ks
+
+abbrev payloads : List (Label Held) → List Held
+payloads ls = map (λ l. l.payload) ls
+
+among_left : (h : Held) (xs ys : List (Label Held)) → AmongHeld h (payloads xs) → AmongHeld h (payloads (xs ++ ys))
+among_left h [] ys m = absurd m
+among_left h (x ∷ xs) ys m = ⊎_elim (λ (e : h ≡ x.payload). inl e) (λ (n : AmongHeld h (payloads xs)). inr (among_left h xs ys n)) m
+
+among_right : (h : Held) (xs ys : List (Label Held)) → AmongHeld h (payloads ys) → AmongHeld h (payloads (xs ++ ys))
+among_right h [] ys m = m
+among_right h (x ∷ xs) ys m = inr (among_right h xs ys m)
+
+states_among : (x : ℕ) (h : Held) (hs : List Held) → AmongHeld h hs → overlaps x (held_extents h) ≤ overlaps x (states_of hs)
+states_among x h [] m = absurd m
+states_among x h (k ∷ ks) m =
+    let all = overlaps_append x (held_extents k) (states_of ks) in
+    ⊎_elim
+    (λ (e : h ≡ k). omega (arith, all, ap (λ g. overlaps x (held_extents g)) e))
+    (λ (n : AmongHeld h ks). omega (arith, all, states_among x h ks n))
+    m
+
+any_among : (p : Held → Bool) (h : Held) (hs : List Held) → AmongHeld h hs → p h ≡ true → list_any p hs ≡ true
+any_among p h [] m t = absurd m
+any_among p h (k ∷ ks) m t = ⊎_elim
+    (λ (e : h ≡ k). or_left (p k) (list_any p ks) (sym (ap p e) ∙ t))
+    (λ (n : AmongHeld h ks). or_right (p k) (list_any p ks) (any_among p h ks n t))
+    m
+
+any_one : (p : Held → Bool) (h : Held) → list_any p (h ∷ []) ≡ true → p h ≡ true
+any_one p h t = ⊎_elim (λ (e : p h ≡ true). e) (λ (e : false ≡ true). absurd (true≢false (sym e))) (or_cases (p h) false t)
+
+more_used : (there : Bool) (p : Held → Bool) (h : Held) (hs : List Held) → AmongHeld h hs → (there && list_any p (h ∷ [])) ≡ true → (there && list_any p hs) ≡ true
+more_used there p h hs m t =
+    let parts = and_parts there (list_any p (h ∷ [])) t in
+    and_from there (list_any p hs) parts.0 (any_among p h hs m (any_one p h parts.1))
+
+-- ---- places that are apart
+
+covered_none : (b : Bool) → b ≡ false → ◌≡◌ {A = ℕ} (if b then 1 else 0) 0
+covered_none true h = absurd (true≢false h)
+covered_none false h = refl
+
+has_overlaps : (x : ℕ) (es : List Extent) → 1 ≤ overlaps x es → has es x ≡ true
+has_overlaps x [] l = absurd (omega arith)
+has_overlaps x (e ∷ es) l = ⊎_elim
+    (λ (c : covers e x ≡ true). or_left (covers e x) (has es x) c)
+    (λ (c : covers e x ≡ false). or_right (covers e x) (has es x) (has_overlaps x es (let none_here = covered_none (covers e x) c in omega (arith, l, none_here))))
+    (cases_Bool (covers e x))
+
+module _ (buffers : List (Option BufferPlace)) where
+  fewer : (es fs : List Extent) → AreDisjoint buffers es → ((x : ℕ) → overlaps x fs ≤ overlaps x es) → AreDisjoint buffers fs
+  fewer es fs is l = record {
+    places = is.places;
+    behind = λ x h. is.behind x (has_overlaps x es (omega (arith, overlaps_has x fs h, l x)));
+    apart = λ x. omega (arith, is.apart x, l x);
+  }
+
+  -- ---- synths whose words are those of nodes among these
+
+  abbrev AreOf : List Voice → List Held → Type 0
+  AreOf [] hs = Unit {0}
+  AreOf (v ∷ vs) hs = ((h : Held) × (v.foot ≡ foot_of buffers (h ∷ [])) × AmongHeld h hs) × AreOf vs hs
+
+  of_more : (vs : List Voice) (hs ks : List Held) → ((h : Held) → AmongHeld h hs → AmongHeld h ks) → AreOf vs hs → AreOf vs ks
+  of_more [] hs ks f o = tt
+  of_more (v ∷ vs) hs ks f o = ((o.0.0, o.0.1, f o.0.0 o.0.2), of_more vs hs ks f o.1)
+
+  of_append : (vs ws : List Voice) (hs : List Held) → AreOf vs hs → AreOf ws hs → AreOf (vs ++ ws) hs
+  of_append [] ws hs o p = p
+  of_append (v ∷ vs) ws hs o p = (o.0, of_append vs ws hs o.1 p)
+
+  lifted : (h k : Held) (hs ks : List Held) → AmongHeld h hs → AmongHeld k ks → (r : Resource)
+      → (footprint_of buffers (h ∷ [])).writes r ≡ true → ((footprint_of buffers (k ∷ [])).writes r || (footprint_of buffers (k ∷ [])).reads r) ≡ true
+      → ((footprint_of buffers hs).writes r ≡ true) × (((footprint_of buffers ks).writes r || (footprint_of buffers ks).reads r) ≡ true)
+  lifted h k hs ks m n r w t = (
+    more_used (is_some (place_of buffers r)) (λ g. held_writes g r) h hs m w,
+    ⊎_elim
+        (λ (u : (footprint_of buffers (k ∷ [])).writes r ≡ true). or_left ((footprint_of buffers ks).writes r) ((footprint_of buffers ks).reads r) (more_used (is_some (place_of buffers r)) (λ g. held_writes g r) k ks n u))
+        (λ (u : (footprint_of buffers (k ∷ [])).reads r ≡ true). or_right ((footprint_of buffers ks).writes r) ((footprint_of buffers ks).reads r) (more_used (is_some (place_of buffers r)) (λ g. held_reads g r) k ks n u))
+        (or_cases ((footprint_of buffers (k ∷ [])).writes r) ((footprint_of buffers (k ∷ [])).reads r) t),
+  )
+
+  more_clash : (h k : Held) (hs ks : List Held) → AmongHeld h hs → AmongHeld k ks → FootprintsClash (footprint_of buffers (h ∷ [])) (footprint_of buffers (k ∷ [])) → FootprintsClash (footprint_of buffers hs) (footprint_of buffers ks)
+  more_clash h k hs ks m n c = (
+    c.0,
+    ⊎_elim
+        (λ (u : ((footprint_of buffers (h ∷ [])).writes c.0 ≡ true) × (((footprint_of buffers (k ∷ [])).writes c.0 || (footprint_of buffers (k ∷ [])).reads c.0) ≡ true)). inl (lifted h k hs ks m n c.0 u.0 u.1))
+        (λ (u : ((footprint_of buffers (k ∷ [])).writes c.0 ≡ true) × (((footprint_of buffers (h ∷ [])).writes c.0 || (footprint_of buffers (h ∷ [])).reads c.0) ≡ true)). inr (lifted k h ks hs n m c.0 u.0 u.1))
+        c.1,
+  )
+
+  module _ (hs ks : List Held) (is : AreDisjoint buffers (states_of hs ++ states_of ks)) (apart : FootprintsClash (footprint_of buffers hs) (footprint_of buffers ks) → ⊥) where
+    clear_pair : (h k : Held) → AmongHeld h hs → AmongHeld k ks → Clash (foot_of buffers (h ∷ [])) (foot_of buffers (k ∷ [])) → ⊥
+    clear_pair h k m n c =
+        let less : (x : ℕ) → overlaps x (states_of (h ∷ []) ++ states_of (k ∷ [])) ≤ overlaps x (states_of hs ++ states_of ks) =
+        λ x. omega (arith, overlaps_append x (states_of (h ∷ [])) (states_of (k ∷ [])), overlaps_append x (held_extents h) [], overlaps_append x (held_extents k) [], overlaps_append x (states_of hs) (states_of ks), states_among x h hs m, states_among x k ks n) in
+        apart (more_clash h k hs ks m n ((clash_agrees buffers (h ∷ []) (k ∷ []) (fewer (states_of hs ++ states_of ks) (states_of (h ∷ []) ++ states_of (k ∷ [])) is less)).0 c))
+
+    clear_one : (v : Voice) (h : Held) (ws : List Voice) → v.foot ≡ foot_of buffers (h ∷ []) → AmongHeld h hs → AreOf ws ks → IsClearOf v ws
+    clear_one v h [] e m o = tt
+    clear_one v h (w ∷ ws) e m o =
+        (λ c. clear_pair h o.0.0 m o.0.2 (subst (λ f. Clash f (foot_of buffers (o.0.0 ∷ []))) e (subst (λ f. Clash v.foot f) o.0.1 c)), clear_one v h ws e m o.1)
+
+    clear_all : (vs ws : List Voice) → AreOf vs hs → AreOf ws ks → AreClear vs ws
+    clear_all [] ws o p = tt
+    clear_all (v ∷ vs) ws o p = (clear_one v o.0.0 ws o.0.1 o.0.2 p, clear_all vs ws o.1 p)
+
+clear_of_more : (v : Voice) (ws us : List Voice) → IsClearOf v ws → IsClearOf v us → IsClearOf v (ws ++ us)
+clear_of_more v [] us a b = b
+clear_of_more v (w ∷ ws) us a b = (a.0, clear_of_more v ws us a.1 b)
+
+clear_append : (vs ws us : List Voice) → AreClear vs ws → AreClear vs us → AreClear vs (ws ++ us)
+clear_append [] ws us a b = tt
+clear_append (v ∷ vs) ws us a b = (clear_of_more v ws us a.0 b.0, clear_append vs ws us a.1 b.1)
+
+clear_nothing : (vs : List Voice) → AreClear vs []
+clear_nothing [] = tt
+clear_nothing (v ∷ vs) = (tt, clear_nothing vs)
+
+-- ---- states
+
+states_both : (x : ℕ) (ls ms : List (Label Held)) → overlaps x (states_of (payloads (ls ++ ms))) ≡ overlaps x (states_of (payloads ls)) + overlaps x (states_of (payloads ms))
+states_both x [] ms = omega arith
+states_both x (l ∷ ls) ms = omega (arith, overlaps_append x (held_extents l.payload) (states_of (payloads (ls ++ ms))), overlaps_append x (held_extents l.payload) (states_of (payloads ls)), states_both x ls ms)
+
+live_parts : (x : ℕ) (label : Label Held) (below after : Nodes Held) → overlaps x (live_held (trees.node label below after)) ≡ overlaps x (held_extents label.payload) + (overlaps x (live_held below) + overlaps x (live_held after))
+live_parts x label below after = omega (arith, overlaps_append x (held_extents label.payload) (live_held below ++ live_held after), overlaps_append x (live_held below) (live_held after))
+
+few_states : (x : ℕ) (t : Nodes Held) → overlaps x (states_of (held_of t)) ≤ overlaps x (live_held t)
+few_states x trees.none = omega arith
+few_states x (trees.node label below after) =
+    cond_both label.running (label ∷ (running_labels below ++ running_labels after)) (running_labels after) (λ ls. overlaps x (states_of (payloads ls)) ≤ overlaps x (live_held (trees.node label below after)))
+    (λ b. omega (arith, live_parts x label below after, overlaps_append x (held_extents label.payload) (states_of (payloads (running_labels below ++ running_labels after))), states_both x (running_labels below) (running_labels after), few_states x below, few_states x after))
+    (λ b. omega (arith, live_parts x label below after, few_states x after))
+
+live_below : (x : ℕ) (id : ℤ) (t : Nodes Held) → overlaps x (live_held (subtree id t)) ≤ overlaps x (live_held t)
+live_below x id trees.none = omega arith
+live_below x id (trees.node label below after) =
+    cond_both (int_eq label.id id) (trees.node label below trees.none) (if holds id below then subtree id below else subtree id after) (λ u. overlaps x (live_held u) ≤ overlaps x (live_held (trees.node label below after)))
+    (λ b. omega (arith, live_parts x label below after, live_parts x label below trees.none))
+    (λ b. cond_both (holds id below) (subtree id below) (subtree id after) (λ u. overlaps x (live_held u) ≤ overlaps x (live_held (trees.node label below after)))
+    (λ h. omega (arith, live_parts x label below after, live_below x id below))
+    (λ h. omega (arith, live_parts x label below after, live_below x id after)))
+
+-- ---- the nodes of a stage
+
+module _ (buffers : List (Option BufferPlace)) (clashing : List ℤ) where
+  of_node : (kind : NodeKind) (label : Label Held) (b a : Running) (below after : List (Label Held)) → AreOf buffers (voices b) (payloads below) → AreOf buffers (voices a) (payloads after) → AreOf buffers (voices (with_node buffers clashing kind label b a)) (payloads (label ∷ (below ++ after)))
+  of_node kinds.Synth label b a below after o p = ((label.payload, refl, inl refl), of_more buffers (voices a) (payloads after) (payloads (label ∷ (below ++ after))) (λ h m. inr (among_right h below after m)) p)
+  of_node kinds.Group label b a below after o p =
+      of_append buffers (voices b) (voices a) (payloads (label ∷ (below ++ after)))
+      (of_more buffers (voices b) (payloads below) (payloads (label ∷ (below ++ after))) (λ h m. inr (among_left h below after m)) o)
+      (of_more buffers (voices a) (payloads after) (payloads (label ∷ (below ++ after))) (λ h m. inr (among_right h below after m)) p)
+  of_node kinds.Parallel label b a below after o p =
+      of_append buffers (voices b) (voices a) (payloads (label ∷ (below ++ after)))
+      (of_more buffers (voices b) (payloads below) (payloads (label ∷ (below ++ after))) (λ h m. inr (among_left h below after m)) o)
+      (of_more buffers (voices a) (payloads after) (payloads (label ∷ (below ++ after))) (λ h m. inr (among_right h below after m)) p)
+
+  of_if : (run : Bool) (x y : Running) (ls ms : List (Label Held)) → AreOf buffers (voices x) (payloads ls) → AreOf buffers (voices y) (payloads ms) → AreOf buffers (voices (if run then x else y)) (payloads (if run then ls else ms))
+  of_if true x y ls ms o p = o
+  of_if false x y ls ms o p = p
+
+  are_of : (t : Nodes Held) → AreOf buffers (voices (running_of buffers clashing t)) (held_of t)
+  are_of trees.none = tt
+  are_of (trees.node label below after) =
+      of_if label.running (with_node buffers clashing label.kind label (running_of buffers clashing below) (running_of buffers clashing after)) (running_of buffers clashing after) (label ∷ (running_labels below ++ running_labels after)) (running_labels after)
+      (of_node label.kind label (running_of buffers clashing below) (running_of buffers clashing after) (running_labels below) (running_labels after) (are_of below) (are_of after))
+      (are_of after)
+
+  voices_node : (run : Bool) (kind : NodeKind) (label : Label Held) (b a : Running) → voices (if run then with_node buffers clashing kind label b none else none) ++ voices a ≡ voices (if run then with_node buffers clashing kind label b a else a)
+  voices_node true kinds.Synth label b a = refl
+  voices_node true kinds.Group label b a = ap (λ vs. vs ++ voices a) (append-nil (voices b))
+  voices_node true kinds.Parallel label b a = ap (λ vs. vs ++ voices a) (append-nil (voices b))
+  voices_node false kind label b a = refl
+
+  clear_after : (vs : List Voice) (hs : List Held) (t : Nodes Held) → AreOf buffers vs hs → AreDisjoint buffers (states_of hs ++ live_held t) → ClashesWithNone buffers hs t → AreClear vs (voices (running_of buffers clashing t))
+  clear_after vs hs trees.none o is n = clear_nothing vs
+  clear_after vs hs (trees.node label below after) o is n =
+      let here : Nodes Held = trees.node label below trees.none in
+      let whole : Nodes Held = trees.node label below after in
+      let first : AreDisjoint buffers (states_of hs ++ states_of (held_of here)) = fewer buffers (states_of hs ++ live_held whole) (states_of hs ++ states_of (held_of here)) is
+      (λ x. omega (arith, overlaps_append x (states_of hs) (states_of (held_of here)), overlaps_append x (states_of hs) (live_held whole), few_states x here, live_parts x label below trees.none, live_parts x label below after)) in
+      let rest : AreDisjoint buffers (states_of hs ++ live_held after) = fewer buffers (states_of hs ++ live_held whole) (states_of hs ++ live_held after) is
+      (λ x. omega (arith, overlaps_append x (states_of hs) (live_held after), overlaps_append x (states_of hs) (live_held whole), live_parts x label below after)) in
+      subst (AreClear vs) (voices_node label.running label.kind label (running_of buffers clashing below) (running_of buffers clashing after))
+      (clear_append vs (voices (running_of buffers clashing here)) (voices (running_of buffers clashing after))
+      (clear_all buffers hs (held_of here) first n.0 vs (voices (running_of buffers clashing here)) o (are_of here))
+      (clear_after vs hs after o rest n.1))
+
+  members_node : (run : Bool) (kind : NodeKind) (label : Label Held) (b a : Running) → AreClear (voices (if run then with_node buffers clashing kind label b none else none)) (voices a) → MembersAreClear a → MembersAreClear (if run then with_node buffers clashing kind label b a else a)
+  members_node true kinds.Synth label b a c m = (c.0, m)
+  members_node true kinds.Group label b a c m = (subst (λ vs. AreClear vs (voices a)) (append-nil (voices b)) c, m)
+  members_node true kinds.Parallel label b a c m = (subst (λ vs. AreClear vs (voices a)) (append-nil (voices b)) c, m)
+  members_node false kind label b a c m = m
+
+  members_clear : (t : Nodes Held) → AreDisjoint buffers (live_held t) → NoneClash buffers t → MembersAreClear (running_of buffers clashing t)
+  members_clear trees.none is n = tt
+  members_clear (trees.node label below after) is n =
+      let here : Nodes Held = trees.node label below trees.none in
+      let whole : Nodes Held = trees.node label below after in
+      let first : AreDisjoint buffers (states_of (held_of here) ++ live_held after) = fewer buffers (live_held whole) (states_of (held_of here) ++ live_held after) is
+      (λ x. omega (arith, overlaps_append x (states_of (held_of here)) (live_held after), few_states x here, live_parts x label below trees.none, live_parts x label below after)) in
+      let rest : AreDisjoint buffers (live_held after) = fewer buffers (live_held whole) (live_held after) is (λ x. omega (arith, live_parts x label below after)) in
+      members_node label.running label.kind label (running_of buffers clashing below) (running_of buffers clashing after)
+      (clear_after (voices (running_of buffers clashing here)) (held_of here) after (are_of here) first n.0)
+      (members_clear after rest n.1)
+
+  not_true : (b : Bool) → not b ≡ true → b ≡ false
+  not_true true h = absurd (true≢false (sym h))
+  not_true false h = refl
+
+  splits_node : (run : Bool) (kind : NodeKind) (label : Label Held) (b a : Running) → (run ≡ true → (kind ≡ kinds.Parallel → is_listed clashing label.id ≡ false → MembersAreClear b) × SplitsAreClear b) → SplitsAreClear a → SplitsAreClear (if run then with_node buffers clashing kind label b a else a)
+  splits_node true kinds.Synth label b a c s = s
+  splits_node true kinds.Group label b a c s = (λ h. absurd (true≢false (sym h)), ((c refl).1, s))
+  splits_node true kinds.Parallel label b a c s = (λ h. (c refl).0 refl (not_true (is_listed clashing label.id) h), ((c refl).1, s))
+  splits_node false kind label b a c s = s
+
+  splits_clear : (t : Nodes Held) → AreDisjoint buffers (live_held t) → AreListed buffers clashing t → SplitsAreClear (running_of buffers clashing t)
+  splits_clear trees.none is n = tt
+  splits_clear (trees.node label below after) is n =
+      let whole : Nodes Held = trees.node label below after in
+      let inner : AreDisjoint buffers (live_held below) = fewer buffers (live_held whole) (live_held below) is (λ x. omega (arith, live_parts x label below after)) in
+      let rest : AreDisjoint buffers (live_held after) = fewer buffers (live_held whole) (live_held after) is (λ x. omega (arith, live_parts x label below after)) in
+      splits_node label.running label.kind label (running_of buffers clashing below) (running_of buffers clashing after)
+      (λ r. (λ k u. members_clear below inner ((n.0 r).0 k u), splits_clear below inner (n.0 r).1))
+      (splits_clear after rest n.1)
+
+  pub clear_below : (id : ℤ) (t : Nodes Held) → AreDisjoint buffers (live_held t) → AreListed buffers clashing (subtree id t) → SplitsAreClear (running_of buffers clashing (subtree id t))
+  clear_below id t is n = splits_clear (subtree id t) (fewer buffers (live_held t) (live_held (subtree id t)) is (λ x. live_below x id t)) n

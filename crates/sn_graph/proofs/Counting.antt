@@ -1,0 +1,160 @@
+-- How many jobs there are at most, and how often a synth is among them.
+use Rattle.std.proofs.Common.{◌≡◌, ◌≤◌, ℕ, ◌+◌, ℤ, Bool, true, false, if◌then◌else◌, List, [], ◌∷◌, ◌++◌, Option, sym, refl, arith, true≢false, ⊎_elim}
+use Rattle.std.specs.Ordering.{int_eq}
+use Rattle.std.proofs.lemmas.Bool.{cond_both, or_cases, false_from_ne_true}
+use Rattle.std.proofs.lemmas.Bool.Decides.{Decides-int_eq}
+use Rattle.sn_mem.specs.declared.buffers.BufferPlace.{BufferPlace}
+use Rattle.sn_tree.specs.declared.node.NodeKind.{NodeKind}
+use Rattle.sn_tree.specs.declared.node.NodeKind.TheVariants as kinds
+use Rattle.sn_tree.specs.Trees as trees
+use Rattle.sn_tree.specs.Trees.{Label, Nodes, holds, ids, subtree, count}
+use Rattle.sn_tree.specs.Steps.{AllDistinct, occurrences}
+use Rattle.sn_tree.proofs.Distinct.{occurrences-append}
+use Rattle.sn_world.specs.declared.stage.Held.{Held}
+use Rattle.sn_foot.proofs.Finding.{count_below}
+use Rattle.sn_graph.specs.declared.nodes.Voice.{Voice}
+use Rattle.sn_graph.specs.Voices.{Running, none, synth, group, voices, has, Once}
+use Rattle.sn_graph.specs.Rows.{Row, done, job, split, size, size_all}
+use Rattle.sn_graph.specs.Plans.{close, followed, members, joined, keep, part, row_of, rows_of}
+use Rattle.sn_graph.specs.Stages.{with_node, running_of}
+use Rattle.sn_graph.proofs.Shapes.{weight}
+
+-- ---- jobs
+
+abbrev sizes : List Row → ℕ
+sizes [] = 0
+sizes (r ∷ rs) = size r + sizes rs
+
+-- an open run is one job
+abbrev runs : List Voice → ℕ
+runs [] = 0
+runs (v ∷ vs) = 1
+
+few_runs : (run : List Voice) → runs run ≤ 1
+few_runs [] = omega arith
+few_runs (v ∷ vs) = omega arith
+
+some_run : (run : List Voice) (v : Voice) → runs (run ++ v ∷ []) ≡ 1
+some_run [] v = refl
+some_run (u ∷ us) v = refl
+
+size-followed : (r s : Row) → size (followed r s) ≡ size r + size s
+size-followed done s = omega arith
+size-followed (job vs a) s = omega (arith, size-followed a s)
+size-followed (split ms a) s = omega (arith, size-followed a s)
+
+size-members : (r : Row) (rs : List Row) → size_all (members r rs) ≡ size r + sizes rs
+size-members r [] = omega arith
+size-members r (q ∷ rs) = omega (arith, size-members q rs)
+
+size-joined : (rs : List Row) → size (joined rs) ≤ 1 + sizes rs
+size-joined [] = omega arith
+size-joined (r ∷ []) = omega arith
+size-joined (r ∷ q ∷ rs) = omega (arith, size-members q rs)
+
+sizes-keep : (r : Row) (rs : List Row) → sizes (keep r rs) ≡ size r + sizes rs
+sizes-keep done rs = omega arith
+sizes-keep (job vs a) rs = refl
+sizes-keep (split ms a) rs = refl
+
+size-close : (run : List Voice) (r : Row) → size (close run r) ≡ runs run + size r
+size-close [] r = omega arith
+size-close (v ∷ vs) r = refl
+
+size-part : (run : List Voice) (r through rest : Row) (n : ℕ) → size through ≤ runs run + n → size rest ≤ n → size (part run r through rest) ≤ runs run + (size r + n)
+size-part run done through rest n t l = omega arith
+size-part run (job vs a) through rest n t l = omega (arith, size-close run (followed (job vs a) rest), size-followed (job vs a) rest)
+size-part run (split ms a) through rest n t l = omega (arith, size-close run (followed (split ms a) rest), size-followed (split ms a) rest)
+
+bare : (a b : ℕ) → a ≤ 0 + b → a ≤ b
+bare a b h = omega arith
+
+mutual
+  few_row : (run : List Voice) (t : Running) → size (row_of run t) ≤ runs run + weight t
+  few_row run none = omega (arith, size-close run done)
+  few_row run (synth v rest) = omega (arith, few_row (run ++ v ∷ []) rest, some_run run v)
+  few_row run (group true inner rest) = omega (arith, size-part run (joined (rows_of inner)) (row_of run rest) (row_of [] rest) (weight rest) (few_row run rest) (bare (size (row_of [] rest)) (weight rest) (few_row [] rest)), size-joined (rows_of inner), few_rows inner)
+  few_row run (group false inner rest) = omega (arith, size-part run (row_of [] inner) (row_of run rest) (row_of [] rest) (weight rest) (few_row run rest) (bare (size (row_of [] rest)) (weight rest) (few_row [] rest)), few_row [] inner)
+
+  few_rows : (t : Running) → sizes (rows_of t) ≤ weight t
+  few_rows none = omega arith
+  few_rows (synth v rest) = omega (arith, few_rows rest)
+  few_rows (group true inner rest) = omega (arith, sizes-keep (joined (rows_of inner)) (rows_of rest), size-joined (rows_of inner), few_rows inner, few_rows rest)
+  few_rows (group false inner rest) = omega (arith, sizes-keep (row_of [] inner) (rows_of rest), few_row [] inner, few_rows rest)
+
+-- ---- ids
+
+abbrev one_if : Bool → ℕ
+one_if b = if b then 1 else 0
+
+abbrev heard : ℤ → List Voice → ℕ
+heard a [] = 0
+heard a (v ∷ vs) = one_if (int_eq v.id a) + heard a vs
+
+heard-append : (a : ℤ) (vs ws : List Voice) → heard a (vs ++ ws) ≡ heard a vs + heard a ws
+heard-append a [] ws = omega arith
+heard-append a (v ∷ vs) ws = omega (arith, heard-append a vs ws)
+
+one_from : (b : Bool) → b ≡ true → one_if b ≡ 1
+one_from true h = refl
+one_from false h = absurd (true≢false (sym h))
+
+has_heard : (a : ℤ) (vs : List Voice) → has vs a ≡ true → 1 ≤ heard a vs
+has_heard a [] h = absurd (true≢false (sym h))
+has_heard a (v ∷ vs) h = ⊎_elim
+    (λ (e : int_eq v.id a ≡ true). omega (arith, one_from (int_eq v.id a) e))
+    (λ (e : has vs a ≡ true). omega (arith, has_heard a vs e))
+    (or_cases (int_eq v.id a) (has vs a) h)
+
+once_from : (vs : List Voice) → ((a : ℤ) → heard a vs ≤ 1) → Once vs
+once_from [] h = tt
+once_from (v ∷ vs) h =
+    (false_from_ne_true (has vs v.id) (λ e. absurd (omega (arith, h v.id, has_heard v.id vs e, one_from (int_eq v.id v.id) ((Decides-int_eq v.id v.id).1 refl)))), once_from vs (λ a. omega (arith, h a)))
+
+occurrences_below : (a id : ℤ) (t : Nodes Held) → occurrences int_eq a (ids (subtree id t)) ≤ occurrences int_eq a (ids t)
+occurrences_below a id trees.none = omega arith
+occurrences_below a id (trees.node label below after) =
+    let all : occurrences int_eq a (ids (trees.node label below after)) ≡ one_if (int_eq label.id a) + (occurrences int_eq a (ids below) + occurrences int_eq a (ids after)) = omega (arith, occurrences-append int_eq a (ids below) (ids after)) in
+    cond_both (int_eq label.id id) (trees.node label below trees.none) (if holds id below then subtree id below else subtree id after) (λ u. occurrences int_eq a (ids u) ≤ occurrences int_eq a (ids (trees.node label below after)))
+    (λ b. omega (arith, all, occurrences-append int_eq a (ids below) []))
+    (λ b. cond_both (holds id below) (subtree id below) (subtree id after) (λ u. occurrences int_eq a (ids u) ≤ occurrences int_eq a (ids (trees.node label below after)))
+    (λ h. omega (arith, all, occurrences_below a id below))
+    (λ h. omega (arith, all, occurrences_below a id after)))
+
+module _ (buffers : List (Option BufferPlace)) (clashing : List ℤ) where
+  weight_node : (kind : NodeKind) (label : Label Held) (below after : Running) → weight (with_node buffers clashing kind label below after) ≤ 1 + weight below + weight after
+  weight_node kinds.Synth label below after = omega arith
+  weight_node kinds.Group label below after = omega arith
+  weight_node kinds.Parallel label below after = omega arith
+
+  weight_all : (t : Nodes Held) → weight (running_of buffers clashing t) ≤ count t
+  weight_all trees.none = omega arith
+  weight_all (trees.node label below after) =
+      let b : Running = running_of buffers clashing below in
+      let a : Running = running_of buffers clashing after in
+      cond_both label.running (with_node buffers clashing label.kind label b a) a (λ r. weight r ≤ 1 + count below + count after)
+      (λ h. omega (arith, weight_node label.kind label b a, weight_all below, weight_all after))
+      (λ h. omega (arith, weight_all after))
+
+  -- there are no more jobs than nodes
+  pub few_jobs : (id : ℤ) (t : Nodes Held) → size (row_of [] (running_of buffers clashing (subtree id t))) ≤ count t
+  few_jobs id t = omega (arith, few_row [] (running_of buffers clashing (subtree id t)), weight_all (subtree id t), count_below id t)
+
+  heard_node : (a : ℤ) (kind : NodeKind) (label : Label Held) (below after : Running) → heard a (voices (with_node buffers clashing kind label below after)) ≤ one_if (int_eq label.id a) + (heard a (voices below) + heard a (voices after))
+  heard_node a kinds.Synth label below after = omega arith
+  heard_node a kinds.Group label below after = omega (arith, heard-append a (voices below) (voices after))
+  heard_node a kinds.Parallel label below after = omega (arith, heard-append a (voices below) (voices after))
+
+  heard_all : (a : ℤ) (t : Nodes Held) → heard a (voices (running_of buffers clashing t)) ≤ occurrences int_eq a (ids t)
+  heard_all a trees.none = omega arith
+  heard_all a (trees.node label below after) =
+      let b : Running = running_of buffers clashing below in
+      let c : Running = running_of buffers clashing after in
+      let all : occurrences int_eq a (ids (trees.node label below after)) ≡ one_if (int_eq label.id a) + (occurrences int_eq a (ids below) + occurrences int_eq a (ids after)) = omega (arith, occurrences-append int_eq a (ids below) (ids after)) in
+      cond_both label.running (with_node buffers clashing label.kind label b c) c (λ r. heard a (voices r) ≤ occurrences int_eq a (ids (trees.node label below after)))
+      (λ h. omega (arith, all, heard_node a label.kind label b c, heard_all a below, heard_all a after))
+      (λ h. omega (arith, all, heard_all a after))
+
+  -- no synth is there twice
+  pub once_below : (id : ℤ) (t : Nodes Held) → AllDistinct int_eq (ids t) → Once (voices (running_of buffers clashing (subtree id t)))
+  once_below id t distinct = once_from (voices (running_of buffers clashing (subtree id t))) (λ a. omega (arith, heard_all a (subtree id t), occurrences_below a id t, distinct a))

@@ -1,0 +1,10 @@
+-- What was found, and what is left of the walk.
+use Rattle.std.proofs.Common.{◌≡◌, ◌++◌, map}
+use Rattle.std.specs.Prelude.{pos}
+use Rattle.sn_tree.specs.Trees.{subtree}
+use Rattle.sn_tree.specs.Members.{members}
+use Rattle.sn_graph.specs.Pieces.{seen}
+use Rattle.sn_graph.proofs.stages.members_of.Given as goal
+
+abbrev pub invariant-loop-member : goal.invariant-loop-member
+invariant-loop-member l = map seen l.found.items ++ l.member-iterator ≡ members (subtree (pos 0) l.tree.attached)

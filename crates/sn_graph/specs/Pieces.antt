@@ -1,0 +1,62 @@
+-- Nodes by themselves, and how they are put together from the end of the walk on.
+use Rattle.std.specs.Prelude.{ℕ, ℤ, Bool, false, not, if◌then◌else◌, List, [], ◌∷◌, map, reverse, take, drop, Option}
+use Rattle.sn_mem.specs.declared.buffers.BufferPlace.{BufferPlace}
+use Rattle.sn_tree.specs.declared.node.NodeKind.{NodeKind}
+use Rattle.sn_tree.specs.declared.node.NodeKind.TheVariants as kinds
+use Rattle.sn_tree.specs.Trees.{Label}
+use Rattle.sn_tree.specs.declared.members.Member.{Member}
+use Rattle.sn_world.specs.declared.stage.Held.{Held}
+use Rattle.sn_foot.specs.Walks.{member}
+use Rattle.sn_graph.specs.declared.nodes.Voice.{Voice}
+use Rattle.sn_graph.specs.declared.parts.Part.TheVariants as given
+use Rattle.sn_graph.specs.declared.parts.Part.{Part}
+use Rattle.sn_graph.specs.Voices.{Running, none, synth, group}
+use Rattle.sn_graph.specs.Inputs.{nodes_of}
+use Rattle.sn_graph.specs.Stages.{is_listed, voice_of}
+
+-- a node by itself, with what runs below it
+pub data Piece : Type 0 where
+  paused : Piece
+  voice : Voice → Piece
+  below : Bool → Running → Piece
+
+abbrev pub piece_of : Part → Piece
+piece_of given.Paused = paused
+piece_of (given.Synth v) = voice v
+piece_of (given.Group g inner) = below g (nodes_of inner)
+
+-- those that are kept, of which the first one was put last
+abbrev pub pieces : List Part → List Piece
+pieces parts = reverse (map piece_of parts)
+
+-- a node before others
+abbrev pub before : Piece → Running → Running
+before paused rest = rest
+before (voice v) rest = synth v rest
+before (below g inner) rest = group g inner rest
+
+abbrev pub linked : List Piece → Running → Running
+linked [] rest = rest
+linked (p ∷ ps) rest = before p (linked ps rest)
+
+-- a node of the walk, with the number of those just below it
+abbrev pub seen : Member Held → Label Held × ℕ
+seen m = member m.id m.kind m.running m.payload.now m.children
+
+module _ (buffers : List (Option BufferPlace)) (clashing : List ℤ) where
+  abbrev pub running_piece : NodeKind → Label Held → Running → Piece
+  running_piece kinds.Synth label inner = voice (voice_of buffers label.id label.payload)
+  running_piece kinds.Group label inner = below false inner
+  running_piece kinds.Parallel label inner = below (not (is_listed clashing label.id)) inner
+
+  abbrev pub piece : Label Held → Running → Piece
+  piece label inner = if label.running then running_piece label.kind label inner else paused
+
+  -- a node takes those just below it
+  abbrev pub with_member : Label Held × ℕ → List Piece → List Piece
+  with_member m ps = piece m.0 (linked (take m.1 ps) none) ∷ drop m.1 ps
+
+  -- all these nodes before others
+  abbrev pub built : List (Label Held × ℕ) → List Piece → List Piece
+  built [] ps = ps
+  built (m ∷ ms) ps = with_member m (built ms ps)

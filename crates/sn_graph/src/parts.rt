@@ -1,0 +1,139 @@
+//! Nodes by themselves, which are put together from the end of the walk on.
+ghost use Rattle.std.specs.Prelude.{◌≡◌, ◌++◌, ◌∷◌, [], IfOk, OnOk, map, not, take, drop, reverse};
+ghost use Rattle.std.specs.List.{All};
+ghost use Rattle.sn_mem.specs.Buffers.{live_places};
+ghost use Rattle.sn_foot.specs.Canonical.{Ends};
+ghost use Rattle.sn_foot.specs.Footprints.{states_of};
+ghost use Rattle.sn_graph.specs.Voices.{none};
+ghost use Rattle.sn_graph.specs.Inputs.{nodes_of};
+ghost use Rattle.sn_graph.specs.Stages.{is_listed, voice_of};
+ghost use Rattle.sn_graph.specs.Pieces.{before, linked, piece, piece_of, pieces, seen, with_member};
+
+use crate::nodes::{Running, Voice};
+use sn_foot::foot_of_nodes;
+use sn_mem::Buffers;
+use sn_ports::NoMemory;
+use sn_tree::{Member, NodeKind};
+use sn_world::Held;
+use std::alloc::Global;
+
+/// A node by itself, with what runs below it.
+#[derive(Drop)]
+pub enum Part {
+    Paused,
+    Synth(Voice),
+    Group(bool, Running),
+}
+
+/// Puts a node before others.
+fn before(alloc: Global, part: Part, rest: Running) -> Result<Running, NoMemory>
+    ensures { IfOk result (λ nodes. nodes_of nodes ≡ before (piece_of part) (nodes_of rest)) }
+{
+    match part {
+        Part::Paused => Ok(rest),
+        Part::Synth(voice) => Ok(Running::Synth(voice, Box::new(alloc, rest)?)),
+        Part::Group(split, inner) => Ok(Running::Group(
+            split,
+            Box::new(alloc, inner)?,
+            Box::new(alloc, rest)?,
+        )),
+    }
+}
+
+/// Puts all these nodes in order.
+fn linked(alloc: Global, parts: Vec<Part>) -> Result<Running, NoMemory>
+    ensures { IfOk result (λ nodes. nodes_of nodes ≡ linked (map piece_of parts.items) none) }
+{
+    let mut parts = parts;
+    let mut nodes = Running::None;
+    while let Some(part) = parts.pop() {
+        nodes = before(alloc, part, nodes)?;
+    }
+    Ok(nodes)
+}
+
+/// Moves the first node, if there is one.
+fn move_first(parts: &mut Vec<Part>, taken: &mut Vec<Part>) -> Result<(), NoMemory>
+    ensures taken { OnOk result (map piece_of taken.new.items ≡ map piece_of taken.old.items ++ take 1 (pieces parts.old.items)) }
+    ensures left { OnOk result (pieces parts.new.items ≡ drop 1 (pieces parts.old.items)) }
+{
+    match parts.pop() {
+        None => Ok(()),
+        Some(part) => {
+            taken.push(part)?;
+            Ok(())
+        }
+    }
+}
+
+/// Takes the first nodes, so many, in order.
+pub fn take_nodes(alloc: Global, parts: &mut Vec<Part>, count: usize) -> Result<Running, NoMemory>
+    ensures nodes { IfOk result (λ nodes. nodes_of nodes ≡ linked (take count (pieces parts.old.items)) none) }
+    ensures left { OnOk result (pieces parts.new.items ≡ drop count (pieces parts.old.items)) }
+{
+    let mut taken = Vec::new(alloc);
+    for _ in 0..count {
+        move_first(parts, &mut taken)?;
+    }
+    linked(alloc, taken)
+}
+
+/// A synth that runs.
+fn voice_of(alloc: Global, buffers: &Buffers, member: &Member<'_, Held>) -> Result<Voice, NoMemory>
+    requires buffers { All Ends (live_places buffers.now) }
+    requires state { All Ends (states_of (member.now.payload.now ∷ [])) }
+    ensures { IfOk result (λ voice. voice ≡ voice_of buffers.now member.now.id member.now.payload.now) }
+{
+    let foot = foot_of_nodes(alloc, buffers, &[member.payload])?;
+    Ok(Voice {
+        id: member.id,
+        foot,
+    })
+}
+
+/// Whether an id is one of these.
+fn is_listed(ids: &[i32], id: &i32) -> bool
+    ensures { result ≡ is_listed ids.now id.now }
+{
+    ids.contains(id)
+}
+
+/// A node with these below it.
+fn part_of(
+    alloc: Global,
+    buffers: &Buffers,
+    clashing: &[i32],
+    member: &Member<'_, Held>,
+    inner: Running,
+) -> Result<Part, NoMemory>
+    requires buffers { All Ends (live_places buffers.now) }
+    requires state { All Ends (states_of (member.now.payload.now ∷ [])) }
+    ensures { IfOk result (λ part. piece_of part ≡ piece buffers.now clashing.now (seen member.now).0 (nodes_of inner)) }
+{
+    if !member.running {
+        return Ok(Part::Paused);
+    }
+    match member.kind {
+        NodeKind::Synth => Ok(Part::Synth(voice_of(alloc, buffers, member)?)),
+        NodeKind::Group => Ok(Part::Group(false, inner)),
+        NodeKind::Parallel => Ok(Part::Group(!is_listed(clashing, &member.id), inner)),
+    }
+}
+
+/// Puts a node, which takes those just below it.
+pub fn put_part(
+    alloc: Global,
+    buffers: &Buffers,
+    clashing: &[i32],
+    parts: &mut Vec<Part>,
+    member: &Member<'_, Held>,
+) -> Result<(), NoMemory>
+    requires buffers { All Ends (live_places buffers.now) }
+    requires state { All Ends (states_of (member.now.payload.now ∷ [])) }
+    ensures { OnOk result (pieces parts.new.items ≡ with_member buffers.now clashing.now (seen member.now) (pieces parts.old.items)) }
+{
+    let inner = take_nodes(alloc, parts, member.children as usize)?;
+    let part = part_of(alloc, buffers, clashing, member, inner)?;
+    parts.push(part)?;
+    Ok(())
+}

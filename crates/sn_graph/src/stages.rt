@@ -1,0 +1,94 @@
+//! The plan of a stage.
+ghost use Rattle.std.specs.Prelude.{◌≡◌, ◌≤◌, pos, length, IfOk, map};
+ghost use Rattle.std.specs.List.{All};
+ghost use Rattle.sn_mem.specs.Buffers.{live_places};
+ghost use Rattle.sn_tree.specs.Trees.{count, subtree};
+ghost use Rattle.sn_tree.specs.Members.{members};
+ghost use Rattle.sn_world.specs.Pictures.{live_held};
+ghost use Rattle.sn_foot.specs.Canonical.{Ends};
+ghost use Rattle.sn_clash.specs.Clashing.{clashes_in};
+ghost use Rattle.sn_round.specs.Jobs.{IsRaceFree};
+ghost use Rattle.sn_graph.specs.Inputs.{nodes_of};
+ghost use Rattle.sn_graph.specs.Pieces.{seen};
+ghost use Rattle.sn_graph.specs.Plans.{IsPlanned, plan_of};
+ghost use Rattle.sn_graph.specs.Clear.{AreListed};
+ghost use Rattle.sn_graph.specs.Disjoint.{AreDisjoint};
+ghost use Rattle.sn_graph.specs.Stages.{nodes_in, running_nodes};
+
+use crate::jobs::plan_of_nodes;
+use crate::nodes::Running;
+use crate::parts::{put_part, take_nodes};
+use sn_clash::Clash;
+use sn_ports::NoMemory;
+use sn_round::Plan;
+use sn_tree::{Member, Tree};
+use sn_world::{Held, Stage};
+use std::alloc::Global;
+
+/// All nodes of a tree, in the order of the walk.
+fn members_of<'a>(alloc: Global, tree: &'a Tree<Held>) -> Result<Vec<Member<'a, Held>>, NoMemory>
+    ensures { IfOk result (λ found. map seen found.items ≡ members (subtree (pos 0) tree.now.attached)) }
+{
+    let mut found = Vec::new(alloc);
+    for member in tree.members(0) {
+        found.push(member)?;
+    }
+    Ok(found)
+}
+
+/// The nodes that run, with what each synth touches. The walk is gone over from its end on.
+fn running_nodes(alloc: Global, stage: &Stage, clashing: &[i32]) -> Result<Running, NoMemory>
+    requires buffers { All Ends (live_places stage.now.buffers) }
+    requires states { All Ends (live_held stage.now.tree.attached) }
+    ensures { IfOk result (λ nodes. nodes_of nodes ≡ running_nodes stage.now.buffers clashing.now stage.now.tree.attached) }
+{
+    let mut members = members_of(alloc, &stage.tree)?;
+    let mut parts = Vec::new(alloc);
+    while let Some(member) = members.pop() {
+        put_part(alloc, &stage.buffers, clashing, &mut parts, &member)?;
+    }
+    let count = parts.len();
+    take_nodes(alloc, &mut parts, count)
+}
+
+/// The ids of the groups that clashes name.
+fn groups_of(alloc: Global, clashes: &[Clash]) -> Result<Vec<i32>, NoMemory>
+    ensures { IfOk result (λ groups. groups.items ≡ map (λ c. c.group) clashes.now) }
+{
+    let mut groups = Vec::new(alloc);
+    for clash in clashes {
+        groups.push(clash.group)?;
+    }
+    Ok(groups)
+}
+
+/// The plan of a stage, of which these parallel groups have members that clash.
+fn plan_without(alloc: Global, stage: &Stage, clashing: &[i32]) -> Result<Plan, NoMemory>
+    requires buffers { All Ends (live_places stage.now.buffers) }
+    requires states { All Ends (live_held stage.now.tree.attached) }
+    ensures jobs { IfOk result (λ plan. plan ≡ plan_of (running_nodes stage.now.buffers clashing.now stage.now.tree.attached)) }
+    ensures planned { IfOk result (IsPlanned (running_nodes stage.now.buffers clashing.now stage.now.tree.attached)) }
+    ensures few { IfOk result (λ plan. length plan ≤ count stage.now.tree.attached) }
+    ensures race_free { AreDisjoint stage.now.buffers (live_held stage.now.tree.attached) → AreListed stage.now.buffers clashing.now (subtree (pos 0) stage.now.tree.attached) → IfOk result IsRaceFree }
+{
+    let _count = stage.tree.len();
+    stage.tree.ids_are_distinct();
+    let nodes = running_nodes(alloc, stage, clashing)?;
+    plan_of_nodes(alloc, &nodes)
+}
+
+/// The plan of a stage, given its clashes. A parallel group is split, so that its members may run beside each other, unless two
+/// of them clash: then they are rendered in order.
+pub fn plan(alloc: Global, stage: &Stage, clashes: &[Clash]) -> Result<Plan, NoMemory>
+    requires buffers { All Ends (live_places stage.now.buffers) }
+    requires states { All Ends (live_held stage.now.tree.attached) }
+    requires clashes { clashes.now ≡ clashes_in stage.now }
+    ensures jobs { IfOk result (λ plan. plan ≡ plan_of (nodes_in stage.now)) }
+    ensures planned { IfOk result (IsPlanned (nodes_in stage.now)) }
+    ensures few { IfOk result (λ plan. length plan ≤ count stage.now.tree.attached) }
+    ensures race_free { AreDisjoint stage.now.buffers (live_held stage.now.tree.attached) → IfOk result IsRaceFree }
+{
+    stage.tree.root_holds_all();
+    let groups = groups_of(alloc, clashes)?;
+    plan_without(alloc, stage, &groups)
+}

@@ -1,0 +1,61 @@
+-- The successors of a job are the jobs of which it is a predecessor.
+use Rattle.std.proofs.Common.{◌≡◌, ⊎_elim, ℕ, zero, suc, ◌+◌, ◌<◌, ◌==◌, Bool, true, false, ◌||◌, if◌then◌else◌, List, [], ◌∷◌, length, refl, sym, ap, subst, arith, eq-eqb, eqb-true}
+use Rattle.std.specs.Prelude.{◌↔◌, Contains}
+use Rattle.std.proofs.lemmas.Bool.{or_cases, or_right}
+use Rattle.std.proofs.lemmas.List.Elements.{Contains-append_left, Contains-append_right, Contains-append_cases}
+use Rattle.sn_round.specs.declared.jobs.Job.{Job}
+use Rattle.sn_round.specs.Jobs.{is_in, predecessors, successors, successors_from}
+use Rattle.sn_round.proofs.Orders.{nothing_in}
+
+contained : (j : ℕ) (xs : List ℕ) → is_in j xs ≡ true → Contains xs j
+contained j [] h = absurd cc
+contained j (x ∷ xs) h = ⊎_elim
+    (λ (here : (x == j) ≡ true). (0, omega arith, eqb-true x j here))
+    (λ (there : is_in j xs ≡ true). let c = contained j xs there in let l = c.1 in (suc c.0, omega arith, c.2))
+    (or_cases (x == j) (is_in j xs) h)
+
+found : (j : ℕ) (xs : List ℕ) → Contains xs j → is_in j xs ≡ true
+found j [] c = absurd (nothing_in j c)
+found j (x ∷ xs) (zero, l, e) = ap (λ (b : Bool). b || is_in j xs) (eq-eqb x j e)
+found j (x ∷ xs) (suc k, l, e) = or_right (x == j) (is_in j xs) (found j xs (k, omega arith, e))
+
+abbrev alone : Bool → ℕ → List ℕ
+alone b k = if b then k ∷ [] else []
+
+alone_is : (b : Bool) (k j : ℕ) → Contains (alone b k) j → (b ≡ true) × (j ≡ k)
+alone_is true k j (zero, l, e) = (refl, sym e)
+alone_is true k j (suc n, l, e) = absurd (omega arith)
+alone_is false k j (n, l, e) = absurd (omega arith)
+
+alone_has : (b : Bool) (k j : ℕ) → b ≡ true → j ≡ k → Contains (alone b k) j
+alone_has true k j h same = (0, omega arith, sym same)
+alone_has false k j h same = absurd cc
+
+-- j is the number of a job, where the first has the number k, of which i is a predecessor
+abbrev Follows : ℕ → List Job → ℕ → ℕ → Type 0
+Follows k jobs i j = (m : ℕ) × (m < length jobs) × (j ≡ k + m) × (is_in i (predecessors jobs m) ≡ true)
+
+follows : (k : ℕ) (jobs : List Job) (i j : ℕ) → Contains (successors_from k jobs i) j → Follows k jobs i j
+follows k [] i j c = absurd (nothing_in j c)
+follows k (x ∷ jobs) i j c = ⊎_elim
+    (λ (here : Contains (alone (is_in i x.before) k) j). let h = alone_is (is_in i x.before) k j here in (0, omega arith, omega (arith, h.1), h.0))
+    (λ (there : Contains (successors_from (k + 1) jobs i) j). let (m, l, e, is) = follows (k + 1) jobs i j there in (suc m, omega arith, omega (arith, e), is))
+    (Contains-append_cases (alone (is_in i x.before) k) (successors_from (k + 1) jobs i) j c)
+
+followed : (k : ℕ) (jobs : List Job) (i m : ℕ) → m < length jobs → is_in i (predecessors jobs m) ≡ true → Contains (successors_from k jobs i) (k + m)
+followed k [] i m l is = absurd (omega arith)
+followed k (x ∷ jobs) i zero l is = Contains-append_left (alone (is_in i x.before) k) (successors_from (k + 1) jobs i) (k + 0) (alone_has (is_in i x.before) k (k + 0) is (omega arith))
+followed k (x ∷ jobs) i (suc m) l is =
+    let same : k + 1 + m ≡ k + suc m = omega arith in
+    Contains-append_right (alone (is_in i x.before) k) (successors_from (k + 1) jobs i) (k + suc m) (subst (Contains (successors_from (k + 1) jobs i)) same (followed (k + 1) jobs i m (omega arith) is))
+
+pub inverse : (jobs : List Job) (i j : ℕ) → Contains (successors jobs i) j ↔ ((j < length jobs) × Contains (predecessors jobs j) i)
+inverse jobs i j = (
+  (λ c.
+      let (m, l, e, is) = follows 0 jobs i j c in
+      let same : m ≡ j = omega (arith, e) in
+      (omega (arith, l, same), subst (λ n. Contains (predecessors jobs n) i) same (contained i (predecessors jobs m) is))),
+  (λ h.
+      let same : 0 + j ≡ j = omega arith in
+      subst (Contains (successors jobs i)) same (followed 0 jobs i j h.0 (found i (predecessors jobs j) h.1))),
+)

@@ -1,0 +1,80 @@
+"""Runs a binary on all cases, and compares each with the model: python3 compare.py BINARY [-k WORD] [--random N] [--seed N]."""
+import argparse
+import os
+import subprocess
+import sys
+import tempfile
+import osc
+import server
+import serving
+from cases import CASES
+from random_cases import random_case
+from words import BAD_WORDS, CONNECTIONS
+
+
+def program_run(binary, words, stream, folder):
+    paths = [os.path.join(folder, name) for name in ("commands", "sound", "replies")]
+    with open(paths[0], "wb") as file:
+        file.write(stream)
+    try:
+        done = subprocess.run([*binary, "render", *words, *paths], capture_output=True, timeout=600)
+    except subprocess.TimeoutExpired:
+        return "no end within 600 seconds", None, None, None
+    sound, replies = (open(path, "rb").read() if os.path.exists(path) else None for path in paths[1:])
+    return done.stdout.decode().rstrip("\n"), done.returncode, sound, replies
+
+
+def told(replies):
+    """Replies as lines, for whoever reads a difference."""
+    try:
+        return [" ".join([p.address.decode("latin-1"), *(str(v) for _, v in p.body)]) for p in osc.packets_of(replies)]
+    except osc.Fault as fault:
+        return [str(fault), replies.hex()]
+
+
+def first_difference(a, b):
+    return next((i for i, (x, y) in enumerate(zip(a, b)) if x != y), min(len(a), len(b)))
+
+
+def differences(model, program):
+    """Lines that say where the two differ."""
+    lines = []
+    if model[:2] != program[:2]:
+        lines.append(f"  ends: model {model[:2]}, program {program[:2]}")
+    if model[2] != program[2]:
+        at = first_difference(model[2], program[2] or b"")
+        lines.append(f"  sound: {len(model[2])} and {len(program[2] or b'')} bytes, byte {at}: model {model[2][at:at + 12].hex()}, program {(program[2] or b'')[at:at + 12].hex()}")
+    if model[3] != program[3]:
+        ours, theirs = told(model[3]), told(program[3] or b"")
+        at = first_difference(ours, theirs)
+        lines.append(f"  reply {at}: model {ours[at:at + 3]}, program {theirs[at:at + 3]}")
+    return lines
+
+
+def main():
+    parser = argparse.ArgumentParser()
+    parser.add_argument("binary", help="the program, with words before it where a loader runs it")
+    parser.add_argument("-k", default="", help="only cases whose name has this word")
+    parser.add_argument("--random", type=int, default=0, help="so many random streams beside the table")
+    parser.add_argument("--seed", type=int, default=1, help="the first random stream")
+    given = parser.parse_args()
+    cases = CASES + [random_case(given.seed + i) for i in range(given.random)]
+    cases = [case for case in cases if given.k in case[0]]
+    wrong = 0
+    with tempfile.TemporaryDirectory() as folder:
+        for name, words, stream in cases:
+            found = differences(server.run(words, stream), program_run(given.binary.split(), words, stream, folder))
+            if found:
+                wrong += 1
+                print(name, *found, sep="\n", flush=True)
+        if not given.k:
+            found = serving.differences(given.binary.split(), folder, BAD_WORDS, CONNECTIONS)
+            print(*found, sep="\n", flush=True)
+            print(f"{len(BAD_WORDS)} command lines and {len(CONNECTIONS)} connections, {len(found)} with a difference")
+            wrong += len(found)
+    print(f"{len(cases)} cases, {wrong} with a difference")
+    return 1 if wrong else 0
+
+
+if __name__ == "__main__":
+    sys.exit(main())

@@ -1,0 +1,100 @@
+"""Definition texts that the cases send."""
+
+
+def definition(name, *lines):
+    return ("\n".join(["snova 1", "def " + name, *lines, "end"]) + "\n").encode()
+
+
+def shown(name, *lines, wire="y"):
+    """A definition whose last wire is heard on bus 0."""
+    return definition(name, *lines, f"Out.ar 0 {wire}")
+
+
+TEXTS = {
+    "dc": definition("dc", "control out 0", "control amp 0", "Out.ar out amp"),
+    "wide": definition("wide", "control out 0", "control a 1.0", "control b 0.5", "Out.ar out a b 0.25 -0.25 a b 0.125 -0.5"),
+    "mix": definition("mix", "control in 16", "control out 0", "x = In.ar in", "y = Mul x 131072", "Out.ar out y"),
+    "ear": definition("ear", "control in 16", "x = InFeedback in", "Out.ar 0 x"),
+    "swap": definition("swap", "control out 0", "control amp 0", "ReplaceOut out amp amp"),
+    "tone": definition("tone", "control freq 440000", "control out 0", "a = SinOsc freq 0", "Out.ar out a"),
+    "ramp": definition("ramp", "control dur 1", "control done 2", "a = Line -0.5 1.0 dur 2", "Out.ar 0 a"),
+    "link": definition("link", "control in 0", "control out 0", "control add 0", "a = In.kr in", "b = Add a add", "Out.kr out b"),
+    "twice": definition("twice", "control out 0", "Out.kr out 1 2", "Out.kr out 2147483647 -2147483648"),
+    "two": definition("two", "control a 0", "control b 0", "control c 7", "x = Add a b", "Out.ar 0 x c"),
+    "ticks": definition("ticks", "control freq 750000", "control id 5", "a = Impulse freq", "SendTrig a id freq", "SendTrig a 1 id"),
+    "gone": definition("gone", "control gone 0", "control still 0", "FreeSelf gone", "PauseSelf still", "Out.ar 0 0.5"),
+    "player": definition("player", "control buf 0", "control step 1", "control trig 0", "control start 0", "control loop 0",
+                         "a = PlayBuf buf step trig start loop 2", "Out.ar 0 a"),
+    "stereo": definition("stereo", "control buf 0", "control step 1", "control loop 1",
+                         "a b = PlayBuf buf step 0 0 loop 0", "Out.ar 0 a b"),
+    "recorder": definition("recorder", "control buf 0", "control run 1", "control loop 0", "p = Phasor 0 3 0 1000 0",
+                           "RecordBuf buf run loop 2 p"),
+    "reader": definition("reader", "control buf 0", "p = Phasor 0 1 -2 9 0", "a = BufRd buf p", "Out.ar 0 a"),
+    "writer": definition("writer", "control buf 0", "p = Phasor 0 1 -2 9 0", "v = Mul p 1.5", "BufWr buf p v"),
+    "frames": definition("frames", "control buf 0", "n = BufFrames buf", "Out.ar 0 n"),
+    "hush": definition("hush", "control x 0", "a = DetectSilence x 0.25 2 2", "Out.ar 0 a"),
+    "nothing": definition("nothing"),
+}
+
+PULSE = "g = LFPulse 3000000 0 8388608"
+SWEEP = "w = LFSaw 1000000 0"
+# One unit each, heard by 24 bits on bus 0.
+UNITS = {
+    "LFSaw": ["y = LFSaw 12345678 1000000000"], "LFSaw_down": ["y = LFSaw -12345678 -1"],
+    "LFPulse": ["y = LFPulse 5000000 -1000 0.3"], "LFTri": ["y = LFTri 777777 0"], "Impulse": ["y = Impulse 7000000"],
+    "Impulse_down": ["y = Impulse -7000000"], "Impulse_still": ["y = Impulse 0"], "WhiteNoise": ["y = WhiteNoise"],
+    "noise_3": ["a = WhiteNoise", "b = WhiteNoise", "y = Sub a b"],
+    "Phasor": [PULSE, "y = Phasor g 700 -5000 9000 77777"], "Phasor_back": [PULSE, "y = Phasor g -700 -5000 9000 -77777"],
+    "Phasor_empty": [PULSE, "y = Phasor g 5 99 99 7"], "Phasor_far": ["y = Phasor 0 2000000000 -2147483648 2147483647 0"],
+    "Line": ["y = Line 1.0 -0.3 2 0"], "Line_none": ["y = Line 1.0 -0.3 0 0"], "Line_late": ["y = Line 1.0 -0.3 -5 0"],
+    "Linen": ["g = Phasor 0 -1 -60 60 0", "y = Linen g 1 1.0 1 0"], "Linen_step": [PULSE, "y = Linen g 0 0.7 0 0"],
+    "Linen_short": ["g = Phasor 0 -1 -110 20 0", "y = Linen g 2 -1.0 1 0"],
+    "Add": [SWEEP, "y = Add w 127.9"], "Sub": [SWEEP, "y = Sub w 127.9"], "Mul": [SWEEP, "y = Mul w w"],
+    "Mul_far": [SWEEP, "y = Mul w -128.0"], "MulAdd": [SWEEP, "y = MulAdd w 0.333 -7"], "MulAdd_far": [SWEEP, "y = MulAdd w 127.5 127.5"],
+    "Neg": ["y = Neg -2147483648"], "Abs": ["y = Abs -2147483648"], "Abs_saw": [SWEEP, "y = Abs w"],
+    "Min": [SWEEP, "y = Min w 0.1"], "Max": [SWEEP, "y = Max w 0.1"], "Clip": [SWEEP, "y = Clip w -0.25 0.5"],
+    "Clip_turned": [SWEEP, "y = Clip w 0.5 -0.25"], "Gt": [SWEEP, "y = Gt w 0"], "Lt": [SWEEP, "y = Lt w 0"], "Gt_same": ["y = Gt 5 5"],
+    "Pan2": [SWEEP, "y b = Pan2 0.8 w 0.9"], "Pan2_right": [SWEEP, "b y = Pan2 0.8 w 0.9"], "Pan2_out": ["y b = Pan2 0.8 3.5 -0.9"],
+    "OnePole": [PULSE, "y = OnePole g 0.9"], "OnePole_down": [PULSE, "y = OnePole g -0.9"], "OnePole_far": [PULSE, "y = OnePole g 5.0"],
+    "Lag": [PULSE, "y = Lag g 1"], "Lag_none": [PULSE, "y = Lag g -1"], "Integrator": [PULSE, "y = Integrator g 0.99"],
+    "Integrator_far": ["y = Integrator 9.0 1.5"], "Integrator_down": ["y = Integrator -9.0 1.0"], "Delay1": [SWEEP, "y = Delay1 w"],
+    "DelayN": [SWEEP, "y = DelayN w 2 1"], "DelayN_none": [SWEEP, "y = DelayN w 0 5"], "DelayN_sweep": ["t = Phasor 0 1 -4 9 0", SWEEP, "y = DelayN w 2 t"],
+    "CombN": [PULSE, "y = CombN g 2 1 -0.7"], "CombN_none": [PULSE, "y = CombN g 0 0 0.7"], "CombN_far": ["y = CombN 20.0 1 1 2.0"],
+    "SOS": [PULSE, "y = SOS g 0.4 -0.2 0.1 0.6 -0.3"], "SOS_far": [PULSE, "y = SOS g 100.0 100.0 100.0 1.5 1.5"],
+    "Latch": [SWEEP, PULSE, "y = Latch w g"], "Latch_first": ["y = Latch 0.7 1"], "Gate": [SWEEP, PULSE, "y = Gate w g"],
+    "PulseCount": [PULSE, "r = Impulse 400000", "y = PulseCount g r"], "PulseCount_once": ["y = PulseCount 1 0"],
+    "Stepper": [PULSE, "r = Impulse 400000", "y = Stepper g r -3 11 4 100"], "Stepper_back": [PULSE, "y = Stepper g 0 -3 11 -4 0"],
+    "Stepper_empty": [PULSE, "y = Stepper g 0 5 4 1 9"], "DetectSilence": [PULSE, "y = DetectSilence g 0.5 0 0"],
+    "DetectSilence_long": ["x = Line 1.0 0 1 0", "y = DetectSilence x 0.5 1 0"], "BufFrames": ["y = BufFrames 5"],
+    "SinOsc": ["y = SinOsc 440000 0"], "SinOsc_turned": ["y = SinOsc -3000000 1073741824"],
+}
+HEARD = {name: shown("unit", *lines) for name, lines in UNITS.items()}
+
+# Texts at fault.
+HEAD = ["snova 1", "def bad"]
+BAD = {
+    "empty": b"", "cut": b"snova 1\ndef a\nend", "no end": b"snova 1\ndef a\n", "behind": b"snova 1\ndef a\nend\nend\n", "cut behind": b"snova 1\ndef a\nend\n ",
+    "version": b"snova 2\ndef a\nend\n", "name": b"snova 1\ndef 1a\nend\n", "kept name": b"snova 1\ndef end\nend\n",
+    "long name": b"snova 1\ndef " + b"a" * 32 + b"\nend\n", "two spaces": b"snova 1\ndef a\ncontrol  x 1\nend\n",
+    "space at end": b"snova 1\ndef a \nend\n", "empty line": b"snova 1\ndef a\n\nend\n", "return": b"snova 1\r\ndef a\r\nend\r\n",
+}
+BAD_LINES = {
+    "control twice": ["control a 1", "control a 2"], "control number": ["control a 01"], "control range": ["control a 2147483648"],
+    "control -0": ["control a -0"], "control fraction": ["control a 128.0"], "control digits": ["control a 0.123456789"],
+    "control late": ["a = WhiteNoise", "control b 1"], "control of a wire": ["a = WhiteNoise", "b = Neg a", "a = Neg b"],
+    "unit": ["a = Sinosc 0 0"], "no outputs": ["SinOsc 0 0"], "outputs": ["a b = SinOsc 0 0"], "output of none": ["a = Out.ar 0 0"],
+    "inputs": ["a = SinOsc 0"], "more inputs": ["a = SinOsc 0 0 0"], "itself": ["a = Neg a"], "later": ["a = Neg b", "b = WhiteNoise"],
+    "index": ["a = WhiteNoise", "b = In.ar a"], "constant": ["control d 2", "a = Line 0 1 1 d"], "longest": ["a = DelayN 0 60001 0"],
+    "shortest": ["a = CombN 0 -1 0 0"], "no signals": ["Out.ar 0"], "nine signals": ["Out.ar 0 1 2 3 4 5 6 7 8 9"],
+    "nine outputs": ["a b c d e f g h i = In.ar 0"], "nothing before": ["= WhiteNoise"], "nothing behind": ["a ="], "control as a wire": ["control = SinOsc 1 2"],
+    "end as a wire": ["end = WhiteNoise"], "one name twice": ["a a = In.ar 0"], "129 controls": [f"control c{i} 0" for i in range(129)],
+    "257 units": [f"w{i} = WhiteNoise" for i in range(257)], "513 wires": [" ".join(f"w{8 * k + j}" for j in range(8)) + " = In.ar 0" for k in range(64)] + ["x = WhiteNoise"],
+}
+BAD.update((name, definition("bad", *lines)) for name, lines in BAD_LINES.items())
+GOOD = {
+    "128 controls": definition("good", *[f"control c{i} {i}" for i in range(128)]),
+    "256 units": definition("good", *[f"w{i} = WhiteNoise" for i in range(256)]),
+    "512 wires": definition("good", *BAD_LINES["513 wires"][:64]),
+    "names": definition("Go_od9", "control array 1", "control SinOsc -0.00000001", "control Out 127.99999999", "_ = SinOsc SinOsc array"),
+    "name of 31": definition("a" * 31), "edges": definition("good", "control a -2147483648", "control b 2147483647", "control c -128.0", "a0 = DelayN a 60000 b"),
+}

@@ -1,0 +1,284 @@
+"""What each unit makes of its inputs, frame by frame."""
+from definitions import LEAST, MOST, ONE, frames_of
+
+FRAMES = 64
+
+
+def sat(x):
+    return max(LEAST, min(MOST, x))
+
+
+def mul(a, b):
+    return sat(a * b >> 24)
+
+
+def signed(q):
+    q %= 1 << 32
+    return q - (1 << 32) if q >> 31 else q
+
+
+def sine(p):
+    h = p % (1 << 31) >> 15
+    q = h * (65536 - h)
+    value = 16 * q * ONE // (5 * (1 << 32) - 4 * q)
+    return -value if p >> 31 else value
+
+
+def step_of(freq, rate):
+    return (freq * (1 << 32) // (1000 * rate)) % (1 << 32)
+
+
+class Clock:
+    """What a unit knows of its synth and its block."""
+
+    def __init__(self, rate, node, unit):
+        self.rate, self.node, self.unit = rate, node, unit
+
+
+def rises(s, key, x):
+    before = s.get(key, 0)
+    s[key] = x
+    return x > 0 and before <= 0
+
+
+def phase(s, freq, offset, clock):
+    p = s.get("p", 0)
+    s["p"] = (p + step_of(freq, clock.rate)) % (1 << 32)
+    return (p + offset) % (1 << 32)
+
+
+def sin_osc(s, clock, freq, offset):
+    return sine(phase(s, freq, offset, clock))
+
+
+def lf_saw(s, clock, freq, offset):
+    return signed(phase(s, freq, offset, clock)) >> 7
+
+
+def lf_pulse(s, clock, freq, offset, width):
+    return ONE if phase(s, freq, offset, clock) >> 8 < width else 0
+
+
+def lf_tri(s, clock, freq, offset):
+    q = phase(s, freq, offset, clock)
+    if q < 1 << 30:
+        return q >> 6
+    if q < 3 << 30:
+        return ((1 << 31) - q) >> 6
+    return (q - (1 << 32)) >> 6
+
+
+def impulse(s, clock, freq):
+    due = s.get("due", True)
+    p = s.get("p", 0) + step_of(freq, clock.rate)
+    s["p"], s["due"] = p % (1 << 32), p >> 32 > 0
+    return ONE if due else 0
+
+
+def white_noise(s, clock):
+    r = s.get("r", (clock.node * 2654435761 + clock.unit) % (1 << 32))
+    s["r"] = (r * 1664525 + 1013904223) % (1 << 32)
+    return signed(s["r"]) >> 7
+
+
+def phasor(s, clock, trig, step, start, end, reset):
+    x = s.get("x", start)
+    if rises(s, "trig", trig):
+        x = reset
+    x = start + (x - start) % (end - start) if end > start else start
+    s["x"] = sat(x + step)
+    return x
+
+
+def line(s, clock, start, end, dur, done):
+    if "k" not in s:
+        s.update(k=0, start=start, end=end, n=frames_of(dur, clock.rate))
+    k, n = s["k"], s["n"]
+    s["k"] += 1
+    if k < n:
+        return s["start"] + (s["end"] - s["start"]) * k // n
+    ends(s, done)
+    return s["end"]
+
+
+def linen(s, clock, gate, attack, level, release, done):
+    stage = s.get("stage", "waits")
+    if stage == "waits" and gate > 0:
+        s.update(stage="held", k=0, n=frames_of(attack, clock.rate), level=level, out=0)
+    elif stage == "held" and gate <= 0:
+        s.update(stage="let go", k=0, n=frames_of(release, clock.rate), f=s["out"])
+    elif stage == "waits":
+        return 0
+    k, n = s["k"], s["n"]
+    s["k"] += 1
+    if s["stage"] == "held":
+        s["out"] = s["level"] * k // n if k < n else s["level"]
+        return s["out"]
+    if k < n:
+        return s["f"] * (n - k) // n
+    ends(s, done)
+    return 0
+
+
+def ends(s, action):
+    if "done" not in s:
+        s["done"] = action
+
+
+def clip(x, low, high):
+    return min(max(x, low), high)
+
+
+def pan2(s, clock, x, pos, level):
+    r = (clip(pos, -ONE, ONE) + ONE) // 2
+    v = mul(x, level)
+    return mul(v, ONE - r), mul(v, r)
+
+
+def one_pole(s, clock, x, c):
+    c = clip(c, -ONE, ONE)
+    s["y"] = sat((ONE - abs(c)) * x + c * s.get("y", 0) >> 24)
+    return s["y"]
+
+
+def lag(s, clock, x, time):
+    y = s.get("y", x)
+    s["y"] = y + (x - y) // max(1, frames_of(time, clock.rate))
+    return s["y"]
+
+
+def integrator(s, clock, x, c):
+    s["y"] = sat(x + (c * s.get("y", 0) >> 24))
+    return s["y"]
+
+
+def delay1(s, clock, x):
+    y = s.get("x", 0)
+    s["x"] = x
+    return y
+
+
+def delay_n(s, clock, x, longest, time):
+    n = min(frames_of(time, clock.rate), frames_of(longest, clock.rate))
+    past = s.setdefault("past", [])
+    past.append(x)
+    return past[-1 - n] if n < len(past) else 0
+
+
+def comb_n(s, clock, x, longest, time, c):
+    n = min(max(1, frames_of(time, clock.rate)), max(1, frames_of(longest, clock.rate)))
+    past = s.setdefault("past", [])
+    y = past[-n] if n <= len(past) else 0
+    past.append(sat(x + (c * y >> 24)))
+    return y
+
+
+def sos(s, clock, x, a0, a1, a2, b1, b2):
+    x1, x2, y1, y2 = s.get("past", (0, 0, 0, 0))
+    y = sat(a0 * x + a1 * x1 + a2 * x2 + b1 * y1 + b2 * y2 >> 24)
+    s["past"] = (x, x1, y, y1)
+    return y
+
+
+def latch(s, clock, x, trig):
+    if rises(s, "trig", trig):
+        s["y"] = x
+    return s.get("y", 0)
+
+
+def gate_of(s, clock, x, trig):
+    if trig > 0:
+        s["y"] = x
+    return s.get("y", 0)
+
+
+def pulse_count(s, clock, trig, reset):
+    up, back = rises(s, "trig", trig), rises(s, "reset", reset)
+    if back:
+        s["y"] = 0
+    elif up:
+        s["y"] = min(s.get("y", 0) + 1, MOST)
+    return s.get("y", 0)
+
+
+def stepper(s, clock, trig, reset, low, high, step, to):
+    v = s.get("v", to)
+    up, back = rises(s, "trig", trig), rises(s, "reset", reset)
+    if back:
+        v = to
+    elif up:
+        v = low + (v + step - low) % (high - low + 1) if high >= low else low
+    s["v"] = v
+    return v
+
+
+def send_trig(s, clock, trig, ident, value):
+    if rises(s, "trig", trig) and "told" not in s:
+        s["told"] = (ident, value)
+
+
+def detect_silence(s, clock, x, amp, time, done):
+    if abs(x) >= amp:
+        s["count"] = 0
+    elif "count" in s:
+        s["count"] += 1
+    if s.get("count", 0) >= max(1, frames_of(time, clock.rate)):
+        ends(s, done)
+    return ONE if "done" in s else 0
+
+
+def free_self(s, clock, x):
+    if x > 0:
+        ends(s, 2)
+
+
+def pause_self(s, clock, x):
+    if x > 0:
+        ends(s, 1)
+
+
+def plain(f):
+    return lambda s, clock, *inputs: f(*inputs)
+
+
+FRAME = {
+    "SinOsc": sin_osc, "LFSaw": lf_saw, "LFPulse": lf_pulse, "LFTri": lf_tri, "Impulse": impulse, "WhiteNoise": white_noise,
+    "Phasor": phasor, "Line": line, "Linen": linen, "Add": plain(lambda a, b: sat(a + b)),
+    "Sub": plain(lambda a, b: sat(a - b)), "Mul": plain(mul), "MulAdd": plain(lambda x, m, a: sat((x * m >> 24) + a)),
+    "Neg": plain(lambda x: sat(-x)), "Abs": plain(lambda x: sat(abs(x))), "Min": plain(min), "Max": plain(max),
+    "Clip": plain(clip), "Gt": plain(lambda a, b: ONE if a > b else 0), "Lt": plain(lambda a, b: ONE if a < b else 0),
+    "Pan2": pan2, "OnePole": one_pole, "Lag": lag, "Integrator": integrator, "Delay1": delay1, "DelayN": delay_n,
+    "CombN": comb_n, "SOS": sos, "Latch": latch, "Gate": gate_of, "PulseCount": pulse_count, "Stepper": stepper,
+    "SendTrig": send_trig, "DetectSilence": detect_silence, "FreeSelf": free_self, "PauseSelf": pause_self,
+}
+
+
+def play_position(s, frames, usable, step, trig, start, loop, done):
+    """The frame that PlayBuf gives, or None."""
+    s.setdefault("pos", start)
+    rose = rises(s, "trig", trig)
+    if not usable:
+        return None
+    pos, given = start if rose else s["pos"], None
+    if not 0 <= pos < frames and loop > 0:
+        pos %= frames
+    if 0 <= pos < frames:
+        given = pos
+    else:
+        ends(s, done)
+    s["pos"] = sat(pos + step)
+    return given
+
+
+def record_position(s, frames, usable, run, loop, done):
+    """The frame that RecordBuf writes, or None."""
+    pos = s.setdefault("pos", 0)
+    if not usable or run <= 0 or pos >= frames:
+        return None
+    s["pos"] = pos + 1
+    if s["pos"] == frames:
+        if loop > 0:
+            s["pos"] = 0
+        else:
+            ends(s, done)
+    return pos

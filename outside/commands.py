@@ -151,29 +151,30 @@ class Commands:
             for at, value in enumerate(values, number):
                 self.set_control(synth, at, value)
 
-    def n_set(self):
-        t = self.taker
-        ident = t.int()
-        pairs = t.repeat(lambda: (t.name_or_number(), t.int()))
-        for synth in self.node(ident).synths():
-            for c, value in pairs:
-                self.set_control(synth, c, value)
-
-    def n_setn(self):
-        t = self.taker
-        ident = t.int()
-        rows = t.repeat(lambda: (t.name_or_number(), t.run()))
+    def set_rows(self, row):
+        """Sets controls by rows, each of a control and of the values from there on, in all synths of the message's node."""
+        ident = self.taker.int()
+        rows = self.taker.repeat(row)
         for synth in self.node(ident).synths():
             for c, values in rows:
                 self.set_controls(synth, c, values)
 
+    def n_set(self):
+        t = self.taker
+        self.set_rows(lambda: (t.name_or_number(), [t.int()]))
+
+    def n_setn(self):
+        t = self.taker
+        self.set_rows(lambda: (t.name_or_number(), t.run()))
+
     def n_fill(self):
         t = self.taker
-        ident = t.int()
-        rows = t.repeat(lambda: (t.name_or_number(), t.int(0), t.int()))
-        for synth in self.node(ident).synths():
-            for c, count, value in rows:
-                self.set_controls(synth, c, [value] * min(count, 128))
+
+        def row():
+            c, count, value = t.name_or_number(), t.int(0), t.int()
+            return c, [value] * min(count, 128)
+
+        self.set_rows(row)
 
     def n_map(self):
         t = self.taker

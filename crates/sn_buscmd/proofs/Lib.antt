@@ -4,10 +4,10 @@ pub mod FillingLemmas
 pub mod AskingLemmas
 pub mod RunLemmas
 pub mod RunningLemmas
+pub mod FoldLaws
 pub mod CompletingLemmas
 pub mod FreeingLemmas
 pub mod StatusLemmas
-pub mod TestLemmas
 pub mod SampleLemmas
 pub mod PlacingLemmas
 pub mod BufferLemmas

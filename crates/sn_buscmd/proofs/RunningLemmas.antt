@@ -7,10 +7,10 @@ use Rattle.sn_world.specs.declared.command.Handled.{Handled}
 use Rattle.sn_world.specs.declared.command.BusCommand.{BusCommand}
 use Rattle.sn_world.specs.World.{Turn}
 use Rattle.sn_world.specs.declared.command.BusCommand.TheVariants.{Set, SetRuns, Fill, Get, GetRuns, AllocBuffer, FreeBuffer, ZeroBuffer, QueryBuffers, SetSamples, SetSampleRuns, FillSamples, GetSamples, GetSampleRuns, Sync, Receive, Free, Status, ClearSched, Quit}
-use Rattle.sn_world.specs.Commands.{with_arguments, carrying_row, whole_row, bus_outcome, completion_in, next_alone, next_with, next_of, done_with}
+use Rattle.sn_world.specs.Commands.{ArgumentsOf, with_arguments, carrying_row, whole_row, bus_outcome, completion_in, next_alone, next_with, next_of, done_with}
 use Rattle.sn_world.specs.Completing.{carried, message_in}
 use Rattle.sn_world.specs.Answers.{Handles, IsNext, UnlessDone, UnlessFollowed}
-use Rattle.sn_buscmd.specs.Given.{ArgumentsOf}
+use Rattle.sn_buscmd.specs.Refusing.{IfRefused}
 
 with-given : (body : BodyShape) (given : Option (List Argument)) (xs : List Argument) (run : List Argument → Turn → Result Turn Reason) (t : Turn) → ArgumentsOf body given → given ≡ Some xs → with_arguments body run t ≡ run xs t
 with-given bare given xs run t is e = let same : xs ≡ [] = cc in ap (λ ys. run ys t) cc
@@ -119,3 +119,8 @@ pub unless-followed : (P Q : Type 0) (r : Result (Option Reason) NoMemory) → (
 unless-followed P Q (Ok None) f p = tt
 unless-followed P Q (Ok (Some reason)) f p = f p
 unless-followed P Q (Err e) f p = f p
+
+pub if-refused : (P : Type 0) (r : Result (Option Reason) NoMemory) → UnlessFollowed r P → IfRefused r P
+if-refused P (Ok None) p = tt
+if-refused P (Ok (Some reason)) p = p
+if-refused P (Err e) p = tt

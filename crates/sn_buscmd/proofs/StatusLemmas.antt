@@ -5,8 +5,8 @@ use Rattle.std.specs.Prelude.{if◌then◌else◌, nat_le, ◌==◌}
 use Rattle.std.proofs.lemmas.Bool.{cond_both, leb-true, leb-false, le-leb}
 use Rattle.sn_osc.specs.Shape.{Argument, int, arguments}
 use Rattle.sn_reply.specs.declared.reason.Reason.TheVariants.{Arguments}
-use Rattle.sn_tree.specs.Trees.{Nodes, none, node, with_payloads}
-use Rattle.sn_tree.specs.Tallies.{payloads, gathered}
+use Rattle.sn_tree.specs.Trees.{Nodes, none, node, payloads, with_payloads}
+use Rattle.sn_tree.specs.Tallies.{gathered}
 use Rattle.sn_world.specs.declared.stage.Held.{Held}
 use Rattle.sn_world.specs.declared.stage.Held.TheVariants as held
 use Rattle.sn_world.specs.Nodes.{Content, content_of}

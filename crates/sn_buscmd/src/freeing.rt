@@ -72,7 +72,7 @@ pub fn run_free(
     arguments: &[Arg],
 ) -> Result<Option<Reason>, NoMemory>
     ensures row { (from : ℕ) (words : List ℕ) (replies : List ReplyShape) → Follows result (free_row from (map argument_of arguments.now) (turn_of stage.old words replies)) (turn_of stage.new words replies) }
-    ensures unchanged { (words : List ℕ) (replies : List ReplyShape) → UnlessFollowed result (turn_of stage.new words replies ≡ turn_of stage.old words replies) }
+    ensures unchanged { UnlessFollowed result (stage.new ≡ stage.old) }
     ensures others { stage.new ≡ record stage.old { defs = stage.new.defs } }
 {
     if arguments.is_empty() {

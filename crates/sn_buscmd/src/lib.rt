@@ -1,4 +1,4 @@
-//! The commands on control buses, on definitions and on the server itself.
+//! The commands on control buses, on buffers, on definitions and on the server itself.
 #![tactic(auto)]
 
 mod asking;
@@ -26,6 +26,3 @@ mod status;
 mod syncing;
 
 pub use running::run_bus_command;
-
-#[cfg(test)]
-mod tests;

@@ -11,6 +11,7 @@ ghost use Rattle.sn_world.specs.Definitions.{definitions_of};
 ghost use Rattle.sn_world.specs.World.{turn_of};
 ghost use Rattle.sn_world.specs.Recv.{received_text, done, recv_row};
 ghost use Rattle.sn_world.specs.Answers.{Follows, UnlessFollowed};
+ghost use Rattle.sn_buscmd.specs.Refusing.{IfRefused};
 
 use sn_def::{Def, Unread, read};
 use sn_osc::{Arg, Args, Body, Message};
@@ -78,6 +79,8 @@ pub fn run_receive(
 ) -> Result<Option<Reason>, NoMemory>
     ensures row { (words : List ℕ) → Follows result (recv_row from (map argument_of arguments.now) (turn_of stage.old words replies.old)) (turn_of stage.new words replies.new) }
     ensures unchanged { (words : List ℕ) → UnlessFollowed result (turn_of stage.new words replies.new ≡ turn_of stage.old words replies.old) }
+    ensures stage { IfRefused result (stage.new ≡ stage.old) }
+    ensures untold { UnlessFollowed result (replies.new ≡ replies.old) }
     ensures others { stage.new ≡ record stage.old { defs = stage.new.defs } }
 {
     let Some(text) = received_text(arguments) else {

@@ -9,9 +9,9 @@ ghost use Rattle.sn_world.specs.World.{turn_of};
 ghost use Rattle.sn_world.specs.Pictures.{Pictures, WritesWorld, KeepsOutside};
 ghost use Rattle.sn_osc.specs.Reading.{read};
 ghost use Rattle.sn_world.specs.Completing.{one_message};
-ghost use Rattle.sn_world.specs.Commands.{bus_command_of, bus_row, carrying_row, run_bus, next_alone, next_with, next_of, done_with};
+ghost use Rattle.sn_world.specs.Commands.{ArgumentsOf, bus_command_of, buffer_command_of, server_command_of, bus_row, carrying_row, run_bus, next_alone, next_with, next_of, done_with};
 ghost use Rattle.sn_world.specs.Answers.{Follows, UnlessFollowed, Handles, UnlessDone, IsNext, NextHas};
-ghost use Rattle.sn_buscmd.specs.Given.{ArgumentsOf};
+ghost use Rattle.sn_buscmd.specs.Refusing.{IfRefused, IfFailed};
 
 use crate::asking::run_get;
 use crate::asking_runs::run_get_runs;
@@ -37,25 +37,35 @@ use sn_reply::{Reason, Replies};
 use sn_world::{BusCommand, Handled, Stage};
 use std::alloc::Global;
 
-/// The command with an address.
-pub fn bus_command_of(address: &[u8]) -> Option<BusCommand>
-    ensures { result ≡ bus_command_of address.now }
+/// The command on definitions or on the server itself with an address.
+fn server_command_of(address: &[u8]) -> Option<BusCommand>
+    ensures { result ≡ server_command_of address.now }
 {
-    if address == b"/c_set".as_slice() {
-        return Some(BusCommand::Set);
+    if address == b"/sync".as_slice() {
+        return Some(BusCommand::Sync);
     }
-    if address == b"/c_setn".as_slice() {
-        return Some(BusCommand::SetRuns);
+    if address == b"/d_recv".as_slice() {
+        return Some(BusCommand::Receive);
     }
-    if address == b"/c_fill".as_slice() {
-        return Some(BusCommand::Fill);
+    if address == b"/d_free".as_slice() {
+        return Some(BusCommand::Free);
     }
-    if address == b"/c_get".as_slice() {
-        return Some(BusCommand::Get);
+    if address == b"/status".as_slice() {
+        return Some(BusCommand::Status);
     }
-    if address == b"/c_getn".as_slice() {
-        return Some(BusCommand::GetRuns);
+    if address == b"/clearSched".as_slice() {
+        return Some(BusCommand::ClearSched);
     }
+    if address == b"/quit".as_slice() {
+        return Some(BusCommand::Quit);
+    }
+    None
+}
+
+/// The command on buffers, on definitions or on the server itself with an address.
+fn buffer_command_of(address: &[u8]) -> Option<BusCommand>
+    ensures { result ≡ buffer_command_of address.now }
+{
     if address == b"/b_alloc".as_slice() {
         return Some(BusCommand::AllocBuffer);
     }
@@ -83,25 +93,29 @@ pub fn bus_command_of(address: &[u8]) -> Option<BusCommand>
     if address == b"/b_getn".as_slice() {
         return Some(BusCommand::GetSampleRuns);
     }
-    if address == b"/sync".as_slice() {
-        return Some(BusCommand::Sync);
+    server_command_of(address)
+}
+
+/// The command on control buses, on buffers, on definitions or on the server itself with an address.
+pub fn bus_command_of(address: &[u8]) -> Option<BusCommand>
+    ensures { result ≡ bus_command_of address.now }
+{
+    if address == b"/c_set".as_slice() {
+        return Some(BusCommand::Set);
     }
-    if address == b"/d_recv".as_slice() {
-        return Some(BusCommand::Receive);
+    if address == b"/c_setn".as_slice() {
+        return Some(BusCommand::SetRuns);
     }
-    if address == b"/d_free".as_slice() {
-        return Some(BusCommand::Free);
+    if address == b"/c_fill".as_slice() {
+        return Some(BusCommand::Fill);
     }
-    if address == b"/status".as_slice() {
-        return Some(BusCommand::Status);
+    if address == b"/c_get".as_slice() {
+        return Some(BusCommand::Get);
     }
-    if address == b"/clearSched".as_slice() {
-        return Some(BusCommand::ClearSched);
+    if address == b"/c_getn".as_slice() {
+        return Some(BusCommand::GetRuns);
     }
-    if address == b"/quit".as_slice() {
-        return Some(BusCommand::Quit);
-    }
-    None
+    buffer_command_of(address)
 }
 
 /// The arguments of a message, where they are read.
@@ -132,6 +146,9 @@ fn run_row<P: Port>(
     requires foot { WritesWorld (P.foot port.old) stage.old.pool.region }
     ensures row { Follows result (bus_row command from (map argument_of arguments.now) (turn_of stage.old (P.words port.old) replies.old)) (turn_of stage.new (P.words port.new) replies.new) }
     ensures unchanged { UnlessFollowed result (turn_of stage.new (P.words port.new) replies.new ≡ turn_of stage.old (P.words port.old) replies.old) }
+    ensures stage { IfRefused result (stage.new ≡ stage.old) }
+    ensures words { UnlessFollowed result (P.words port.new ≡ P.words port.old) }
+    ensures untold { UnlessFollowed result (replies.new ≡ replies.old) }
     ensures pictures { Pictures stage.new (P.words port.new) }
     ensures region { stage.new.pool.region ≡ stage.old.pool.region }
     ensures others { KeepsOutside stage.old.pool.region (P.words port.old) (P.words port.new) }
@@ -194,6 +211,9 @@ fn run_alone<P: Port>(
     ensures next { IsNext result (next_alone command) }
     ensures answerable { NextHas IsAnswerable result }
     ensures unchanged { UnlessDone result (turn_of stage.new (P.words port.new) replies.new ≡ turn_of stage.old (P.words port.old) replies.old) }
+    ensures stage { IfFailed result (stage.new ≡ stage.old) }
+    ensures words { UnlessDone result (P.words port.new ≡ P.words port.old) }
+    ensures untold { UnlessDone result (replies.new ≡ replies.old) }
     ensures pictures { Pictures stage.new (P.words port.new) }
     ensures region { stage.new.pool.region ≡ stage.old.pool.region }
     ensures others { KeepsOutside stage.old.pool.region (P.words port.old) (P.words port.new) }
@@ -225,6 +245,9 @@ fn run_carrying<P: Port>(
     ensures next { IsNext result (next_with command (one_message (read blob.now))) }
     ensures answerable { NextHas IsAnswerable result }
     ensures unchanged { UnlessDone result (turn_of stage.new (P.words port.new) replies.new ≡ turn_of stage.old (P.words port.old) replies.old) }
+    ensures stage { IfFailed result (stage.new ≡ stage.old) }
+    ensures words { UnlessDone result (P.words port.new ≡ P.words port.old) }
+    ensures untold { UnlessDone result (replies.new ≡ replies.old) }
     ensures pictures { Pictures stage.new (P.words port.new) }
     ensures region { stage.new.pool.region ≡ stage.old.pool.region }
     ensures others { KeepsOutside stage.old.pool.region (P.words port.old) (P.words port.new) }
@@ -244,8 +267,7 @@ fn run_carrying<P: Port>(
 /// Runs a message from a client, where it is a command on control buses, on buffers, on definitions or on the server itself.
 ///
 /// `Done` comes where the command was carried out, `Completion` where one was that carries a completion message, `Quit` and `ClearSched` where it was the command of that name, `Failed` with the first reason against it, and `NotMine` where the address is that of
-/// another command or of none. `Failed` and `NotMine` leave the world and the
-/// replies as they were.
+/// another command or of none. `Failed` and `NotMine` leave the stage, the words and the replies as they were.
 pub fn run_bus_command<P: Port>(
     alloc: Global,
     stage: &mut Stage,
@@ -261,6 +283,9 @@ pub fn run_bus_command<P: Port>(
     ensures next { IsNext result (next_of (bus_command_of (message_of message.now).address) (message_of message.now).body) }
     ensures answerable { NextHas IsAnswerable result }
     ensures unchanged { UnlessDone result (turn_of stage.new (P.words port.new) replies.new ≡ turn_of stage.old (P.words port.old) replies.old) }
+    ensures stage { IfFailed result (stage.new ≡ stage.old) }
+    ensures words { UnlessDone result (P.words port.new ≡ P.words port.old) }
+    ensures untold { UnlessDone result (replies.new ≡ replies.old) }
     ensures pictures { Pictures stage.new (P.words port.new) }
     ensures region { stage.new.pool.region ≡ stage.old.pool.region }
     ensures others { KeepsOutside stage.old.pool.region (P.words port.old) (P.words port.new) }

@@ -7,9 +7,9 @@ ghost use Rattle.sn_world.specs.World.{turn_of};
 ghost use Rattle.sn_world.specs.Buses.{sync_number, sync_row, synced};
 ghost use Rattle.sn_world.specs.Answers.{Follows, UnlessFollowed};
 
-use sn_osc::{Arg, Args, Body, Message};
-use sn_ports::{NoMemory, Text};
-use sn_reply::{Reason, Replies, To};
+use sn_osc::{Arg, Message};
+use sn_ports::NoMemory;
+use sn_reply::{Answer, Reason, Replies, To};
 use std::alloc::Global;
 
 fn sync_number(arguments: &[Arg]) -> Option<i32>
@@ -26,12 +26,9 @@ fn synced(alloc: Global, number: i32) -> Result<Message, NoMemory>
     ensures message { IfOk result (λ m. message_of m ≡ synced number) }
     ensures sendable { IfOk result (λ m. IsSendable (message_of m)) }
 {
-    let mut arguments = Vec::new(alloc);
-    arguments.push(Arg::Int(number))?;
-    Ok(Message {
-        address: Text::from_slice(alloc, b"/synced")?,
-        body: Body::Args(Args::from_vec(arguments)),
-    })
+    let mut answer = Answer::new(alloc);
+    answer.push_int(number)?;
+    answer.into_message(b"/synced")
 }
 
 /// `/sync` number

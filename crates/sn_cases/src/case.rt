@@ -42,6 +42,7 @@ pub struct Case {
 }
 
 impl Case {
+    /// A case of this name, in which nothing comes yet.
     pub fn new(alloc: Global, name: &str) -> Result<Case, NoMemory> {
         let mut words = Vec::new(alloc);
         words.push(Text::from_slice(alloc, b"render")?)?;

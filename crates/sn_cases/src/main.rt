@@ -9,7 +9,7 @@ mod trial;
 
 use script::read_cases;
 use std::process::ExitCode;
-use std::rt::{Env, Files};
+use std::rt::Files;
 use std::thread::Threads;
 use std::{env, fs, io};
 use trial::{Verdict, try_case};

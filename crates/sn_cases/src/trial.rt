@@ -30,6 +30,7 @@ pub enum Verdict {
 }
 
 impl Verdict {
+    /// How it is printed.
     pub fn words(&self) -> &'static str {
         match self {
             Verdict::Agrees => "as it should",
@@ -42,6 +43,7 @@ impl Verdict {
         }
     }
 
+    /// The bytes that came in place of those that should.
     pub fn bytes(&self) -> Option<&[u8]> {
         match self {
             Verdict::Replies(bytes) | Verdict::Sound(bytes) => Some(bytes.as_slice()),

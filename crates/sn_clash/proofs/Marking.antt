@@ -8,10 +8,10 @@ use Rattle.sn_foot.specs.declared.resource.Access.{Access}
 use Rattle.sn_foot.specs.declared.resource.Access.TheVariants.{Read, Write}
 use Rattle.sn_foot.specs.declared.resource.Resource.{Resource}
 use Rattle.sn_foot.specs.declared.resource.Resource.TheVariants.{Audio, Control, Buffer}
-use Rattle.sn_foot.specs.Footprints.{Footprint}
+use Rattle.sn_foot.specs.Footprints.{Footprint, is_there}
 use Rattle.sn_clash.specs.declared.uses.Use.{Use}
 use Rattle.sn_clash.specs.declared.marks.Mark.{Mark}
-use Rattle.sn_clash.specs.Clashing.{is_there, number_of}
+use Rattle.sn_clash.specs.Clashing.{number_of}
 use Rattle.sn_clash.specs.Using.{footprint_in, is_access, is_same, uses_in}
 use Rattle.sn_clash.specs.Marking.{mark_of, mark_use, mark_uses, marked_in, more, place, unmarked}
 use Rattle.sn_clash.specs.Passing.{either, no_use}

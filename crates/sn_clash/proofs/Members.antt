@@ -4,12 +4,12 @@ use Rattle.std.specs.Prelude.{slice_index_or, is_some}
 use Rattle.std.specs.List.{filter, list_any}
 use Rattle.std.proofs.lemmas.List.{take_more, take_all, map-append, reverse-append}
 use Rattle.sn_foot.specs.declared.resource.Resource.{Resource}
-use Rattle.sn_foot.specs.Footprints.{Footprint}
+use Rattle.sn_foot.specs.Footprints.{Footprint, clash_on}
 use Rattle.sn_clash.specs.declared.clash.Clash.{Clash}
 use Rattle.sn_clash.specs.declared.entry.Entry.{Entry}
 use Rattle.sn_clash.specs.declared.uses.Use.{Use}
 use Rattle.sn_clash.specs.declared.marks.Mark.{Mark}
-use Rattle.sn_clash.specs.Clashing.{Member, clash_on, clashes_among, clashes_with, resources}
+use Rattle.sn_clash.specs.Clashing.{Member, clashes_among, clashes_with, resources}
 use Rattle.sn_clash.specs.Using.{footprint_in, listed}
 use Rattle.sn_clash.specs.Marking.{marked_in}
 use Rattle.sn_clash.specs.Passing.{either, gathered, no_use, clashes_later, from_first, member_of, members_of}

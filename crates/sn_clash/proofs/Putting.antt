@@ -18,10 +18,10 @@ use Rattle.sn_foot.specs.declared.resource.Bank.{Bank}
 use Rattle.sn_foot.specs.declared.resource.Bank.TheVariants.{Audio, Control, Buffer}
 use Rattle.sn_foot.specs.declared.resource.Resource.{Resource}
 use Rattle.sn_foot.specs.declared.resource.Resource.TheVariants as resources
-use Rattle.sn_foot.specs.Footprints.{follows, held_reads, held_writes, is_among, is_bus, is_number}
+use Rattle.sn_foot.specs.Footprints.{follows, held_reads, held_writes, is_among, is_bus, is_number, is_there}
 use Rattle.sn_foot.specs.Marks.{held_uses, resource, span, unit_uses, used_span}
 use Rattle.sn_clash.specs.declared.uses.Use.{Use}
-use Rattle.sn_clash.specs.Clashing.{is_there, number_of}
+use Rattle.sn_clash.specs.Clashing.{number_of}
 use Rattle.sn_clash.specs.Using.{footprint_in, is_access, is_same, uses_in}
 use Rattle.sn_clash.specs.Putting.{number_at, put_access, put_bank, put_controls, put_held, put_number, put_span, put_units}
 use Rattle.sn_clash.specs.Passing.{either, no_use, used_by}

@@ -14,8 +14,8 @@ use Rattle.sn_world.specs.Nodes.{content_of}
 use Rattle.sn_world.specs.World.{world_of}
 use Rattle.sn_foot.specs.declared.resource.Resource.{Resource}
 use Rattle.sn_foot.specs.declared.resource.Resource.TheVariants.{Audio, Control, Buffer}
-use Rattle.sn_foot.specs.Footprints.{Footprint, held_reads, held_writes}
-use Rattle.sn_clash.specs.Clashing.{Member, clashes, clashes_among, clashes_in, clashes_of, content_reads, content_writes, footprint, is_parallel, is_there, members}
+use Rattle.sn_foot.specs.Footprints.{Footprint, held_reads, held_writes, is_there}
+use Rattle.sn_clash.specs.Clashing.{Member, clashes, clashes_among, clashes_in, clashes_of, content_reads, content_writes, footprint, is_parallel, members}
 
 -- ---- buffers
 

@@ -1,5 +1,5 @@
 -- Which members of parallel groups clash.
-use Rattle.std.specs.Prelude.{ℕ, ℤ, nat_lt, Bool, true, false, ◌&&◌, ◌||◌, if◌then◌else◌, List, [], ◌∷◌, ◌++◌, map, take, slice_index_or, Option, None, is_some}
+use Rattle.std.specs.Prelude.{ℕ, ℤ, Bool, true, false, ◌&&◌, if◌then◌else◌, List, [], ◌∷◌, ◌++◌, map, take}
 use Rattle.std.specs.List.{filter, list_any}
 use Rattle.sn_mem.specs.Blocks.{table}
 use Rattle.sn_tree.specs.declared.node.NodeKind.{NodeKind}
@@ -10,16 +10,10 @@ use Rattle.sn_world.specs.Nodes.{Content, group, synth}
 use Rattle.sn_world.specs.World.{World}
 use Rattle.sn_foot.specs.declared.resource.Resource.{Resource}
 use Rattle.sn_foot.specs.declared.resource.Resource.TheVariants.{Audio, Control, Buffer}
-use Rattle.sn_foot.specs.Footprints.{Footprint, synth_reads, synth_writes, held_reads, held_writes}
+use Rattle.sn_foot.specs.Footprints.{Footprint, clash_on, is_there, synth_reads, synth_writes, held_reads, held_writes}
 use Rattle.sn_clash.specs.declared.clash.Clash.{Clash}
 
 -- ---- resources
-
--- A resource is an audio bus 0 to 127, a control bus 0 to 1,023, or a buffer 0 to 1,023 that is allocated.
-abbrev pub is_there : {B : Type 0} → List (Option B) → Resource → Bool
-is_there buffers (Audio n) = nat_lt n 128
-is_there buffers (Control n) = nat_lt n 1024
-is_there buffers (Buffer n) = nat_lt n 1024 && is_some (slice_index_or buffers n None)
 
 abbrev pub number_of : Resource → ℕ
 number_of (Audio n) = n
@@ -29,10 +23,6 @@ number_of (Buffer n) = n
 -- audio buses, control buses, and buffers, each by their numbers
 unfoldable pub resources : List Resource
 resources = table Audio 128 ++ (table Control 1024 ++ table Buffer 1024)
-
--- one of two footprints writes what the other reads or writes
-abbrev pub clash_on : Footprint → Footprint → Resource → Bool
-clash_on a b r = (a.writes r && (b.reads r || b.writes r)) || (b.writes r && (a.reads r || a.writes r))
 
 -- ---- members of a group
 

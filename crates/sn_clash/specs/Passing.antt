@@ -4,10 +4,10 @@ use Rattle.std.specs.List.{list_any}
 use Rattle.sn_tree.specs.Trees.{Label}
 use Rattle.sn_world.specs.declared.stage.Held.{Held}
 use Rattle.sn_foot.specs.declared.resource.Resource.{Resource}
-use Rattle.sn_foot.specs.Footprints.{Footprint, held_reads, held_writes}
+use Rattle.sn_foot.specs.Footprints.{Footprint, held_reads, held_writes, clash_on}
 use Rattle.sn_clash.specs.declared.clash.Clash.{Clash}
 use Rattle.sn_clash.specs.declared.entry.Entry.{Entry}
-use Rattle.sn_clash.specs.Clashing.{Member, clash_on, clashes_among, is_parallel, resources}
+use Rattle.sn_clash.specs.Clashing.{Member, clashes_among, is_parallel, resources}
 use Rattle.sn_clash.specs.Using.{footprint_in}
 
 -- ---- footprints together

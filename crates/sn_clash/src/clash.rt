@@ -1,5 +1,5 @@
 //! Two members of a parallel group that clash.
-ghost use Rattle.std.specs.Prelude.{◌≡◌, [], IfOk};
+ghost use Rattle.std.specs.Prelude.{◌≡◌, []};
 
 use sn_foot::Resource;
 use std::alloc::Global;

@@ -4,6 +4,7 @@ use crate::uses::Use;
 /// A node with all below it.
 #[derive(Drop)]
 pub struct Entry {
+    /// The id of the node.
     pub id: i32,
     /// What the walk finds there uses.
     pub uses: Vec<Use>,

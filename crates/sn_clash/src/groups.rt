@@ -1,14 +1,15 @@
 //! The clashes of a group and of all groups below it.
-ghost use Rattle.std.specs.Prelude.{◌≡◌, ◌≤◌, ◌++◌, ◌+◌, ◌-◌, ◌*◌, ◌==◌, ◌&&◌, length, map, if◌then◌else◌, IfOk, OnOk};
+ghost use Rattle.std.specs.Prelude.{◌≡◌, ◌≤◌, ◌++◌, ◌+◌, ◌-◌, length, map, if◌then◌else◌, IfOk, OnOk};
 ghost use Rattle.sn_tree.specs.Members.{members};
 ghost use Rattle.sn_tree.specs.Trees.{running_labels, subtree};
-ghost use Rattle.sn_foot.specs.Footprints.{held_reads, held_writes};
+ghost use Rattle.sn_foot.specs.Footprints.{held_reads, held_writes, is_there};
 ghost use Rattle.sn_foot.specs.Walks.{kept};
-ghost use Rattle.sn_clash.specs.Clashing.{clashes, is_there};
+ghost use Rattle.sn_clash.specs.Clashing.{clashes};
 ghost use Rattle.sn_clash.specs.Rows.{row_of};
 
 use crate::clash::Clash;
 use crate::passing::pass;
+use sn_foot::is_kept;
 use sn_ports::NoMemory;
 use sn_tree::{Member, Tree};
 use sn_world::{Held, NodeId, Stage};
@@ -29,13 +30,6 @@ fn collect<'a>(
         nodes.push(member)?;
     }
     Ok(nodes)
-}
-
-/// Whether the walk finds a node, past so many with all below each.
-fn is_found(skipped: u64, running: bool) -> bool
-    ensures { result ≡ (skipped == 0 && running) }
-{
-    skipped == 0 && running
 }
 
 /// How many nodes are left out next, with all below each.
@@ -65,7 +59,7 @@ fn reached(nodes: &[Member<'_, Held>]) -> usize
     let mut count = 0;
     let mut skipped = 0;
     for node in nodes {
-        let found = is_found(skipped, node.running);
+        let found = is_kept(skipped, node.running);
         count = counted(found, count);
         skipped = skipped_after(skipped, found, node.children);
     }

@@ -1,7 +1,7 @@
 //! Marks of how resources are used.
 ghost use Rattle.std.specs.Prelude.{◌≡◌, length, slice_index_or, ℕ, List, Option, IfOk};
 ghost use Rattle.sn_mem.specs.declared.buffers.BufferPlace as buffer;
-ghost use Rattle.sn_clash.specs.Clashing.{is_there};
+ghost use Rattle.sn_foot.specs.Footprints.{is_there};
 ghost use Rattle.sn_clash.specs.Using.{footprint_in};
 ghost use Rattle.sn_clash.specs.Marking.{mark_of, mark_use, mark_uses, marked_in, more, place, unmarked};
 
@@ -14,7 +14,9 @@ use std::marker::Model;
 /// How a resource is used.
 #[derive(Clone, Copy)]
 pub struct Mark {
+    /// It is read.
     pub read: bool,
+    /// It is written.
     pub written: bool,
 }
 

@@ -2,7 +2,8 @@
 ghost use Rattle.std.specs.Prelude.{◌≡◌, ◌≤◌, ◌<◌, ◌+◌, ◌^◌, Bool, length, take, if◌then◌else◌, IfOk, OnOk};
 ghost use Rattle.std.specs.List.{list_any};
 ghost use Rattle.sn_foot.specs.declared.resource.Resource as resource;
-ghost use Rattle.sn_clash.specs.Clashing.{clash_on, clashes_among, clashes_with, is_there, resources};
+ghost use Rattle.sn_foot.specs.Footprints.{clash_on, is_there};
+ghost use Rattle.sn_clash.specs.Clashing.{clashes_among, clashes_with, resources};
 ghost use Rattle.sn_clash.specs.Using.{footprint_in, listed};
 ghost use Rattle.sn_clash.specs.Marking.{marked_in};
 ghost use Rattle.sn_clash.specs.Passing.{from_first, gathered, member_of, members_of};

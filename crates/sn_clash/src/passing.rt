@@ -2,7 +2,8 @@
 ghost use Rattle.std.specs.Prelude.{◌≡◌, ◌++◌, Bool, List, Option, map, take, if◌then◌else◌, IfOk, OnOk};
 ghost use Rattle.sn_mem.specs.declared.buffers.BufferPlace as buffer;
 ghost use Rattle.sn_foot.specs.declared.resource.Resource as resource;
-ghost use Rattle.sn_clash.specs.Clashing.{clashes_among, is_parallel, is_there};
+ghost use Rattle.sn_foot.specs.Footprints.{is_there};
+ghost use Rattle.sn_clash.specs.Clashing.{clashes_among, is_parallel};
 ghost use Rattle.sn_clash.specs.Using.{footprint_in};
 ghost use Rattle.sn_clash.specs.Passing.{base_of, found_at, gathered, members_of, no_use, nothing, pass, pass_one, passed_of, slot_of, used_by};
 ghost use Rattle.sn_clash.specs.Rows.{label_in, row_of};
@@ -18,6 +19,7 @@ use sn_tree::{Member, NodeKind};
 use sn_world::Held;
 use std::alloc::Global;
 
+/// Whether a node is a parallel group.
 pub fn is_parallel(kind: NodeKind) -> bool
     ensures { result ≡ is_parallel kind }
 {

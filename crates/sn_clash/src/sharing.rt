@@ -2,7 +2,8 @@
 ghost use Rattle.std.specs.Prelude.{◌≡◌, None, Some, if◌then◌else◌, take};
 ghost use Rattle.std.specs.List.{filter};
 ghost use Rattle.sn_foot.specs.declared.resource.Resource.TheVariants.{Buffer};
-ghost use Rattle.sn_clash.specs.Clashing.{clash_on, is_there, number_of, resources};
+ghost use Rattle.sn_foot.specs.Footprints.{clash_on, is_there};
+ghost use Rattle.sn_clash.specs.Clashing.{number_of, resources};
 ghost use Rattle.sn_clash.specs.Using.{footprint_in, listed};
 ghost use Rattle.sn_clash.specs.Marking.{comes_before, first_hit, first_of, hits, marked_in, meets, rank};
 

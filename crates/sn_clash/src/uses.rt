@@ -4,6 +4,8 @@ use sn_foot::{Access, Resource};
 /// A resource, and how it is used.
 #[derive(Clone, Copy)]
 pub struct Use {
+    /// Whether it is read or written.
     pub access: Access,
+    /// What is used.
     pub resource: Resource,
 }

@@ -4,7 +4,8 @@ ghost use Rattle.std.specs.List.{All};
 ghost use Rattle.sn_tree.specs.Trees.{Label};
 ghost use Rattle.sn_world.specs.World.{world_of};
 ghost use Rattle.sn_world.specs.declared.stage.Held as payload;
-ghost use Rattle.sn_clash.specs.Clashing.{clashes_in, clashes_of, is_there, number_of};
+ghost use Rattle.sn_foot.specs.Footprints.{is_there};
+ghost use Rattle.sn_clash.specs.Clashing.{clashes_in, clashes_of, number_of};
 ghost use Rattle.sn_clash.specs.Groups.{collected};
 
 use crate::clash::{Clash, Clashes};

@@ -1,5 +1,5 @@
 -- Each definition that some text defines is well formed.
-use Rattle.std.proofs.Common.{◌≡◌, ℕ, ℤ, pos, ◌+◌, ◌<◌, ◌≤◌, ◌==◌, ◌&&◌, ◌||◌, Bool, true, false, cond, not, int_le, nat_le, nat_lt, List, [], ◌∷◌, ◌++◌, length, Option, Some, None, IfSome, Result, Ok, Err, refl, sym, ap, subst, ◌∙◌, arith, lit≤, length-append, append_assoc, codes, is_some, suc, zero-add, add_assoc, add-zero, find, eqb-true, leb-true, leb-false, ltb-false}
+use Rattle.std.proofs.Common.{◌≡◌, ℕ, ℤ, pos, ◌+◌, ◌<◌, ◌≤◌, ◌==◌, ◌&&◌, ◌||◌, Bool, true, false, cond, not, int_le, nat_le, nat_lt, List, [], ◌∷◌, ◌++◌, length, Option, Some, None, IfSome, Result, Ok, Err, refl, sym, ap, subst, ◌∙◌, arith, lit≤, length-append, append_assoc, codes, suc, zero-add, add_assoc, add-zero, find, eqb-true, leb-true, leb-false, ltb-false}
 use Rattle.std.specs.Str.{bytes_eq}
 use Rattle.std.specs.List.{list_all, list_any}
 use Rattle.std.proofs.lemmas.Bool.{and_parts, or_parts, not-false}
@@ -14,14 +14,13 @@ use Rattle.sn_def.specs.declared.fault.DefFault.{DefFault}
 use Rattle.sn_def.specs.declared.kind.Kind.{Kind}
 use Rattle.sn_def.specs.declared.table.Mark.{Mark}
 use Rattle.sn_def.specs.declared.table.Mark.TheVariants.{Signal, Index, Constant, Longest}
-use Rattle.sn_def.specs.declared.table.TheConstants.{BUILT}
 use Rattle.sn_def.specs.declared.unit.Input.{Input}
 use Rattle.sn_def.specs.declared.unit.Input.TheVariants.{Literal, Control, Wire}
 use Rattle.sn_def.specs.declared.unit.Unit.{Unit as UnitLine}
-use Rattle.sn_def.specs.Units.{row_of, kind_named}
+use Rattle.sn_def.specs.Units.{row_of, every_kind, kind_named}
 use Rattle.sn_def.specs.Definition.{Definition, Parameter, named, named_only, with_control, with_wires, with_unit, unit_line}
 use Rattle.sn_def.specs.Reading.{◌>>=◌, pieces, is_name, is_known, is_reserved, first_of, default_at, control_at, mark_at, literal_at, name_at, value_or_name_at, input_at, inputs_at, wires_at, UnitParts, counts_fit, unit_of, unit_if_known, unit_at, unit_line_at, unit_parts, control_line_at, line_at, fault, line_number, at_line, is_over, end_at, body_at, named_at, def_at, after_title, title_at, text_at, IsWritten}
-use Rattle.sn_def.specs.WellFormed.{IsSample, IsDelay, IsAllowed, AreAllowed, is_built, UnitFits, UnitsFit, outputs_of, IsWellFormed}
+use Rattle.sn_def.specs.WellFormed.{IsSample, IsDelay, IsAllowed, AreAllowed, UnitFits, UnitsFit, outputs_of, IsWellFormed}
 use Rattle.sn_def.proofs.Samples.{below, a_literal}
 use Rattle.sn_def.proofs.Standing.{IsThere, named_there}
 
@@ -103,10 +102,7 @@ found name (j ∷ js) k h = found_first name (bytes_eq (row_of j).name name) j k
 -- a kind that a name stands for has that name
 pub kind_has_name : (name : List ℕ) (k : Kind) → kind_named name ≡ Some k → (row_of k).name ≡ name
 unfolding kind_named
-kind_has_name name k h = (bytes_eq-Decides (row_of k).name name).0 (found name BUILT k h)
-
-pub kind_built : (name : List ℕ) (k : Kind) → kind_named name ≡ Some k → is_built k ≡ true
-kind_built name k h = ap is_some (ap kind_named (kind_has_name name k h) ∙ h)
+kind_has_name name k h = (bytes_eq-Decides (row_of k).name name).0 (found name every_kind k h)
 
 no_units : (us : List UnitLine) (c w : ℕ) → length us ≡ 0 → UnitsFit c w us
 no_units [] c w h = tt
@@ -160,9 +156,9 @@ counts a s l m i o h =
     let r = and_parts (nat_le (a + cond (s == 0) 0 1) i) (nat_le i (a + s)) q.0 in
     (leb-true (a + cond (s == 0) 0 1) i r.0, leb-true i (a + s) r.1, leb-true l o q.1, leb-true o m p.1)
 
-unit_of_kept : (d e : Definition) (parts : UnitParts) (kind : Kind) → IsWellFormed d → length d.units < 256 → length d.wires + length parts.outputs ≤ 512 → is_built kind ≡ true → unit_of d parts kind ≡ Ok e → IsWellFormed e
+unit_of_kept : (d e : Definition) (parts : UnitParts) (kind : Kind) → IsWellFormed d → length d.units < 256 → length d.wires + length parts.outputs ≤ 512 → unit_of d parts kind ≡ Ok e → IsWellFormed e
 unfolding unit_of
-unit_of_kept d e parts kind ok room few built h =
+unit_of_kept d e parts kind ok room few h =
     let a = past (not (counts_fit (row_of kind) (length parts.inputs) (length parts.outputs))) wrong.Count _ e h in
     let b = past (not (list_all is_name parts.outputs)) wrong.Name _ e a.1 in
     let w = steps (wires_at d parts.outputs) _ e b.1 in
@@ -170,7 +166,6 @@ unit_of_kept d e parts kind ok room few built h =
     let read = inputs_allowed d (row_of kind).inputs 0 parts.inputs i.0 i.1 in
     let fit = counts (length (row_of kind).inputs) (row_of kind).signals (row_of kind).least (row_of kind).most (length parts.inputs) (length parts.outputs) (not-false _ a.0) in
     let unit : UnitFits (length d.controls) (length d.wires) (unit_line kind i.0 (length parts.outputs)) = record {
-      built = built;
       fewest_inputs = subst (λ (n : ℕ). length (row_of kind).inputs + cond ((row_of kind).signals == 0) 0 1 ≤ n) (sym read.0) fit.0;
       most_inputs = subst (λ (n : ℕ). n ≤ length (row_of kind).inputs + (row_of kind).signals) (sym read.0) fit.1;
       fewest_outputs = fit.2;
@@ -181,20 +176,16 @@ unit_of_kept d e parts kind ok room few built h =
     ap (λ (g : Definition). with_unit g kind i.0 (length parts.outputs)) (sym (wires_given d w.0 parts.outputs w.1)) ∙ same_ok {E = DefKind} (with_unit w.0 kind i.0 (length parts.outputs)) e i.2 in
     subst IsWellFormed made (unit_kept d parts.outputs kind i.0 ok room few unit)
 
-unit_if_known_kept : (d e : Definition) (parts : UnitParts) (o : Option Kind) → IsWellFormed d → length d.units < 256 → length d.wires + length parts.outputs ≤ 512 → IfSome o (λ k. is_built k ≡ true) → unit_if_known d parts o ≡ Ok e → IsWellFormed e
-unit_if_known_kept d e parts (Some kind) ok room few built h = unit_of_kept d e parts kind ok room few built h
-unit_if_known_kept d e parts None ok room few built h = cc
-
-known_built : (name : List ℕ) (o : Option Kind) → kind_named name ≡ o → IfSome o (λ k. is_built k ≡ true)
-known_built name (Some k) is = kind_built name k is
-known_built name None is = tt
+unit_if_known_kept : (d e : Definition) (parts : UnitParts) (o : Option Kind) → IsWellFormed d → length d.units < 256 → length d.wires + length parts.outputs ≤ 512 → unit_if_known d parts o ≡ Ok e → IsWellFormed e
+unit_if_known_kept d e parts (Some kind) ok room few h = unit_of_kept d e parts kind ok room few h
+unit_if_known_kept d e parts None ok room few h = cc
 
 unit_at_kept : (d e : Definition) (parts : UnitParts) → IsWellFormed d → unit_at d parts ≡ Ok e → IsWellFormed e
 unfolding unit_at
 unit_at_kept d e parts ok h =
     let a = past (nat_le 256 (length d.units) || nat_lt 512 (length d.wires + length parts.outputs)) wrong.Limit _ e h in
     let b = or_parts (nat_le 256 (length d.units)) (nat_lt 512 (length d.wires + length parts.outputs)) a.0 in
-    unit_if_known_kept d e parts (kind_named parts.unit) ok (leb-false 256 (length d.units) b.0) (ltb-false 512 (length d.wires + length parts.outputs) b.1) (known_built parts.unit (kind_named parts.unit) refl) a.1
+    unit_if_known_kept d e parts (kind_named parts.unit) ok (leb-false 256 (length d.units) b.0) (ltb-false 512 (length d.wires + length parts.outputs) b.1) a.1
 
 unit_line_kept : (d e : Definition) (o : Option UnitParts) → IsWellFormed d → unit_line_at d o ≡ Ok e → IsWellFormed e
 unit_line_kept d e (Some parts) ok h = unit_at_kept d e parts ok h

@@ -6,6 +6,7 @@ pub mod Fielding
 pub mod Uniting
 pub mod BodyLoop
 pub mod Placing
+mod KindNames
 mod Samples
 mod Standing
 pub mod Forming
@@ -24,3 +25,5 @@ mod Halting
 pub mod Judging
 mod Faulting
 mod Unique
+mod Telling
+pub mod Frames

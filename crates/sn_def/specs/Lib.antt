@@ -14,3 +14,4 @@ pub mod StateWords
 pub mod Grammar
 pub mod Printing
 pub mod Faults
+pub mod Runs

@@ -7,7 +7,6 @@ use Rattle.sn_def.specs.declared.table.Mark.{Mark}
 use Rattle.sn_def.specs.declared.table.Mark.TheVariants.{Signal, Index, Constant, Longest}
 use Rattle.sn_def.specs.declared.table.Words.{Words}
 use Rattle.sn_def.specs.declared.table.Words.TheVariants.{Fixed, Delay, Comb}
-use Rattle.sn_def.specs.declared.table.TheConstants.{BUILT}
 
 pub record UnitRow : Type 0 where
   pub name : List ℕ
@@ -69,6 +68,16 @@ row_of kinds.DetectSilence = unit_row (codes "DetectSilence") (Signal ∷ Signal
 row_of kinds.FreeSelf = unit_row (codes "FreeSelf") (Signal ∷ []) 0 0 0 (Fixed 1)
 row_of kinds.PauseSelf = unit_row (codes "PauseSelf") (Signal ∷ []) 0 0 0 (Fixed 1)
 
--- the kind of this name, among those that are built
+-- all kinds, in the order of the table
+abbrev pub every_kind : List Kind
+every_kind =
+    kinds.SinOsc ∷ kinds.LFSaw ∷ kinds.LFPulse ∷ kinds.LFTri ∷ kinds.Impulse ∷ kinds.WhiteNoise ∷ kinds.Phasor ∷ kinds.Line ∷
+    kinds.Linen ∷ kinds.Add ∷ kinds.Sub ∷ kinds.Mul ∷ kinds.MulAdd ∷ kinds.Neg ∷ kinds.Abs ∷ kinds.Min ∷
+    kinds.Max ∷ kinds.Clip ∷ kinds.Gt ∷ kinds.Lt ∷ kinds.Pan2 ∷ kinds.OnePole ∷ kinds.Lag ∷ kinds.Integrator ∷
+    kinds.Delay1 ∷ kinds.DelayN ∷ kinds.CombN ∷ kinds.SOS ∷ kinds.Latch ∷ kinds.Gate ∷ kinds.PulseCount ∷ kinds.Stepper ∷
+    kinds.Inar ∷ kinds.InFeedback ∷ kinds.Inkr ∷ kinds.Outar ∷ kinds.ReplaceOut ∷ kinds.Outkr ∷ kinds.PlayBuf ∷ kinds.RecordBuf ∷
+    kinds.BufRd ∷ kinds.BufWr ∷ kinds.BufFrames ∷ kinds.SendTrig ∷ kinds.DetectSilence ∷ kinds.FreeSelf ∷ kinds.PauseSelf ∷ []
+
+-- the kind of this name
 unfoldable pub kind_named : List ℕ → Option Kind
-kind_named name = find (λ k. bytes_eq (row_of k).name name) BUILT
+kind_named name = find (λ k. bytes_eq (row_of k).name name) every_kind

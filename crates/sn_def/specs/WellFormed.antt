@@ -1,12 +1,11 @@
 -- What holds of each definition that some text defines.
-use Rattle.std.specs.Prelude.{◌≡◌, ◌+◌, ◌<◌, ◌≤◌, ◌==◌, ℕ, ℤ, pos, negsuc, ◌≤ℤ◌, Bool, true, List, [], ◌∷◌, length, is_some, if◌then◌else◌}
-use Rattle.sn_def.specs.declared.kind.Kind.{Kind}
+use Rattle.std.specs.Prelude.{◌≡◌, ◌+◌, ◌<◌, ◌≤◌, ◌==◌, ℕ, ℤ, pos, negsuc, ◌≤ℤ◌, List, [], ◌∷◌, length, if◌then◌else◌}
 use Rattle.sn_def.specs.declared.table.Mark.{Mark}
 use Rattle.sn_def.specs.declared.table.Mark.TheVariants.{Signal, Index, Constant, Longest}
 use Rattle.sn_def.specs.declared.unit.Input.{Input}
 use Rattle.sn_def.specs.declared.unit.Input.TheVariants.{Literal, Control, Wire}
 use Rattle.sn_def.specs.declared.unit.Unit.{Unit as UnitLine}
-use Rattle.sn_def.specs.Units.{row_of, kind_named}
+use Rattle.sn_def.specs.Units.{row_of}
 use Rattle.sn_def.specs.Definition.{Definition}
 use Rattle.sn_def.specs.Reading.{mark_at}
 
@@ -40,13 +39,8 @@ abbrev pub AreAllowed : List Mark → ℕ → ℕ → ℕ → List Input → Typ
 AreAllowed marks controls wires i [] = Unit {0}
 AreAllowed marks controls wires i (x ∷ xs) = IsAllowed (mark_at marks i) controls wires x × AreAllowed marks controls wires (i + 1) xs
 
--- a kind whose name is known
-abbrev pub is_built : Kind → Bool
-is_built kind = is_some (kind_named (row_of kind).name)
-
--- a unit line whose kind is built, with as many inputs and outputs as its row says, each input allowed
+-- a unit line with as many inputs and outputs as the row of its kind says, each input allowed
 pub record UnitFits (controls wires : ℕ) (u : UnitLine) : Type 0 where
-  pub built : is_built u.kind ≡ true
   pub fewest_inputs : length (row_of u.kind).inputs + (if (row_of u.kind).signals == 0 then 0 else 1) ≤ length u.inputs
   pub most_inputs : length u.inputs ≤ length (row_of u.kind).inputs + (row_of u.kind).signals
   pub fewest_outputs : (row_of u.kind).least ≤ u.outputs

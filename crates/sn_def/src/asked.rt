@@ -1,4 +1,4 @@
-ghost use Rattle.std.specs.Prelude.{◌≡◌, ◌<◌, position, zip, length, IfSome};
+ghost use Rattle.std.specs.Prelude.{◌≡◌, position, zip};
 ghost use Rattle.std.specs.List.{list_any};
 ghost use Rattle.std.specs.Str.{bytes_eq};
 ghost use Rattle.sn_def.specs.Asked.{is_index_input, has_index, is_index, control_named};
@@ -52,8 +52,8 @@ fn place_of(controls: &[Param], name: &[u8]) -> Option<usize>
 }
 
 impl Def {
-    /// A definition keeps the limits, and each of its units is built and takes as many inputs and
-    /// gives as many outputs as its row says, of the kinds that its row says, from earlier lines.
+    /// A definition keeps the limits, and each of its units takes as many inputs and gives as many
+    /// outputs as its row says, of the kinds that its row says, from earlier lines.
     pub fn well_formed(&self)
         ensures { IsWellFormed (definition_of self.now) }
     {}

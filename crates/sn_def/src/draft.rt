@@ -1,4 +1,4 @@
-ghost use Rattle.std.specs.Prelude.{◌≡◌, ◌+◌, ◌<◌, ◌≤◌, ◌∷◌, [], length, None, IfOk};
+ghost use Rattle.std.specs.Prelude.{◌≡◌, ◌+◌, ◌<◌, ◌∷◌, [], length, None, IfOk};
 ghost use Rattle.sn_def.specs.Definition.{named, named_only, with_control, with_wires, with_unit};
 ghost use Rattle.sn_def.specs.Reading.{IsWritten};
 ghost use Rattle.sn_def.specs.Defs.{definition_of};

@@ -1,5 +1,4 @@
-ghost use Rattle.std.specs.Prelude.{◌≡◌, FitsSigned, Some, pos, ◌≤ℤ◌};
-ghost use Rattle.std.specs.Int.{w32};
+ghost use Rattle.std.specs.Prelude.{◌≡◌, Some};
 ghost use Rattle.sn_def.specs.Reading.{mark_at, literal_at, name_at, input_at, inputs_at};
 ghost use Rattle.sn_def.specs.Answers.{Gives, texts};
 

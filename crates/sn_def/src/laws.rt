@@ -1,5 +1,7 @@
 //! Laws about the definitions of this crate. Each function's contract is one law.
-ghost use Rattle.std.specs.Prelude.{◌≡◌, ◌↔◌, ◌++◌, ℕ, List, []};
+ghost use Rattle.std.specs.Prelude.{◌≡◌, ◌↔◌, ◌++◌, ℕ, List, [], Some};
+ghost use Rattle.sn_def.specs.declared.kind.Kind.{Kind};
+ghost use Rattle.sn_def.specs.Units.{row_of, kind_named};
 ghost use Rattle.sn_def.specs.Definition.{Definition};
 ghost use Rattle.sn_def.specs.Reading.{text_at, line_at, def_at, fault, IsWritten};
 ghost use Rattle.sn_def.specs.WellFormed.{IsWellFormed};
@@ -9,6 +11,11 @@ ghost use Rattle.sn_def.specs.declared.fault.DefFault.{DefFault};
 ghost use Rattle.sn_def.specs.declared.fault.DefKind.{DefKind};
 
 use sn_fixed::literal_bytes;
+
+/// Each kind has a name of its own: its row's.
+pub fn kinds_are_named()
+    ensures { (k : Kind) → kind_named (row_of k).name ≡ Some k }
+{}
 
 /// What some text defines is well formed.
 pub fn written_is_well_formed()

@@ -26,11 +26,11 @@ pub use definition::{Def, Names, Param, Params};
 pub use fault::{DefFault, DefKind, Unread};
 pub use kind::Kind;
 pub use laws::{
-    first_fault_is_read, lines_are_judged, lines_are_read, no_prefix, one_definition,
-    written_is_well_formed,
+    first_fault_is_read, kinds_are_named, lines_are_judged, lines_are_read, no_prefix,
+    one_definition, written_is_well_formed,
 };
 pub use printing::print;
-pub use table::{BUILT, Mark, Row, Words, row_of};
+pub use table::{Mark, Row, Words, row_of};
 pub use text::read;
 pub use unit::{Input, Inputs, Unit, Units};
 

@@ -1,7 +1,6 @@
-ghost use Rattle.std.specs.Prelude.{◌≡◌, ◌==◌, ◌<◌, ◌≤◌, ◌+◌, length, codes};
+ghost use Rattle.std.specs.Prelude.{◌≡◌, ◌==◌, ◌<◌, ◌≤◌, ◌+◌, length};
 ghost use Rattle.std.specs.List.{list_any};
-ghost use Rattle.std.specs.Str.{bytes_eq};
-ghost use Rattle.sn_def.specs.Reading.{control_at, control_line_at, unit_of, unit_at, unit_line_at, line_at, first_of};
+ghost use Rattle.sn_def.specs.Reading.{control_at, control_line_at, unit_of, unit_at, line_at, first_of};
 ghost use Rattle.sn_def.specs.Parts.{parts_seen};
 ghost use Rattle.sn_def.specs.Answers.{Gives, texts};
 

@@ -1,4 +1,4 @@
-ghost use Rattle.std.specs.Prelude.{◌≡◌, ◌&&◌, codes, position, map, Option};
+ghost use Rattle.std.specs.Prelude.{◌≡◌, ◌&&◌, codes, position, Option};
 ghost use Rattle.std.specs.Option.{option_map};
 ghost use Rattle.std.specs.Str.{bytes_eq};
 ghost use Rattle.sn_def.specs.Reading.{unit_parts, parts_from, counts_fit};

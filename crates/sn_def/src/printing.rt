@@ -2,7 +2,7 @@ ghost use Rattle.std.specs.Prelude.{◌≡◌, ◌++◌, ◌∷◌, ◌≤◌, [
 ghost use Rattle.std.specs.Option.{option_map};
 ghost use Rattle.sn_def.specs.Definition.{control_names};
 ghost use Rattle.sn_def.specs.Reading.{text_at};
-ghost use Rattle.sn_def.specs.Grammar.{line, control_fields, output_fields, unit_fields};
+ghost use Rattle.sn_def.specs.Grammar.{line, control_fields, output_fields, unit_fields, DefinitionText};
 ghost use Rattle.sn_def.specs.Printing.{control_printed, input_printed, unit_printed, units_printed, print_of};
 ghost use Rattle.sn_def.specs.WellFormed.{outputs_of};
 ghost use Rattle.sn_def.specs.Params.{parameter_of};
@@ -145,6 +145,7 @@ fn print_units(
 pub fn print(alloc: Global, def: &Def) -> Result<Text, NoMemory>
     ensures printed { IfOk result (λ text. text.bytes ≡ print_of (definition_of def.now)) }
     ensures read { IfOk result (λ text. text_at text.bytes ≡ Ok (definition_of def.now)) }
+    ensures text { IfOk result (λ text. DefinitionText text.bytes (definition_of def.now)) }
 {
     digits_read_back();
     literal_bytes();

@@ -1,6 +1,6 @@
 ghost use Rattle.std.specs.Prelude.{◌≡◌, ◌≤◌, ◌<◌, position};
 ghost use Rattle.sn_def.specs.Defs.{definition_of};
-ghost use Rattle.sn_def.specs.StateWords.{is_longest, literal_value, input_there, longest, words_of, unit_words, units_words, state_words};
+ghost use Rattle.sn_def.specs.StateWords.{is_longest, literal_value, longest, words_of, unit_words, units_words, state_words};
 
 use crate::definition::Def;
 use crate::table::{Mark, Words, row_of};

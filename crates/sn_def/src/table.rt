@@ -44,8 +44,8 @@ pub struct Row {
     pub words: Words,
 }
 
-/// The kinds that are built. A unit of another kind is unknown to `read`.
-pub const BUILT: [Kind; 47] = [
+/// All kinds, in the order of the table.
+pub(crate) const KINDS: [Kind; 47] = [
     Kind::SinOsc,
     Kind::LFSaw,
     Kind::LFPulse,
@@ -95,19 +95,11 @@ pub const BUILT: [Kind; 47] = [
     Kind::PauseSelf,
 ];
 
-const S: Mark = Mark::Signal;
-
-const I: Mark = Mark::Index;
-
-const C: Mark = Mark::Constant;
-
-const L: Mark = Mark::Longest;
-
 macro_rules! row {
-    ($name:literal [$($mark:expr),*] + $signals:literal => $least:literal..=$most:literal, $words:expr) => {
+    ($name:literal [$($mark:ident),*] + $signals:literal => $least:literal..=$most:literal, $words:expr) => {
         Row {
             name: $name,
-            inputs: &[$($mark),*],
+            inputs: &[$(Mark::$mark),*],
             signals: $signals,
             least: $least,
             most: $most,
@@ -122,52 +114,60 @@ pub fn row_of(kind: Kind) -> Row
     ensures { row_seen result ≡ row_of kind }
 {
     match kind {
-        Kind::SinOsc => row!(b"SinOsc" [S, S] + 0 => 1..=1, Words::Fixed(1)),
-        Kind::LFSaw => row!(b"LFSaw" [S, S] + 0 => 1..=1, Words::Fixed(1)),
-        Kind::LFPulse => row!(b"LFPulse" [S, S, S] + 0 => 1..=1, Words::Fixed(1)),
-        Kind::LFTri => row!(b"LFTri" [S, S] + 0 => 1..=1, Words::Fixed(1)),
-        Kind::Impulse => row!(b"Impulse" [S] + 0 => 1..=1, Words::Fixed(2)),
+        Kind::SinOsc => row!(b"SinOsc" [Signal, Signal] + 0 => 1..=1, Words::Fixed(1)),
+        Kind::LFSaw => row!(b"LFSaw" [Signal, Signal] + 0 => 1..=1, Words::Fixed(1)),
+        Kind::LFPulse => row!(b"LFPulse" [Signal, Signal, Signal] + 0 => 1..=1, Words::Fixed(1)),
+        Kind::LFTri => row!(b"LFTri" [Signal, Signal] + 0 => 1..=1, Words::Fixed(1)),
+        Kind::Impulse => row!(b"Impulse" [Signal] + 0 => 1..=1, Words::Fixed(2)),
         Kind::WhiteNoise => row!(b"WhiteNoise" [] + 0 => 1..=1, Words::Fixed(1)),
-        Kind::Phasor => row!(b"Phasor" [S, S, S, S, S] + 0 => 1..=1, Words::Fixed(3)),
-        Kind::Line => row!(b"Line" [S, S, S, C] + 0 => 1..=1, Words::Fixed(5)),
-        Kind::Linen => row!(b"Linen" [S, S, S, S, C] + 0 => 1..=1, Words::Fixed(7)),
-        Kind::Add => row!(b"Add" [S, S] + 0 => 1..=1, Words::Fixed(0)),
-        Kind::Sub => row!(b"Sub" [S, S] + 0 => 1..=1, Words::Fixed(0)),
-        Kind::Mul => row!(b"Mul" [S, S] + 0 => 1..=1, Words::Fixed(0)),
-        Kind::MulAdd => row!(b"MulAdd" [S, S, S] + 0 => 1..=1, Words::Fixed(0)),
-        Kind::Neg => row!(b"Neg" [S] + 0 => 1..=1, Words::Fixed(0)),
-        Kind::Abs => row!(b"Abs" [S] + 0 => 1..=1, Words::Fixed(0)),
-        Kind::Min => row!(b"Min" [S, S] + 0 => 1..=1, Words::Fixed(0)),
-        Kind::Max => row!(b"Max" [S, S] + 0 => 1..=1, Words::Fixed(0)),
-        Kind::Clip => row!(b"Clip" [S, S, S] + 0 => 1..=1, Words::Fixed(0)),
-        Kind::Gt => row!(b"Gt" [S, S] + 0 => 1..=1, Words::Fixed(0)),
-        Kind::Lt => row!(b"Lt" [S, S] + 0 => 1..=1, Words::Fixed(0)),
-        Kind::Pan2 => row!(b"Pan2" [S, S, S] + 0 => 2..=2, Words::Fixed(0)),
-        Kind::OnePole => row!(b"OnePole" [S, S] + 0 => 1..=1, Words::Fixed(1)),
-        Kind::Lag => row!(b"Lag" [S, S] + 0 => 1..=1, Words::Fixed(2)),
-        Kind::Integrator => row!(b"Integrator" [S, S] + 0 => 1..=1, Words::Fixed(1)),
-        Kind::Delay1 => row!(b"Delay1" [S] + 0 => 1..=1, Words::Fixed(1)),
-        Kind::DelayN => row!(b"DelayN" [S, L, S] + 0 => 1..=1, Words::Delay),
-        Kind::CombN => row!(b"CombN" [S, L, S, S] + 0 => 1..=1, Words::Comb),
-        Kind::SOS => row!(b"SOS" [S, S, S, S, S, S] + 0 => 1..=1, Words::Fixed(4)),
-        Kind::Latch => row!(b"Latch" [S, S] + 0 => 1..=1, Words::Fixed(2)),
-        Kind::Gate => row!(b"Gate" [S, S] + 0 => 1..=1, Words::Fixed(1)),
-        Kind::PulseCount => row!(b"PulseCount" [S, S] + 0 => 1..=1, Words::Fixed(3)),
-        Kind::Stepper => row!(b"Stepper" [S, S, S, S, S, S] + 0 => 1..=1, Words::Fixed(4)),
-        Kind::Inar => row!(b"In.ar" [I] + 0 => 1..=8, Words::Fixed(0)),
-        Kind::InFeedback => row!(b"InFeedback" [I] + 0 => 1..=8, Words::Fixed(0)),
-        Kind::Inkr => row!(b"In.kr" [I] + 0 => 1..=8, Words::Fixed(0)),
-        Kind::Outar => row!(b"Out.ar" [I] + 8 => 0..=0, Words::Fixed(0)),
-        Kind::ReplaceOut => row!(b"ReplaceOut" [I] + 8 => 0..=0, Words::Fixed(0)),
-        Kind::Outkr => row!(b"Out.kr" [I] + 8 => 0..=0, Words::Fixed(0)),
-        Kind::PlayBuf => row!(b"PlayBuf" [I, S, S, S, S, C] + 0 => 1..=8, Words::Fixed(4)),
-        Kind::RecordBuf => row!(b"RecordBuf" [I, S, S, C] + 8 => 0..=0, Words::Fixed(2)),
-        Kind::BufRd => row!(b"BufRd" [I, S] + 0 => 1..=8, Words::Fixed(0)),
-        Kind::BufWr => row!(b"BufWr" [I, S] + 8 => 0..=0, Words::Fixed(0)),
-        Kind::BufFrames => row!(b"BufFrames" [I] + 0 => 1..=1, Words::Fixed(0)),
-        Kind::SendTrig => row!(b"SendTrig" [S, S, S] + 0 => 0..=0, Words::Fixed(4)),
-        Kind::DetectSilence => row!(b"DetectSilence" [S, S, S, C] + 0 => 1..=1, Words::Fixed(2)),
-        Kind::FreeSelf => row!(b"FreeSelf" [S] + 0 => 0..=0, Words::Fixed(1)),
-        Kind::PauseSelf => row!(b"PauseSelf" [S] + 0 => 0..=0, Words::Fixed(1)),
+        Kind::Phasor =>
+            row!(b"Phasor" [Signal, Signal, Signal, Signal, Signal] + 0 => 1..=1, Words::Fixed(3)),
+        Kind::Line =>
+            row!(b"Line" [Signal, Signal, Signal, Constant] + 0 => 1..=1, Words::Fixed(5)),
+        Kind::Linen =>
+            row!(b"Linen" [Signal, Signal, Signal, Signal, Constant] + 0 => 1..=1, Words::Fixed(7)),
+        Kind::Add => row!(b"Add" [Signal, Signal] + 0 => 1..=1, Words::Fixed(0)),
+        Kind::Sub => row!(b"Sub" [Signal, Signal] + 0 => 1..=1, Words::Fixed(0)),
+        Kind::Mul => row!(b"Mul" [Signal, Signal] + 0 => 1..=1, Words::Fixed(0)),
+        Kind::MulAdd => row!(b"MulAdd" [Signal, Signal, Signal] + 0 => 1..=1, Words::Fixed(0)),
+        Kind::Neg => row!(b"Neg" [Signal] + 0 => 1..=1, Words::Fixed(0)),
+        Kind::Abs => row!(b"Abs" [Signal] + 0 => 1..=1, Words::Fixed(0)),
+        Kind::Min => row!(b"Min" [Signal, Signal] + 0 => 1..=1, Words::Fixed(0)),
+        Kind::Max => row!(b"Max" [Signal, Signal] + 0 => 1..=1, Words::Fixed(0)),
+        Kind::Clip => row!(b"Clip" [Signal, Signal, Signal] + 0 => 1..=1, Words::Fixed(0)),
+        Kind::Gt => row!(b"Gt" [Signal, Signal] + 0 => 1..=1, Words::Fixed(0)),
+        Kind::Lt => row!(b"Lt" [Signal, Signal] + 0 => 1..=1, Words::Fixed(0)),
+        Kind::Pan2 => row!(b"Pan2" [Signal, Signal, Signal] + 0 => 2..=2, Words::Fixed(0)),
+        Kind::OnePole => row!(b"OnePole" [Signal, Signal] + 0 => 1..=1, Words::Fixed(1)),
+        Kind::Lag => row!(b"Lag" [Signal, Signal] + 0 => 1..=1, Words::Fixed(2)),
+        Kind::Integrator => row!(b"Integrator" [Signal, Signal] + 0 => 1..=1, Words::Fixed(1)),
+        Kind::Delay1 => row!(b"Delay1" [Signal] + 0 => 1..=1, Words::Fixed(1)),
+        Kind::DelayN => row!(b"DelayN" [Signal, Longest, Signal] + 0 => 1..=1, Words::Delay),
+        Kind::CombN => row!(b"CombN" [Signal, Longest, Signal, Signal] + 0 => 1..=1, Words::Comb),
+        Kind::SOS =>
+            row!(b"SOS" [Signal, Signal, Signal, Signal, Signal, Signal] + 0 => 1..=1, Words::Fixed(4)),
+        Kind::Latch => row!(b"Latch" [Signal, Signal] + 0 => 1..=1, Words::Fixed(2)),
+        Kind::Gate => row!(b"Gate" [Signal, Signal] + 0 => 1..=1, Words::Fixed(1)),
+        Kind::PulseCount => row!(b"PulseCount" [Signal, Signal] + 0 => 1..=1, Words::Fixed(3)),
+        Kind::Stepper =>
+            row!(b"Stepper" [Signal, Signal, Signal, Signal, Signal, Signal] + 0 => 1..=1, Words::Fixed(4)),
+        Kind::Inar => row!(b"In.ar" [Index] + 0 => 1..=8, Words::Fixed(0)),
+        Kind::InFeedback => row!(b"InFeedback" [Index] + 0 => 1..=8, Words::Fixed(0)),
+        Kind::Inkr => row!(b"In.kr" [Index] + 0 => 1..=8, Words::Fixed(0)),
+        Kind::Outar => row!(b"Out.ar" [Index] + 8 => 0..=0, Words::Fixed(0)),
+        Kind::ReplaceOut => row!(b"ReplaceOut" [Index] + 8 => 0..=0, Words::Fixed(0)),
+        Kind::Outkr => row!(b"Out.kr" [Index] + 8 => 0..=0, Words::Fixed(0)),
+        Kind::PlayBuf =>
+            row!(b"PlayBuf" [Index, Signal, Signal, Signal, Signal, Constant] + 0 => 1..=8, Words::Fixed(4)),
+        Kind::RecordBuf =>
+            row!(b"RecordBuf" [Index, Signal, Signal, Constant] + 8 => 0..=0, Words::Fixed(2)),
+        Kind::BufRd => row!(b"BufRd" [Index, Signal] + 0 => 1..=8, Words::Fixed(0)),
+        Kind::BufWr => row!(b"BufWr" [Index, Signal] + 8 => 0..=0, Words::Fixed(0)),
+        Kind::BufFrames => row!(b"BufFrames" [Index] + 0 => 1..=1, Words::Fixed(0)),
+        Kind::SendTrig => row!(b"SendTrig" [Signal, Signal, Signal] + 0 => 0..=0, Words::Fixed(4)),
+        Kind::DetectSilence =>
+            row!(b"DetectSilence" [Signal, Signal, Signal, Constant] + 0 => 1..=1, Words::Fixed(2)),
+        Kind::FreeSelf => row!(b"FreeSelf" [Signal] + 0 => 0..=0, Words::Fixed(1)),
+        Kind::PauseSelf => row!(b"PauseSelf" [Signal] + 0 => 0..=0, Words::Fixed(1)),
     }
 }

@@ -13,16 +13,6 @@ fn fault(alloc: Global, text: &[u8]) -> Option<(u32, DefKind)> {
     }
 }
 
-/// `tone` with other lines from line 5 on.
-fn tone_with(alloc: Global, lines: &[u8]) -> Result<Text, NoMemory> {
-    let mut text = Text::from_slice(
-        alloc,
-        b"snova 1\ndef tone\ncontrol freq 440000\ncontrol out 0\n",
-    )?;
-    text.append(lines)?;
-    Ok(text)
-}
-
 #[test]
 fn a_tone_is_read(rt: HostRuntime) -> Result<(), Fail> {
     let tone = read(rt.alloc(), TONE)?;
@@ -68,6 +58,7 @@ fn words_of_state_are_counted(rt: HostRuntime) -> Result<(), Fail> {
     let alloc = rt.alloc();
     let tone = read(alloc, TONE)?;
     tone.well_formed();
+    kinds_are_named();
     written_is_well_formed();
     lines_are_read();
     one_definition();
@@ -85,53 +76,53 @@ fn words_of_state_are_counted(rt: HostRuntime) -> Result<(), Fail> {
 
 #[test]
 fn the_first_fault_is_named(rt: HostRuntime) -> Result<(), Fail> {
-    let alloc = rt.alloc();
-    assert_eq!(rt;
-        fault(alloc, b"snova 3\ndef tone\nend\n"),
-        Some((1, DefKind::Line))
-    );
-    assert_eq!(rt;
-        fault(alloc, b"snova 1\ndef 1x\nend\n"),
-        Some((2, DefKind::Name))
-    );
-    assert_eq!(rt;
-        fault(
-            alloc,
-            b"snova 1\ndef tone\ncontrol freq 440000\ncontrol freq 0\nend\n"
+    for (text, line, kind) in [
+        (b"snova 3\ndef a\nend\n".as_slice(), 1, DefKind::Line),
+        (b"snova 1\ndef 1x\nend\n".as_slice(), 2, DefKind::Name),
+        (
+            b"snova 1\ndef a\ncontrol x 007\nend\n".as_slice(),
+            3,
+            DefKind::Number,
         ),
-        Some((4, DefKind::Twice))
-    );
-    assert_eq!(rt;
-        fault(
-            alloc,
-            b"snova 1\ndef tone\ncontrol freq 440000\ncontrol out 007\nend\n"
+        (
+            b"snova 1\ndef a\nx, x = Pan2 0 0 0\nend\n".as_slice(),
+            3,
+            DefKind::Name,
         ),
-        Some((4, DefKind::Number))
-    );
-    let text = tone_with(alloc, b"a = SinOsc freq\nOut.ar out a\nend\n")?;
-    assert_eq!(rt; fault(alloc, text.as_slice()), Some((5, DefKind::Count)));
-    let text = tone_with(alloc, b"a = SinOsk freq 0\nOut.ar out a\nend\n")?;
-    assert_eq!(rt; fault(alloc, text.as_slice()), Some((5, DefKind::Unit)));
-    let text = tone_with(alloc, b"a = SinOsc freq b\nOut.ar out a\nend\n")?;
-    assert_eq!(rt; fault(alloc, text.as_slice()), Some((5, DefKind::Input)));
-    let text = tone_with(alloc, b"a = DelayN freq 60001 0\nOut.ar out a\nend\n")?;
-    assert_eq!(rt; fault(alloc, text.as_slice()), Some((5, DefKind::Constant)));
-    let text = tone_with(alloc, b"a = SinOsc freq 0\nOut.ar a a\nend\n")?;
-    assert_eq!(rt; fault(alloc, text.as_slice()), Some((6, DefKind::Index)));
-    let text = tone_with(alloc, b"a = SinOsc freq 0\nOut.ar out a\n")?;
-    assert_eq!(rt; fault(alloc, text.as_slice()), Some((7, DefKind::Line)));
-    Ok(())
-}
-
-#[test]
-fn a_129th_control_is_too_many(rt: HostRuntime) -> Result<(), Fail> {
-    let alloc = rt.alloc();
-    let mut text = Text::from_slice(alloc, b"snova 1\ndef many\n")?;
-    for number in 0..129 {
-        let line = format!(in alloc; "control c{number} 0\n")?;
-        text.append(line.as_bytes())?;
+        (
+            b"snova 1\ndef a\nx x = Pan2 0 0 0\nend\n".as_slice(),
+            3,
+            DefKind::Twice,
+        ),
+        (
+            b"snova 1\ndef a\nx = SinOsk 0 0\nend\n".as_slice(),
+            3,
+            DefKind::Unit,
+        ),
+        (
+            b"snova 1\ndef a\nx = SinOsc 0\nend\n".as_slice(),
+            3,
+            DefKind::Count,
+        ),
+        (
+            b"snova 1\ndef a\nx = SinOsc 0 x\nend\n".as_slice(),
+            3,
+            DefKind::Input,
+        ),
+        (
+            b"snova 1\ndef a\nx = DelayN 0 60001 0\nend\n".as_slice(),
+            3,
+            DefKind::Constant,
+        ),
+        (
+            b"snova 1\ndef a\nx = Neg 0\nOut.ar x x\nend\n".as_slice(),
+            4,
+            DefKind::Index,
+        ),
+        (b"snova 1\ndef a\nx = Neg 0\n".as_slice(), 4, DefKind::Line),
+    ] {
+        assert_eq!(rt; fault(rt.alloc(), text), Some((line, kind)));
     }
-    assert_eq!(rt; fault(alloc, text.as_slice()), Some((131, DefKind::Limit)));
     Ok(())
 }
 

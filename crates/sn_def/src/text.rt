@@ -1,7 +1,10 @@
-ghost use Rattle.std.specs.Prelude.{◌≡◌, ◌<◌, length};
+ghost use Rattle.std.specs.Prelude.{◌≡◌, Err, IfOk};
 ghost use Rattle.sn_def.specs.Reading.{pieces, line_at, at_line, line_number, fault, is_over, body_at, end_at, def_at, def_and_body, named_at, after_title, title_at, text_at};
 ghost use Rattle.sn_def.specs.Defs.{definition_of};
 ghost use Rattle.sn_def.specs.Answers.{Reads, texts};
+ghost use Rattle.sn_def.specs.Grammar.{DefinitionText};
+ghost use Rattle.sn_def.specs.Faults.{DefinitionFault};
+ghost use Rattle.sn_def.specs.declared.fault.DefFault.{DefFault};
 ghost use Rattle.sn_def.specs.declared.fault.Unread.TheVariants as unread;
 
 use crate::definition::Def;
@@ -9,6 +12,7 @@ use crate::draft::Draft;
 use crate::fault::{DefFault, DefKind, Refused, Unread};
 use crate::fields::{fields, is_name, lines};
 use crate::line::line;
+use sn_fixed::literal_bytes;
 use sn_ports::Text;
 use std::alloc::Global;
 
@@ -130,17 +134,27 @@ fn title<'a>(alloc: Global, lines: &[&'a [u8]]) -> Result<Draft<'a>, Unread>
     }
 }
 
+/// What a text is, read from left to right.
+#[tactic(auto, unfolding(crate::specs::Reading::text_at))]
+fn read_lines(alloc: Global, text: &[u8]) -> Result<Def, Unread>
+    ensures { Reads definition_of result (text_at text.now) }
+{
+    let lines = lines(alloc, text)?;
+    let draft = title(alloc, &lines)?;
+    Ok(draft.into_def())
+}
+
 /// The definition that a text is, or the first line at which no valid text continues and what is
 /// wrong there.
 ///
 /// # Errors
 ///
 /// `Bad` comes exactly where the text is no definition text.
-#[tactic(auto, unfolding(crate::specs::Reading::text_at))]
 pub fn read(alloc: Global, text: &[u8]) -> Result<Def, Unread>
-    ensures { Reads definition_of result (text_at text.now) }
+    ensures read { Reads definition_of result (text_at text.now) }
+    ensures text { IfOk result (λ d. DefinitionText text.now (definition_of d)) }
+    ensures fault { (f : DefFault) → result ≡ Err (unread.Bad f) → DefinitionFault text.now f.line f.kind }
 {
-    let lines = lines(alloc, text)?;
-    let draft = title(alloc, &lines)?;
-    Ok(draft.into_def())
+    literal_bytes();
+    read_lines(alloc, text)
 }

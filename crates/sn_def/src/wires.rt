@@ -1,5 +1,5 @@
 ghost use Rattle.std.specs.Prelude.{◌≡◌, ◌≤◌, ◌+◌, length};
-ghost use Rattle.std.specs.List.{list_all, list_any};
+ghost use Rattle.std.specs.List.{list_all};
 ghost use Rattle.sn_def.specs.Reading.{wires_at, is_name};
 ghost use Rattle.sn_def.specs.Answers.{Gives, texts};
 

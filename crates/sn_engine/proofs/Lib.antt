@@ -9,6 +9,7 @@ pub mod SettleLemmas
 pub mod DrainLemmas
 pub mod OfferLemmas
 mod Bounded
+pub mod ClientLemmas
 pub mod SeekingLemmas
 pub mod ToldLemmas
 pub mod QuietLemmas

@@ -7,23 +7,16 @@ use Rattle.std.specs.BTreeSet.{BTreeSet, contains, Updates}
 use Rattle.std.specs.Ordering.{is_eq, nat_cmp, int_cmp, int_eq, ordering_then}
 use Rattle.std.proofs.lemmas.List.Folds.{list_any_more}
 use Rattle.sn_foot.specs.declared.resource.Resource.{Resource}
-use Rattle.sn_foot.specs.declared.resource.Resource.TheVariants.{Audio, Control, Buffer}
 use Rattle.sn_clash.specs.declared.clash.Clash.{Clash}
 use Rattle.sn_engine.specs.declared.before.Key.{Key}
-use Rattle.sn_engine.specs.Clashing.{same_resource, same_clash}
+use Rattle.sn_engine.specs.Clashing.{sort_of, same_resource, same_clash}
 use Rattle.sn_clash.specs.Clashing.{number_of}
-use Rattle.sn_engine.specs.Seeking.{sort_of, key_of, key_cmp}
+use Rattle.sn_engine.specs.Seeking.{key_of, key_cmp}
 
 resource_at : (a b : Resource) → is_eq (ordering_then (nat_cmp (sort_of a) (sort_of b)) (nat_cmp (number_of a) (number_of b))) ≡ same_resource a b
-resource_at (Audio m) (Audio n) = unsigned_tied m n
-resource_at (Control m) (Control n) = unsigned_tied m n
-resource_at (Buffer m) (Buffer n) = unsigned_tied m n
-resource_at (Audio m) (Control n) = refl
-resource_at (Audio m) (Buffer n) = refl
-resource_at (Control m) (Audio n) = refl
-resource_at (Control m) (Buffer n) = refl
-resource_at (Buffer m) (Audio n) = refl
-resource_at (Buffer m) (Control n) = refl
+resource_at a b =
+    sym (tied_then (nat_cmp (sort_of a) (sort_of b)) (nat_cmp (number_of a) (number_of b)))
+    ∙ (λ i. unsigned_tied (sort_of a) (sort_of b) i && unsigned_tied (number_of a) (number_of b) i)
 
 clash_at : (a b : Clash) → is_at (key_cmp (key_of a)) (key_of b) ≡ same_clash a b
 clash_at a b =

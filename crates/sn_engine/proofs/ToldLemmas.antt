@@ -7,16 +7,14 @@ use Rattle.std.specs.Prelude.{if◌then◌else◌}
 use Rattle.std.proofs.lemmas.List.{append_assoc}
 use Rattle.std.proofs.lemmas.List.Folds.{list_any-append}
 use Rattle.sn_foot.specs.declared.resource.Resource.{Resource}
-use Rattle.sn_foot.specs.declared.resource.Resource.TheVariants.{Audio, Control, Buffer}
+use Rattle.sn_clash.specs.Clashing.{number_of}
 use Rattle.sn_clash.specs.declared.clash.Clash.{Clash}
 use Rattle.sn_reply.specs.declared.replies.To.TheVariants.{All}
 use Rattle.sn_reply.specs.Replies.{ReplyShape}
-use Rattle.sn_engine.specs.Clashing.{clash_message, same_resource, same_clash, told_clashes}
+use Rattle.sn_engine.specs.Clashing.{clash_message, sort_of, same_resource, same_clash, told_clashes}
 
 itself_resource : (r : Resource) → same_resource r r ≡ true
-itself_resource (Audio n) = nat_eq_equiv.refl n
-itself_resource (Control n) = nat_eq_equiv.refl n
-itself_resource (Buffer n) = nat_eq_equiv.refl n
+itself_resource r = λ i. nat_eq_equiv.refl (sort_of r) i && nat_eq_equiv.refl (number_of r) i
 
 itself : (c : Clash) → same_clash c c ≡ true
 itself c = λ i. int_eq_equiv.refl c.group i && (int_eq_equiv.refl c.first i && (int_eq_equiv.refl c.second i && itself_resource c.resource i))

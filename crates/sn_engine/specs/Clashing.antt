@@ -1,5 +1,5 @@
 -- Clashes of members of parallel groups are told to every client, each once.
-use Rattle.std.specs.Prelude.{ℕ, pos, ◌==◌, ◌<◌, Bool, true, false, ◌&&◌, if◌then◌else◌, List, [], ◌∷◌, ◌++◌, codes}
+use Rattle.std.specs.Prelude.{ℕ, pos, ◌==◌, ◌<◌, Bool, ◌&&◌, if◌then◌else◌, List, [], ◌∷◌, ◌++◌, codes}
 use Rattle.std.specs.List.{list_any}
 use Rattle.std.specs.Ordering.{int_eq}
 use Rattle.sn_osc.specs.Shape.{Argument, int, string, arguments, MessageShape}
@@ -26,16 +26,14 @@ clash_message c = record { address = codes "/p_clash"; body = arguments (int c.g
 
 -- ---- the same clash
 
+-- the sorts of resources, numbered
+abbrev pub sort_of : Resource → ℕ
+sort_of (Audio n) = 0
+sort_of (Control n) = 1
+sort_of (Buffer n) = 2
+
 abbrev pub same_resource : Resource → Resource → Bool
-same_resource (Audio m) (Audio n) = m == n
-same_resource (Control m) (Control n) = m == n
-same_resource (Buffer m) (Buffer n) = m == n
-same_resource (Audio m) (Control n) = false
-same_resource (Audio m) (Buffer n) = false
-same_resource (Control m) (Audio n) = false
-same_resource (Control m) (Buffer n) = false
-same_resource (Buffer m) (Audio n) = false
-same_resource (Buffer m) (Control n) = false
+same_resource a b = (sort_of a == sort_of b) && (number_of a == number_of b)
 
 -- all of it is equal
 abbrev pub same_clash : Clash → Clash → Bool

@@ -4,18 +4,10 @@ use Rattle.std.specs.List.{list_any}
 use Rattle.std.specs.BTreeSet.{BTreeSet, contains}
 use Rattle.std.specs.declared.cmp.Ordering.{Ordering}
 use Rattle.std.specs.Ordering.{nat_cmp, int_cmp, ordering_then}
-use Rattle.sn_foot.specs.declared.resource.Resource.{Resource}
-use Rattle.sn_foot.specs.declared.resource.Resource.TheVariants.{Audio, Control, Buffer}
 use Rattle.sn_clash.specs.Clashing.{number_of}
 use Rattle.sn_clash.specs.declared.clash.Clash.{Clash}
 use Rattle.sn_engine.specs.declared.before.Key.{Key}
-use Rattle.sn_engine.specs.Clashing.{same_clash}
-
--- the sorts of resources, numbered
-abbrev pub sort_of : Resource → ℕ
-sort_of (Audio n) = 0
-sort_of (Control n) = 1
-sort_of (Buffer n) = 2
+use Rattle.sn_engine.specs.Clashing.{sort_of, same_clash}
 
 abbrev pub key_of : Clash → Key
 key_of c = record { group = c.group; first = c.first; second = c.second; sort = sort_of c.resource; number = number_of c.resource }

@@ -1,9 +1,7 @@
-ghost use Rattle.std.specs.Prelude.{◌≡◌, ◌≤◌, Ok, map, length, IfOk, OnOk, OnErr};
+ghost use Rattle.std.specs.Prelude.{◌≡◌, Ok, map, length, IfOk, OnOk};
 ghost use Rattle.std.specs.List.{AllByRecursion};
 ghost use Rattle.sn_osc.specs.Shape.{message_of};
 ghost use Rattle.sn_reply.specs.Sending.{IsAnswerable};
-ghost use Rattle.sn_queue.specs.Waiting.{WaitingList};
-ghost use Rattle.sn_queue.specs.Steps.{due_of};
 ghost use Rattle.sn_world.specs.World.{turn_of};
 ghost use Rattle.sn_world.specs.Pictures.{Pictures, WritesWorld};
 ghost use Rattle.sn_world.specs.Commands.{run_node, run_bus, either as first_there, command, next_after};

@@ -2,8 +2,8 @@
 ghost use Rattle.std.specs.Prelude.{◌≡◌, IfOk};
 ghost use Rattle.std.specs.List.{list_any};
 ghost use Rattle.sn_clash.specs.Clashing.{number_of};
-ghost use Rattle.sn_engine.specs.Clashing.{same_clash};
-ghost use Rattle.sn_engine.specs.Seeking.{sort_of, key_of, AreKeysOf};
+ghost use Rattle.sn_engine.specs.Clashing.{sort_of, same_clash};
+ghost use Rattle.sn_engine.specs.Seeking.{key_of, AreKeysOf};
 
 use sn_clash::Clash;
 use sn_foot::Resource;

@@ -1,10 +1,11 @@
-ghost use Rattle.std.specs.Prelude.{◌≡◌, ◌≤◌, ◌<◌, ◌+◌, ◌^◌, ◌++◌, [], ℕ, Option, length, map, replicate, slice_index_or, slice_set, IfOk, OnOk, OnErr};
+ghost use Rattle.std.specs.Prelude.{◌≡◌, ◌≤◌, ◌<◌, ◌+◌, ◌^◌, [], Option, length, map, replicate, slice_index_or, slice_set, IfOk, OnOk, OnErr};
 ghost use Rattle.sn_osc.specs.Shape.{shape};
 ghost use Rattle.sn_ports.specs.Causes.{HasCause};
 ghost use Rattle.sn_ports.specs.Links.{KeepsEvents};
 ghost use Rattle.sn_ports.specs.Octets.{bytes_of};
 ghost use Rattle.sn_ports.specs.Transfer.{TakesAll};
 ghost use Rattle.sn_queue.specs.Steps.{last_due};
+ghost use Rattle.sn_reply.specs.Frames.{EachBegins};
 ghost use Rattle.sn_engine.specs.Arriving.{IsSpelled, next_boundary, offered, with_offered, IsPartlyOffered, KeepsOthers};
 ghost use Rattle.sn_engine.specs.Entries.{entries_of};
 ghost use Rattle.sn_engine.specs.Refusing.{with_bad_packet};
@@ -211,7 +212,8 @@ impl Engine {
     }
 
     /// Puts the entries of a packet that arrives at the next boundary from a client. An entry is refused exactly where as many wait as may,
-    /// and is answered by `/fail`; gives how many were refused. After `NoMemory` the entries before it stay.
+    /// and is answered by `/fail`; gives how many were refused. After `NoMemory` the entries before it stay, and what clients were to be sent
+    /// stays too, with a front of what this answers.
     pub fn offer(&mut self, alloc: Global, packet: Packet, from: u32) -> Result<u32, NoMemory>
         requires block { next_boundary self.old < 2 ^ 62 }
         requires puts { self.old.waiting.puts + length (entries_of (shape packet)) ≤ 2 ^ 62 }
@@ -220,6 +222,9 @@ impl Engine {
         ensures refused { IfOk result (λ k. k ≡ (offered from (entries_of (shape packet)) self.old).refused) }
         ensures part { OnErr result (IsPartlyOffered (next_boundary self.old) from (entries_of (shape packet)) self.old.waiting self.new.waiting) }
         ensures others { KeepsOthers self.old self.new }
+        ensures clients { length self.new.replies ≡ length self.old.replies }
+        ensures behind { EachBegins self.old.replies self.new.replies }
+        ensures front { OnErr result (EachBegins self.new.replies (with_offered from (entries_of (shape packet)) self.old).replies) }
     {
         let boundary = self.next_boundary();
         let entries = entries(alloc, packet)?;
@@ -230,12 +235,16 @@ impl Engine {
     }
 
     /// The boundary before the next block: the entries that are due act in their order, and the memory of the block is reserved. After
-    /// `NoMemory` the engine is spent: what acted before has acted.
+    /// `NoMemory` the engine is spent: what acted before has acted, and clients are still to be sent what they were, with a front of what
+    /// this answers.
     pub fn boundary(&mut self, alloc: Global) -> Result<Flow, NoMemory>
         requires settled { self.old.standing ≡ Settled }
         ensures ok { OnOk result (self.new ≡ at_boundary self.old) }
         ensures flow { IfOk result (λ flow. flow ≡ flow_at self.old) }
         ensures spent { OnErr result (self.new.standing ≡ Spent) }
+        ensures clients { length self.new.replies ≡ length self.old.replies }
+        ensures behind { EachBegins self.old.replies self.new.replies }
+        ensures front { OnErr result (EachBegins self.new.replies (at_boundary self.old).replies) }
     {
         self.standing = Standing::Spent;
         self.samples.clear();
@@ -339,10 +348,13 @@ impl Engine {
         send_text(&mut self.replies[client as usize], link)
     }
 
-    /// Answers a client whose bytes are no packet.
+    /// Answers a client whose bytes are no packet. After `NoMemory` what clients were to be sent stays, with a front of this answer.
     pub fn refuse_packet(&mut self, alloc: Global, from: u32) -> Result<(), NoMemory>
         ensures ok { OnOk result (self.new ≡ with_bad_packet from self.old) }
         ensures others { self.new ≡ record self.old { replies = self.new.replies } }
+        ensures clients { length self.new.replies ≡ length self.old.replies }
+        ensures behind { EachBegins self.old.replies self.new.replies }
+        ensures front { OnErr result (EachBegins self.new.replies (with_bad_packet from self.old).replies) }
     {
         let said = bad_packet(alloc, from)?;
         send(alloc, &mut self.replies, self.room, said)

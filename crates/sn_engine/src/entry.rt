@@ -1,8 +1,8 @@
-ghost use Rattle.std.specs.Prelude.{◌≡◌, ◌++◌, ◌+◌, [], map, length, reverse, IfOk, OnOk};
+ghost use Rattle.std.specs.Prelude.{◌≡◌, ◌++◌, ◌+◌, map, IfOk, OnOk};
 ghost use Rattle.sn_osc.specs.Shape.{shape, shapes, message_of};
 ghost use Rattle.sn_osc.specs.Bytes.{counts_as};
 ghost use Rattle.sn_engine.specs.Entries.{entries_of, messages_in, enclosed_entries, bundle_entries};
-ghost use Rattle.sn_engine.specs.Stacks.{timed_of, entries_left, entries_ahead, entries_at, bundles_in, bundles_left};
+ghost use Rattle.sn_engine.specs.Stacks.{timed_of, entries_left, entries_ahead, bundles_in, bundles_left};
 
 use sn_osc::{Bundle, Elements, Message, Packet};
 use sn_ports::NoMemory;

@@ -1,5 +1,5 @@
 //! Entries that arrive: they are put, or refused where as many wait as may.
-ghost use Rattle.std.specs.Prelude.{◌≡◌, ◌≤◌, ◌<◌, ◌+◌, ◌^◌, ◌++◌, ◌∷◌, [], Option, ℕ, map, length, true, false, IfOk, OnOk, OnErr};
+ghost use Rattle.std.specs.Prelude.{◌≡◌, ◌≤◌, ◌<◌, ◌+◌, ◌^◌, ℕ, map, length, IfOk, OnOk, OnErr};
 ghost use Rattle.std.specs.List.{AllByRecursion};
 ghost use Rattle.sn_osc.specs.Shape.{message_of};
 ghost use Rattle.sn_queue.specs.Steps.{put};
@@ -8,7 +8,7 @@ ghost use Rattle.sn_reply.specs.Sending.{IsAnswerable, IsSendable};
 ghost use Rattle.sn_reply.specs.declared.reason.Reason.TheVariants.{QueueFull};
 ghost use Rattle.sn_reply.specs.declared.replies.To.TheVariants.{Client};
 ghost use Rattle.sn_engine.specs.Answerable.{AllAnswerable, AreAnswerable};
-ghost use Rattle.sn_engine.specs.Arriving.{Offered, address_of, is_full, offer_entry, offer_entries, nothing_offered, refusal_of, IsPartlyOffered};
+ghost use Rattle.sn_engine.specs.Arriving.{address_of, is_full, offer_entry, offer_entries, IsPartlyOffered};
 ghost use Rattle.sn_engine.specs.Stacks.{timed_of};
 
 use crate::entry::Entry;

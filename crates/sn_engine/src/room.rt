@@ -1,5 +1,5 @@
 //! Room for what the settling of a block may tell.
-ghost use Rattle.std.specs.Prelude.{◌≡◌, ◌≤◌, ◌<◌, ◌*◌, ◌^◌, map, length, IfOk, OnOk};
+ghost use Rattle.std.specs.Prelude.{◌≡◌, ◌<◌, ◌*◌, ◌^◌, map, length, IfOk, OnOk};
 ghost use Rattle.sn_ports.specs.Octets.{bytes_of};
 ghost use Rattle.sn_reply.specs.Frames.{EachHasRoom};
 ghost use Rattle.sn_tree.specs.Trees.{running_labels};

@@ -2,27 +2,15 @@
 use Rattle.std.proofs.Common.{◌≡◌, ◌≢◌, ◌<◌, ℕ, zero, suc, ◌+◌, ◌*◌, ◌/◌, ◌%◌, ◌==◌, max, List, ℤ, pos, negsuc, ◌+ℤ◌, ◌*ℤ◌, ◌≤ℤ◌, cond, length, get_or, replicate, ap, sym, ◌∙◌, ⊎_elim, arith, subst, FitsSigned}
 use Rattle.std.specs.Int.{w32}
 use Rattle.std.proofs.lemmas.Int.{ints, clamps}
-use Rattle.std.proofs.lemmas.Nat.{div-mul-add, mod-mul-add, mod_below}
+use Rattle.std.proofs.lemmas.Nat.{mod_below}
 use Rattle.std.proofs.lemmas.Bool.{cases_eq, eq-eqb, ne_eqb}
 use Rattle.sn_fixed.specs.Fixed.{floor, sat}
 use Rattle.sn_mem.specs.Blocks.{sample}
 use Rattle.sn_filt.specs.Rings.{ringed, delay_reach, delay_step, delay_n, comb_reach, comb_step, comb_n}
-use Rattle.sn_filt.specs.Runs.{heard, words_before, given, ago, HasMost, HasSamples, IsInputAgo, fed_back, IsKeptAgo}
+use Rattle.sn_def.specs.Runs.{heard, words_before, given}
+use Rattle.sn_def.proofs.Frames.{block_of, frame_of, at_frame, heard_at}
+use Rattle.sn_filt.specs.Runs.{ago, HasMost, HasSamples, IsInputAgo, fed_back, IsKeptAgo}
 use Rattle.sn_filt.proofs.Remembering.{Holds, holds_at_first, old_at, begun, state_on, reads_ago, output_at, ago_none}
-
--- ---- frames of a run
-
-block_of : (b j : ℕ) → j < 64 → (b * 64 + j) / 64 ≡ b
-block_of b j lt = div-mul-add b 64 j lt
-
-frame_of : (b j : ℕ) → j < 64 → (b * 64 + j) % 64 ≡ j
-frame_of b j lt = mod-mul-add b 64 j lt
-
-heard_at : (run : ℕ → List (List ℤ)) (i b j : ℕ) → j < 64 → heard run i (b * 64 + j) ≡ sample (run b) i j
-heard_at run i b j lt = ap (λ n. sample (run n) i ((b * 64 + j) % 64)) (block_of b j lt) ∙ ap (sample (run b) i) (frame_of b j lt)
-
-at_frame : (t : ℕ) → t / 64 * 64 + t % 64 ≡ t
-at_frame t = omega arith
 
 -- ---- DelayN
 

@@ -1,8 +1,9 @@
 -- What a unit of arithmetic or a filter makes of its state words and of its inputs' blocks: the state words after the block, and the output blocks.
-use Rattle.std.specs.Prelude.{ℕ, Bool, true, List, [], ◌∷◌, ℤ}
+use Rattle.std.specs.Prelude.{ℕ, Bool, true, List, ℤ}
 use Rattle.sn_def.specs.declared.kind.Kind.{Kind}
 use Rattle.sn_def.specs.declared.kind.Kind.TheVariants as kinds
 use Rattle.sn_def.specs.declared.control.Now.{Now}
+use Rattle.sn_def.specs.Runs.{one_output}
 use Rattle.sn_mem.specs.Blocks.{recurrence}
 use Rattle.sn_filt.specs.Arithmetic.{is_arithmetic, arithmetic}
 use Rattle.sn_filt.specs.Poles.{sample_of_words, sample_words, one_pole, integrator, delay1, lagged_in, lagged_words, lag}
@@ -23,9 +24,6 @@ is_filter kinds.Gate = true
 is_filter kinds.PulseCount = true
 is_filter kinds.Stepper = true
 is_filter kind = is_arithmetic kind
-
-abbrev one_output : List ℕ × List ℤ → List ℕ × List (List ℤ)
-one_output r = (r.0, r.1 ∷ [])
 
 -- the state is one sample
 abbrev pub of_sample : (ℤ → List (List ℤ) → ℕ → ℤ × ℤ) → List ℕ → List (List ℤ) → List ℕ × List (List ℤ)

@@ -1,23 +1,9 @@
 -- Delay lines over whole runs: the output is what was kept some frames ago.
-use Rattle.std.specs.Prelude.{◌≡◌, ◌+◌, ◌-◌, ◌/◌, ◌%◌, ℕ, zero, suc, nat_lt, min, max, List, replicate, slice_index_or, ℤ, pos, ◌+ℤ◌, ◌*ℤ◌, cond, FitsSigned}
+use Rattle.std.specs.Prelude.{◌≡◌, ◌+◌, ◌-◌, ℕ, nat_lt, min, max, List, ℤ, pos, ◌+ℤ◌, ◌*ℤ◌, cond, FitsSigned}
 use Rattle.std.specs.Int.{w32}
 use Rattle.sn_fixed.specs.Fixed.{floor, sat, frames_of}
-use Rattle.sn_mem.specs.Blocks.{sample}
+use Rattle.sn_def.specs.Runs.{heard, given}
 use Rattle.sn_filt.specs.Rings.{most_frames, delay_n, comb_n}
-
--- A run gives each block's inputs, by the block's number. Its frame t is frame t % 64 of block t / 64.
--- An input's sample at a frame of the run:
-abbrev pub heard : (ℕ → List (List ℤ)) → ℕ → ℕ → ℤ
-heard run i t = sample (run (t / 64)) i (t % 64)
-
--- a unit's words before a block, of which all are 0 before the first
-unfoldable pub words_before : (List ℕ → List (List ℤ) → List ℕ × List ℤ) → ℕ → (ℕ → List (List ℤ)) → ℕ → List ℕ
-words_before unit size run zero = replicate size 0
-words_before unit size run (suc b) = (unit (words_before unit size run b) (run b)).0
-
--- its output at a frame
-abbrev pub given : (List ℕ → List (List ℤ) → List ℕ × List ℤ) → ℕ → (ℕ → List (List ℤ)) → ℕ → ℤ
-given unit size run t = slice_index_or (unit (words_before unit size run (t / 64)) (run (t / 64))).1 (t % 64) (pos 0)
 
 -- a signal n frames before frame t; before the first frame it is 0
 abbrev pub ago : (ℕ → ℤ) → ℕ → ℕ → ℤ

@@ -1,8 +1,9 @@
 //! The plain program for units without a state: one frame after another.
 ghost use Rattle.std.specs.Prelude.{◌≡◌, ◌≤◌, true, length, pos, ◌-ℤ◌, ◌≤ℤ◌, cond};
 ghost use Rattle.sn_def.specs.Units.{row_of};
-ghost use Rattle.sn_filt.specs.Arithmetic.{is_arithmetic, arithmetic, rightness, clipped};
+ghost use Rattle.sn_filt.specs.Arithmetic.{is_arithmetic, arithmetic, rightness};
 
+use crate::poles::clipped;
 use sn_def::Kind;
 use sn_fixed::{ONE, add, mul, mul_add, sat, sub};
 use sn_mem::{Blocks, Pointwise, push_pointwise};
@@ -11,13 +12,6 @@ fn one_where(holds: bool) -> i32
     ensures { result ≡ cond holds (pos 16777216) (pos 0) }
 {
     if holds { ONE } else { 0 }
-}
-
-/// The sample nearest to `x` from -1.0 to 1.0.
-fn clipped(x: i32) -> i32
-    ensures { result ≡ clipped x }
-{
-    x.min(ONE).max(-ONE)
 }
 
 /// How far to the right a position is: 0 is left, and 1.0 right.

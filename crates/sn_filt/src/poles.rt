@@ -7,7 +7,7 @@ use sn_fixed::{ONE, frames_of, line_at, mul_add, weighted};
 use sn_mem::{Blocks, Recurrence, Stored, sample_of, word_of};
 
 /// The sample nearest to `x` from -1.0 to 1.0.
-fn clipped(x: i32) -> i32
+pub(crate) fn clipped(x: i32) -> i32
     ensures { result ≡ clipped x }
 {
     x.min(ONE).max(-ONE)

@@ -6,6 +6,7 @@ use Rattle.std.specs.List.{list_all, position}
 use Rattle.std.specs.Char.{is_ascii_digit}
 use Rattle.std.proofs.lemmas.List.Folds.{list_all-append}
 use Rattle.std.proofs.lemmas.List.Quantifiers.{position-Some}
+use Rattle.std.proofs.lemmas.Bool.{and_parts}
 use Rattle.std.proofs.lemmas.Bool.Decides.{nat_tests}
 use Rattle.sn_fixed.specs.Literal.{literal, unsigned, divided, whole, fraction, is_positive, is_zero, is_front, is_places}
 use Rattle.sn_fixed.specs.Laws.{is_literal_byte, HasLiteralBytes}
@@ -14,13 +15,9 @@ cond_some : (b : Bool) (o : Option ℤ) (z : ℤ) → cond b o None ≡ Some z �
 cond_some true o z e = refl
 cond_some false o z e = absurd (cc)
 
-both : (a b : Bool) → (a && b) ≡ true → (a ≡ true) × (b ≡ true)
-both true b e = (refl, e)
-both false b e = absurd (cc)
-
 wider : (ds : List ℕ) → list_all is_ascii_digit ds ≡ true → list_all is_literal_byte ds ≡ true
 wider [] e = refl
-wider (c ∷ ds) e = let b = both (is_ascii_digit c) (list_all is_ascii_digit ds) e in let more = wider ds b.1 in rw (b.0, more)
+wider (c ∷ ds) e = let b = and_parts (is_ascii_digit c) (list_all is_ascii_digit ds) e in let more = wider ds b.1 in rw (b.0, more)
 
 zero_digits : (ds : List ℕ) → is_zero ds ≡ true → list_all is_ascii_digit ds ≡ true
 zero_digits [] e = refl
@@ -28,17 +25,17 @@ zero_digits (c ∷ []) e = let is : c ≡ 48 = grind (arith, nat_tests) in rw is
 zero_digits (c ∷ d ∷ ds) e = absurd (grind (arith, nat_tests))
 
 positive_digits : (ds : List ℕ) → is_positive ds ≡ true → list_all is_ascii_digit ds ≡ true
-positive_digits ds e = (both (list_all is_ascii_digit ds) (nat_le 49 (slice_index ds 0)) e).0
+positive_digits ds e = (and_parts (list_all is_ascii_digit ds) (nat_le 49 (slice_index ds 0)) e).0
 
 front_digits : (ds : List ℕ) → is_front ds ≡ true → list_all is_ascii_digit ds ≡ true
 front_digits ds e = let z : is_zero ds ≡ true → list_all is_ascii_digit ds ≡ true = zero_digits ds in let p : is_positive ds ≡ true → list_all is_ascii_digit ds ≡ true = positive_digits ds in grind (arith, nat_tests)
 
 places_digits : (ds : List ℕ) → is_places ds ≡ true → list_all is_ascii_digit ds ≡ true
-places_digits ds e = (both (list_all is_ascii_digit ds) (nat_le 1 (length ds)) (both (list_all is_ascii_digit ds && nat_le 1 (length ds)) (nat_le (length ds) 8) e).0).0
+places_digits ds e = (and_parts (list_all is_ascii_digit ds) (nat_le 1 (length ds)) (and_parts (list_all is_ascii_digit ds && nat_le 1 (length ds)) (nat_le (length ds) 8) e).0).0
 
 fraction_bytes : (negative : Bool) (front places : List ℕ) (z : ℤ) → fraction negative front places ≡ Some z → (list_all is_ascii_digit front ≡ true) × (list_all is_ascii_digit places ≡ true)
 fraction_bytes negative front places z e =
-    let b = both (is_front front) (is_places places) (cond_some (is_front front && is_places places) _ z e) in
+    let b = and_parts (is_front front) (is_places places) (cond_some (is_front front && is_places places) _ z e) in
     (front_digits front b.0, places_digits places b.1)
 
 one_of_two : (p q : Bool) (a b : Option ℤ) (z : ℤ) (R : Type 0) → (p ≡ true → R) → (q ≡ true → R) → cond p a (cond q b None) ≡ Some z → R
@@ -47,7 +44,7 @@ one_of_two false true a b z R f g e = g refl
 one_of_two false false a b z R f g e = absurd (cc)
 
 whole_bytes : (negative : Bool) (ds : List ℕ) (z : ℤ) → whole negative ds ≡ Some z → list_all is_ascii_digit ds ≡ true
-whole_bytes negative ds z e = one_of_two (is_positive ds) (is_zero ds && not negative) _ (Some (pos 0)) z (list_all is_ascii_digit ds ≡ true) (positive_digits ds) (λ (h : (is_zero ds && not negative) ≡ true). zero_digits ds (both (is_zero ds) (not negative) h).0) e
+whole_bytes negative ds z e = one_of_two (is_positive ds) (is_zero ds && not negative) _ (Some (pos 0)) z (list_all is_ascii_digit ds ≡ true) (positive_digits ds) (λ (h : (is_zero ds && not negative) ≡ true). zero_digits ds (and_parts (is_zero ds) (not negative) h).0) e
 
 joined_bytes : (front places : List ℕ) → list_all is_ascii_digit front ≡ true → list_all is_ascii_digit places ≡ true → list_all is_literal_byte (front ++ 46 ∷ places) ≡ true
 joined_bytes front places f p = let a : list_all is_literal_byte front ≡ true = wider front f in let b : list_all is_literal_byte places ≡ true = wider places p in rw (list_all-append is_literal_byte front (46 ∷ places)) (rw (a, b))

@@ -54,6 +54,7 @@ pub fn distance(start: i32, end: i32) -> i64
     i64::from(end) - i64::from(start)
 }
 
+/// The start moved by so much.
 pub(crate) fn moved(start: i32, by: i64) -> i32
     requires { FitsSigned w32 (start +ℤ by) }
     ensures { result ≡ start +ℤ by }

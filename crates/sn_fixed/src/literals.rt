@@ -1,9 +1,8 @@
 //! The literals of a definition text.
-ghost use Rattle.std.specs.Prelude.{◌≡◌, pos, ◌≤ℤ◌, ◌+◌, ◌==◌, position, ◌*◌, ◌≤◌, ◌<◌, ◌^◌, IsTrue, min, length, FitsSigned, unsigned_abs};
+ghost use Rattle.std.specs.Prelude.{◌≡◌, pos, ◌≤ℤ◌, ◌+◌, ◌==◌, position, ◌*◌, ◌≤◌, ◌<◌, ◌^◌, IsTrue, min, length, unsigned_abs};
 ghost use Rattle.std.specs.List.{list_all};
 ghost use Rattle.std.specs.Char.{is_ascii_digit};
 ghost use Rattle.std.specs.Str.Parse.{digits_value};
-ghost use Rattle.std.specs.Int.{w64};
 ghost use Rattle.sn_fixed.specs.Literal.{
   is_zero,
   is_positive,
@@ -22,18 +21,21 @@ const MOST: u64 = 1_000_000_000_000;
 
 const ONE: i128 = 16_777_216;
 
+/// Whether all are decimal digits.
 fn are_digits(digits: &[u8]) -> bool
     ensures { result ≡ list_all is_ascii_digit digits.now }
 {
     digits.iter().all(|digit| digit.is_ascii_digit())
 }
 
+/// Whether this is `0`.
 pub(crate) fn is_zero(digits: &[u8]) -> bool
     ensures { result ≡ is_zero digits.now }
 {
     digits.len() == 1 && digits[0] == b'0'
 }
 
+/// Whether these are digits without a leading zero.
 pub(crate) fn is_positive(digits: &[u8]) -> bool
     ensures { result ≡ is_positive digits.now }
 {

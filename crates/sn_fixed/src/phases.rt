@@ -46,7 +46,7 @@ pub fn frames_of(ms: i32, rate: u32) -> u32
 
 /// A product of two parts of the half turn.
 #[tactic(auto, using(crate::proofs::HalfWave::product_small))]
-fn bow(h: u32) -> u32
+fn product(h: u32) -> u32
     requires { h ≤ 65536 }
     ensures value { result ≡ h * (65536 - h) }
     ensures bound { result ≤ 1073741824 }
@@ -85,7 +85,7 @@ fn height(h: u32) -> u32
     ensures value { result ≡ height h }
     ensures bound { result ≤ 16777216 }
 {
-    let q = bow(h);
+    let q = product(h);
     let wide = u64::from(q);
     quotient(16 * wide * 16_777_216, 21_474_836_480 - 4 * wide, guess(q)) as u32
 }

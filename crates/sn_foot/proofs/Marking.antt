@@ -1,5 +1,5 @@
 -- What is marked is what is used.
-use Rattle.std.proofs.Common.{◌≡◌, ◌≤◌, ◌<◌, ℕ, zero, suc, ◌+◌, ◌==◌, ℤ, pos, negsuc, ◌+ℤ◌, Bool, true, false, ◌&&◌, ◌||◌, cond, if◌then◌else◌, List, [], ◌∷◌, ◌++◌, take, drop, Option, Some, None, sym, refl, ap, subst, ◌∙◌, ⊎_elim, arith, length}
+use Rattle.std.proofs.Common.{◌≡◌, ◌<◌, ℕ, zero, suc, ◌+◌, ◌==◌, ℤ, pos, negsuc, ◌+ℤ◌, Bool, true, false, ◌&&◌, ◌||◌, if◌then◌else◌, List, [], ◌∷◌, ◌++◌, take, drop, Option, Some, None, sym, refl, ap, subst, ◌∙◌, ⊎_elim, arith, length}
 use Rattle.std.specs.Prelude.{slice_set, slice_index_or}
 use Rattle.std.specs.List.{list_any}
 use Rattle.std.proofs.lemmas.Bool.{cases_eq, eq-eqb, ne_eqb}
@@ -7,7 +7,6 @@ use Rattle.std.proofs.lemmas.List.{drop_all, take_all, append-nil, length-set, g
 use Rattle.sn_def.specs.declared.control.Control.{Control as SynthControl}
 use Rattle.sn_def.specs.declared.unit.Unit.{Unit as UnitLine}
 use Rattle.sn_def.specs.Defs.{definition_of}
-use Rattle.sn_io.specs.BusUnits.{reads_audio, reads_control, writes_audio, writes_control}
 use Rattle.sn_synth.specs.Conditions.{index_of}
 use Rattle.sn_world.specs.declared.stage.Held.{Held}
 use Rattle.sn_world.specs.declared.stage.Held.TheVariants as held
@@ -17,7 +16,7 @@ use Rattle.sn_foot.specs.declared.resource.Access.TheVariants.{Read, Write}
 use Rattle.sn_foot.specs.declared.resource.Bank.{Bank}
 use Rattle.sn_foot.specs.declared.resource.Bank.TheVariants.{Audio, Control, Buffer}
 use Rattle.sn_foot.specs.Footprints.{is_number, is_among, is_bus, follows}
-use Rattle.sn_foot.specs.Marks.{numbers, resource, held_uses, unit_uses, touches, span, used_span, set_at, marked, by_units, set_bus, by_buses, by_controls, by_held, by_nodes, AreMarks}
+use Rattle.sn_foot.specs.Marks.{resource, held_uses, unit_uses, touches, span, used_span, set_at, marked, by_units, set_bus, by_buses, by_controls, by_held, by_nodes, AreMarks}
 
 abbrev at : List Bool → ℕ → Bool
 at marks n = slice_index_or marks n false

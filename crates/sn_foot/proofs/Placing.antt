@@ -1,6 +1,6 @@
 -- The places of the resources that nodes use.
-use Rattle.std.proofs.Common.{◌≡◌, ◌≤◌, ◌<◌, ℕ, zero, suc, ◌+◌, ◌*◌, Bool, true, false, ◌&&◌, List, [], ◌∷◌, ◌++◌, Option, Some, None, sym, refl, ap, ◌∙◌, subst, append_assoc, arith, length, ltb, if◌then◌else◌}
-use Rattle.std.specs.Prelude.{replicate, slice_index_or, slice_set, is_some}
+use Rattle.std.proofs.Common.{◌≡◌, ◌≤◌, ◌<◌, ℕ, zero, suc, ◌+◌, Bool, true, false, ◌&&◌, List, [], ◌∷◌, ◌++◌, Option, Some, None, sym, refl, ap, ◌∙◌, subst, append_assoc, arith, length, ltb, if◌then◌else◌}
+use Rattle.std.specs.Prelude.{is_some, nat_lt, replicate, slice_index_or, slice_set}
 use Rattle.std.specs.List.{All}
 use Rattle.std.proofs.lemmas.Bool.{cond_both, ltb-true}
 use Rattle.std.proofs.lemmas.List.{append-nil}
@@ -8,15 +8,13 @@ use Rattle.std.proofs.lemmas.List.Elements.{All-nil, All-cons, All-head, All-tai
 use Rattle.sn_mem.specs.declared.extents.Extent.{Extent}
 use Rattle.sn_mem.specs.Layout.{audio_place, control_place}
 use Rattle.sn_mem.specs.declared.buffers.BufferPlace.{BufferPlace}
-use Rattle.sn_tree.specs.Trees.{Label, Nodes, none, node, running_labels, subtree, holds}
-use Rattle.sn_world.specs.declared.stage.Held.{Held}
 use Rattle.sn_mem.specs.Buffers.{live_places, place_extents}
 use Rattle.sn_foot.specs.declared.resource.Resource.{Resource}
 use Rattle.sn_foot.specs.declared.resource.Resource.TheVariants as resources
 use Rattle.sn_foot.specs.declared.resource.Bank.{Bank}
 use Rattle.sn_foot.specs.declared.resource.Bank.TheVariants.{Audio, Control, Buffer}
 use Rattle.sn_foot.specs.Canonical.{Ends}
-use Rattle.sn_foot.specs.Footprints.{buffer_words, place_of, listed, where_used, used_places}
+use Rattle.sn_foot.specs.Footprints.{buffer_words, is_there, place_of, listed, where_used, used_places}
 use Rattle.sn_foot.specs.Marks.{numbers, resource, AreMarks, bank_places}
 
 -- ---- lists of what numbers give
@@ -47,6 +45,24 @@ all_listed P f (suc n) each = All-append P (listed f n) (f n) (all_listed P f n 
 
 -- ---- marks
 
+some_if : {A : Type 0} (b : Bool) (x : A) → is_some (if b then Some x else None) ≡ b
+some_if true x = refl
+some_if false x = refl
+
+words_there : (p : Option BufferPlace) → is_some (buffer_words p) ≡ is_some p
+words_there None = refl
+words_there (Some p) = refl
+
+words_if : (b : Bool) (p : Option BufferPlace) → is_some (if b then buffer_words p else None) ≡ (b && is_some p)
+words_if true p = words_there p
+words_if false p = refl
+
+-- what is there has a place
+pub has_place : (buffers : List (Option BufferPlace)) (r : Resource) → is_some (place_of buffers r) ≡ is_there buffers r
+has_place buffers (resources.Audio n) = some_if (nat_lt n 128) (audio_place n)
+has_place buffers (resources.Control n) = some_if (nat_lt n 1024) (control_place n)
+has_place buffers (resources.Buffer n) = words_if (nat_lt n 1024) (slice_index_or buffers n None)
+
 where_there : (used : Bool) (place : Option Extent) → where_used used place ≡ where_used (is_some place && used) place
 where_there used None = refl
 where_there used (Some e) = refl
@@ -57,12 +73,13 @@ few_numbers Control marks test are = omega (arith, are.long)
 few_numbers Buffer marks test are = omega (arith, are.long)
 
 pub marks_placed : (buffers : List (Option BufferPlace)) (used : Resource → Bool) (bank : Bank) (marks : List Bool) → AreMarks (λ n. used (resource bank n)) (numbers bank) marks →
-    listed (λ n. where_used (slice_index_or marks n false) (place_of buffers (resource bank n))) (length marks) ≡ bank_places buffers (λ r. is_some (place_of buffers r) && used r) bank
+    listed (λ n. where_used (slice_index_or marks n false) (place_of buffers (resource bank n))) (length marks) ≡ bank_places buffers (λ r. is_there buffers r && used r) bank
 marks_placed buffers used bank marks are =
     let f : ℕ → List Extent = λ n. where_used (slice_index_or marks n false) (place_of buffers (resource bank n)) in
-    let g : ℕ → List Extent = λ n. where_used (is_some (place_of buffers (resource bank n)) && used (resource bank n)) (place_of buffers (resource bank n)) in
+    let g : ℕ → List Extent = λ n. where_used (is_there buffers (resource bank n) && used (resource bank n)) (place_of buffers (resource bank n)) in
     listed_same f g (length marks)
-    (λ n lt. ap (λ b. where_used b (place_of buffers (resource bank n))) (are.each n (subst (λ k. n < k) are.long lt)) ∙ where_there (used (resource bank n)) (place_of buffers (resource bank n)))
+    (λ n lt. ap (λ b. where_used b (place_of buffers (resource bank n))) (are.each n (subst (λ k. n < k) are.long lt)) ∙ where_there (used (resource bank n)) (place_of buffers (resource bank n))
+    ∙ ap (λ b. where_used (b && used (resource bank n)) (place_of buffers (resource bank n))) (has_place buffers (resource bank n)))
     ∙ ap (λ k. listed g k) are.long
 
 pub all_banks : (a b c now : List Extent) → now ≡ (([] ++ a) ++ b) ++ c → now ≡ a ++ (b ++ c)

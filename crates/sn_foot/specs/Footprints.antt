@@ -8,13 +8,12 @@ use Rattle.sn_mem.specs.Words.{covers, has}
 use Rattle.sn_mem.specs.Layout.{audio_place, control_place}
 use Rattle.sn_def.specs.declared.control.Control.{Control as SynthControl}
 use Rattle.sn_def.specs.declared.unit.Unit.{Unit as UnitLine}
-use Rattle.sn_def.specs.Definition.{Definition}
 use Rattle.sn_def.specs.Defs.{definition_of}
 use Rattle.sn_io.specs.BusUnits.{reads_audio, reads_control, writes_audio, writes_control}
 use Rattle.sn_io.specs.BufferUnits.{reads_buffer, writes_buffer}
 use Rattle.sn_synth.specs.Conditions.{index_of}
 use Rattle.sn_mem.specs.declared.buffers.BufferPlace.{BufferPlace}
-use Rattle.sn_tree.specs.Trees.{Label, Nodes, running_labels, subtree}
+use Rattle.sn_tree.specs.Trees.{Nodes, running_labels, subtree}
 use Rattle.sn_world.specs.declared.stage.Held.{Held}
 use Rattle.sn_world.specs.declared.stage.Held.TheVariants as held
 use Rattle.sn_world.specs.Pictures.{held_extents}
@@ -28,7 +27,13 @@ abbrev pub buffer_words : Option BufferPlace → Option Extent
 buffer_words None = None
 buffer_words (Some p) = Some p.extent
 
--- A resource is an audio bus 0 to 127, a control bus 0 to 1,023, or a buffer 0 to 1,023 that is allocated. It has a place in the words.
+-- A resource is an audio bus 0 to 127, a control bus 0 to 1,023, or a buffer 0 to 1,023 that is allocated.
+abbrev pub is_there : {B : Type 0} → List (Option B) → Resource → Bool
+is_there buffers (Audio n) = nat_lt n 128
+is_there buffers (Control n) = nat_lt n 1024
+is_there buffers (Buffer n) = nat_lt n 1024 && is_some (slice_index_or buffers n None)
+
+-- It has a place in the words.
 abbrev pub place_of : List (Option BufferPlace) → Resource → Option Extent
 place_of buffers (Audio n) = if nat_lt n 128 then Some (audio_place n) else None
 place_of buffers (Control n) = if nat_lt n 1024 then Some (control_place n) else None
@@ -102,8 +107,8 @@ pub record Footprint : Type 0 where
 -- that of all synths among these
 abbrev pub footprint_of : List (Option BufferPlace) → List Held → Footprint
 footprint_of buffers hs = record {
-  reads = λ r. is_some (place_of buffers r) && list_any (λ h. held_reads h r) hs;
-  writes = λ r. is_some (place_of buffers r) && list_any (λ h. held_writes h r) hs;
+  reads = λ r. is_there buffers r && list_any (λ h. held_reads h r) hs;
+  writes = λ r. is_there buffers r && list_any (λ h. held_writes h r) hs;
 }
 
 -- that of a node
@@ -111,8 +116,11 @@ abbrev pub footprint_at : List (Option BufferPlace) → ℤ → Nodes Held → F
 footprint_at buffers id nodes = footprint_of buffers (found_at id nodes)
 
 -- one of the two writes what the other reads or writes
+abbrev pub clash_on : Footprint → Footprint → Resource → Bool
+clash_on a b r = (a.writes r && (b.reads r || b.writes r)) || (b.writes r && (a.reads r || a.writes r))
+
 abbrev pub Clash : Footprint → Footprint → Type 0
-Clash a b = (r : Resource) × (((a.writes r ≡ true) × ((b.writes r || b.reads r) ≡ true)) ⊎ ((b.writes r ≡ true) × ((a.writes r || a.reads r) ≡ true)))
+Clash a b = (r : Resource) × (clash_on a b r ≡ true)
 
 -- ---- the words of a footprint
 

@@ -1,5 +1,5 @@
 -- Marks by numbers, in a list with a flag for each.
-use Rattle.std.specs.Prelude.{◌≡◌, ◌<◌, ℕ, zero, suc, ◌-◌, ℤ, pos, negsuc, ◌+ℤ◌, Bool, true, false, ◌&&◌, if◌then◌else◌, List, [], ◌∷◌, length, slice_set, slice_index_or, Option, Some, None, is_some}
+use Rattle.std.specs.Prelude.{◌≡◌, ◌<◌, ℕ, zero, suc, ◌-◌, ℤ, pos, negsuc, ◌+ℤ◌, Bool, true, false, ◌&&◌, if◌then◌else◌, List, [], ◌∷◌, length, slice_set, slice_index_or, Option, Some, None}
 use Rattle.std.specs.List.{list_any}
 use Rattle.sn_mem.specs.declared.extents.Extent.{Extent}
 use Rattle.sn_mem.specs.declared.buffers.BufferPlace.{BufferPlace}
@@ -18,7 +18,7 @@ use Rattle.sn_foot.specs.declared.resource.Access.{Access}
 use Rattle.sn_foot.specs.declared.resource.Access.TheVariants.{Read, Write}
 use Rattle.sn_foot.specs.declared.resource.Bank.{Bank}
 use Rattle.sn_foot.specs.declared.resource.Bank.TheVariants.{Audio, Control, Buffer}
-use Rattle.sn_foot.specs.Footprints.{unit_reads, unit_writes, held_reads, held_writes, listed, place_of, where_used}
+use Rattle.sn_foot.specs.Footprints.{unit_reads, unit_writes, held_reads, held_writes, is_there, listed, place_of, where_used}
 
 -- how many numbers there are
 abbrev pub numbers : Bank → ℕ
@@ -104,7 +104,7 @@ pub record AreMarks (test : ℕ → Bool) (count : ℕ) (marks : List Bool) : Ty
 
 -- whether nodes use a resource that is there
 abbrev pub nodes_use : List (Option BufferPlace) → Access → List Held → Resource → Bool
-nodes_use buffers access hs r = is_some (place_of buffers r) && list_any (λ h. held_uses access h r) hs
+nodes_use buffers access hs r = is_there buffers r && list_any (λ h. held_uses access h r) hs
 
 -- the places of one sort
 abbrev pub bank_places : List (Option BufferPlace) → (Resource → Bool) → Bank → List Extent

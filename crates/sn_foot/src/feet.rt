@@ -5,9 +5,8 @@ ghost use Rattle.sn_tree.specs.Trees.{holds};
 ghost use Rattle.sn_mem.specs.Buffers.{live_places};
 ghost use Rattle.sn_world.specs.Pictures.{held_extents, live_held};
 ghost use Rattle.sn_foot.specs.declared.feet.Unfooted.TheVariants.{NoMemory, NoNode};
-ghost use Rattle.sn_foot.specs.Canonical.{Ends, canonical};
-ghost use Rattle.sn_foot.specs.Footprints.{AreItsWords, foot_at, foot_of, states_of, used_places};
-ghost use Rattle.sn_foot.specs.Marks.{nodes_use};
+ghost use Rattle.sn_foot.specs.Canonical.{Ends};
+ghost use Rattle.sn_foot.specs.Footprints.{foot_at, foot_of, states_of};
 
 use crate::merging::canonical;
 use crate::nodes::{found_at, is_attached};
@@ -110,14 +109,4 @@ pub fn foot_of(alloc: Global, stage: &Stage, node: i32, foot: &mut Foot) -> Resu
     let nodes = found_at(alloc, &stage.tree, &node)?;
     *foot = foot_of_nodes(alloc, &stage.buffers, &nodes)?;
     Ok(())
-}
-
-/// A law: a foot has just the words of the resources of its footprint and, among the writes, those of the states.
-pub fn foot_has_its_words(buffers: &Buffers, nodes: &[&Held], foot: &Foot)
-    requires { foot.now ≡ foot_of buffers.now (map (λ h. h.now) nodes.now) }
-    ensures { AreItsWords buffers.now (map (λ h. h.now) nodes.now) foot.now }
-{
-    let _ = buffers;
-    let _ = nodes;
-    let _ = foot;
 }

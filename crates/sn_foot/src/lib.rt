@@ -2,6 +2,7 @@
 #![tactic(auto)]
 
 mod feet;
+mod laws;
 mod marks;
 mod merging;
 mod nodes;
@@ -9,10 +10,11 @@ mod places;
 mod resource;
 mod units;
 
-pub use feet::{Unfooted, foot_has_its_words, foot_of, foot_of_nodes};
+pub use feet::{Unfooted, foot_of, foot_of_nodes};
+pub use laws::{foot_has_its_words, one_canonical};
 pub use marks::mark_uses;
-pub use merging::{canonical, one_canonical};
-pub use nodes::found_at;
+pub use merging::canonical;
+pub use nodes::{found_at, is_kept};
 pub use places::place_of;
 pub use resource::{Access, Bank, Resource};
 pub use units::{index_of, used_span};

@@ -1,5 +1,5 @@
 //! Which resources nodes use.
-ghost use Rattle.std.specs.Prelude.{◌≡◌, ◌<◌, ◌≤◌, ◌+ℤ◌, ◌^◌, ◌||◌, pos, false, length, map, slice_index_or, ℕ, IfOk};
+ghost use Rattle.std.specs.Prelude.{◌≡◌, ◌<◌, ◌+ℤ◌, ◌^◌, ◌||◌, pos, false, length, map, slice_index_or, ℕ, IfOk};
 ghost use Rattle.std.specs.List.{list_any};
 ghost use Rattle.sn_foot.specs.Marks.{AreMarks, by_buses, by_controls, by_held, by_nodes, by_units, held_uses, marked, numbers, resource, set_at, set_bus};
 

@@ -84,14 +84,3 @@ pub fn canonical(alloc: Global, extents: Vec<Extent>) -> Result<Extents, NoMemor
     extents.sort_by_key(|extent| extent.at)?;
     merge(alloc, &extents)
 }
-
-/// A law: two canonical lists of the same words are the same list.
-pub fn one_canonical(first: &Extents, second: &Extents)
-    requires first { IsCanonical first.now }
-    requires second { IsCanonical second.now }
-    requires words { (x : ℕ) → has first.now x ≡ has second.now x }
-    ensures { first.now ≡ second.now }
-{
-    let _ = first;
-    let _ = second;
-}

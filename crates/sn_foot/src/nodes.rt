@@ -30,8 +30,8 @@ fn is_reached(tree: &Tree<Held>, node: &NodeId) -> bool
     false
 }
 
-/// Whether a node is kept.
-fn is_kept(skipped: u64, running: bool) -> bool
+/// Whether the walk finds a node, past so many with all below each.
+pub fn is_kept(skipped: u64, running: bool) -> bool
     ensures { result ≡ (skipped == 0 && running) }
 {
     skipped == 0 && running

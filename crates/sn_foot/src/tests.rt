@@ -1,16 +1,20 @@
 ghost use Rattle.std.specs.Prelude.{◌≡◌, ◌<◌, ◌+◌, IfOk, IsTrue, None, length, nat_lt};
 ghost use Rattle.std.specs.List.{All};
 ghost use Rattle.sn_mem.specs.Buffers.{live_places, place_extents};
+ghost use Rattle.sn_world.specs.Pictures.{live_held};
 ghost use Rattle.sn_foot.specs.Canonical.{Ends};
 
-use crate::feet::{foot_of_nodes, put_states};
+use crate::feet::{Unfooted, foot_of, foot_of_nodes, put_states};
+use crate::marks::mark_uses;
 use crate::merging::canonical;
 use crate::nodes::found_at;
+use crate::places::place_of;
+use crate::resource::{Access, Bank};
 use sn_def::{Control, Controls, read};
-use sn_mem::{BufferPlace, Buffers, Extent, Foot};
+use sn_mem::{BufferPlace, Buffers, Extent, Extents, Foot};
 use sn_ports::NoMemory;
 use sn_tree::{Action, NodeKind, Spot, Tree};
-use sn_world::{Held, NodeId};
+use sn_world::{Held, NodeId, Stage};
 use std::alloc::{AllocError, Global};
 use std::sync::Arc;
 use std::test::Fail;
@@ -132,6 +136,7 @@ fn synth(
     }))
 }
 
+/// The controls of a synth of a definition, and the words that it reads and writes.
 #[derive(Drop)]
 struct Case<'a> {
     text: &'a [u8],
@@ -140,8 +145,24 @@ struct Case<'a> {
     writes: &'a [(u32, u32)],
 }
 
+/// Whether a synth reads and writes these words, with its state from word 20,000 on.
+fn agrees(alloc: Global, buffers: &Buffers, case: &Case<'_>) -> Result<bool, AllocError>
+    requires { All Ends (live_places buffers.now) }
+{
+    let held = synth(alloc, case.text, case.controls.0, case.controls.1, 20_000)?;
+    let Some(held) = held else {
+        return Ok(false);
+    };
+    match foot(alloc, buffers, &[&held]) {
+        Ok(Some(foot)) => Ok(
+            are(foot.reads.as_slice(), case.reads) && are(foot.writes.as_slice(), case.writes),
+        ),
+        _ => Ok(false),
+    }
+}
+
 #[test]
-fn a_synth_reads_and_writes_what_its_units_and_controls_name(rt: HostRuntime) -> Result<(), Fail> {
+fn as_many_buses_are_used_as_there_are_channels(rt: HostRuntime) -> Result<(), Fail> {
     // Audio bus n has the words from 65 n on, control bus n the two from 8,320 + 2 n on.
     let cases = [
         Case {
@@ -156,6 +177,17 @@ fn a_synth_reads_and_writes_what_its_units_and_controls_name(rt: HostRuntime) ->
             reads: &[(195, 130), (10366, 2)],
             writes: &[(0, 130), (20000, 2)],
         },
+    ];
+    let buffers = reels(rt.alloc())?;
+    for case in &cases {
+        assert!(rt; agrees(rt.alloc(), &buffers, case)?);
+    }
+    Ok(())
+}
+
+#[test]
+fn control_buses_are_read_by_units_and_by_controls(rt: HostRuntime) -> Result<(), Fail> {
+    let cases = [
         Case {
             text: LINK,
             controls: (own(1024), own(0)),
@@ -168,6 +200,17 @@ fn a_synth_reads_and_writes_what_its_units_and_controls_name(rt: HostRuntime) ->
             reads: &[(585, 65), (8320, 2), (8330, 2)],
             writes: &[(0, 65), (8334, 2), (20000, 2)],
         },
+    ];
+    let buffers = reels(rt.alloc())?;
+    for case in &cases {
+        assert!(rt; agrees(rt.alloc(), &buffers, case)?);
+    }
+    Ok(())
+}
+
+#[test]
+fn buffers_are_used_where_they_are_allocated(rt: HostRuntime) -> Result<(), Fail> {
+    let cases = [
         Case {
             text: REEL,
             controls: (own(2), own(0)),
@@ -183,23 +226,7 @@ fn a_synth_reads_and_writes_what_its_units_and_controls_name(rt: HostRuntime) ->
     ];
     let buffers = reels(rt.alloc())?;
     for case in &cases {
-        let held = synth(
-            rt.alloc(),
-            case.text,
-            case.controls.0,
-            case.controls.1,
-            20_000,
-        )?;
-        let Some(held) = held else {
-            assert!(rt; false);
-            return Ok(());
-        };
-        let Some(foot) = foot(rt.alloc(), &buffers, &[&held])? else {
-            assert!(rt; false);
-            return Ok(());
-        };
-        assert!(rt; are(foot.reads.as_slice(), case.reads));
-        assert!(rt; are(foot.writes.as_slice(), case.writes));
+        assert!(rt; agrees(rt.alloc(), &buffers, case)?);
     }
     Ok(())
 }
@@ -255,5 +282,75 @@ fn extents_are_one_list(rt: HostRuntime) -> Result<(), Fail> {
     assert!(rt; all_end(&extents));
     let found = canonical(rt.alloc(), extents)?;
     assert!(rt; are(found.as_slice(), &[(10, 10), (21, 2), (30, 6)]));
+    Ok(())
+}
+
+fn numbers_of(place: Option<Extent>) -> Option<(u32, u32)> {
+    match place {
+        Some(place) => Some((place.at, place.len)),
+        None => None,
+    }
+}
+
+#[test]
+fn resources_have_their_places(rt: HostRuntime) -> Result<(), Fail> {
+    let buffers = reels(rt.alloc())?;
+    for (bank, number, place) in [
+        (Bank::Audio, 0, Some((0, 65))),
+        (Bank::Audio, 127, Some((8255, 65))),
+        (Bank::Audio, 128, None),
+        (Bank::Control, 0, Some((8320, 2))),
+        (Bank::Control, 1023, Some((10366, 2))),
+        (Bank::Control, 1024, None),
+        (Bank::Buffer, 2, Some((30000, 8))),
+        (Bank::Buffer, 3, None),
+        (Bank::Buffer, 1024, None),
+    ] {
+        assert!(rt; numbers_of(place_of(&buffers, bank, number)) == place);
+    }
+    Ok(())
+}
+
+#[test]
+fn what_a_synth_uses_is_marked(rt: HostRuntime) -> Result<(), Fail> {
+    let Some(held) = synth(rt.alloc(), WIDE, own(2), following(6), 20_000)? else {
+        assert!(rt; false);
+        return Ok(());
+    };
+    let mut marks = [true, false, false, false, false, false, false, false];
+    mark_uses(&mut marks, Access::Write, Bank::Audio, &held);
+    assert!(rt; marks == [true, false, true, true, true, true, false, false]);
+    mark_uses(&mut marks, Access::Read, Bank::Control, &held);
+    assert!(rt; marks == [true, false, true, true, true, true, true, false]);
+    mark_uses(&mut marks, Access::Write, Bank::Buffer, &held);
+    assert!(rt; marks == [true, false, true, true, true, true, true, false]);
+    Ok(())
+}
+
+/// A stage with the root alone.
+fn opened(alloc: Global) -> Result<Stage, NoMemory>
+    ensures buffers { IfOk result (λ stage. All Ends (live_places stage.buffers)) }
+    ensures states { IfOk result (λ stage. All Ends (live_held stage.tree.attached)) }
+{
+    Stage::new(alloc, 48_000, 1_024, 1)
+}
+
+#[test]
+fn a_foot_is_that_of_a_node(rt: HostRuntime) -> Result<(), Fail> {
+    let stage = opened(rt.alloc())?;
+    let mut reads = Extents::new(rt.alloc());
+    reads.push(Extent { at: 5, len: 7 })?;
+    let mut foot = Foot {
+        reads,
+        writes: Extents::new(rt.alloc()),
+    };
+    assert_eq!(rt;
+        foot_of(rt.alloc(), &stage, 7, &mut foot),
+        Err(Unfooted::NoNode)
+    );
+    assert!(rt; are(foot.reads.as_slice(), &[(5, 7)]));
+    assert_eq!(rt; foot_of(rt.alloc(), &stage, 0, &mut foot), Ok(()));
+    assert!(rt; are(foot.reads.as_slice(), &[]));
+    assert!(rt; are(foot.writes.as_slice(), &[]));
     Ok(())
 }

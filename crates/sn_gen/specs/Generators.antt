@@ -1,8 +1,9 @@
 -- What a generator makes of its state words and of its inputs' blocks: the state words after the block, and the output blocks.
-use Rattle.std.specs.Prelude.{ℕ, Bool, true, false, List, [], ◌∷◌, ℤ}
+use Rattle.std.specs.Prelude.{ℕ, Bool, true, false, List, [], ℤ}
 use Rattle.sn_def.specs.declared.kind.Kind.{Kind}
 use Rattle.sn_def.specs.declared.kind.Kind.TheVariants as kinds
 use Rattle.sn_def.specs.declared.control.Now.{Now}
+use Rattle.sn_def.specs.Runs.{one_output}
 use Rattle.sn_mem.specs.Blocks.{recurrence}
 use Rattle.sn_gen.specs.Phases.{phase_in, phase_words}
 use Rattle.sn_gen.specs.Oscillators.{sin_osc, lf_saw, lf_pulse, lf_tri}
@@ -23,9 +24,6 @@ is_generator kinds.Phasor = true
 is_generator kinds.Line = true
 is_generator kinds.Linen = true
 is_generator _ = false
-
-abbrev pub one_output : List ℕ × List ℤ → List ℕ × List (List ℤ)
-one_output r = (r.0, r.1 ∷ [])
 
 -- an oscillator's state is its phase
 abbrev pub oscillator : (ℕ → List (List ℤ) → ℕ → ℕ × ℤ) → List ℕ → List (List ℤ) → List ℕ × List (List ℤ)

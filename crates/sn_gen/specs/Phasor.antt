@@ -1,6 +1,5 @@
 -- Phasor.
 use Rattle.std.specs.Prelude.{ℕ, ◌==◌, true, not, List, [], ◌∷◌, slice_index, ℤ, ◌+ℤ◌, ◌-ℤ◌, int_lt, cond}
-use Rattle.std.specs.Int.{int_rem_euclid}
 use Rattle.sn_fixed.specs.Fixed.{sat}
 use Rattle.sn_fixed.specs.Ranges.{into_range}
 use Rattle.sn_fixed.specs.Triggers.{rises}

@@ -3,6 +3,7 @@
 
 mod block;
 mod impulse;
+mod laws;
 mod line;
 mod linen;
 mod noise;
@@ -11,6 +12,7 @@ mod phases;
 mod phasor;
 
 pub use block::run;
+pub use laws::line_is_straight;
 
 #[cfg(test)]
 mod tests;

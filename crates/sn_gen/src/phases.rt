@@ -1,5 +1,5 @@
 //! Phases, of which 2^32 is a turn.
-ghost use Rattle.std.specs.Prelude.{◌≡◌, ◌<◌, ◌≤◌, ◌^◌, unsigned_abs};
+ghost use Rattle.std.specs.Prelude.{◌≡◌, ◌<◌};
 ghost use Rattle.sn_gen.specs.Phases.{modulo, moved, grown};
 
 use sn_fixed::step_of;

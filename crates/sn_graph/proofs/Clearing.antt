@@ -1,6 +1,5 @@
 -- Where no two members of a split group clash, their synths are clear of each other.
 use Rattle.std.proofs.Common.{◌≡◌, ◌≤◌, ◌⊎◌, inl, inr, ⊎_elim, ℕ, ◌+◌, ℤ, Bool, true, false, ◌||◌, ◌&&◌, not, if◌then◌else◌, List, [], ◌∷◌, ◌++◌, map, Option, sym, refl, ap, ◌∙◌, subst, arith, true≢false}
-use Rattle.std.specs.Prelude.{is_some}
 use Rattle.std.specs.List.{list_any}
 use Rattle.std.specs.Ordering.{int_eq}
 use Rattle.std.proofs.lemmas.Bool.{cond_both, or_cases, or_left, or_right, and_parts, and_from, cases_Bool}
@@ -16,7 +15,7 @@ use Rattle.sn_tree.specs.Trees.{Label, Nodes, holds, running_labels, subtree}
 use Rattle.sn_world.specs.declared.stage.Held.{Held}
 use Rattle.sn_world.specs.Pictures.{held_extents, live_held}
 use Rattle.sn_foot.specs.declared.resource.Resource.{Resource}
-use Rattle.sn_foot.specs.Footprints.{footprint_of, foot_of, held_reads, held_writes, place_of, states_of}
+use Rattle.sn_foot.specs.Footprints.{footprint_of, foot_of, held_reads, held_writes, is_there, states_of}
 use Rattle.sn_foot.specs.Footprints.{Clash as FootprintsClash}
 use Rattle.sn_graph.specs.declared.nodes.Voice.{Voice}
 use Rattle.sn_graph.specs.Voices.{Running, none, voices}
@@ -24,7 +23,7 @@ use Rattle.sn_graph.specs.Plans.{IsClearOf, AreClear, MembersAreClear, SplitsAre
 use Rattle.sn_graph.specs.Stages.{is_listed, with_node, running_of}
 use Rattle.sn_graph.specs.Disjoint.{AreDisjoint}
 use Rattle.sn_graph.specs.Clear.{held_of, ClashesWithNone, NoneClash, AreListed}
-use Rattle.sn_graph.proofs.Resources.{overlaps_has, overlaps_append, clash_agrees}
+use Rattle.sn_graph.proofs.Resources.{Meets, first_meets, one_meets, overlaps_has, overlaps_append, clash_agrees, second_meets}
 
 -- ---- nodes among others
 
@@ -106,21 +105,23 @@ module _ (buffers : List (Option BufferPlace)) where
       → (footprint_of buffers (h ∷ [])).writes r ≡ true → ((footprint_of buffers (k ∷ [])).writes r || (footprint_of buffers (k ∷ [])).reads r) ≡ true
       → ((footprint_of buffers hs).writes r ≡ true) × (((footprint_of buffers ks).writes r || (footprint_of buffers ks).reads r) ≡ true)
   lifted h k hs ks m n r w t = (
-    more_used (is_some (place_of buffers r)) (λ g. held_writes g r) h hs m w,
+    more_used (is_there buffers r) (λ g. held_writes g r) h hs m w,
     ⊎_elim
-        (λ (u : (footprint_of buffers (k ∷ [])).writes r ≡ true). or_left ((footprint_of buffers ks).writes r) ((footprint_of buffers ks).reads r) (more_used (is_some (place_of buffers r)) (λ g. held_writes g r) k ks n u))
-        (λ (u : (footprint_of buffers (k ∷ [])).reads r ≡ true). or_right ((footprint_of buffers ks).writes r) ((footprint_of buffers ks).reads r) (more_used (is_some (place_of buffers r)) (λ g. held_reads g r) k ks n u))
+        (λ (u : (footprint_of buffers (k ∷ [])).writes r ≡ true). or_left ((footprint_of buffers ks).writes r) ((footprint_of buffers ks).reads r) (more_used (is_there buffers r) (λ g. held_writes g r) k ks n u))
+        (λ (u : (footprint_of buffers (k ∷ [])).reads r ≡ true). or_right ((footprint_of buffers ks).writes r) ((footprint_of buffers ks).reads r) (more_used (is_there buffers r) (λ g. held_reads g r) k ks n u))
         (or_cases ((footprint_of buffers (k ∷ [])).writes r) ((footprint_of buffers (k ∷ [])).reads r) t),
   )
 
   more_clash : (h k : Held) (hs ks : List Held) → AmongHeld h hs → AmongHeld k ks → FootprintsClash (footprint_of buffers (h ∷ [])) (footprint_of buffers (k ∷ [])) → FootprintsClash (footprint_of buffers hs) (footprint_of buffers ks)
-  more_clash h k hs ks m n c = (
-    c.0,
-    ⊎_elim
-        (λ (u : ((footprint_of buffers (h ∷ [])).writes c.0 ≡ true) × (((footprint_of buffers (k ∷ [])).writes c.0 || (footprint_of buffers (k ∷ [])).reads c.0) ≡ true)). inl (lifted h k hs ks m n c.0 u.0 u.1))
-        (λ (u : ((footprint_of buffers (k ∷ [])).writes c.0 ≡ true) × (((footprint_of buffers (h ∷ [])).writes c.0 || (footprint_of buffers (h ∷ [])).reads c.0) ≡ true)). inr (lifted k h ks hs n m c.0 u.0 u.1))
-        c.1,
-  )
+  more_clash h k hs ks m n (r, t) =
+      let a = footprint_of buffers (h ∷ []) in
+      let b = footprint_of buffers (k ∷ []) in (
+        r,
+        ⊎_elim
+            (λ (u : Meets a b r). first_meets (footprint_of buffers hs) (footprint_of buffers ks) r (lifted h k hs ks m n r u.0 u.1))
+            (λ (u : Meets b a r). second_meets (footprint_of buffers hs) (footprint_of buffers ks) r (lifted k h ks hs n m r u.0 u.1))
+            (one_meets a b r t),
+      )
 
   module _ (hs ks : List Held) (is : AreDisjoint buffers (states_of hs ++ states_of ks)) (apart : FootprintsClash (footprint_of buffers hs) (footprint_of buffers ks) → ⊥) where
     clear_pair : (h k : Held) → AmongHeld h hs → AmongHeld k ks → Clash (foot_of buffers (h ∷ [])) (foot_of buffers (k ∷ [])) → ⊥

@@ -13,6 +13,7 @@ use Rattle.sn_graph.proofs.Numbers.{has_id-ids, has-left, has-right, plays_in, p
 use Rattle.sn_graph.proofs.Parting.{heard-row}
 use Rattle.sn_graph.proofs.Planning.{is_plan, whole, played}
 use Rattle.sn_graph.proofs.Lowest.{parted_is_lowest}
+use Rattle.sn_graph.proofs.Jobwise.{feet_are}
 
 pub comes_left : (xs ys : List Voice) (a b : ℤ) → comes xs a b ≡ true → comes (xs ++ ys) a b ≡ true
 comes_left [] ys a b h = absurd (true≢false (sym h))
@@ -89,5 +90,6 @@ module _ (nodes : Running) (once : Once (voices nodes)) where
           λ (o : Ordered (plan_of nodes) i j). let d = (p.ordered i j a b u v).0 o in (d.0, sym (parted_is_lowest false nodes a b once (comes_first i j a b d.0 u v)) ∙ d.1),
           λ (d : (i < j) × (lowest_is_split false nodes a b ≡ false)). (p.ordered i j a b u v).1 (d.0, parted_is_lowest false nodes a b once (comes_first i j a b d.0 u v) ∙ d.1),
         );
+        feet = feet_are nodes once;
         few = p.few;
       }

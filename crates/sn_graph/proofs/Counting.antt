@@ -1,7 +1,7 @@
 -- How many jobs there are at most, and how often a synth is among them.
-use Rattle.std.proofs.Common.{◌≡◌, ◌≤◌, ℕ, ◌+◌, ℤ, Bool, true, false, if◌then◌else◌, List, [], ◌∷◌, ◌++◌, Option, sym, refl, arith, true≢false, ⊎_elim}
+use Rattle.std.proofs.Common.{◌≡◌, ◌≤◌, ◌<◌, ℕ, ◌+◌, ℤ, Bool, true, false, if◌then◌else◌, List, [], ◌∷◌, ◌++◌, Option, Some, sym, refl, ◌∙◌, subst, arith, true≢false, ⊎_elim}
 use Rattle.std.specs.Ordering.{int_eq}
-use Rattle.std.proofs.lemmas.Bool.{cond_both, or_cases, false_from_ne_true}
+use Rattle.std.proofs.lemmas.Bool.{cases_Bool, cond_both, or_cases, false_from_ne_true}
 use Rattle.std.proofs.lemmas.Bool.Decides.{Decides-int_eq}
 use Rattle.sn_mem.specs.declared.buffers.BufferPlace.{BufferPlace}
 use Rattle.sn_tree.specs.declared.node.NodeKind.{NodeKind}
@@ -11,12 +11,12 @@ use Rattle.sn_tree.specs.Trees.{Label, Nodes, holds, ids, subtree, count}
 use Rattle.sn_tree.specs.Steps.{AllDistinct, occurrences}
 use Rattle.sn_tree.proofs.Distinct.{occurrences-append}
 use Rattle.sn_world.specs.declared.stage.Held.{Held}
-use Rattle.sn_foot.proofs.Finding.{count_below}
 use Rattle.sn_graph.specs.declared.nodes.Voice.{Voice}
 use Rattle.sn_graph.specs.Voices.{Running, none, synth, group, voices, has, Once}
 use Rattle.sn_graph.specs.Rows.{Row, done, job, split, size, size_all}
 use Rattle.sn_graph.specs.Plans.{close, followed, members, joined, keep, part, row_of, rows_of}
 use Rattle.sn_graph.specs.Stages.{with_node, running_of}
+use Rattle.sn_graph.proofs.Labels.{kind_at, kind_after, kind_below, kind_here, not_some, some_is, subtree_after, subtree_below, subtree_here}
 use Rattle.sn_graph.proofs.Shapes.{weight}
 
 -- ---- jobs
@@ -136,9 +136,36 @@ module _ (buffers : List (Option BufferPlace)) (clashing : List ℤ) where
       (λ h. omega (arith, weight_node label.kind label b a, weight_all below, weight_all after))
       (λ h. omega (arith, weight_all after))
 
-  -- there are no more jobs than nodes
-  pub few_jobs : (id : ℤ) (t : Nodes Held) → size (row_of [] (running_of buffers clashing (subtree id t))) ≤ count t
-  few_jobs id t = omega (arith, few_row [] (running_of buffers clashing (subtree id t)), weight_all (subtree id t), count_below id t)
+  -- a plain group has no job of its own
+  few_group : (kind : NodeKind) (label : Label Held) (below : Running) → kind ≡ kinds.Group → size (row_of [] (with_node buffers clashing kind label below none)) ≤ weight below
+  few_group kind label below plain =
+      subst (λ (k : NodeKind). size (row_of [] (with_node buffers clashing k label below none)) ≤ weight below) (sym plain)
+      (omega (arith, size-part [] (row_of [] below) done done 0 (omega arith) (omega arith), few_row [] below))
+
+  few_top : (label : Label Held) (below : Nodes Held) → label.kind ≡ kinds.Group → size (row_of [] (running_of buffers clashing (trees.node label below trees.none))) ≤ count below
+  few_top label below plain =
+      let b : Running = running_of buffers clashing below in
+      cond_both label.running (with_node buffers clashing label.kind label b none) none (λ r. size (row_of [] r) ≤ count below)
+      (λ h. omega (arith, few_group label.kind label b plain, weight_all below))
+      (λ h. omega arith)
+
+  abbrev Few : ℕ → Nodes Held → Type 0
+  Few n t = size (row_of [] (running_of buffers clashing t)) < n
+
+  -- of a plain group and what is below it there are fewer jobs than nodes
+  pub few_jobs : (id : ℤ) (t : Nodes Held) → kind_at id t ≡ Some kinds.Group → Few (count t) (subtree id t)
+  few_jobs id trees.none e = absurd (not_some kinds.Group e)
+  few_jobs id (trees.node label below after) e = ⊎_elim
+      (λ (same : int_eq label.id id ≡ true).
+      let plain : label.kind ≡ kinds.Group = some_is label.kind kinds.Group (sym (kind_here id label below after same) ∙ e) in
+      subst (Few (1 + count below + count after)) (sym (subtree_here id label below after same)) (omega (arith, few_top label below plain)))
+      (λ (other : int_eq label.id id ≡ false). ⊎_elim
+      (λ (h : holds id below ≡ true).
+      subst (Few (1 + count below + count after)) (sym (subtree_below id label below after other h)) (omega (arith, few_jobs id below (sym (kind_below id label below after other h) ∙ e))))
+      (λ (h : holds id below ≡ false).
+      subst (Few (1 + count below + count after)) (sym (subtree_after id label below after other h)) (omega (arith, few_jobs id after (sym (kind_after id label below after other h) ∙ e))))
+      (cases_Bool (holds id below)))
+      (cases_Bool (int_eq label.id id))
 
   heard_node : (a : ℤ) (kind : NodeKind) (label : Label Held) (below after : Running) → heard a (voices (with_node buffers clashing kind label below after)) ≤ one_if (int_eq label.id a) + (heard a (voices below) + heard a (voices after))
   heard_node a kinds.Synth label below after = omega arith

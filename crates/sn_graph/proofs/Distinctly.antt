@@ -1,23 +1,22 @@
 -- Where ids are distinct, what the walk reaches by an id is one node.
 use Rattle.std.proofs.Common.{◌≡◌, ◌≤◌, ◌⊎◌, inl, inr, ⊎_elim, ℕ, ℤ, true, false, ◌||◌, List, ◌∷◌, ◌++◌, Option, Some, sym, ap, ◌∙◌, subst, arith, if◌then◌else◌, true≢false}
 use Rattle.std.specs.Prelude.{◌↔◌, map}
-use Rattle.std.specs.Option.{option_map}
 use Rattle.std.specs.List.{list_any}
 use Rattle.std.specs.Ordering.{int_eq}
 use Rattle.std.proofs.lemmas.Bool.{cases_Bool, cond-true, cond-false, false_from_ne_true, or_cases, or_left, or_right}
 use Rattle.std.proofs.lemmas.Bool.Decides.{Decides-int_eq}
 use Rattle.std.proofs.lemmas.List.Folds.{list_any-append}
 use Rattle.sn_mem.specs.declared.buffers.BufferPlace.{BufferPlace}
-use Rattle.sn_tree.specs.declared.node.NodeKind.{NodeKind}
 use Rattle.sn_tree.specs.declared.node.NodeKind.TheVariants as kinds
 use Rattle.sn_tree.specs.Steps.{AllDistinct, occurrences}
-use Rattle.sn_tree.specs.Trees.{Label, Nodes, none, node, children, holds, ids, label_of, running_labels}
+use Rattle.sn_tree.specs.Trees.{Label, Nodes, none, node, holds, ids, running_labels}
 use Rattle.sn_tree.proofs.Distinct.{occurs-node}
 use Rattle.sn_world.specs.declared.stage.Held.{Held}
-use Rattle.sn_foot.specs.Footprints.{held_reads, held_writes, is_reached}
-use Rattle.sn_clash.specs.Clashing.{clashes, is_there}
+use Rattle.sn_foot.specs.Footprints.{held_reads, held_writes, is_reached, is_there}
+use Rattle.sn_clash.specs.Clashing.{clashes}
 use Rattle.sn_graph.specs.Stages.{is_listed}
 use Rattle.sn_graph.specs.Clear.{IsClashing, TwoClash}
+use Rattle.sn_graph.proofs.Labels.{children_after, children_below, children_here, kind_after, kind_below, kind_here, some_is}
 use Rattle.sn_graph.proofs.Naming.{Named, found_named, named_found}
 
 abbrev Distinct : Nodes Held → Type 0
@@ -99,33 +98,6 @@ reached_held id (node label below after) h = ⊎_elim
     r.1)
     (λ (a : is_reached id after ≡ true). or_right (int_eq label.id id) (holds id below || holds id after) (or_right (holds id below) (holds id after) (reached_held id after a)))
     (reached_cases id label below after h)
-
--- ---- a node by its id
-
-abbrev kind_at : ℤ → Nodes Held → Option NodeKind
-kind_at id t = option_map (λ l. l.kind) (label_of id t)
-
-module _ (id : ℤ) (label : Label Held) (below after : Nodes Held) where
-  kind_here : int_eq label.id id ≡ true → kind_at id (node label below after) ≡ Some label.kind
-  kind_here e = ap (λ o. option_map (λ (l : Label Held). l.kind) o) (cond-true (int_eq label.id id) (Some label) (if holds id below then label_of id below else label_of id after) e)
-
-  kind_below : int_eq label.id id ≡ false → holds id below ≡ true → kind_at id (node label below after) ≡ kind_at id below
-  kind_below n h = ap (λ o. option_map (λ (l : Label Held). l.kind) o) (cond-false (int_eq label.id id) (Some label) (if holds id below then label_of id below else label_of id after) n ∙ cond-true (holds id below) (label_of id below) (label_of id after) h)
-
-  kind_after : int_eq label.id id ≡ false → holds id below ≡ false → kind_at id (node label below after) ≡ kind_at id after
-  kind_after n h = ap (λ o. option_map (λ (l : Label Held). l.kind) o) (cond-false (int_eq label.id id) (Some label) (if holds id below then label_of id below else label_of id after) n ∙ cond-false (holds id below) (label_of id below) (label_of id after) h)
-
-  children_here : int_eq label.id id ≡ true → children id (node label below after) ≡ below
-  children_here e = cond-true (int_eq label.id id) below (if holds id below then children id below else children id after) e
-
-  children_below : int_eq label.id id ≡ false → holds id below ≡ true → children id (node label below after) ≡ children id below
-  children_below n h = cond-false (int_eq label.id id) below (if holds id below then children id below else children id after) n ∙ cond-true (holds id below) (children id below) (children id after) h
-
-  children_after : int_eq label.id id ≡ false → holds id below ≡ false → children id (node label below after) ≡ children id after
-  children_after n h = cond-false (int_eq label.id id) below (if holds id below then children id below else children id after) n ∙ cond-false (holds id below) (children id below) (children id after) h
-
-some_is : (a b : NodeKind) → Some a ≡ Some b → a ≡ b
-some_is a b e = cc
 
 module _ (buffers : List (Option BufferPlace)) where
   named_clashing : (id : ℤ) (t : Nodes Held) → Distinct t → Named buffers id t → IsClashing buffers t id

@@ -1,18 +1,18 @@
 -- Runs and rows as the planner puts them.
-use Rattle.std.proofs.Common.{◌≡◌, ◌⊎◌, ℕ, suc, ◌+◌, ◌^◌, ◌<◌, ◌≤◌, Bool, true, false, Bor, List, [], ◌∷◌, ◌++◌, length, map, take, get_or, sym, refl, ap, ◌∙◌, subst, ⊎_elim, arith, append_assoc, length-append, true≢false}
+use Rattle.std.proofs.Common.{◌≡◌, ◌⊎◌, ℕ, suc, ◌+◌, ◌^◌, ◌<◌, ◌≤◌, Bool, true, false, if◌then◌else◌, Bor, List, [], ◌∷◌, ◌++◌, length, map, take, get_or, sym, refl, ap, ◌∙◌, subst, ⊎_elim, arith, append_assoc, length-append, true≢false}
 use Rattle.std.proofs.lemmas.List.{take_more, map-append, append-nil}
 use Rattle.std.specs.List.{All}
 use Rattle.std.proofs.lemmas.List.Elements.{All-append}
 use Rattle.sn_foot.specs.Canonical.{Ends}
-use Rattle.std.proofs.lemmas.Bool.{or_parts, or_cases}
+use Rattle.std.proofs.lemmas.Bool.{cases_Bool, cond-true, cond-false, or_parts, or_cases}
 use Rattle.sn_round.specs.declared.jobs.Job.{Job}
 use Rattle.sn_graph.specs.declared.nodes.Voice.{Voice}
 use Rattle.sn_graph.specs.Voices.{AreWithin, all_reads, all_writes, Running, none, synth, group, voices}
 use Rattle.sn_graph.specs.Rows.{Row, done, job, split, job_of, size, size_all, last, lasts, jobs, jobs_all}
 use Rattle.sn_graph.specs.Plans.{has_voice, close, followed, members, joined, keep, part, row_of, rows_of, inner_row}
 use Rattle.sn_graph.proofs.Shapes.{heard}
-use Rattle.std.proofs.Common.{Option, Some}
-use Rattle.sn_graph.specs.Drafts.{listed, Puts, IsJoint}
+use Rattle.std.proofs.Common.{Option, Some, None}
+use Rattle.sn_graph.specs.Drafts.{is_over, listed, Puts, IsJoint}
 use Rattle.sn_graph.proofs.Planning.{length-jobs}
 use Rattle.sn_graph.proofs.Parting.{heard-row, heard-rows, heard-joined}
 use Rattle.sn_graph.proofs.Filling as filling
@@ -74,11 +74,6 @@ pub part_ends : (run : List Voice) (r through rest : Row) → 1 ≤ size r → p
 part_ends run done through rest l = absurd (omega arith)
 part_ends run (job ss a) through rest l = refl
 part_ends run (split ms a) through rest l = refl
-
-pub keeps : (r : Row) (rs : List Row) → 1 ≤ size r → keep r rs ≡ r ∷ rs
-keeps done rs l = absurd (omega arith)
-keeps (job ss a) rs l = refl
-keeps (split ms a) rs l = refl
 
 -- nodes without a synth have no job
 mutual
@@ -177,26 +172,42 @@ pub heard_inner : (g : Bool) (inner : Running) → has_voice inner ≡ true → 
 heard_inner true inner h = has_job (joined (rows_of inner)) (rw (heard-joined (rows_of inner), heard-rows inner) (not_silent inner h))
 heard_inner false inner h = has_job (row_of [] inner) (rw (heard-row [] inner) (not_silent inner h))
 
--- a group in a row: it was put after the open run
-pub group_put : (before now mid after : List Job) (e f g k : Option ℕ) (run : List Voice) (flag : Bool) (inner rest : Running) (w : Row) → Leaves before now e f (row_of run (group flag inner rest)) w → has_voice inner ≡ true
-    → Puts now mid f g (close run done) → Puts mid after g k (inner_row flag inner) → Leaves before after e k (row_of [] rest) w
-group_put before now mid after e f g k run flag inner rest w h heard p q =
+pub over_some : (run : List Voice) (inner : Running) → 1 ≤ length run → is_over run inner ≡ has_voice inner
+over_some [] inner l = absurd (omega arith)
+over_some (v ∷ vs) inner l = refl
+
+-- where no run is open, a part with no job changes nothing
+part_first : (r rest : Row) → part [] r rest rest ≡ followed r rest
+part_first done rest = refl
+part_first (job ss a) rest = refl
+part_first (split ms a) rest = refl
+
+-- at a group where the open run is over, the run comes first, and then the group
+group_over : (run : List Voice) (flag : Bool) (inner rest : Running) → is_over run inner ≡ true → row_of run (group flag inner rest) ≡ followed (close run done) (followed (inner_row flag inner) (row_of [] rest))
+group_over [] flag inner rest h = part_first (inner_row flag inner) (row_of [] rest)
+group_over (v ∷ vs) flag inner rest h =
     let r : Row = inner_row flag inner in
-    let q2 : row_of run (group flag inner rest) ≡ followed (close run done) (followed r (row_of [] rest)) =
-    part_ends run r (row_of run rest) (row_of [] rest) (heard_inner flag inner heard) ∙ close-followed run (followed r (row_of [] rest)) in
+    part_ends (v ∷ vs) r (row_of (v ∷ vs) rest) (row_of [] rest) (heard_inner flag inner h) ∙ close-followed (v ∷ vs) (followed r (row_of [] rest))
+
+-- a group in a row: it was put after the open run
+pub group_put : (before now mid after : List Job) (e f g k : Option ℕ) (run : List Voice) (flag : Bool) (inner rest : Running) (w : Row) → Leaves before now e f (row_of run (group flag inner rest)) w → is_over run inner ≡ true
+    → Puts now mid f g (close run done) → Puts mid after g k (inner_row flag inner) → Leaves before after e k (row_of [] rest) w
+group_put before now mid after e f g k run flag inner rest w h over p q =
+    let r : Row = inner_row flag inner in
+    let q2 : row_of run (group flag inner rest) ≡ followed (close run done) (followed r (row_of [] rest)) = group_over run flag inner rest over in
     leaves_more before mid after e g k r (row_of [] rest) w (leaves_more before now mid e f g (close run done) (followed r (row_of [] rest)) w (subst (λ (x : Row). Leaves before now e f x w) q2 h) p) q
 
 -- a group without a synth
-pub group_silent : (run : List Voice) (flag : Bool) (inner rest : Running) → has_voice inner ≡ false → row_of run (group flag inner rest) ≡ row_of run rest
-group_silent run flag inner rest h = ap (λ (x : Row). part run x (row_of run rest) (row_of [] rest)) (silent_inner flag inner h)
+group_silent : (run : List Voice) (flag : Bool) (inner rest : Running) → is_over run inner ≡ false → row_of run (group flag inner rest) ≡ row_of run rest
+group_silent [] flag inner rest h = absurd (true≢false h)
+group_silent (v ∷ vs) flag inner rest h = ap (λ (x : Row). part (v ∷ vs) x (row_of (v ∷ vs) rest) (row_of [] rest)) (silent_inner flag inner h)
 
 -- there is room for the open run and the group
-pub room_for : (before now : List Job) (e f : Option ℕ) (run : List Voice) (flag : Bool) (inner rest : Running) (w : Row) → Leaves before now e f (row_of run (group flag inner rest)) w → has_voice inner ≡ true
+pub room_for : (before now : List Job) (e f : Option ℕ) (run : List Voice) (flag : Bool) (inner rest : Running) (w : Row) → Leaves before now e f (row_of run (group flag inner rest)) w → is_over run inner ≡ true
     → length now + size (close run done) + size (inner_row flag inner) ≤ length before + size w
-room_for before now e f run flag inner rest w h heard =
+room_for before now e f run flag inner rest w h over =
     let r : Row = inner_row flag inner in
-    let q2 : row_of run (group flag inner rest) ≡ followed (close run done) (followed r (row_of [] rest)) =
-    part_ends run r (row_of run rest) (row_of [] rest) (heard_inner flag inner heard) ∙ close-followed run (followed r (row_of [] rest)) in
+    let q2 : row_of run (group flag inner rest) ≡ followed (close run done) (followed r (row_of [] rest)) = group_over run flag inner rest over in
     omega (arith, leaves-length before now e f (row_of run (group flag inner rest)) w h, ap size q2, size-followed (close run done) (followed r (row_of [] rest)), size-followed r (row_of [] rest))
 
 -- a member was put
@@ -308,44 +319,71 @@ module _ {before now : List Job} {e f : Option ℕ} {w : Row} where
   pub fit_row : {r : Row} → Leaves before now e f r w → length before + size w < 2 ^ 32 → length now < 2 ^ 32
   fit_row {r} h l = omega (arith, leaves-length before now e f r w h)
 
-  pub fit_group : (run : List Voice) {n inner rest : Running} {flag : Bool} {mid : List Job} {g : Option ℕ} → Leaves before now e f (row_of run n) w → n ≡ group flag inner rest → has_voice inner ≡ true → length before + size w < 2 ^ 32
+  pub fit_group : (run : List Voice) {n inner rest : Running} {flag : Bool} {mid : List Job} {g : Option ℕ} → Leaves before now e f (row_of run n) w → n ≡ group flag inner rest → is_over run inner ≡ true → length before + size w < 2 ^ 32
       → Puts now mid f g (close run done) → length mid + size (inner_row flag inner) < 2 ^ 32
   fit_group run {n} {inner} {rest} {flag} {mid} {g} h q k l p =
       omega (arith, puts-length now mid f g (close run done) p, room_for before now e f run flag inner rest w (subst (λ (m : Running). Leaves before now e f (row_of run m) w) q h) k)
 
-  pub next_group : (run : List Voice) {n inner rest : Running} {flag : Bool} {mid after : List Job} {g k : Option ℕ} → Leaves before now e f (row_of run n) w → n ≡ group flag inner rest → has_voice inner ≡ true
+  pub next_group : (run : List Voice) {n inner rest : Running} {flag : Bool} {mid after : List Job} {g k : Option ℕ} → Leaves before now e f (row_of run n) w → n ≡ group flag inner rest → is_over run inner ≡ true
       → Puts now mid f g (close run done) → Puts mid after g k (inner_row flag inner) → Leaves before after e k (row_of [] rest) w
-  next_group run {n} {inner} {rest} {flag} {mid} {after} {g} {k} h q heard p r =
-      group_put before now mid after e f g k run flag inner rest w (subst (λ (m : Running). Leaves before now e f (row_of run m) w) q h) heard p r
+  next_group run {n} {inner} {rest} {flag} {mid} {after} {g} {k} h q over p r =
+      group_put before now mid after e f g k run flag inner rest w (subst (λ (m : Running). Leaves before now e f (row_of run m) w) q h) over p r
 
-  pub next_silent : (run : List Voice) {n inner rest : Running} {flag : Bool} → Leaves before now e f (row_of run n) w → n ≡ group flag inner rest → has_voice inner ≡ false → Leaves before now e f (row_of run rest) w
+  pub next_silent : (run : List Voice) {n inner rest : Running} {flag : Bool} → Leaves before now e f (row_of run n) w → n ≡ group flag inner rest → is_over run inner ≡ false → Leaves before now e f (row_of run rest) w
   next_silent run {n} {inner} {rest} {flag} h q k = subst (λ (r : Row). Leaves before now e f r w) (ap (row_of run) q ∙ group_silent run flag inner rest k) h
 
   pub end_row : (run : List Voice) {n : Running} {after : List Job} {g : Option ℕ} → Leaves before now e f (row_of run n) w → n ≡ none → Puts now after f g (close run done) → Puts before after e g w
   end_row run {n} {after} {g} h q p = leaves_none before now after e f g (close run done) w (subst (λ (m : Running). Leaves before now e f (row_of run m) w) q h) p
+
+last_of : (ls ms : List ℕ) (b : Bool) (k : Option ℕ) → b ≡ true → ms ≡ ls ++ listed (if b then k else None) → ms ≡ ls ++ listed k
+last_of ls ms b k h m = m ∙ ap (λ (o : Option ℕ). ls ++ listed o) (cond-true b k None h)
+
+none_of : (ls ms : List ℕ) (b : Bool) (k : Option ℕ) → b ≡ false → ms ≡ ls ++ listed (if b then k else None) → ms ≡ ls
+none_of ls ms b k h m = m ∙ (ap (λ (o : Option ℕ). ls ++ listed o) (cond-false b k None h) ∙ append-nil ls)
 
 module _ {before now : List Job} {e : Option ℕ} {ls : List ℕ} {ws : List Row} where
   pub fit_members : {rs : List Row} → LeavesAll before now ls e rs ws → length before + size (joined ws) < 2 ^ 32 → length now < 2 ^ 32
   fit_members {rs = []} h l = omega (arith, room_joint before now ls e ws h)
   fit_members {rs = r ∷ rs} h l = omega (arith, room_member before now ls e r rs ws h)
 
-  pub fit_member : {n inner rest : Running} {flag : Bool} → LeavesAll before now ls e (rows_of n) ws → n ≡ group flag inner rest → has_voice inner ≡ true → length before + size (joined ws) < 2 ^ 32 → length now + size (inner_row flag inner) < 2 ^ 32
-  fit_member {n} {inner} {rest} {flag} h q k l =
-      let h2 : LeavesAll before now ls e (inner_row flag inner ∷ rows_of rest) ws = subst (λ (rs : List Row). LeavesAll before now ls e rs ws) (ap rows_of q ∙ keeps (inner_row flag inner) (rows_of rest) (heard_inner flag inner k)) h in
-      omega (arith, room_member before now ls e (inner_row flag inner) (rows_of rest) ws h2)
+  -- a member without a job is left out
+  fit_kept : (r : Row) (rs : List Row) → LeavesAll before now ls e (keep r rs) ws → length before + size (joined ws) < 2 ^ 32 → length now + size r < 2 ^ 32
+  fit_kept done rs h l = omega (arith, fit_members h l)
+  fit_kept (job ss a) rs h l = omega (arith, room_member before now ls e (job ss a) rs ws h)
+  fit_kept (split ms a) rs h l = omega (arith, room_member before now ls e (split ms a) rs ws h)
+
+  pub fit_member : {n inner rest : Running} {flag : Bool} → LeavesAll before now ls e (rows_of n) ws → n ≡ group flag inner rest → length before + size (joined ws) < 2 ^ 32 → length now + size (inner_row flag inner) < 2 ^ 32
+  fit_member {n} {inner} {rest} {flag} h q l = fit_kept (inner_row flag inner) (rows_of rest) (subst (λ (x : Running). LeavesAll before now ls e (rows_of x) ws) q h) l
 
   pub next_synth : {n rest : Running} {s : Voice} {after : List Job} {k : Option ℕ} {ms : List ℕ} → LeavesAll before now ls e (rows_of n) ws → n ≡ synth s rest → Puts now after e k (close (s ∷ []) done) → ms ≡ ls ++ listed k → LeavesAll before after ms e (rows_of rest) ws
   next_synth {n} {rest} {s} {after} {k} {ms} h q p m =
       subst (λ (l : List ℕ). LeavesAll before after l e (rows_of rest) ws) (sym m) (member_put before now after ls e k (close (s ∷ []) done) (rows_of rest) ws (subst (λ (x : Running). LeavesAll before now ls e (rows_of x) ws) q h) p)
 
-  pub next_member : {n inner rest : Running} {flag : Bool} {after : List Job} {k : Option ℕ} {ms : List ℕ} → LeavesAll before now ls e (rows_of n) ws → n ≡ group flag inner rest → has_voice inner ≡ true → Puts now after e k (inner_row flag inner) → ms ≡ ls ++ listed k → LeavesAll before after ms e (rows_of rest) ws
-  next_member {n} {inner} {rest} {flag} {after} {k} {ms} h q heard p m =
-      let h2 : LeavesAll before now ls e (inner_row flag inner ∷ rows_of rest) ws = subst (λ (rs : List Row). LeavesAll before now ls e rs ws) (ap rows_of q ∙ keeps (inner_row flag inner) (rows_of rest) (heard_inner flag inner heard)) h in
-      subst (λ (l : List ℕ). LeavesAll before after l e (rows_of rest) ws) (sym m) (member_put before now after ls e k (inner_row flag inner) (rows_of rest) ws h2 p)
+  kept_put : (r : Row) (rs : List Row) (after : List Job) (k : Option ℕ) (ms : List ℕ) (b : Bool) → LeavesAll before now ls e (keep r rs) ws → Puts now after e k r
+      → ms ≡ ls ++ listed (if b then k else None) → (b ≡ true → length now < length after) → (b ≡ false → length after ≤ length now) → LeavesAll before after ms e rs ws
+  kept_put done rs after k ms b h p m more few =
+      let same : after ≡ now = p.jobs_put ∙ append-nil now in
+      ⊎_elim
+      (λ (t : b ≡ true). absurd (omega (arith, more t, ap length same)))
+      (λ (f : b ≡ false). subst (λ (l : List ℕ). LeavesAll before after l e rs ws) (sym (none_of ls ms b k f m)) (subst (λ (js : List Job). LeavesAll before js ls e rs ws) (sym same) h))
+      (cases_Bool b)
+  kept_put (job ss a) rs after k ms b h p m more few =
+      let long = puts-length now after e k (job ss a) p in
+      ⊎_elim
+      (λ (t : b ≡ true). subst (λ (l : List ℕ). LeavesAll before after l e rs ws) (sym (last_of ls ms b k t m)) (member_put before now after ls e k (job ss a) rs ws h p))
+      (λ (f : b ≡ false). absurd (omega (arith, few f, long)))
+      (cases_Bool b)
+  kept_put (split ns a) rs after k ms b h p m more few =
+      let long = puts-length now after e k (split ns a) p in
+      ⊎_elim
+      (λ (t : b ≡ true). subst (λ (l : List ℕ). LeavesAll before after l e rs ws) (sym (last_of ls ms b k t m)) (member_put before now after ls e k (split ns a) rs ws h p))
+      (λ (f : b ≡ false). absurd (omega (arith, few f, long)))
+      (cases_Bool b)
 
-  pub next_none : {n inner rest : Running} {flag : Bool} → LeavesAll before now ls e (rows_of n) ws → n ≡ group flag inner rest → has_voice inner ≡ false → LeavesAll before now ls e (rows_of rest) ws
-  next_none {n} {inner} {rest} {flag} h q k =
-      subst (λ (rs : List Row). LeavesAll before now ls e rs ws) (ap rows_of q ∙ ap (λ (x : Row). keep x (rows_of rest)) (silent_inner flag inner k)) h
+  pub next_member : (b : Bool) {n inner rest : Running} {flag : Bool} {after : List Job} {k : Option ℕ} {ms : List ℕ} → LeavesAll before now ls e (rows_of n) ws → n ≡ group flag inner rest → Puts now after e k (inner_row flag inner)
+      → ms ≡ ls ++ listed (if b then k else None) → (b ≡ true → length now < length after) → (b ≡ false → length after ≤ length now) → LeavesAll before after ms e (rows_of rest) ws
+  next_member b {n} {inner} {rest} {flag} {after} {k} {ms} h q p m more few =
+      kept_put (inner_row flag inner) (rows_of rest) after k ms b (subst (λ (x : Running). LeavesAll before now ls e (rows_of x) ws) q h) p m more few
 
   pub end_members : (inner : Running) {n : Running} {after : List Job} {k : Option ℕ} → LeavesAll before now ls e (rows_of n) ws → n ≡ none → ws ≡ rows_of inner → IsJoint now after ls e k → Puts before after e k (joined ws)
   end_members inner {n} {after} {k} h q u j =

@@ -7,10 +7,12 @@ pub mod Planning
 pub mod Freeing
 pub mod Drafting
 pub mod Lowest
+pub mod Jobwise
 pub mod Coming
 pub mod Resources
 pub mod Linking
 pub mod Staging
+pub mod Labels
 pub mod Counting
 pub mod Clearing
 pub mod Worlds

@@ -1,46 +1,26 @@
 -- The clashes of nodes name the parallel groups of which two members clash.
-use Rattle.std.proofs.Common.{◌≡◌, ◌<◌, ◌≤◌, ◌⊎◌, inl, inr, ⊎_elim, ℕ, zero, suc, ℤ, Bool, true, false, ◌&&◌, ◌||◌, List, [], ◌∷◌, ◌++◌, map, take, Option, Some, None, sym, refl, ap, ◌∙◌, subst, arith, if◌then◌else◌, true≢false}
-use Rattle.std.specs.Prelude.{nat_lt, is_some, slice_index_or}
+use Rattle.std.proofs.Common.{◌≡◌, ◌<◌, ◌≤◌, ◌⊎◌, inl, inr, ⊎_elim, ℕ, zero, suc, ℤ, Bool, true, false, ◌&&◌, ◌||◌, List, [], ◌∷◌, ◌++◌, map, take, Option, sym, refl, ap, ◌∙◌, subst, arith, if◌then◌else◌, true≢false}
+use Rattle.std.specs.Prelude.{nat_lt}
 use Rattle.std.specs.List.{filter, list_any}
 use Rattle.std.specs.Ordering.{int_eq}
-use Rattle.std.proofs.lemmas.Bool.{and_from, and_parts, cases_Bool, cases_lt, cond-true, cond-false, ltb-true, or_cases, or_left, or_right, or_parts}
+use Rattle.std.proofs.lemmas.Bool.{and_parts, cases_Bool, cases_lt, cond-true, cond-false, ltb-true, or_cases, or_left, or_right, or_parts}
 use Rattle.std.proofs.lemmas.Bool.Decides.{Decides-int_eq}
 use Rattle.std.proofs.lemmas.List.{map-append}
 use Rattle.std.proofs.lemmas.List.Folds.{list_any-append}
 use Rattle.sn_mem.specs.declared.buffers.BufferPlace.{BufferPlace}
 use Rattle.sn_mem.specs.Blocks.{table}
-use Rattle.sn_mem.specs.Layout.{audio_place, control_place}
 use Rattle.sn_tree.specs.declared.node.NodeKind.{NodeKind}
 use Rattle.sn_tree.specs.declared.node.NodeKind.TheVariants as kinds
 use Rattle.sn_tree.specs.Trees.{Label, Nodes, none, node, running_labels}
 use Rattle.sn_world.specs.declared.stage.Held.{Held}
 use Rattle.sn_foot.specs.declared.resource.Resource.{Resource}
 use Rattle.sn_foot.specs.declared.resource.Resource.TheVariants.{Audio, Control, Buffer}
-use Rattle.sn_foot.specs.Footprints.{Footprint, buffer_words, footprint_of, place_of, held_reads, held_writes}
+use Rattle.sn_foot.specs.Footprints.{Footprint, footprint_of, held_reads, held_writes, clash_on, is_there}
 use Rattle.sn_foot.specs.Footprints.{Clash as FootprintsClash}
 use Rattle.sn_clash.specs.declared.clash.Clash.{Clash}
-use Rattle.sn_clash.specs.Clashing.{Member, clash_on, clashes, clashes_among, clashes_with, footprint, is_parallel, is_there, members, resources}
+use Rattle.sn_clash.specs.Clashing.{Member, clashes, clashes_among, clashes_with, footprint, is_parallel, members, resources}
 use Rattle.sn_graph.specs.Stages.{is_listed}
 use Rattle.sn_graph.specs.Clear.{held_of, ClashesWithNone, ClashesWithOne, NoneClash, TwoClash, AreListed}
-
--- ---- resources that are there
-
-some_if : {A : Type 0} (b : Bool) (x : A) → is_some (if b then Some x else None) ≡ b
-some_if true x = refl
-some_if false x = refl
-
-words_there : (p : Option BufferPlace) → is_some (buffer_words p) ≡ is_some p
-words_there None = refl
-words_there (Some p) = refl
-
-words_if : (b : Bool) (p : Option BufferPlace) → is_some (if b then buffer_words p else None) ≡ (b && is_some p)
-words_if true p = words_there p
-words_if false p = refl
-
-has_place : (buffers : List (Option BufferPlace)) (r : Resource) → is_some (place_of buffers r) ≡ is_there buffers r
-has_place buffers (Audio n) = some_if (nat_lt n 128) (audio_place n)
-has_place buffers (Control n) = some_if (nat_lt n 1024) (control_place n)
-has_place buffers (Buffer n) = words_if (nat_lt n 1024) (slice_index_or buffers n None)
 
 -- ---- lists
 
@@ -126,23 +106,18 @@ module _ (buffers : List (Option BufferPlace)) where
 
   same_footprint : (ls : List (Label Held)) → used ls ≡ footprint_of buffers (map (λ l. l.payload) ls)
   same_footprint ls = λ i. record {
-    reads = λ r. (ap (λ b. is_there buffers r && b) (any_payload (λ h. held_reads h r) ls) ∙ ap (λ b. b && list_any (λ h. held_reads h r) (map (λ l. l.payload) ls)) (sym (has_place buffers r))) i;
-    writes = λ r. (ap (λ b. is_there buffers r && b) (any_payload (λ h. held_writes h r) ls) ∙ ap (λ b. b && list_any (λ h. held_writes h r) (map (λ l. l.payload) ls)) (sym (has_place buffers r))) i;
+    reads = λ r. is_there buffers r && any_payload (λ h. held_reads h r) ls i;
+    writes = λ r. is_there buffers r && any_payload (λ h. held_writes h r) ls i;
   }
 
-  turned : (a b : Bool) → (a || b) ≡ true → (b || a) ≡ true
-  turned true b h = or_right b true refl
-  turned false b h = or_left b false h
-
   on_there : (f g : Footprint) → ((r : Resource) → f.writes r ≡ true → is_there buffers r ≡ true) → ((r : Resource) → g.writes r ≡ true → is_there buffers r ≡ true) → FootprintsClash f g → list_any (clash_on f g) resources ≡ true
-  on_there f g a b c = ⊎_elim
-      (λ (h : (f.writes c.0 ≡ true) × ((g.writes c.0 || g.reads c.0) ≡ true)).
-      among_resources (clash_on f g) c.0 (a c.0 h.0)
-      (or_left (f.writes c.0 && (g.reads c.0 || g.writes c.0)) (g.writes c.0 && (f.reads c.0 || f.writes c.0)) (and_from (f.writes c.0) (g.reads c.0 || g.writes c.0) h.0 (turned (g.writes c.0) (g.reads c.0) h.1))))
-      (λ (h : (g.writes c.0 ≡ true) × ((f.writes c.0 || f.reads c.0) ≡ true)).
-      among_resources (clash_on f g) c.0 (b c.0 h.0)
-      (or_right (f.writes c.0 && (g.reads c.0 || g.writes c.0)) (g.writes c.0 && (f.reads c.0 || f.writes c.0)) (and_from (g.writes c.0) (f.reads c.0 || f.writes c.0) h.0 (turned (f.writes c.0) (f.reads c.0) h.1))))
-      c.1
+  on_there f g a b (r, t) =
+      among_resources (clash_on f g) r
+      (⊎_elim
+      (λ (h : (f.writes r && (g.reads r || g.writes r)) ≡ true). a r (and_parts (f.writes r) (g.reads r || g.writes r) h).0)
+      (λ (h : (g.writes r && (f.reads r || f.writes r)) ≡ true). b r (and_parts (g.writes r) (f.reads r || f.writes r) h).0)
+      (or_cases (f.writes r && (g.reads r || g.writes r)) (g.writes r && (f.reads r || f.writes r)) t))
+      t
 
   there_is : (ls : List (Label Held)) (r : Resource) → (used ls).writes r ≡ true → is_there buffers r ≡ true
   there_is ls r h = (and_parts (is_there buffers r) (list_any (λ l. held_writes l.payload r) ls) h).0
@@ -159,15 +134,7 @@ module _ (buffers : List (Option BufferPlace)) where
   -- and where one is, they clash
   some_on : (ls ms : List (Label Held)) (r : Resource) → clash_on (used ls) (used ms) r ≡ true → FootprintsClash (footprint_of buffers (map (λ l. l.payload) ls)) (footprint_of buffers (map (λ l. l.payload) ms))
   some_on ls ms r t =
-      let f : Footprint = used ls in
-      let g : Footprint = used ms in
-      let d : FootprintsClash f g = (
-        r,
-        ⊎_elim
-            (λ (h : (f.writes r && (g.reads r || g.writes r)) ≡ true). let p = and_parts (f.writes r) (g.reads r || g.writes r) h in inl (p.0, turned (g.reads r) (g.writes r) p.1))
-            (λ (h : (g.writes r && (f.reads r || f.writes r)) ≡ true). let p = and_parts (g.writes r) (f.reads r || f.writes r) h in inr (p.0, turned (f.reads r) (f.writes r) p.1))
-            (or_cases (f.writes r && (g.reads r || g.writes r)) (g.writes r && (f.reads r || f.writes r)) t),
-      ) in
+      let d : FootprintsClash (used ls) (used ms) = (r, t) in
       subst (λ (x : Footprint). FootprintsClash x (footprint_of buffers (map (λ l. l.payload) ms))) (same_footprint ls) (subst (λ (y : Footprint). FootprintsClash (used ls) y) (same_footprint ms) d)
 
   -- ---- members of a group

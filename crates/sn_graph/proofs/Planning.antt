@@ -198,27 +198,33 @@ clash_of ss ts (x, c) =
     (λ (d : (writes (foot_of ts) x ≡ true) × (touches (foot_of ss) x ≡ true)). let p = writes_of ts x (sym (has_canonical (all_writes ts) x) ∙ d.0) in let q = touches_of ss x d.1 in (q.0, p.0, q.1, p.1, (x, inr (p.2, q.2))))
     c
 
--- what a job plays, and its foot
+-- what a job plays, which stands together among all synths
 abbrev pub Made : (ℕ → Job) → ℕ → List Voice → Type 0
-Made at k all = (ss : List Voice) × (f : List ℕ) × (at k ≡ job_of ss f) × ((s : Voice) → Among ss s → Among all s)
+Made at k all = (ss : List Voice) × (f : List ℕ) × (at k ≡ job_of ss f) × (before : List Voice) × (after : List Voice) × (all ≡ before ++ (ss ++ after))
 
-pub made_more : (at : ℕ → Job) (k : ℕ) (xs ys : List Voice) → ((s : Voice) → Among xs s → Among ys s) → Made at k xs → Made at k ys
-made_more at k xs ys h m = (m.0, m.1, m.2, λ s a. h s (m.3 s a))
+made_left : (at : ℕ → Job) (k : ℕ) (xs ys : List Voice) → Made at k xs → Made at k (xs ++ ys)
+made_left at k xs ys m = (m.0, m.1, m.2, m.3, m.4 ++ ys, ap (λ (l : List Voice). l ++ ys) m.5 ∙ (append_assoc m.3 (m.0 ++ m.4) ys ∙ ap (λ (l : List Voice). m.3 ++ l) (append_assoc m.0 m.4 ys)))
+
+made_right : (at : ℕ → Job) (k : ℕ) (xs ys : List Voice) → Made at k ys → Made at k (xs ++ ys)
+made_right at k xs ys m = (m.0, m.1, m.2, xs ++ m.3, m.4, ap (λ (l : List Voice). xs ++ l) m.5 ∙ sym (append_assoc xs m.3 (m.0 ++ m.4)))
+
+made_among : (at : ℕ → Job) (k : ℕ) (all : List Voice) (m : Made at k all) (s : Voice) → Among m.0 s → Among all s
+made_among at k all m s a = subst (λ (l : List Voice). Among l s) (sym m.5) (among_right m.3 (m.0 ++ m.4) s (among_left m.0 m.4 s a))
 
 mutual
   pub job_is : (at : ℕ → Job) (n : ℕ) (e : List ℕ) (r : Row) (k : ℕ) → Stands at n e r → n ≤ k → k < n + size r → Made at k (heard r)
   job_is at n e done k s l m = absurd (omega arith)
   job_is at n e (job ss rest) k s l m =
       ⊎_elim
-      (λ (g : n < k). made_more at k (heard rest) (ss ++ heard rest) (among_right ss (heard rest)) (job_is at (n + 1) (n ∷ []) rest k s.1 (omega arith) (omega arith)))
-      (λ (g : k ≤ n). let q : k ≡ n = omega arith in (ss, e, ap at q ∙ s.0, among_left ss (heard rest)))
+      (λ (g : n < k). made_right at k ss (heard rest) (job_is at (n + 1) (n ∷ []) rest k s.1 (omega arith) (omega arith)))
+      (λ (g : k ≤ n). let q : k ≡ n = omega arith in (ss, e, ap at q ∙ s.0, [], heard rest, refl))
       (cases_lt n k)
   job_is at n e (split ms rest) k s l m =
       ⊎_elim
-      (λ (g : k < n + size_all ms). made_more at k (heard_all ms) (heard_all ms ++ heard rest) (among_left (heard_all ms) (heard rest)) (jobs_are at n e ms k s.0 l g))
+      (λ (g : k < n + size_all ms). made_left at k (heard_all ms) (heard rest) (jobs_are at n e ms k s.0 l g))
       (λ (g : n + size_all ms ≤ k). ⊎_elim
-      (λ (d : n + size_all ms < k). made_more at k (heard rest) (heard_all ms ++ heard rest) (among_right (heard_all ms) (heard rest)) (job_is at (n + size_all ms + 1) ((n + size_all ms) ∷ []) rest k s.2 (omega arith) (omega arith)))
-      (λ (d : k ≤ n + size_all ms). let q : k ≡ n + size_all ms = omega arith in ([], lasts n e ms, ap at q ∙ s.1, λ t a. absurd a))
+      (λ (d : n + size_all ms < k). made_right at k (heard_all ms) (heard rest) (job_is at (n + size_all ms + 1) ((n + size_all ms) ∷ []) rest k s.2 (omega arith) (omega arith)))
+      (λ (d : k ≤ n + size_all ms). let q : k ≡ n + size_all ms = omega arith in ([], lasts n e ms, ap at q ∙ s.1, heard_all ms, heard rest, refl))
       (cases_lt (n + size_all ms) k))
       (cases_lt k (n + size_all ms))
 
@@ -226,8 +232,8 @@ mutual
   jobs_are at n e (one r) k s l m = job_is at n e r k s l m
   jobs_are at n e (more r ms) k s l m =
       ⊎_elim
-      (λ (g : k < n + size r). made_more at k (heard r) (heard r ++ heard_all ms) (among_left (heard r) (heard_all ms)) (job_is at n e r k s.0 l g))
-      (λ (g : n + size r ≤ k). made_more at k (heard_all ms) (heard r ++ heard_all ms) (among_right (heard r) (heard_all ms)) (jobs_are at (n + size r) e ms k s.1 g (omega arith)))
+      (λ (g : k < n + size r). made_left at k (heard r) (heard_all ms) (job_is at n e r k s.0 l g))
+      (λ (g : n + size r ≤ k). made_right at k (heard r) (heard_all ms) (jobs_are at (n + size r) e ms k s.1 g (omega arith)))
       (cases_lt k (n + size r))
 
 -- the whole law of the plan
@@ -245,7 +251,7 @@ module _ (nodes : Running) (only_once : Once (voices nodes)) where
       let both : Clash (foot_of p.0) (foot_of q.0) = subst (λ (y : Foot × Foot). Clash y.0 y.1) (λ t. (ap (λ (x : Job). x.foot) p.2 t, ap (λ (x : Job). x.foot) q.2 t)) clash in
       let d = clash_of p.0 q.0 both in
       is_ordered nodes only_once i j d.0.id d.1.id (plays_made i p.0 p.1 d.0 p.2 d.2) (plays_made j q.0 q.1 d.1 q.2 d.3) l
-      (false_from_ne_true (is_parted false nodes d.0.id d.1.id) (λ h. free d.0 d.1 (subst (λ (l : List Voice). Among l d.0) (heard-row [] nodes) (p.3 d.0 d.2)) (subst (λ (l : List Voice). Among l d.1) (heard-row [] nodes) (q.3 d.1 d.3)) h d.4))
+      (false_from_ne_true (is_parted false nodes d.0.id d.1.id) (λ h. free d.0 d.1 (subst (λ (l : List Voice). Among l d.0) (heard-row [] nodes) (made_among (job_at js) i (heard row) p d.0 d.2)) (subst (λ (l : List Voice). Among l d.1) (heard-row [] nodes) (made_among (job_at js) j (heard row) q d.1 d.3)) h d.4))
 
   pub race_free : IsFree nodes → IsRaceFree (plan_of nodes)
   race_free free i j l m other clash =

@@ -1,5 +1,5 @@
 -- Two feet clash exactly where the footprints that they are of do.
-use Rattle.std.proofs.Common.{◌≡◌, ◌≤◌, ◌<◌, ◌⊎◌, inl, inr, ⊎_elim, ℕ, zero, suc, ◌+◌, ◌*◌, Bool, true, false, ◌||◌, List, [], ◌∷◌, ◌++◌, Option, Some, None, sym, refl, ap, ◌∙◌, subst, arith, true≢false, if◌then◌else◌}
+use Rattle.std.proofs.Common.{◌≡◌, ◌≤◌, ◌<◌, ◌⊎◌, inl, inr, ⊎_elim, ℕ, zero, suc, ◌+◌, ◌*◌, Bool, true, false, ◌&&◌, ◌||◌, List, [], ◌∷◌, ◌++◌, Option, Some, None, sym, refl, ap, ◌∙◌, subst, arith, true≢false, if◌then◌else◌}
 use Rattle.std.specs.Prelude.{◌↔◌, slice_index_or, nat_lt, nat_le, is_some}
 use Rattle.std.specs.List.{All, list_any}
 use Rattle.std.proofs.lemmas.Bool.{cond-true, cond-false, or_cases, or_left, or_right, and_parts, and_from, lt-ltb, le-ltb, ltb-true, leb-true, le-leb, cases_lt, cases_order}
@@ -11,10 +11,11 @@ use Rattle.sn_mem.specs.Buffers.{MayBePlace, overlaps, live_places, place_extent
 use Rattle.sn_world.specs.declared.stage.Held.{Held}
 use Rattle.sn_foot.specs.declared.resource.Resource.{Resource}
 use Rattle.sn_foot.specs.declared.resource.Resource.TheVariants.{Audio, Control, Buffer}
-use Rattle.sn_foot.specs.Footprints.{Footprint, buffer_words, place_of, lies_in, states_of, IsOfUsed, held_writes, footprint_of, foot_of}
+use Rattle.sn_foot.specs.Footprints.{Footprint, buffer_words, clash_on, is_there, place_of, lies_in, states_of, IsOfUsed, held_writes, footprint_of, foot_of}
 use Rattle.sn_foot.specs.Footprints.{Clash as FootprintsClash}
 use Rattle.sn_foot.proofs.Runs.{has_append}
 use Rattle.sn_foot.proofs.Containing.{its_words}
+use Rattle.sn_foot.proofs.Placing.{has_place}
 use Rattle.sn_graph.specs.Disjoint.{AreDisjoint}
 
 -- ---- how often a word is covered
@@ -156,8 +157,30 @@ state_right : (x : ℕ) (es fs : List Extent) → has fs x ≡ true → has (es 
 state_right x es fs h = has_append es fs x ∙ or_right (has es x) (has fs x) h
 
 -- the first writes what the second uses
-abbrev Meets : Footprint → Footprint → Resource → Type 0
+abbrev pub Meets : Footprint → Footprint → Resource → Type 0
 Meets a b r = (a.writes r ≡ true) × ((b.writes r || b.reads r) ≡ true)
+
+changed : (x y : Bool) → (x || y) ≡ true → (y || x) ≡ true
+changed true y h = or_right y true refl
+changed false y h = or_left y false h
+
+module _ (a b : Footprint) (r : Resource) where
+  -- two footprints clash on what one of them writes and the other uses
+  pub one_meets : clash_on a b r ≡ true → Meets a b r ⊎ Meets b a r
+  one_meets t = ⊎_elim
+      (λ (h : (a.writes r && (b.reads r || b.writes r)) ≡ true). let p = and_parts (a.writes r) (b.reads r || b.writes r) h in inl (p.0, changed (b.reads r) (b.writes r) p.1))
+      (λ (h : (b.writes r && (a.reads r || a.writes r)) ≡ true). let p = and_parts (b.writes r) (a.reads r || a.writes r) h in inr (p.0, changed (a.reads r) (a.writes r) p.1))
+      (or_cases (a.writes r && (b.reads r || b.writes r)) (b.writes r && (a.reads r || a.writes r)) t)
+
+  pub first_meets : Meets a b r → clash_on a b r ≡ true
+  first_meets m =
+      or_left (a.writes r && (b.reads r || b.writes r)) (b.writes r && (a.reads r || a.writes r))
+      (and_from (a.writes r) (b.reads r || b.writes r) m.0 (changed (b.writes r) (b.reads r) m.1))
+
+  pub second_meets : Meets b a r → clash_on a b r ≡ true
+  second_meets m =
+      or_right (a.writes r && (b.reads r || b.writes r)) (b.writes r && (a.reads r || a.writes r))
+      (and_from (b.writes r) (a.reads r || a.writes r) m.0 (changed (a.writes r) (a.reads r) m.1))
 
 module _ (buffers : List (Option BufferPlace)) (hs ks : List Held) (is : AreDisjoint buffers (states_of hs ++ states_of ks)) where
   touched : (x : ℕ) → touches (foot_of buffers ks) x ≡ true → ((r : Resource) × (((footprint_of buffers ks).writes r || (footprint_of buffers ks).reads r) ≡ true) × (lies_in x (place_of buffers r) ≡ true)) ⊎ (has (states_of ks) x ≡ true)
@@ -193,8 +216,8 @@ module _ (buffers : List (Option BufferPlace)) (hs ks : List Held) (is : AreDisj
   pub meeting : (r : Resource) → Meets (footprint_of buffers hs) (footprint_of buffers ks) r → (x : ℕ) × ((writes (foot_of buffers hs) x ≡ true) × (touches (foot_of buffers ks) x ≡ true))
   meeting r m =
       let states = states_of hs ++ states_of ks in
-      let there = (and_parts (is_some (place_of buffers r)) (list_any (λ h. held_writes h r) hs) m.0).0 in
-      let word = first_word buffers states is r there in
+      let there = (and_parts (is_there buffers r) (list_any (λ h. held_writes h r) hs) m.0).0 in
+      let word = first_word buffers states is r (has_place buffers r ∙ there) in
       let w = its_words buffers ks in (
         word.0,
         (
@@ -217,11 +240,11 @@ pub clash_agrees : (buffers : List (Option BufferPlace)) (hs ks : List Held) →
 clash_agrees buffers hs ks is =
     let back = turned buffers (states_of hs) (states_of ks) is in (
       λ (c : Clash (foot_of buffers hs) (foot_of buffers ks)). ⊎_elim
-          (λ (h : (writes (foot_of buffers hs) c.0 ≡ true) × (touches (foot_of buffers ks) c.0 ≡ true)). let s = shared buffers hs ks is c.0 h.0 h.1 in (s.0, inl s.1))
-          (λ (h : (writes (foot_of buffers ks) c.0 ≡ true) × (touches (foot_of buffers hs) c.0 ≡ true)). let s = shared buffers ks hs back c.0 h.0 h.1 in (s.0, inr s.1))
+          (λ (h : (writes (foot_of buffers hs) c.0 ≡ true) × (touches (foot_of buffers ks) c.0 ≡ true)). let s = shared buffers hs ks is c.0 h.0 h.1 in (s.0, first_meets (footprint_of buffers hs) (footprint_of buffers ks) s.0 s.1))
+          (λ (h : (writes (foot_of buffers ks) c.0 ≡ true) × (touches (foot_of buffers hs) c.0 ≡ true)). let s = shared buffers ks hs back c.0 h.0 h.1 in (s.0, second_meets (footprint_of buffers hs) (footprint_of buffers ks) s.0 s.1))
           c.1,
       λ (c : FootprintsClash (footprint_of buffers hs) (footprint_of buffers ks)). ⊎_elim
           (λ (h : Meets (footprint_of buffers hs) (footprint_of buffers ks) c.0). let m = meeting buffers hs ks is c.0 h in (m.0, inl m.1))
           (λ (h : Meets (footprint_of buffers ks) (footprint_of buffers hs) c.0). let m = meeting buffers ks hs back c.0 h in (m.0, inr m.1))
-          c.1,
+          (one_meets (footprint_of buffers hs) (footprint_of buffers ks) c.0 c.1),
     )

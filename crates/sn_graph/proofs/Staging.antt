@@ -11,7 +11,7 @@ use Rattle.sn_mem.specs.Buffers.{live_places}
 use Rattle.sn_tree.specs.declared.node.NodeKind.{NodeKind}
 use Rattle.sn_tree.specs.declared.node.NodeKind.TheVariants as kinds
 use Rattle.sn_tree.specs.Trees as trees
-use Rattle.sn_tree.specs.Trees.{Label, Nodes, holds, ids, subtree, count}
+use Rattle.sn_tree.specs.Trees.{Label, Nodes, holds, subtree}
 use Rattle.sn_tree.specs.Members.{members}
 use Rattle.sn_world.specs.declared.stage.Held.{Held}
 use Rattle.sn_world.specs.Pictures.{held_extents, live_held}

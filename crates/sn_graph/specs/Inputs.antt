@@ -6,4 +6,4 @@ use Rattle.sn_graph.specs.Voices.{Running, none, synth, group}
 abbrev pub nodes_of : Given → Running
 nodes_of (given.None) = none
 nodes_of (given.Synth' s p rest) = synth s (nodes_of rest)
-nodes_of (given.Group' g p inner q rest) = group g (nodes_of inner) (nodes_of rest)
+nodes_of (given.Group' flag p inner q rest) = group flag (nodes_of inner) (nodes_of rest)

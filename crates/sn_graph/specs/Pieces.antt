@@ -23,7 +23,7 @@ pub data Piece : Type 0 where
 abbrev pub piece_of : Part → Piece
 piece_of given.Paused = paused
 piece_of (given.Synth v) = voice v
-piece_of (given.Group g inner) = below g (nodes_of inner)
+piece_of (given.Group flag inner) = below flag (nodes_of inner)
 
 -- those that are kept, of which the first one was put last
 abbrev pub pieces : List Part → List Piece
@@ -33,7 +33,7 @@ pieces parts = reverse (map piece_of parts)
 abbrev pub before : Piece → Running → Running
 before paused rest = rest
 before (voice v) rest = synth v rest
-before (below g inner) rest = group g inner rest
+before (below flag inner) rest = group flag inner rest
 
 abbrev pub linked : List Piece → Running → Running
 linked [] rest = rest

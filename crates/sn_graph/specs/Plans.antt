@@ -1,18 +1,19 @@
 -- The plan of running synths.
 use Rattle.std.specs.Prelude.{◌≡◌, ◌↔◌, ℕ, ◌+◌, ◌*◌, ◌<◌, ◌≤◌, ℤ, Bool, true, false, ◌&&◌, ◌||◌, if◌then◌else◌, List, [], ◌∷◌, ◌++◌, length}
+use Rattle.std.specs.List.{filter}
 use Rattle.std.specs.Ordering.{int_eq}
 use Rattle.sn_mem.specs.Words.{Clash}
 use Rattle.sn_round.specs.declared.jobs.Job.{Job}
-use Rattle.sn_round.specs.Jobs.{job_at, Ordered}
+use Rattle.sn_round.specs.Jobs.{foot_at, job_at, Ordered}
 use Rattle.sn_graph.specs.declared.nodes.Voice.{Voice}
-use Rattle.sn_graph.specs.Voices.{Running, none, synth, group, voices, ids_of, has}
+use Rattle.sn_graph.specs.Voices.{Running, none, synth, group, voices, foot_of, ids_of, has}
 use Rattle.sn_graph.specs.Rows.{Row, Members, done, job, split, one, more, jobs}
 
 -- a synth is among them
 abbrev pub has_voice : Running → Bool
 has_voice none = false
 has_voice (synth s rest) = true
-has_voice (group g inner rest) = has_voice inner || has_voice rest
+has_voice (group flag inner rest) = has_voice inner || has_voice rest
 
 -- an open run of synths is one job
 abbrev pub close : List Voice → Row → Row
@@ -51,16 +52,16 @@ abbrev mutual
   pub row_of : List Voice → Running → Row
   row_of run none = close run done
   row_of run (synth v rest) = row_of (run ++ v ∷ []) rest
-  row_of run (group g inner rest) = part run (if g then joined (rows_of inner) else row_of [] inner) (row_of run rest) (row_of [] rest)
+  row_of run (group flag inner rest) = part run (if flag then joined (rows_of inner) else row_of [] inner) (row_of run rest) (row_of [] rest)
 
   pub rows_of : Running → List Row
   rows_of none = []
   rows_of (synth v rest) = job (v ∷ []) done ∷ rows_of rest
-  rows_of (group g inner rest) = keep (if g then joined (rows_of inner) else row_of [] inner) (rows_of rest)
+  rows_of (group flag inner rest) = keep (if flag then joined (rows_of inner) else row_of [] inner) (rows_of rest)
 
 -- the row of a group
 abbrev pub inner_row : Bool → Running → Row
-inner_row g inner = if g then joined (rows_of inner) else row_of [] inner
+inner_row flag inner = if flag then joined (rows_of inner) else row_of [] inner
 
 -- the plan of these nodes
 abbrev pub plan_of : Running → List Job
@@ -81,21 +82,27 @@ abbrev pub has_id : List ℤ → ℤ → Bool
 has_id [] a = false
 has_id (x ∷ xs) a = int_eq x a || has_id xs a
 
+-- the synths that have one of these ids
+abbrev pub synths_with : List ℤ → List Voice → List Voice
+synths_with ids vs = filter (λ v. has_id ids v.id) vs
+
 -- the synth is among those of the job
 abbrev pub Plays : List Job → ℕ → ℤ → Type 0
 Plays js i a = has_id ((job_at js i).synths) a ≡ true
 
 -- The lowest group that holds both synths is split. The nodes are the children of a group that is split or not.
 abbrev pub lowest_is_split : Bool → Running → ℤ → ℤ → Bool
-lowest_is_split g none a b = g
-lowest_is_split g (synth v rest) a b = lowest_is_split g rest a b
-lowest_is_split g (group h inner rest) a b = if has (voices inner) a && has (voices inner) b then lowest_is_split h inner a b else lowest_is_split g rest a b
+lowest_is_split outer none a b = outer
+lowest_is_split outer (synth v rest) a b = lowest_is_split outer rest a b
+lowest_is_split outer (group flag inner rest) a b = if has (voices inner) a && has (voices inner) b then lowest_is_split flag inner a b else lowest_is_split outer rest a b
 
 pub record IsPlanned (nodes : Running) (js : List Job) : Type 0 where
   -- the synths of the jobs, joined, are those of the nodes in the order of the walk
   pub synths : joined_synths js ≡ ids_of (voices nodes)
   -- of jobs with synths, one is ordered before another exactly where it stands before it and the lowest group that holds the synths of both is not split
   pub ordered : (i j : ℕ) (a b : ℤ) → Plays js i a → Plays js j b → Ordered js i j ↔ ((i < j) × (lowest_is_split false nodes a b ≡ false))
+  -- what a job may touch is what its synths may touch
+  pub feet : (i : ℕ) → i < length js → foot_at js i ≡ foot_of (synths_with (job_at js i).synths (voices nodes))
   -- there are at most twice as many predecessors as jobs
   pub few : edges js ≤ 2 * length js
 
@@ -113,10 +120,10 @@ AreClear (s ∷ ss) ts = IsClearOf s ts × AreClear ss ts
 abbrev pub MembersAreClear : Running → Type 0
 MembersAreClear none = Unit {0}
 MembersAreClear (synth s rest) = IsClearOf s (voices rest) × MembersAreClear rest
-MembersAreClear (group g inner rest) = AreClear (voices inner) (voices rest) × MembersAreClear rest
+MembersAreClear (group flag inner rest) = AreClear (voices inner) (voices rest) × MembersAreClear rest
 
 -- nor does one in any split group
 abbrev pub SplitsAreClear : Running → Type 0
 SplitsAreClear none = Unit {0}
 SplitsAreClear (synth s rest) = SplitsAreClear rest
-SplitsAreClear (group g inner rest) = (g ≡ true → MembersAreClear inner) × (SplitsAreClear inner × SplitsAreClear rest)
+SplitsAreClear (group flag inner rest) = (flag ≡ true → MembersAreClear inner) × (SplitsAreClear inner × SplitsAreClear rest)

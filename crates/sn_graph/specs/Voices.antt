@@ -17,7 +17,7 @@ pub data Running : Type 0 where
 abbrev pub voices : Running → List Voice
 voices none = []
 voices (synth v rest) = v ∷ voices rest
-voices (group g inner rest) = voices inner ++ voices rest
+voices (group flag inner rest) = voices inner ++ voices rest
 
 abbrev pub ids_of : List Voice → List ℤ
 ids_of [] = []

@@ -1,11 +1,11 @@
 //! The jobs of running nodes.
-ghost use Rattle.std.specs.Prelude.{◌≡◌, ◌+◌, ◌<◌, ◌^◌, ◌++◌, ◌∷◌, [], length, IfOk, OnOk, map};
+ghost use Rattle.std.specs.Prelude.{◌≡◌, ◌+◌, ◌<◌, ◌^◌, ◌++◌, [], None, if◌then◌else◌, length, IfOk, OnOk, map};
 ghost use Rattle.sn_round.specs.Jobs.{IsRaceFree};
 ghost use Rattle.sn_graph.specs.Voices.{AreWithin, Once, all_reads, all_writes, foot_of, ids_of, voices};
 ghost use Rattle.sn_graph.specs.Rows.{size, done, job_of};
 ghost use Rattle.sn_graph.specs.Plans.{IsPlanned, SplitsAreClear, close, has_voice, inner_row, joined, plan_of, row_of, rows_of};
 ghost use Rattle.sn_graph.specs.Inputs.{nodes_of};
-ghost use Rattle.sn_graph.specs.Drafts.{IsJoint, Puts, listed};
+ghost use Rattle.sn_graph.specs.Drafts.{IsJoint, Puts, is_over, listed};
 
 use crate::nodes::{Running, Voice};
 use sn_foot::canonical;
@@ -23,6 +23,16 @@ fn has_voice(nodes: &Running) -> bool
         Running::Synth(_, _) => true,
         Running::Group(_, inner, rest) => has_voice(inner) || has_voice(rest),
     }
+}
+
+/// Whether an open run is over at a group: in the group is a synth, or the run has none yet.
+fn is_over(run: &[&Voice], inner: &Running) -> bool
+    ensures { result ≡ is_over (map (λ v. v.now) run.now) (nodes_of inner.now) }
+{
+    if run.is_empty() {
+        return true;
+    }
+    has_voice(inner)
 }
 
 /// Puts extents at the end.
@@ -125,6 +135,13 @@ fn end_run(
     Ok(Some(number))
 }
 
+/// The last job of a member, if the member has jobs.
+fn last_of(has_jobs: bool, last: Option<u32>) -> Option<u32>
+    ensures { result ≡ (if has_jobs then last else None) }
+{
+    if has_jobs { last } else { None }
+}
+
 /// Puts the last job of a member at the end.
 fn put_last(lasts: &mut Jobs, last: Option<u32>) -> Result<(), NoMemory>
     ensures { OnOk result (lasts.new ≡ lasts.old ++ listed last) }
@@ -180,8 +197,9 @@ fn put_row(
             }
             Running::Group(split, inner, next) => {
                 rest = next;
-                if has_voice(inner) {
-                    last = end_run(alloc, jobs, run.as_slice(), last)?;
+                let open = run.as_slice();
+                if is_over(open, inner) {
+                    last = end_run(alloc, jobs, open, last)?;
                     last = put_group(alloc, jobs, *split, inner, last)?;
                     run.clear();
                 }
@@ -235,10 +253,9 @@ fn put_members(
             }
             Running::Group(split, inner, next) => {
                 rest = next;
-                if has_voice(inner) {
-                    let last = put_group(alloc, jobs, *split, inner, entry)?;
-                    put_last(&mut lasts, last)?;
-                }
+                let before = jobs.len();
+                let last = put_group(alloc, jobs, *split, inner, entry)?;
+                put_last(&mut lasts, last_of(before < jobs.len(), last))?;
             }
         }
     }

@@ -3,6 +3,7 @@
 
 mod jobs;
 mod laws;
+mod named;
 mod nodes;
 mod parts;
 mod stages;

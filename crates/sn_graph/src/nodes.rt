@@ -4,7 +4,9 @@ use sn_mem::Foot;
 /// A running synth, and the words that it may touch.
 #[derive(Drop)]
 pub struct Voice {
+    /// The id of the synth.
     pub id: i32,
+    /// The words.
     pub foot: Foot,
 }
 
@@ -12,7 +14,10 @@ pub struct Voice {
 /// beside each other.
 #[derive(Drop)]
 pub enum Running {
+    /// No more of them.
     None,
+    /// A synth, and those after it.
     Synth(Voice, Box<Running>),
+    /// A group with those below it, and those after it.
     Group(bool, Box<Running>, Box<Running>),
 }

@@ -1,14 +1,15 @@
 //! Nodes by themselves, which are put together from the end of the walk on.
-ghost use Rattle.std.specs.Prelude.{◌≡◌, ◌++◌, ◌∷◌, [], IfOk, OnOk, map, not, take, drop, reverse};
+ghost use Rattle.std.specs.Prelude.{◌≡◌, ◌++◌, ◌∷◌, [], IfOk, OnOk, map, take, drop};
 ghost use Rattle.std.specs.List.{All};
 ghost use Rattle.sn_mem.specs.Buffers.{live_places};
 ghost use Rattle.sn_foot.specs.Canonical.{Ends};
 ghost use Rattle.sn_foot.specs.Footprints.{states_of};
 ghost use Rattle.sn_graph.specs.Voices.{none};
 ghost use Rattle.sn_graph.specs.Inputs.{nodes_of};
-ghost use Rattle.sn_graph.specs.Stages.{is_listed, voice_of};
+ghost use Rattle.sn_graph.specs.Stages.{voice_of};
 ghost use Rattle.sn_graph.specs.Pieces.{before, linked, piece, piece_of, pieces, seen, with_member};
 
+use crate::named::NamedGroups;
 use crate::nodes::{Running, Voice};
 use sn_foot::foot_of_nodes;
 use sn_mem::Buffers;
@@ -20,8 +21,11 @@ use std::alloc::Global;
 /// A node by itself, with what runs below it.
 #[derive(Drop)]
 pub enum Part {
+    /// A node that is paused, which is left out with all below it.
     Paused,
+    /// A synth.
     Synth(Voice),
+    /// A group, whether it is split, and those below it.
     Group(bool, Running),
 }
 
@@ -91,18 +95,11 @@ fn voice_of(alloc: Global, buffers: &Buffers, member: &Member<'_, Held>) -> Resu
     })
 }
 
-/// Whether an id is one of these.
-fn is_listed(ids: &[i32], id: &i32) -> bool
-    ensures { result ≡ is_listed ids.now id.now }
-{
-    ids.contains(id)
-}
-
 /// A node with these below it.
 fn part_of(
     alloc: Global,
     buffers: &Buffers,
-    clashing: &[i32],
+    clashing: &NamedGroups<'_>,
     member: &Member<'_, Held>,
     inner: Running,
 ) -> Result<Part, NoMemory>
@@ -116,7 +113,7 @@ fn part_of(
     match member.kind {
         NodeKind::Synth => Ok(Part::Synth(voice_of(alloc, buffers, member)?)),
         NodeKind::Group => Ok(Part::Group(false, inner)),
-        NodeKind::Parallel => Ok(Part::Group(!is_listed(clashing, &member.id), inner)),
+        NodeKind::Parallel => Ok(Part::Group(!clashing.has(&member.id), inner)),
     }
 }
 
@@ -124,7 +121,7 @@ fn part_of(
 pub fn put_part(
     alloc: Global,
     buffers: &Buffers,
-    clashing: &[i32],
+    clashing: &NamedGroups<'_>,
     parts: &mut Vec<Part>,
     member: &Member<'_, Held>,
 ) -> Result<(), NoMemory>

@@ -1,5 +1,5 @@
 //! The plan of a stage.
-ghost use Rattle.std.specs.Prelude.{◌≡◌, ◌≤◌, pos, length, IfOk, map};
+ghost use Rattle.std.specs.Prelude.{◌≡◌, ◌<◌, pos, length, IfOk, map};
 ghost use Rattle.std.specs.List.{All};
 ghost use Rattle.sn_mem.specs.Buffers.{live_places};
 ghost use Rattle.sn_tree.specs.Trees.{count, subtree};
@@ -16,6 +16,7 @@ ghost use Rattle.sn_graph.specs.Disjoint.{AreDisjoint};
 ghost use Rattle.sn_graph.specs.Stages.{nodes_in, running_nodes};
 
 use crate::jobs::plan_of_nodes;
+use crate::named::NamedGroups;
 use crate::nodes::Running;
 use crate::parts::{put_part, take_nodes};
 use sn_clash::Clash;
@@ -37,7 +38,11 @@ fn members_of<'a>(alloc: Global, tree: &'a Tree<Held>) -> Result<Vec<Member<'a, 
 }
 
 /// The nodes that run, with what each synth touches. The walk is gone over from its end on.
-fn running_nodes(alloc: Global, stage: &Stage, clashing: &[i32]) -> Result<Running, NoMemory>
+fn running_nodes(
+    alloc: Global,
+    stage: &Stage,
+    clashing: &NamedGroups<'_>,
+) -> Result<Running, NoMemory>
     requires buffers { All Ends (live_places stage.now.buffers) }
     requires states { All Ends (live_held stage.now.tree.attached) }
     ensures { IfOk result (λ nodes. nodes_of nodes ≡ running_nodes stage.now.buffers clashing.now stage.now.tree.attached) }
@@ -51,28 +56,18 @@ fn running_nodes(alloc: Global, stage: &Stage, clashing: &[i32]) -> Result<Runni
     take_nodes(alloc, &mut parts, count)
 }
 
-/// The ids of the groups that clashes name.
-fn groups_of(alloc: Global, clashes: &[Clash]) -> Result<Vec<i32>, NoMemory>
-    ensures { IfOk result (λ groups. groups.items ≡ map (λ c. c.group) clashes.now) }
-{
-    let mut groups = Vec::new(alloc);
-    for clash in clashes {
-        groups.push(clash.group)?;
-    }
-    Ok(groups)
-}
-
 /// The plan of a stage, of which these parallel groups have members that clash.
-fn plan_without(alloc: Global, stage: &Stage, clashing: &[i32]) -> Result<Plan, NoMemory>
+fn plan_without(alloc: Global, stage: &Stage, clashing: &NamedGroups<'_>) -> Result<Plan, NoMemory>
     requires buffers { All Ends (live_places stage.now.buffers) }
     requires states { All Ends (live_held stage.now.tree.attached) }
     ensures jobs { IfOk result (λ plan. plan ≡ plan_of (running_nodes stage.now.buffers clashing.now stage.now.tree.attached)) }
     ensures planned { IfOk result (IsPlanned (running_nodes stage.now.buffers clashing.now stage.now.tree.attached)) }
-    ensures few { IfOk result (λ plan. length plan ≤ count stage.now.tree.attached) }
+    ensures few { IfOk result (λ plan. length plan < count stage.now.tree.attached) }
     ensures race_free { AreDisjoint stage.now.buffers (live_held stage.now.tree.attached) → AreListed stage.now.buffers clashing.now (subtree (pos 0) stage.now.tree.attached) → IfOk result IsRaceFree }
 {
     let _count = stage.tree.len();
     stage.tree.ids_are_distinct();
+    stage.tree.root_is_a_group();
     let nodes = running_nodes(alloc, stage, clashing)?;
     plan_of_nodes(alloc, &nodes)
 }
@@ -85,10 +80,10 @@ pub fn plan(alloc: Global, stage: &Stage, clashes: &[Clash]) -> Result<Plan, NoM
     requires clashes { clashes.now ≡ clashes_in stage.now }
     ensures jobs { IfOk result (λ plan. plan ≡ plan_of (nodes_in stage.now)) }
     ensures planned { IfOk result (IsPlanned (nodes_in stage.now)) }
-    ensures few { IfOk result (λ plan. length plan ≤ count stage.now.tree.attached) }
+    ensures few { IfOk result (λ plan. length plan < count stage.now.tree.attached) }
     ensures race_free { AreDisjoint stage.now.buffers (live_held stage.now.tree.attached) → IfOk result IsRaceFree }
 {
     stage.tree.root_holds_all();
-    let groups = groups_of(alloc, clashes)?;
-    plan_without(alloc, stage, &groups)
+    let clashing = NamedGroups::new(alloc, clashes)?;
+    plan_without(alloc, stage, &clashing)
 }

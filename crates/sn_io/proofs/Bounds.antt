@@ -1,9 +1,8 @@
 -- The frames that a unit gives lie in its buffer.
-use Rattle.std.proofs.Common.{◌≡◌, ◌<◌, ℕ, zero, suc, ◌+◌, Bool, true, false, ◌&&◌, nat_lt, cond, List, [], ◌∷◌, ◌++◌, ℤ, pos, negsuc, Option, Some, None, get_or, refl, ap, sym, subst, arith}
+use Rattle.std.proofs.Common.{◌≡◌, ◌<◌, ℕ, zero, suc, Bool, true, false, ◌&&◌, nat_lt, cond, List, [], ◌∷◌, ◌++◌, ℤ, pos, negsuc, Option, Some, None, get_or, refl, sym, subst}
 use Rattle.std.specs.Prelude.{IfSome, int_lt}
 use Rattle.std.proofs.lemmas.Bool.{ltb-true}
 use Rattle.sn_mem.specs.Blocks.{table, sample}
-use Rattle.sn_io.specs.declared.playing.Playing.{Playing}
 use Rattle.sn_io.specs.declared.recording.Recording.{Recording}
 use Rattle.sn_io.specs.Positions.{frame_at, walk, playing_in, play_buf, recording_in, record_buf, indexed}
 use Rattle.sn_io.specs.BufferUnits.{play_frames, record_frames}

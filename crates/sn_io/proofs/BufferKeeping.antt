@@ -1,6 +1,5 @@
 -- A unit on a buffer keeps the number of the words, and changes none but those that may be written.
-use Rattle.std.proofs.Common.{◌≡◌, ◌≤◌, ◌<◌, ◌⊎◌, ℕ, zero, suc, ◌+◌, ◌*◌, ◌==◌, Bool, true, false, cond, List, [], ℤ, Option, Some, None, length, get_or, refl, sym, ◌∙◌, ⊎_elim, inl, inr, arith, length-set, get_or-set_other}
-use Rattle.std.specs.Prelude.{slice_set}
+use Rattle.std.proofs.Common.{◌≡◌, ◌≤◌, ◌<◌, ℕ, zero, suc, ◌+◌, ◌*◌, ◌==◌, Bool, true, false, cond, List, ℤ, Option, Some, None, length, get_or, refl, ◌∙◌, ⊎_elim, inl, inr, arith, length-set, get_or-set_other}
 use Rattle.sn_fixed.specs.Fixed.{sat}
 use Rattle.sn_def.specs.declared.kind.Kind.{Kind}
 use Rattle.sn_def.specs.declared.kind.Kind.TheVariants as kinds
@@ -10,13 +9,13 @@ use Rattle.sn_def.specs.StateWords.{words_of}
 use Rattle.sn_mem.specs.declared.extents.Foot.{Foot}
 use Rattle.sn_mem.specs.declared.buffers.BufferPlace.{BufferPlace}
 use Rattle.sn_mem.specs.Words.{MayWrite, writes}
-use Rattle.sn_mem.specs.Blocks.{window, put, sample, table, word_for}
+use Rattle.sn_mem.specs.Blocks.{window, put, sample, word_for}
 use Rattle.sn_mem.proofs.Steps.{length-put}
 use Rattle.sn_mem.proofs.Tables.{length-table}
 use Rattle.sn_mem.proofs.Windows.{apart_put}
 use Rattle.sn_io.specs.Positions.{indexed}
 use Rattle.sn_io.specs.BufferUnits.{is_buffer_unit, chosen, usable, set_frame, set_at, scattered, signals_from, play_frames, record_frames}
-use Rattle.sn_io.specs.BuffersOverWords.{usable_place, place_frames, set_word, onto_buffer, gathered_from, buffer_unit_over}
+use Rattle.sn_io.specs.BuffersOverWords.{usable_place, place_frames, set_word, onto_buffer, buffer_unit_over}
 use Rattle.sn_io.specs.Conditions.{IsWholeIfSome, MayWriteBuffer, MayReachBuffer, AreWithin}
 use Rattle.sn_io.proofs.Bounds.{indexed_within, record_within}
 use Rattle.sn_io.proofs.Keeping.{off_run}

@@ -2,7 +2,7 @@
 use Rattle.std.proofs.Common.{◌≡◌, ◌≢◌, ◌≤◌, ◌<◌, ◌⊎◌, ℕ, zero, suc, ◌+◌, ◌*◌, ◌==◌, Bool, true, false, cond, List, [], ◌∷◌, ℤ, pos, Option, Some, None, map, replicate, length, get_or, set, refl, ap, sym, subst, ◌∙◌, ⊎_elim, inl, inr, arith, length-set, get_or-set_same, get_or-set_other}
 use Rattle.std.specs.Prelude.{IfSome}
 use Rattle.std.specs.Option.{option_map}
-use Rattle.std.proofs.lemmas.Bool.{cases_eq, cases_lt, eqb-true}
+use Rattle.std.proofs.lemmas.Bool.{cases_eq, cases_lt}
 use Rattle.std.proofs.lemmas.List.{map-set, ext_get_or, length-map}
 use Rattle.std.proofs.Math.ListN.{get_or-map}
 use Rattle.sn_fixed.specs.Fixed.{sat}
@@ -86,8 +86,8 @@ onto_holds inputs first os p ws inside size all =
 -- ---- all buffers
 
 -- no word is in both
-abbrev pub AreApart : Extent → Extent → Type 0
-AreApart a b = (x : ℕ) → a.at ≤ x → x < a.at + a.len → b.at ≤ x → x < b.at + b.len → ⊥
+abbrev pub HaveNoWordInCommon : Extent → Extent → Type 0
+HaveNoWordInCommon a b = (x : ℕ) → a.at ≤ x → x < a.at + a.len → b.at ≤ x → x < b.at + b.len → ⊥
 
 same_buffer : (us ws : List ℕ) (p : BufferPlace) (xs : List ℤ) → samples_of us p.extent ≡ xs → ◌≡◌ {A = Buffer} (buffer_of us p) (record { frames = p.frames; channels = p.channels; samples = xs; extent = p.extent })
 same_buffer us ws p xs e = ap (λ (xs : List ℤ). let b : Buffer = record { frames = p.frames; channels = p.channels; samples = xs; extent = p.extent } in b) e
@@ -142,8 +142,8 @@ pub record Stand (at len words : ℕ) (places : List (Option BufferPlace)) (o : 
   pub inside : 0 < len → at + len ≤ words
   pub size : (n : ℕ) (p : BufferPlace) → get_or places n None ≡ Some p → p.extent.len ≡ p.frames * p.channels
   pub within : (n : ℕ) (p : BufferPlace) → o ≡ Some n → get_or places n None ≡ Some p → p.extent.at + p.extent.len ≤ words
-  pub state : (n : ℕ) (p : BufferPlace) → get_or places n None ≡ Some p → AreApart (record { at = at; len = len }) p.extent
-  pub apart : (m n : ℕ) (q p : BufferPlace) → m ≢ n → get_or places m None ≡ Some q → get_or places n None ≡ Some p → AreApart q.extent p.extent
+  pub state : (n : ℕ) (p : BufferPlace) → get_or places n None ≡ Some p → HaveNoWordInCommon (record { at = at; len = len }) p.extent
+  pub apart : (m n : ℕ) (q p : BufferPlace) → m ≢ n → get_or places m None ≡ Some q → get_or places n None ≡ Some p → HaveNoWordInCommon q.extent p.extent
 
 chosen_frames : (p : BufferPlace) (os : List (Option ℕ)) (t : Bool) → AreWithin (place_frames (cond t (Some p) None)) os → t ≡ true → AreWithin (Some p.frames) os
 chosen_frames p os true all e = all

@@ -1,5 +1,5 @@
 -- The samples of a buffer in its words.
-use Rattle.std.proofs.Common.{◌≡◌, ◌<◌, ℕ, ◌+◌, ◌*◌, List, ℤ, pos, map, length, get_or, set, SFits, w32, ap, sym, ◌∙◌, arith}
+use Rattle.std.proofs.Common.{◌≡◌, ◌<◌, ℕ, ◌+◌, ◌*◌, List, ℤ, pos, get_or, set, SFits, w32, ap, sym, ◌∙◌, arith}
 use Rattle.std.proofs.lemmas.List.{get_or-map}
 use Rattle.sn_fixed.specs.Fixed.{sat}
 use Rattle.sn_mem.specs.declared.buffers.BufferPlace.{BufferPlace}

@@ -12,4 +12,6 @@ pub mod BufferWords
 pub mod Bounds
 pub mod BufferMeaning
 pub mod BufferKeeping
+pub mod Standing
+mod BufferRuns
 pub mod BufferPlain

@@ -78,7 +78,8 @@ trigger_long kinds.FreeSelf now state inputs frames h = sym h
 trigger_long kinds.PauseSelf now state inputs frames h = sym h
 trigger_long _ now state inputs frames h = refl
 
-no_bus : (at n j : ℕ) → (0 < n → 10368 ≤ at) → j < 10368 → (j < at) ⊎ (at + n ≤ j)
+-- where a state has none of the buses' words
+pub no_bus : (at n j : ℕ) → (0 < n → 10368 ≤ at) → j < 10368 → (j < at) ⊎ (at + n ≤ j)
 no_bus at zero j apart low = ⊎_elim (λ (l : j < at). inl l) (λ (r : at ≤ j). inr (omega arith)) (cases_lt j at)
 no_bus at (suc n) j apart low = let a : 10368 ≤ at = apart (omega arith) in inl (omega arith)
 
@@ -134,7 +135,7 @@ pub control_inside : (f : Foot) (words : ℕ) (o : Option ℕ) → ((x : ℕ) �
 control_inside f words None inside may = tt
 control_inside f words (Some n) inside may = let last : 8320 + 2 * n + 1 < words = inside (8320 + 2 * n + 1) (may_touch f f (8320 + 2 * n) 2 (8320 + 2 * n + 1) may refl (omega arith) (omega arith)) in omega arith
 
-state_inside : (f : Foot) (at len words : ℕ) → MayWrite f at len → ((x : ℕ) → touches f x ≡ true → x < words) → 0 < len → at + len ≤ words
+pub state_inside : (f : Foot) (at len words : ℕ) → MayWrite f at len → ((x : ℕ) → touches f x ≡ true → x < words) → 0 < len → at + len ≤ words
 state_inside f at zero words may inside some = absurd (omega (arith, some))
 state_inside f at (suc n) words may inside some = let last : at + n < words = inside (at + n) (may_touch f f at (suc n) (at + n) may refl (omega arith) (omega arith)) in omega arith
 

@@ -1,5 +1,5 @@
 -- One more frame.
-use Rattle.std.proofs.Common.{◌≡◌, ◌≤◌, ◌<◌, ℕ, zero, suc, ◌+◌, ◌*◌, List, [], ◌∷◌, ◌++◌, ℤ, Option, None, length, get_or, set, take, refl, ap, sym, ◌∙◌, add-one, length-set}
+use Rattle.std.proofs.Common.{◌≡◌, ◌<◌, ℕ, ◌+◌, List, [], ◌∷◌, ◌++◌, ℤ, Option, None, length, get_or, set, take, refl, ap, sym, ◌∙◌, add-one, length-set}
 use Rattle.std.proofs.Math.Seq.{take-length}
 use Rattle.std.proofs.lemmas.List.{take_more_set}
 use Rattle.sn_mem.specs.Blocks.{table, sample}

@@ -1,5 +1,5 @@
 -- What one unit on a buffer makes of a block.
-use Rattle.std.specs.Prelude.{ℕ, zero, suc, ◌+◌, ◌-◌, ◌*◌, ◌==◌, nat_lt, Bool, true, false, cond, List, [], ◌∷◌, length, replicate, Option, Some, None, ℤ, pos, negsuc, slice_index_or, slice_set}
+use Rattle.std.specs.Prelude.{ℕ, zero, suc, ◌+◌, ◌-◌, ◌*◌, ◌==◌, Bool, true, false, cond, List, [], ◌∷◌, length, replicate, Option, Some, None, ℤ, pos, slice_index_or, slice_set}
 use Rattle.std.specs.Option.{option_map}
 use Rattle.sn_fixed.specs.Fixed.{sat}
 use Rattle.sn_def.specs.declared.kind.Kind.{Kind}

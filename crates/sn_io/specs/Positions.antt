@@ -1,5 +1,5 @@
 -- The frames of a buffer that units read and write, one number or none at each frame of a block.
-use Rattle.std.specs.Prelude.{ℕ, zero, suc, ◌+◌, ◌%◌, ◌==◌, nat_lt, Bool, true, not, ◌&&◌, ◌||◌, cond, List, [], ◌∷◌, ◌++◌, Option, Some, None, is_some, slice_index, ℤ, pos, negsuc, ◌+ℤ◌, int_lt}
+use Rattle.std.specs.Prelude.{ℕ, zero, suc, ◌+◌, ◌%◌, ◌==◌, nat_lt, Bool, true, not, ◌&&◌, cond, List, [], ◌∷◌, ◌++◌, Option, Some, None, is_some, slice_index, ℤ, pos, negsuc, ◌+ℤ◌, int_lt}
 use Rattle.std.specs.Int.{int_rem_euclid}
 use Rattle.sn_fixed.specs.Fixed.{sat}
 use Rattle.sn_fixed.specs.Triggers.{rises}

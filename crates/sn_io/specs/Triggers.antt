@@ -1,10 +1,11 @@
 -- SendTrig, DetectSilence, FreeSelf and PauseSelf: units whose state words tell what is to be settled after a block.
-use Rattle.std.specs.Prelude.{ℕ, ◌+◌, ◌%◌, ◌==◌, max, min, nat_lt, Bool, true, false, not, ◌&&◌, cond, List, [], ◌∷◌, slice_index, ℤ, pos, int_lt, unsigned_abs}
+use Rattle.std.specs.Prelude.{ℕ, ◌+◌, ◌-◌, ◌%◌, ◌==◌, max, nat_lt, nat_le, Bool, true, false, not, ◌&&◌, cond, List, [], ◌∷◌, Option, Some, None, slice_index, ℤ, pos, int_lt, unsigned_abs}
 use Rattle.sn_fixed.specs.Fixed.{frames_of}
 use Rattle.sn_fixed.specs.Triggers.{rises}
 use Rattle.sn_def.specs.declared.kind.Kind.{Kind}
 use Rattle.sn_def.specs.declared.kind.Kind.TheVariants as kinds
 use Rattle.sn_def.specs.declared.control.Now.{Now}
+use Rattle.sn_def.specs.Runs.{one_output}
 use Rattle.sn_mem.specs.Blocks.{sample, sample_in, word_for, recurrence}
 use Rattle.sn_mem.specs.Done.{ended}
 use Rattle.sn_io.specs.declared.triggers.Sent.{Sent}
@@ -34,24 +35,38 @@ send_trig b s inputs k =
 
 -- ---- DetectSilence
 
--- Its two words: the done word; and 0 before the first frame that is not quiet, from there on 1 more than the number of quiet frames since the last one.
+-- how many frames were quiet since the last one that was not, once there was one: none before, which is word 0
+abbrev pub count_in : ℕ → Option ℕ
+count_in w = cond (w == 0) None (Some (w - 1))
+
+abbrev pub count_word : Option ℕ → ℕ
+count_word None = 0
+count_word (Some n) = n + 1
+
+-- Its two words: the done word, and that of the count.
 abbrev pub quiet_in : List ℕ → Quiet
-quiet_in ws = record { done = slice_index ws 0; count = slice_index ws 1 % 4294967296 }
+quiet_in ws = record { done = slice_index ws 0; count = count_in (slice_index ws 1 % 4294967296) }
 
 abbrev pub quiet_words : Quiet → List ℕ
-quiet_words s = s.done ∷ s.count ∷ []
+quiet_words s = s.done ∷ count_word s.count ∷ []
 
--- The count after a frame, where it is quiet and where not. It stays below 2^32, which is more than any time.
-abbrev pub counted : Bool → ℕ → ℕ
-counted quiet count = cond quiet (cond (count == 0) 0 (min (count + 1) 4294967295)) 1
+-- One more, where there was a frame that was not quiet. The count stops where no time reaches it.
+abbrev pub one_quieter : Option ℕ → Option ℕ
+one_quieter None = None
+one_quieter (Some n) = Some (cond (nat_lt n 4294967294) (n + 1) n)
+
+-- the count after a frame, where it is quiet and where not
+abbrev pub counted : Bool → Option ℕ → Option ℕ
+counted quiet count = cond quiet (one_quieter count) (Some 0)
 
 -- a frame is quiet where the distance of the signal from 0 is less than amp
 abbrev pub is_quiet : List (List ℤ) → ℕ → Bool
 is_quiet inputs k = int_lt (pos (unsigned_abs (sample inputs 0 k))) (sample inputs 1 k)
 
--- the unit ends where the number of quiet frames reaches the time, at least one frame
-abbrev pub is_silent : ℕ → ℤ → ℕ → Bool
-is_silent rate time count = nat_lt (max 1 (frames_of time rate)) count
+-- the unit ends where the count reaches the time, at least one frame
+abbrev pub is_silent : ℕ → ℤ → Option ℕ → Bool
+is_silent rate time None = false
+is_silent rate time (Some n) = nat_le (max 1 (frames_of time rate)) n
 
 abbrev pub quieter : ℕ → Quiet → List (List ℤ) → ℕ → Quiet
 quieter rate s inputs k =
@@ -87,7 +102,7 @@ is_trigger _ = false
 -- the state words after a block, and the output blocks
 unfoldable pub trigger_block : Kind → Now → List ℕ → List (List ℤ) → List ℕ × List (List ℤ)
 trigger_block kinds.SendTrig now state inputs = ((recurrence sent_in sent_words (send_trig now.block) state inputs).0, [])
-trigger_block kinds.DetectSilence now state inputs = let r = recurrence quiet_in quiet_words (detect_silence now.rate) state inputs in (r.0, r.1 ∷ [])
+trigger_block kinds.DetectSilence now state inputs = one_output (recurrence quiet_in quiet_words (detect_silence now.rate) state inputs)
 trigger_block kinds.FreeSelf now state inputs = ((recurrence ending_in ending_words end_self state inputs).0, [])
 trigger_block kinds.PauseSelf now state inputs = ((recurrence ending_in ending_words end_self state inputs).0, [])
 trigger_block _ now state inputs = (state, [])

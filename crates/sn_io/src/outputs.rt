@@ -1,5 +1,5 @@
 //! Out.ar, ReplaceOut and Out.kr: signals onto buses.
-ghost use Rattle.std.specs.Prelude.{◌≡◌, ◌<◌, ◌≤◌, ◌+◌, ◌^◌, ℕ, IfSome, length, ◌+ℤ◌};
+ghost use Rattle.std.specs.Prelude.{◌≡◌, ◌<◌, ◌≤◌, ◌+◌, ◌^◌, ℕ, IfSome, length};
 ghost use Rattle.sn_mem.specs.Words.{MayWrite};
 ghost use Rattle.sn_io.specs.Channels.{audio_channel, control_channel, channels, signals};
 ghost use Rattle.sn_io.specs.OverWords.{onto_block, onto_audio, onto_audio_channel, held_at, onto_value, onto_control, onto_control_channel};

@@ -1,6 +1,6 @@
 //! PlayBuf: the frames of a buffer, one after the other.
 ghost use Rattle.std.specs.Prelude.{◌≡◌, ◌<◌, ◌≤◌, ℕ, Some};
-ghost use Rattle.sn_io.specs.Positions.{frame_at, frame_in, begun_at, started, looped, played, play_buf};
+ghost use Rattle.sn_io.specs.Positions.{begun_at, started, looped, played, play_buf};
 
 use crate::positions::{FrameStep, frame_at};
 use sn_fixed::{add, rises};

@@ -1,5 +1,5 @@
 //! The frames of a buffer that units read and write, one or none at each frame of a block.
-ghost use Rattle.std.specs.Prelude.{◌≡◌, ◌<◌, ◌≤◌, ℕ, ℤ, List, Option, IfSome, length};
+ghost use Rattle.std.specs.Prelude.{◌≡◌, ◌<◌, ◌≤◌, ℕ, ℤ, List, Option, length};
 ghost use Rattle.sn_mem.specs.Words.{MayWrite};
 ghost use Rattle.sn_mem.specs.Blocks.{put, window};
 ghost use Rattle.sn_io.specs.Positions.{frame_at, frame_in, indexed, walked};

@@ -1,5 +1,5 @@
 //! RecordBuf: the frames of a buffer, written one after the other.
-ghost use Rattle.std.specs.Prelude.{◌≡◌, ◌<◌, ◌≤◌, ◌+◌, IfSome};
+ghost use Rattle.std.specs.Prelude.{◌≡◌, ◌<◌};
 ghost use Rattle.sn_io.specs.Positions.{records, recorded, record_buf};
 
 use crate::positions::FrameStep;

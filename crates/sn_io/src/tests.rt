@@ -1,4 +1,4 @@
-ghost use Rattle.std.specs.Prelude.{◌≡◌, ◌<◌, ◌≤◌, ◌^◌, true, length, IfOk};
+ghost use Rattle.std.specs.Prelude.{◌≡◌, ◌<◌, ◌≤◌, true, length, IfOk, IfSome};
 ghost use Rattle.sn_def.specs.Units.{row_of};
 ghost use Rattle.sn_def.specs.declared.table.Words.TheVariants.{Fixed};
 ghost use Rattle.sn_io.specs.BusUnits.{is_bus_unit};
@@ -17,6 +17,24 @@ fn memory(alloc: Global) -> Result<PlainPort, NoMemory>
     ensures { IfOk result (λ p. length p.words.items ≡ 10400) }
 {
     PlainPort::new(alloc, 10_400)
+}
+
+/// The words of a unit's state.
+#[tactic(auto, unfolding(sn_def::specs::Units::row_of))]
+fn words_of(kind: Kind) -> Option<u32>
+    ensures kind { IfSome result (λ n. is_bus_unit kind ≡ true) }
+    ensures words { IfSome result (λ n. (row_of kind).words ≡ Fixed n) }
+    ensures few { IfSome result (λ n. n ≤ 4) }
+    ensures inputs { IfSome result (λ n. length (row_of kind).inputs ≤ 4) }
+{
+    match kind {
+        Kind::Inar | Kind::InFeedback | Kind::Inkr => Some(0),
+        Kind::Outar | Kind::ReplaceOut | Kind::Outkr => Some(0),
+        Kind::SendTrig => Some(4),
+        Kind::DetectSilence => Some(2),
+        Kind::FreeSelf | Kind::PauseSelf => Some(1),
+        _ => None,
+    }
 }
 
 /// A number for all frames, and three signals.
@@ -52,19 +70,18 @@ impl Desk {
         Ok(Desk { port, outputs })
     }
 
-    /// Runs a unit with so many words of state and so many outputs.
+    /// Runs a unit with so many outputs.
     #[tactic(auto, using(sn_mem::proofs::Feet::plain_may_write, crate::proofs::Plain::plain_may_reach))]
-    fn play(&mut self, kind: Kind, block: u64, words: u32, count: usize, inputs: &Blocks)
-        requires kind { is_bus_unit kind ≡ true }
-        requires block { block < 2 ^ 63 }
-        requires inputs { length (row_of kind).inputs ≤ length inputs.now }
-        requires size { (row_of kind).words ≡ Fixed words }
-        requires few { words ≤ 4 }
+    fn play(&mut self, kind: Kind, block: u32, count: usize, inputs: &Blocks)
+        requires inputs { length inputs.now ≡ 4 }
         requires count { count ≤ 8 }
     {
+        let Some(words) = words_of(kind) else {
+            return;
+        };
         let now = Now {
             rate: 48_000,
-            block,
+            block: u64::from(block),
             node: 1000,
             unit: 0,
         };
@@ -82,18 +99,6 @@ impl Desk {
             inputs,
             &mut self.outputs,
         );
-    }
-
-    /// In.ar or InFeedback with three outputs.
-    #[tactic(auto, unfolding(sn_def::specs::Units::row_of))]
-    fn hear(&mut self, feedback: bool, block: u32, inputs: &Blocks)
-        requires { 1 ≤ length inputs.now }
-    {
-        if feedback {
-            self.play(Kind::InFeedback, u64::from(block), 0, 3, inputs);
-        } else {
-            self.play(Kind::Inar, u64::from(block), 0, 3, inputs);
-        }
     }
 
     #[tactic(auto, using(sn_mem::proofs::Feet::plain_may_read))]
@@ -139,139 +144,86 @@ fn assert_outputs(rt: &impl Abort, desk: &Desk, count: usize, expected: &[(usize
 }
 
 #[test]
-#[tactic(auto, unfolding(sn_def::specs::Units::row_of))]
 fn signals_on_audio_buses(rt: HostRuntime) -> Result<(), Fail> {
     let alloc = rt.alloc();
     let mut desk = Desk::new(alloc)?;
-    let mut rising = [7; 64];
-    rising[63] = i32::MAX;
-    let inputs = inputs_of(alloc, 126, &[5; 64], &rising, &[9; 64])?;
-
     // the third channel is on bus 128, which is none
-    desk.play(Kind::Outar, 0, 0, 0, &inputs);
+    let inputs = inputs_of(alloc, 126, &[5; 64], &[i32::MAX; 64], &[9; 64])?;
+    desk.play(Kind::Outar, 0, 0, &inputs);
+    desk.play(Kind::Outar, 0, 0, &inputs);
     assert_words(
         &rt,
         &mut desk,
-        &[
-            (8190, 1),
-            (8191, 5),
-            (8255, 1),
-            (8256, 7),
-            (8319, 2_147_483_647),
-            (8320, 0),
-        ],
+        &[(8190, 1), (8191, 10), (8256, 2_147_483_647), (8320, 0)],
     );
-    desk.play(Kind::Outar, 0, 0, 0, &inputs);
-    assert_words(
-        &rt,
-        &mut desk,
-        &[(8191, 10), (8256, 14), (8319, 2_147_483_647)],
-    );
-    desk.play(Kind::ReplaceOut, 0, 0, 0, &inputs);
-    assert_words(&rt, &mut desk, &[(8190, 1), (8191, 5), (8256, 7)]);
-
-    for (feedback, block, first, last) in [
-        (false, 0, 7, i32::MAX),
-        (false, 1, 0, 0),
-        (true, 0, 7, i32::MAX),
-        (true, 1, 7, i32::MAX),
-        (true, 2, 0, 0),
+    desk.play(Kind::ReplaceOut, 0, 0, &inputs);
+    assert_words(&rt, &mut desk, &[(8190, 1), (8191, 5)]);
+    for (kind, block, first) in [
+        (Kind::Inar, 0, 5),
+        (Kind::Inar, 1, 0),
+        (Kind::InFeedback, 0, 5),
+        (Kind::InFeedback, 1, 5),
+        (Kind::InFeedback, 2, 0),
     ] {
-        desk.hear(feedback, block, &inputs);
-        assert_outputs(&rt, &desk, 3, &[(1, 0, first), (1, 63, last), (2, 0, 0)]);
+        desk.play(kind, block, 3, &inputs);
+        assert_outputs(&rt, &desk, 3, &[(0, 63, first), (2, 0, 0)]);
     }
     Ok(())
 }
 
 #[test]
-#[tactic(auto, unfolding(sn_def::specs::Units::row_of))]
-fn channels_below_bus_0(rt: HostRuntime) -> Result<(), Fail> {
-    let alloc = rt.alloc();
-    let mut desk = Desk::new(alloc)?;
-    let inputs = inputs_of(alloc, -1, &[5; 64], &[6; 64], &[9; 64])?;
-    // bus 0 was never written, and before block 0 there is no block
-    desk.set_word(1, 4);
-    desk.hear(true, 0, &inputs);
-    assert_outputs(&rt, &desk, 3, &[(1, 0, 0)]);
-    desk.play(Kind::Outar, 7, 0, 0, &inputs);
-    assert_words(&rt, &mut desk, &[(0, 8), (1, 6), (65, 8), (66, 9)]);
-    desk.hear(false, 7, &inputs);
-    assert_outputs(&rt, &desk, 3, &[(0, 9, 0), (1, 9, 6), (2, 9, 9)]);
-    Ok(())
-}
-
-#[test]
-#[tactic(auto, unfolding(sn_def::specs::Units::row_of))]
 fn values_on_control_buses(rt: HostRuntime) -> Result<(), Fail> {
     let alloc = rt.alloc();
     let mut desk = Desk::new(alloc)?;
-    let mut falling = [0; 64];
-    falling[0] = 9;
-    let inputs = inputs_of(alloc, 1023, &falling, &[1; 64], &[2; 64])?;
+    let inputs = inputs_of(alloc, 1023, &[9; 64], &[1; 64], &[2; 64])?;
     // what a command has set is overwritten
     desk.set_word(10_367, 100);
-    desk.play(Kind::Outkr, 3, 0, 0, &inputs);
-    assert_words(&rt, &mut desk, &[(10_366, 4), (10_367, 9), (10_368, 0)]);
-    desk.play(Kind::Outkr, 3, 0, 0, &inputs);
-    assert_words(&rt, &mut desk, &[(10_366, 4), (10_367, 18)]);
-    desk.play(Kind::Outkr, 4, 0, 0, &inputs);
-    assert_words(&rt, &mut desk, &[(10_366, 5), (10_367, 9)]);
-    desk.play(Kind::Inkr, 900, 0, 2, &inputs);
-    assert_outputs(&rt, &desk, 2, &[(0, 0, 9), (0, 63, 9), (1, 0, 0)]);
+    desk.play(Kind::Outkr, 3, 0, &inputs);
+    desk.play(Kind::Outkr, 3, 0, &inputs);
+    assert_words(&rt, &mut desk, &[(10_366, 4), (10_367, 18), (10_368, 0)]);
+    desk.play(Kind::Outkr, 4, 0, &inputs);
+    desk.play(Kind::Inkr, 900, 2, &inputs);
+    assert_outputs(&rt, &desk, 2, &[(0, 63, 9), (1, 0, 0)]);
     Ok(())
 }
 
-#[test]
-#[tactic(auto, unfolding(sn_def::specs::Units::row_of))]
-fn triggers(rt: HostRuntime) -> Result<(), Fail> {
-    let alloc = rt.alloc();
-    let mut desk = Desk::new(alloc)?;
+/// A trigger that is above 0 at frames 3 and 63, an id, a value and 0.
+fn rises(alloc: Global) -> Result<Blocks, NoMemory>
+    ensures { IfOk result (λ bs. length bs ≡ 4) }
+{
     let mut trigger = [0; 64];
     trigger[3] = 1;
-    trigger[10] = 1;
     trigger[63] = 1;
     let mut value = [0; 64];
     value[3] = 5;
-    value[10] = 6;
-    let mut rises = Blocks::new(alloc)?;
-    rises.push(&trigger);
-    rises.push_equal(77);
-    rises.push(&value);
-    desk.play(Kind::SendTrig, 5, 4, 0, &rises);
-    assert_words(
-        &rt,
-        &mut desk,
-        &[(10_368, 6), (10_369, 77), (10_370, 5), (10_371, 1)],
-    );
-    // the trigger stays above 0
-    rises.clear();
-    rises.push_equal(1);
-    rises.push_equal(78);
-    rises.push_equal(79);
-    desk.play(Kind::SendTrig, 6, 4, 0, &rises);
-    assert_words(
-        &rt,
-        &mut desk,
-        &[(10_368, 6), (10_369, 77), (10_370, 5), (10_371, 1)],
-    );
+    let mut blocks = Blocks::new(alloc)?;
+    blocks.push(&trigger);
+    blocks.push_equal(77);
+    blocks.push(&value);
+    blocks.push_equal(0);
+    Ok(blocks)
+}
 
-    let mut ends = Blocks::new(alloc)?;
-    ends.push(&trigger);
-    desk.play(Kind::FreeSelf, 0, 1, 0, &ends);
-    assert_words(&rt, &mut desk, &[(10_368, 6)]);
-    desk.set_word(10_368, 0);
-    desk.play(Kind::PauseSelf, 0, 1, 0, &ends);
-    assert_words(&rt, &mut desk, &[(10_368, 1)]);
-    ends.clear();
-    ends.push_equal(0);
-    desk.set_word(10_368, 0);
-    desk.play(Kind::FreeSelf, 1, 1, 0, &ends);
-    assert_words(&rt, &mut desk, &[(10_368, 0)]);
+#[test]
+fn triggers_and_ends(rt: HostRuntime) -> Result<(), Fail> {
+    let alloc = rt.alloc();
+    let mut desk = Desk::new(alloc)?;
+    let inputs = rises(alloc)?;
+    desk.play(Kind::SendTrig, 5, 0, &inputs);
+    assert_words(
+        &rt,
+        &mut desk,
+        &[(10_368, 6), (10_369, 77), (10_370, 5), (10_371, 1)],
+    );
+    for kind in [Kind::FreeSelf, Kind::PauseSelf] {
+        desk.set_word(10_368, 0);
+        desk.play(kind, 0, 0, &inputs);
+        assert_words(&rt, &mut desk, &[(10_368, 1)]);
+    }
     Ok(())
 }
 
 #[test]
-#[tactic(auto, unfolding(sn_def::specs::Units::row_of))]
 fn silence(rt: HostRuntime) -> Result<(), Fail> {
     let alloc = rt.alloc();
     let mut desk = Desk::new(alloc)?;
@@ -283,12 +235,8 @@ fn silence(rt: HostRuntime) -> Result<(), Fail> {
     inputs.push_equal(5);
     inputs.push_equal(1);
     inputs.push_equal(0);
-    desk.play(Kind::DetectSilence, 0, 2, 1, &inputs);
-    assert_outputs(&rt, &desk, 1, &[(0, 0, 0), (0, 57, 0), (0, 58, ONE)]);
+    desk.play(Kind::DetectSilence, 0, 1, &inputs);
+    assert_outputs(&rt, &desk, 1, &[(0, 57, 0), (0, 58, ONE)]);
     assert_words(&rt, &mut desk, &[(10_368, 1), (10_369, 54)]);
-    desk.set_word(10_368, 2);
-    desk.play(Kind::DetectSilence, 1, 2, 1, &inputs);
-    assert_outputs(&rt, &desk, 1, &[(0, 0, ONE), (0, 10, ONE)]);
-    assert_words(&rt, &mut desk, &[(10_368, 2), (10_369, 54)]);
     Ok(())
 }

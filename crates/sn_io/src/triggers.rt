@@ -4,7 +4,7 @@ ghost use Rattle.sn_def.specs.Units.{row_of};
 ghost use Rattle.sn_def.specs.declared.table.Words.TheVariants.{Fixed};
 ghost use Rattle.sn_mem.specs.Words.{MayWrite};
 ghost use Rattle.sn_mem.specs.Blocks.{window, put, recurred};
-ghost use Rattle.sn_io.specs.Triggers.{is_trigger, trigger_block, counted, is_quiet, is_silent, quieter, send_trig};
+ghost use Rattle.sn_io.specs.Triggers.{is_trigger, trigger_block, count_in, count_word, one_quieter, counted, is_quiet, is_silent, quieter};
 
 use sn_def::{Kind, Now};
 use sn_fixed::{ONE, frames_of, rises};
@@ -91,9 +91,24 @@ impl Recurrence for SendTrig {
 #[derive(Clone, Copy)]
 pub(crate) struct Quiet {
     pub done: u64,
-    /// 0 before the first frame that is not quiet, and from there on 1 more than the number of
-    /// quiet frames since the last one.
-    pub count: u32,
+    /// How many frames were quiet since the last one that was not, once there was one.
+    pub count: Option<u32>,
+}
+
+/// The count in a word, which is 0 before the first frame that is not quiet.
+fn count_in(word: u32) -> Option<u32>
+    ensures { result ≡ count_in word }
+{
+    if word == 0 { None } else { Some(word - 1) }
+}
+
+fn count_word(count: Option<u32>) -> u64
+    ensures { result ≡ count_word count }
+{
+    match count {
+        None => 0,
+        Some(frames) => u64::from(frames) + 1,
+    }
 }
 
 impl Stored for Quiet {
@@ -112,12 +127,12 @@ impl Stored for Quiet {
     fn load(words: &[u64]) -> Quiet {
         Quiet {
             done: words[0],
-            count: (words[1] % 4_294_967_296) as u32,
+            count: count_in((words[1] % 4_294_967_296) as u32),
         }
     }
 
     fn store(self, words: &mut [u64]) {
-        words.copy_from_slice(&[self.done, u64::from(self.count)]);
+        words.copy_from_slice(&[self.done, count_word(self.count)]);
     }
 }
 
@@ -130,23 +145,31 @@ fn is_quiet(inputs: &Blocks, frame: usize) -> bool
     i64::from(inputs.at(0, frame).unsigned_abs()) < i64::from(inputs.at(1, frame))
 }
 
-fn counted(quiet: bool, count: u32) -> u32
-    ensures { result ≡ counted quiet count }
+/// One more, where there was a frame that was not quiet.
+fn one_quieter(count: Option<u32>) -> Option<u32>
+    ensures { result ≡ one_quieter count }
 {
-    if !quiet {
-        1
-    } else if count == 0 {
-        0
-    } else {
-        count.saturating_add(1)
+    match count {
+        None => None,
+        Some(frames) if frames < 4_294_967_294 => Some(frames + 1),
+        Some(frames) => Some(frames),
     }
 }
 
+fn counted(quiet: bool, count: Option<u32>) -> Option<u32>
+    ensures { result ≡ counted quiet count }
+{
+    if quiet { one_quieter(count) } else { Some(0) }
+}
+
 /// Whether so many frames were quiet that the unit ends.
-fn is_silent(rate: u32, time: i32, count: u32) -> bool
+fn is_silent(rate: u32, time: i32, count: Option<u32>) -> bool
     ensures { result ≡ is_silent rate time count }
 {
-    count > frames_of(time, rate).max(1)
+    match count {
+        None => false,
+        Some(frames) => frames_of(time, rate).max(1) <= frames,
+    }
 }
 
 fn quieter(rate: u32, state: Quiet, inputs: &Blocks, frame: usize) -> Quiet

@@ -1,16 +1,15 @@
 -- Extents and the words in them, and what a change of other words leaves of the buffers.
-use Rattle.std.proofs.Common.{◌≡◌, ◌≤◌, ◌<◌, ◌+◌, ◌⊎◌, inl, inr, ℕ, zero, suc, ℤ, Bool, true, false, List, [], ◌∷◌, ◌++◌, map, length, replicate, get_or, Option, Some, None, refl, ap, sym, subst, ◌∙◌, arith, leb, ltb, All}
+use Rattle.std.proofs.Common.{◌≡◌, ◌≤◌, ◌<◌, ◌+◌, ◌⊎◌, inl, inr, ℕ, zero, suc, ℤ, Bool, true, false, List, [], ◌∷◌, ◌++◌, map, replicate, get_or, Option, Some, None, refl, ap, sym, subst, arith, All}
 use Rattle.std.specs.Prelude.{if◌then◌else◌}
 use Rattle.std.specs.Option.{option_map}
-use Rattle.std.proofs.lemmas.Bool.{and_left, and_right, lt-leb, le-ltb}
 use Rattle.std.proofs.lemmas.Bool.Decides.{leb_tells}
 use Rattle.std.proofs.lemmas.List.Elements.{All-nil, All-cons, All-head, All-tail}
 use Rattle.sn_mem.specs.declared.extents.Extent.{Extent}
 use Rattle.sn_mem.specs.declared.buffers.BufferPlace.{BufferPlace}
 use Rattle.sn_mem.specs.Words.{covers}
 use Rattle.sn_mem.specs.Blocks.{window, sample_in}
-use Rattle.sn_mem.specs.Buffers.{Buffer, buffer_of, buffers_of, overlaps, place_extents, live_places, IsPlace, MayBePlace, AreApart}
-use Rattle.sn_mem.proofs.Meetings.{covered}
+use Rattle.sn_mem.specs.Buffers.{Buffer, buffer_of, buffers_of, overlaps, place_extents, live_places, MayBePlace, AreApart}
+use Rattle.sn_mem.proofs.Meetings.{covered, before, after}
 use Rattle.sn_mem.proofs.Windows.{window_same}
 
 -- ---- extents and the words in them
@@ -38,13 +37,10 @@ outside e x free = elim (leb_tells e.at x) [
   | inr p ↦ inl p.1
 ]
 
-ahead : (e : Extent) (x : ℕ) → x < e.at → covers e x ≡ false
-ahead e x h = and_left (leb e.at x) (ltb x (e.at + e.len)) (lt-leb e.at x h)
-
 pub covered_from : (e : Extent) (x : ℕ) → 0 < overlaps x (e ∷ []) → e.at ≤ x
 covered_from e x more = elim (leb_tells e.at x) [
   | inl p ↦ p.1
-  | inr p ↦ absurd (omega (arith, more, none (covers e x) (ahead e x p.1)))
+  | inr p ↦ absurd (omega (arith, more, none (covers e x) (before e x p.1)))
 ]
 
 -- words that agree where the extents overlap
@@ -96,19 +92,16 @@ few : (b : Bool) → ◌≤◌ (if b then 1 else 0) 1
 few true = omega arith
 few false = omega arith
 
-past : (e : Extent) (x : ℕ) → e.at + e.len ≤ x → covers e x ≡ false
-past e x h = and_right (leb e.at x) (ltb x (e.at + e.len)) (le-ltb x (e.at + e.len) h)
-
 pub covered_to : (e : Extent) (x : ℕ) → 0 < overlaps x (e ∷ []) → x < e.at + e.len
 covered_to e x more = elim (leb_tells (e.at + e.len) x) [
-  | inl p ↦ absurd (omega (arith, more, none (covers e x) (past e x p.1)))
+  | inl p ↦ absurd (omega (arith, more, none (covers e x) (after e x p.1)))
   | inr p ↦ p.1
 ]
 
 pub no_overlap : (e : Extent) (x : ℕ) → (x < e.at) ⊎ (e.at + e.len ≤ x) → overlaps x (e ∷ []) ≡ 0
 no_overlap e x off = elim off [
-  | inl l ↦ omega (arith, none (covers e x) (ahead e x l))
-  | inr r ↦ omega (arith, none (covers e x) (past e x r))
+  | inl l ↦ omega (arith, none (covers e x) (before e x l))
+  | inr r ↦ omega (arith, none (covers e x) (after e x r))
 ]
 
 part_overlaps : (a b : Extent) (x : ℕ) → a.at ≤ b.at → b.at + b.len ≤ a.at + a.len → overlaps x (b ∷ []) ≤ overlaps x (a ∷ [])

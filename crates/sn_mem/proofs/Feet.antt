@@ -17,9 +17,6 @@ may_touch f f' at n j may e low high = or_left (has f'.writes j) (has f'.reads j
 pub part_at : (f f' : Foot) (at n at' n' : ℕ) → MayWrite f at n → f' ≡ f → at ≤ at' → at' + n' ≤ at + n → MayWrite f' at' n'
 part_at f f' at n at' n' may e low high = let b : at + n < 4294967296 = may.below in record { below = omega arith; each = λ i lt. may_write f f' at n (at' + i) may e (omega arith) (omega arith) }
 
-pub write_at : (f f' : Foot) (at n j : ℕ) → MayWrite f at n → f' ≡ f → at ≤ j → j < at + n → writes f' j ≡ true
-write_at f f' at n j may e low high = may_write f f' at n j may e low high
-
 pub may_read : (f f' : Foot) (at n j : ℕ) → MayRead f at n → f' ≡ f → at ≤ j → j < at + n → touches f' j ≡ true
 may_read f f' at n j may e low high =
     let P : Foot → Type 0 = λ (h : Foot). touches h j ≡ true in

@@ -1,8 +1,8 @@
 -- Two lists of extents share a word exactly where two of their extents meet.
-use Rattle.std.proofs.Common.{◌≡◌, ◌≤◌, ◌<◌, ◌↔◌, IsTrue, ℕ, ◌+◌, max, true, ◌||◌, List, [], ◌∷◌, sym, ⊎_elim, inl, inr, true≢false, arith}
+use Rattle.std.proofs.Common.{◌≡◌, ◌≤◌, ◌<◌, ◌↔◌, IsTrue, ℕ, ◌+◌, max, true, false, ◌||◌, List, [], ◌∷◌, sym, ⊎_elim, inl, inr, true≢false, arith}
 use Rattle.std.specs.List.{list_any}
 use Rattle.std.specs.Prelude.{nat_le, nat_lt}
-use Rattle.std.proofs.lemmas.Bool.{and_parts, and_from, or_cases, or_left, or_right, ltb-true, lt-ltb, leb-true, le-leb}
+use Rattle.std.proofs.lemmas.Bool.{and_parts, and_from, and_left, and_right, or_cases, or_left, or_right, ltb-true, lt-ltb, le-ltb, leb-true, le-leb, lt-leb}
 use Rattle.sn_mem.specs.declared.extents.Extent.{Extent}
 use Rattle.sn_mem.specs.declared.extents.Foot.{Foot}
 use Rattle.sn_mem.specs.Words.{covers, has, writes, touches, Clash}
@@ -10,6 +10,12 @@ use Rattle.sn_mem.specs.Meetings.{meet, any_meet, writes_meet}
 
 pub covered : (e : Extent) (x : ℕ) → e.at ≤ x → x < e.at + e.len → covers e x ≡ true
 covered e x low high = and_from (nat_le e.at x) (nat_lt x (e.at + e.len)) (le-leb e.at x low) (lt-ltb x (e.at + e.len) high)
+
+pub before : (e : Extent) (x : ℕ) → x < e.at → covers e x ≡ false
+before e x h = and_left (nat_le e.at x) (nat_lt x (e.at + e.len)) (lt-leb e.at x h)
+
+pub after : (e : Extent) (x : ℕ) → e.at + e.len ≤ x → covers e x ≡ false
+after e x h = and_right (nat_le e.at x) (nat_lt x (e.at + e.len)) (le-ltb x (e.at + e.len) h)
 
 meet_is : (a b : Extent) → meet a b ≡ true → (covers a (max a.at b.at) ≡ true) × (covers b (max a.at b.at) ≡ true)
 meet_is a b m =

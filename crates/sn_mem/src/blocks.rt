@@ -38,6 +38,7 @@ impl Blocks {
         Ok(Blocks { items, used: 0 })
     }
 
+    /// How many blocks there are.
     pub fn len(&self) -> usize
         ensures value { result ≡ length self.now }
         ensures bound { result ≤ 512 }
@@ -45,6 +46,7 @@ impl Blocks {
         self.used
     }
 
+    /// Takes all blocks out.
     pub fn clear(&mut self)
         ensures { self.new ≡ [] }
     {
@@ -86,6 +88,7 @@ impl Blocks {
         self.used = count;
     }
 
+    /// A block, by its number.
     pub fn block(&self, number: usize) -> &Block
         requires { number < length self.now }
         ensures { result.now ≡ block self.now number }

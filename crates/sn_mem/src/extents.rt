@@ -46,6 +46,7 @@ impl Extents {
         Ok(())
     }
 
+    /// The extents, in order.
     pub fn as_slice(&self) -> &[Extent]
         ensures { result.now ≡ self.now }
     {
@@ -58,6 +59,8 @@ impl Extents {
 /// A word that may be written may be read too.
 #[derive(Drop)]
 pub struct Foot {
+    /// What it may read.
     pub reads: Extents,
+    /// What it may write.
     pub writes: Extents,
 }

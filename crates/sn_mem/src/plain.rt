@@ -1,5 +1,5 @@
 //! A port over a vector, which may touch everything.
-ghost use Rattle.std.specs.Prelude.{◌≡◌, ◌<◌, ◌∷◌, [], replicate, IfOk};
+ghost use Rattle.std.specs.Prelude.{◌≡◌, ◌<◌, replicate, IfOk};
 
 use crate::extents::Foot;
 use crate::port::Port;

@@ -34,6 +34,7 @@ impl Values {
         Ok(Values { items, used: 0 })
     }
 
+    /// Takes all values out.
     pub fn clear(&mut self)
         ensures { self.new ≡ [] }
     {
@@ -49,6 +50,7 @@ impl Values {
         self.used += 1;
     }
 
+    /// A value, by its number.
     pub fn at(&self, number: usize) -> i32
         requires { number < length self.now }
         ensures { result ≡ slice_index_or self.now number (pos 0) }
@@ -71,6 +73,7 @@ pub struct Scratch {
 }
 
 impl Scratch {
+    /// Room for all that a synth may need.
     pub fn new(alloc: Global) -> Result<Scratch, NoMemory> {
         Ok(Scratch {
             wires: Blocks::new(alloc)?,

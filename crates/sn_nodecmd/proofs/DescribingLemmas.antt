@@ -1,5 +1,5 @@
 -- `/g_queryTree`: the walk over a node and all nodes below it, and what is told of each.
-use Rattle.std.proofs.Common.{◌≡◌, ◌≤◌, ◌<◌, ◌+◌, ◌*◌, ◌||◌, ◌&&◌, ℕ, zero, suc, ℤ, pos, negsuc, Bool, true, false, not, List, [], ◌∷◌, ◌++◌, length, drop, get_or, drop-cons, Option, Some, None, is_some, Ok, refl, ap, sym, subst, ◌∙◌, arith, append_assoc, append-nil, length-append}
+use Rattle.std.proofs.Common.{◌≡◌, ◌≤◌, ◌<◌, ◌+◌, ◌*◌, ◌||◌, ℕ, ℤ, pos, Bool, true, false, not, List, [], ◌∷◌, ◌++◌, length, drop, get_or, Option, Some, None, is_some, refl, ap, sym, subst, ◌∙◌, arith, append_assoc, append-nil, length-append}
 use Rattle.std.specs.Prelude.{if◌then◌else◌, codes}
 use Rattle.std.specs.Ordering.{int_eq}
 use Rattle.sn_osc.specs.Shape.{Argument, int, arguments, MessageShape}
@@ -13,12 +13,11 @@ use Rattle.sn_world.specs.declared.tree_query.TreeQuery.{TreeQuery}
 use Rattle.sn_world.specs.declared.stage.Held.{Held}
 use Rattle.sn_world.specs.declared.stage.Held.TheVariants as held
 use Rattle.sn_world.specs.declared.stage.Stage.{Stage}
-use Rattle.sn_world.specs.Nodes.{Content, content_of}
-use Rattle.sn_world.specs.World.{World, Turn, world_of}
-use Rattle.sn_world.specs.Rows.{first_of, unless, steps}
-use Rattle.sn_world.specs.TreeQueries.{node_arguments, listed, tree_message, judge_tree, act_tree}
+use Rattle.sn_world.specs.Nodes.{content_of}
+use Rattle.sn_world.specs.World.{world_of}
+use Rattle.sn_world.specs.Rows.{first_of}
+use Rattle.sn_world.specs.TreeQueries.{node_arguments, listed, tree_message, judge_tree}
 use Rattle.sn_nodecmd.specs.Describing.{held_arguments, described, HaveFew, tree_reply}
-use Rattle.sn_nodecmd.specs.Stepping.{Acts}
 
 -- ---- the walk tells of each node what the world says of it
 
@@ -199,17 +198,3 @@ module _ (stage : Stage) (words : List ℕ) (r : TreeQuery) where
 
     pub answered : tree_reply r.group m.1 rest ≡ tree_message r.group (children r.group (world_of stage words).nodes)
     answered = (λ i. tree_reply r.group (sym parts.children i) (sym parts.rest i)) ∙ message-is
-
--- ---- one repetition after the other
-
-module _ {R : Type 0} (judge : World → R → Option Reason) (act : R → Turn → Turn) where
-  pub asked-step : (queries : List R) (i : ℕ) (d : R) (o : Option Reason) (t after : Turn) → i < length queries → o ≡ None → Acts (Ok o) (judge t.world (get_or queries i d)) (act (get_or queries i d) t) after
-      → steps judge act (drop (i + 1) queries) after ≡ steps judge act (drop i queries) t
-  asked-step queries i d o t after within is_none acts =
-      let r = get_or queries i d in
-      let rest = drop (i + 1) queries in
-      let both = subst (λ (p : Option Reason). Acts (Ok p) (judge t.world r) (act r t) after) is_none acts in
-      let one : suc i ≡ i + 1 = omega arith in
-      ap (steps judge act rest) both.1
-      ∙ sym (ap (λ (p : Option Reason). unless p (steps judge act rest (act r t))) both.0)
-      ∙ ap (λ rs. steps judge act rs t) (sym (drop-cons queries i d within ∙ ap (λ n. r ∷ drop n queries) one))

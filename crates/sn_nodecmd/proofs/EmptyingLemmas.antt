@@ -1,23 +1,21 @@
 -- What lies below groups is freed.
-use Rattle.std.proofs.Common.{◌≡◌, ◌≤◌, ◌<◌, ◌+◌, ◌-◌, ◌||◌, ℕ, zero, suc, ℤ, pos, negsuc, Bool, true, false, not, List, [], ◌∷◌, ◌++◌, length, drop, get_or, Option, Some, None, is_some, refl, ap, sym, subst, ◌∙◌, arith}
+use Rattle.std.proofs.Common.{◌≡◌, ◌≤◌, ◌<◌, ◌+◌, ◌||◌, ℕ, zero, suc, ℤ, pos, negsuc, Bool, true, false, not, List, [], ◌∷◌, length, drop, get_or, Option, Some, None, is_some, refl, ap, sym, subst, ◌∙◌, arith}
 use Rattle.std.specs.Prelude.{if◌then◌else◌, IfOk, Result, Ok, Err}
 use Rattle.std.specs.List.{All}
 use Rattle.std.specs.Option.{option_map}
 use Rattle.std.specs.Ordering.{int_eq}
 use Rattle.std.proofs.lemmas.Bool.{or_parts}
-use Rattle.sn_mem.specs.declared.extents.Extent.{Extent}
 use Rattle.sn_ports.specs.declared.failed.NoMemory.{NoMemory}
 use Rattle.sn_reply.specs.Replies.{ReplyShape}
-use Rattle.sn_reply.specs.declared.reason.Reason.{Reason}
 use Rattle.sn_reply.specs.declared.reason.Reason.TheVariants as Reasons
 use Rattle.sn_tree.specs.declared.node.NodeKind.{NodeKind}
 use Rattle.sn_tree.specs.declared.node.NodeView.{NodeView}
-use Rattle.sn_tree.specs.Trees.{Label, Nodes, none, node, holds, count, children, label_of, subtree, without, view_of, view_from, first_id, last_id}
+use Rattle.sn_tree.specs.Trees.{Label, Nodes, none, node, holds, count, children, label_of, without, view_of, view_from, first_id, last_id}
 use Rattle.sn_tree.specs.Below.{top_ids, synth_ids}
 use Rattle.sn_tree.specs.Faults.{is_synth, labels_synth}
 use Rattle.sn_tree.specs.Model.{NodeTree}
 use Rattle.sn_tree.specs.Steps.{detached, detaching}
-use Rattle.sn_tree.specs.Views.{seen, views_from, views_at, views_below}
+use Rattle.sn_tree.specs.Views.{seen, views_at}
 use Rattle.sn_tree.proofs.PayloadLaws.{holds-payloads, synth-payloads, children-payloads}
 use Rattle.sn_tree.proofs.Gathering.{top_ids-payloads, synth_ids-payloads}
 use Rattle.sn_world.specs.declared.stage.Held.{Held}
@@ -27,9 +25,10 @@ use Rattle.sn_world.specs.Freeing.{told_ends, freed, free_refusal}
 use Rattle.sn_world.specs.Emptying.{freed_each, group_refusal}
 use Rattle.sn_world.specs.Rows.{first_of}
 use Rattle.sn_world.specs.World.{World, Turn, world_of, turn_of}
-use Rattle.sn_nodecmd.specs.Folding.{room_in, saved_in, CanStep, Keeps}
+use Rattle.sn_nodecmd.specs.Folding.{CanStep, Keeps}
 use Rattle.sn_nodecmd.specs.Sparing.{SparesRoom}
-use Rattle.sn_nodecmd.proofs.Stepping.{is_seen, room_followed}
+use Rattle.sn_world.proofs.Turning.{is_seen}
+use Rattle.sn_nodecmd.proofs.Stepping.{room_followed}
 
 -- ---- reasons
 

@@ -1,6 +1,6 @@
 -- `/s_get`: controls that are asked for, their values, and how many bytes tell them.
-use Rattle.std.proofs.Common.{Global, ◌≡◌, ◌≤◌, ◌<◌, ◌+◌, ◌*◌, ◌^◌, ◌||◌, ◌&&◌, ℕ, zero, suc, ℤ, pos, negsuc, Bool, true, false, List, [], ◌∷◌, ◌++◌, length, map, drop, get_or, drop-cons, nat_lt, Option, Some, None, is_some, Result, Ok, Err, refl, ap, sym, subst, ◌∙◌, arith, append_assoc, length-append}
-use Rattle.std.specs.Prelude.{if◌then◌else◌, position}
+use Rattle.std.proofs.Common.{Global, ◌≡◌, ◌≤◌, ◌<◌, ◌+◌, ◌*◌, ◌^◌, ◌&&◌, ℕ, zero, suc, ℤ, pos, negsuc, Bool, true, false, List, [], ◌∷◌, ◌++◌, length, map, get_or, nat_lt, Option, Some, None, is_some, Ok, Err, refl, ap, sym, subst, ◌∙◌, arith, append_assoc, length-append}
+use Rattle.std.specs.Prelude.{if◌then◌else◌}
 use Rattle.std.specs.List.{list_all, All}
 use Rattle.std.specs.Option.{option_map}
 use Rattle.std.specs.Ordering.{int_eq}
@@ -14,7 +14,7 @@ use Rattle.std.proofs.lemmas.List.Quantifiers.{position-Some}
 use Rattle.std.proofs.lemmas.Slice.Eq.{bytes_eq-Decides}
 use Rattle.std.specs.declared.sync.Arc.{Arc}
 use Rattle.sn_osc.specs.Shape.{Argument, int, string, blob}
-use Rattle.sn_osc.specs.Bytes.{argument_bytes, arguments_bytes, string_bytes, int_bytes}
+use Rattle.sn_osc.specs.Bytes.{argument_bytes, arguments_bytes, int_bytes}
 use Rattle.sn_mem.specs.declared.extents.Extent.{Extent}
 use Rattle.sn_mem.specs.declared.extents.Foot.{Foot}
 use Rattle.sn_mem.specs.Buses.{ControlBus, control_buses}
@@ -23,12 +23,10 @@ use Rattle.sn_def.specs.declared.definition.Def.{Def}
 use Rattle.sn_def.specs.Definition.{Definition, Parameter, control_names}
 use Rattle.sn_def.specs.Defs.{definition_of}
 use Rattle.sn_def.specs.Reading.{IsWritten, is_name}
-use Rattle.sn_def.specs.Grammar.{names_of}
 use Rattle.sn_def.specs.Asked.{control_named}
 use Rattle.sn_synth.specs.Synths.{control_value}
 use Rattle.sn_synth.specs.Conditions.{MayFollow, no_control}
-use Rattle.sn_reply.proofs.Sending.{first-of, second-of, length-string_bytes, length-arguments_bytes-least}
-use Rattle.sn_reply.specs.declared.reason.Reason.{Reason}
+use Rattle.sn_reply.proofs.Sending.{first-of, second-of, length-arguments_bytes-least}
 use Rattle.sn_reply.specs.declared.reason.Reason.TheVariants as Reasons
 use Rattle.sn_reply.specs.declared.replies.To.TheVariants.{Client}
 use Rattle.sn_reply.specs.Replies.{ReplyShape}
@@ -41,11 +39,12 @@ use Rattle.sn_world.specs.Nodes.{Content, content_of}
 use Rattle.sn_world.specs.Pictures.{IsHeld, AreHeld}
 use Rattle.sn_world.specs.World.{Turn, turn_of}
 use Rattle.sn_world.specs.Rows.{another, singles, some_of}
-use Rattle.sn_world.specs.NewSynth.{ControlName, numbered, named, control_name, control_of, int_of}
+use Rattle.sn_world.specs.Runs.{number as int_of}
+use Rattle.sn_world.specs.NewSynth.{ControlName, numbered, named, control_name, name_argument, control_of}
 use Rattle.sn_world.specs.ControlRuns.{ForNode, for_node, asked_of}
-use Rattle.sn_world.specs.SynthQueries.{name_argument, value_arguments, values_asked, values_message, payload_at, values_from, values_outcome}
+use Rattle.sn_world.specs.SynthQueries.{value_arguments, values_asked, values_message, payload_at, values_from, values_outcome}
 use Rattle.sn_nodecmd.specs.Getting.{CanBeTold}
-use Rattle.sn_nodecmd.proofs.NameLemmas.{LinesAreRead, name-clean, name-short}
+use Rattle.sn_nodecmd.proofs.NameLemmas.{LinesAreRead}
 
 -- ---- the names of a definition's controls
 

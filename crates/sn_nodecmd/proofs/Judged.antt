@@ -5,10 +5,9 @@ use Rattle.std.specs.Ordering.{int_eq}
 use Rattle.sn_reply.specs.declared.reason.Reason.TheVariants as Reasons
 use Rattle.sn_tree.specs.declared.node.TreeFault.TheVariants as faults
 use Rattle.sn_tree.specs.Trees.{Nodes, holds, without, label_of, count}
-use Rattle.sn_tree.specs.Faults.{first_fault, insert_fault, replace_fault, is_inside, labels_synth, is_missing, is_in_synth, is_beside_root}
+use Rattle.sn_tree.specs.Faults.{first_fault, replace_fault, is_inside, labels_synth, is_missing, is_in_synth, is_beside_root}
 use Rattle.std.proofs.lemmas.Bool.Decides.{Decides-int_eq}
 use Rattle.sn_world.specs.declared.repetition.NewNode.{NewNode}
-use Rattle.sn_world.specs.declared.stage.Held.{Held}
 use Rattle.sn_world.specs.declared.stage.Stage.{Stage}
 use Rattle.sn_world.specs.Rows.{first_of}
 use Rattle.sn_world.specs.NewNodes.{add_action, action_for, replaces, left_by, node_refusal}

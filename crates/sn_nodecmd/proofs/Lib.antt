@@ -3,11 +3,9 @@ pub mod AskedLemmas
 pub mod Judged
 pub mod Clearing
 pub mod MakingLemmas
-pub mod Opened
 pub mod RunLemmas
 pub mod TurningLemmas
 pub mod ReworkLemmas
-pub mod Ending
 pub mod Underway
 pub mod Repeating
 pub mod EmptyingLemmas
@@ -16,8 +14,8 @@ pub mod Relocating
 pub mod ToldLemmas
 pub mod QueryLemmas
 pub mod MappingLemmas
+pub mod MappingFold
 pub mod OrderLemmas
-mod Inserted
 pub mod Replacing
 pub mod NameLemmas
 pub mod DescribingLemmas

@@ -1,5 +1,5 @@
 -- `/n_map`: what is against it, and controls that follow buses.
-use Rattle.std.proofs.Common.{◌≡◌, ◌<◌, ◌≤◌, ◌+◌, ◌||◌, ℕ, zero, suc, ℤ, pos, negsuc, Bool, true, false, not, List, [], ◌∷◌, ◌++◌, length, map, drop, get_or, set, drop-cons, Option, Some, None, Result, Ok, Err, refl, ap, sym, subst, ◌∙◌, length-set}
+use Rattle.std.proofs.Common.{◌≡◌, ◌<◌, ◌≤◌, ◌||◌, ℕ, zero, suc, ℤ, pos, negsuc, Bool, true, false, not, List, [], ◌∷◌, length, map, drop, get_or, set, drop-cons, Option, Some, None, Result, Ok, Err, refl, ap, sym, subst, ◌∙◌, length-set}
 use Rattle.std.specs.Prelude.{if◌then◌else◌}
 use Rattle.std.specs.List.{list_any}
 use Rattle.std.specs.Ordering.{int_eq}
@@ -29,11 +29,11 @@ use Rattle.sn_world.specs.World.{Turn, world_of, turn_of}
 use Rattle.sn_world.specs.Rows.{unless, or_else, first_of, first_refusal}
 use Rattle.sn_world.specs.NewSynth.{ControlName, control_of}
 use Rattle.sn_world.specs.ControlRuns.{ForNode, judge_node}
-use Rattle.sn_world.specs.Mappings.{Mapping, is_followable, followed_bus, with_bus, with_buses, is_index_of, is_index_in, any_node, judge_mapping, judge_map, map_buses, map_outcome}
+use Rattle.sn_world.specs.Mappings.{Mapping, is_followable, followed_bus, with_bus, with_buses, is_index_of, is_index_in, any_node, judge_mapping, map_buses, map_outcome}
 use Rattle.sn_nodecmd.specs.Reworks.{held_with}
 use Rattle.sn_nodecmd.specs.Mapped.{mapping_of, takes_index, refusal_in}
 use Rattle.sn_nodecmd.specs.declared.mappings.Mapping.{Mapping as Read}
-use Rattle.sn_nodecmd.proofs.TurningLemmas.{pictures-tree}
+use Rattle.sn_world.proofs.Turning.{pictures-tree}
 use Rattle.sn_nodecmd.proofs.ReworkLemmas.{live-reworked, world-reworked}
 
 -- ---- the walk over a node and all nodes below it

@@ -1,16 +1,14 @@
 -- What a move makes of the tree.
-use Rattle.std.proofs.Common.{◌≡◌, ◌≤◌, ◌+◌, ◌||◌, ◌&&◌, ℕ, ℤ, pos, Bool, true, false, not, List, [], ◌∷◌, Option, Some, None, refl, ap, sym, ◌∙◌, arith}
+use Rattle.std.proofs.Common.{◌≡◌, ◌+◌, ◌||◌, ◌&&◌, ℕ, ℤ, pos, Bool, true, false, not, List, [], ◌∷◌, None, refl, ap, sym, ◌∙◌, arith}
 use Rattle.std.specs.Prelude.{if◌then◌else◌}
 use Rattle.std.specs.Option.{option_map}
 use Rattle.std.specs.Ordering.{int_eq}
 use Rattle.std.proofs.lemmas.Bool.{cond_both}
 use Rattle.sn_mem.specs.declared.extents.Extent.{Extent}
 use Rattle.sn_reply.specs.Replies.{ReplyShape}
-use Rattle.sn_reply.specs.declared.reason.Reason.{Reason}
 use Rattle.sn_reply.specs.declared.reason.Reason.TheVariants as Reasons
 use Rattle.sn_tree.specs.declared.node.TreeFault.TheVariants as faults
-use Rattle.sn_tree.specs.declared.node.Action.{Action}
-use Rattle.sn_tree.specs.Trees.{Nodes, Sides, none, node, holds, count, put, subtree, without}
+use Rattle.sn_tree.specs.Trees.{Nodes, none, node, holds, count, put, subtree, without}
 use Rattle.sn_tree.specs.Faults.{first_fault, move_fault, is_missing, is_inside, is_in_synth, is_beside_root}
 use Rattle.sn_tree.specs.Model.{NodeTree}
 use Rattle.sn_tree.specs.Steps.{moved, moving}
@@ -22,9 +20,9 @@ use Rattle.sn_world.specs.declared.stage.Stage.{Stage}
 use Rattle.sn_world.specs.Nodes.{Content, content_of}
 use Rattle.sn_world.specs.Notices.{told}
 use Rattle.sn_world.specs.Moving.{move_refusal, act_move}
-use Rattle.sn_world.specs.Pictures.{live_held, amount, AreHeld}
+use Rattle.sn_world.specs.Pictures.{AreHeld}
 use Rattle.sn_world.specs.Rows.{first_of}
-use Rattle.sn_world.specs.World.{World, Turn, world_of, turn_of}
+use Rattle.sn_world.specs.World.{Turn, world_of, turn_of}
 use Rattle.sn_world.proofs.Counting.{amount-put, amount-without}
 use Rattle.sn_world.proofs.Inserting.{held-put}
 use Rattle.sn_nodecmd.specs.Folding.{KeepsTree, Keeps}

@@ -1,12 +1,11 @@
 -- Repetitions, one after the other.
-use Rattle.std.proofs.Common.{◌≡◌, ◌≤◌, ◌<◌, ◌-◌, ◌+◌, ℕ, zero, suc, List, [], ◌∷◌, drop, length, get_or, Option, Some, None, Result, Ok, Err, refl, ap, sym, subst, ◌∙◌, arith}
+use Rattle.std.proofs.Common.{◌≡◌, ◌≤◌, ◌<◌, ◌-◌, ◌+◌, ℕ, zero, suc, List, [], ◌∷◌, drop, length, get_or, drop-cons, Option, Some, None, Result, Ok, Err, refl, ap, sym, subst, ◌∙◌, arith}
 use Rattle.sn_osc.specs.Shape.{Argument}
 use Rattle.sn_ports.specs.declared.failed.NoMemory.{NoMemory}
 use Rattle.sn_pool.specs.declared.pool.Mark.{Mark}
 use Rattle.sn_reply.specs.declared.reason.Reason.{Reason}
 use Rattle.sn_world.specs.declared.stage.Stage.{Stage}
-use Rattle.sn_reply.specs.Replies.{ReplyShape}
-use Rattle.sn_world.specs.World.{World, Turn, turn_of}
+use Rattle.sn_world.specs.World.{World, Turn}
 use Rattle.sn_world.specs.Rows.{unless, steps, row, another, singles, triples, some_of}
 use Rattle.sn_world.specs.Answers.{Follows, UnlessFollowed}
 use Rattle.sn_nodecmd.specs.Folding.{Steps, Keeps, CanStep, IsUnderway}
@@ -32,6 +31,18 @@ module _ {R : Type 0} (judge : World → R → Option Reason) (act : R → Turn 
       sym (ap (λ (qs : List R). steps judge act qs t) (drop_next rs i r lt item)
       ∙ ap (λ (q : Option Reason). unless q (steps judge act (drop (i + 1) rs) (act r t))) s.0
       ∙ ap (steps judge act (drop (i + 1) rs)) s.1)
+
+  -- the same by the answer that none was refused
+  pub step_asked : (rs : List R) (i : ℕ) (d : R) (o : Option Reason) (t after : Turn) → i < length rs → o ≡ None → Steps (Ok o) (judge t.world (get_or rs i d)) (act (get_or rs i d) t) after
+      → steps judge act (drop (i + 1) rs) after ≡ steps judge act (drop i rs) t
+  step_asked rs i d o t after lt none_refused is =
+      let r = get_or rs i d in
+      let rest = drop (i + 1) rs in
+      let both = subst (λ (p : Option Reason). Steps (Ok p) (judge t.world r) (act r t) after) none_refused is in
+      let one : suc i ≡ i + 1 = omega arith in
+      sym (ap (λ (qs : List R). steps judge act qs t) (drop-cons rs i d lt ∙ ap (λ n. r ∷ drop n rs) one)
+      ∙ ap (λ (q : Option Reason). unless q (steps judge act rest (act r t))) both.0
+      ∙ ap (steps judge act rest) both.1)
 
   -- one that there is a reason against
   pub step_refused : (rs : List R) (i : ℕ) (r : R) (t t' after : Turn) (first : Result Turn Reason) (o : Result (Option Reason) NoMemory) → i < length rs → r ≡ get_or rs i r → Steps o (judge t.world r) (act r t) t'
@@ -96,15 +107,3 @@ few_triples {R} p xs rs is = subst (λ (o : Option (List R)). IsShort o (length 
 pub row_read : {R : Type 0} (judge : World → R → Option Reason) (act : R → Turn → Turn) (o : Option (List R)) (rs : List R) (result : Result (Option Reason) NoMemory) (t after : Turn) → Some rs ≡ o
     → Follows result (steps judge act rs t) after → Follows result (row judge act o t) after
 row_read {R} judge act o rs result t after is follows = subst (λ (q : Option (List R)). Follows result (row judge act q t) after) is follows
-
--- what a refusal leaves
-pub same_turn : (result : Result (Option Reason) NoMemory) (old new : Stage) (words : List ℕ) (told tells : List ReplyShape) → UnlessFollowed result (new ≡ old) → UnlessFollowed result (tells ≡ told) → UnlessFollowed result (turn_of new words tells ≡ turn_of old words told)
-same_turn (Ok None) old new words told tells p q = tt
-same_turn (Ok (Some reason)) old new words told tells p q = λ i. turn_of (p i) words (q i)
-same_turn (Err e) old new words told tells p q = λ i. turn_of (p i) words (q i)
-
-pub same_outcome : (result : Result (Option Reason) NoMemory) (old new : Stage) (ws us : List ℕ) (told tells : List ReplyShape) → UnlessFollowed result (new ≡ old) → UnlessFollowed result (us ≡ ws) → UnlessFollowed result (tells ≡ told)
-    → UnlessFollowed result (turn_of new us tells ≡ turn_of old ws told)
-same_outcome (Ok None) old new ws us told tells p w q = tt
-same_outcome (Ok (Some reason)) old new ws us told tells p w q = λ i. turn_of (p i) (w i) (q i)
-same_outcome (Err e) old new ws us told tells p w q = λ i. turn_of (p i) (w i) (q i)

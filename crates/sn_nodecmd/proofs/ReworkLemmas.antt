@@ -17,14 +17,14 @@ use Rattle.sn_tree.proofs.PayloadLaws.{relabelled, holds-payloads}
 use Rattle.sn_world.specs.declared.stage.Held.{Held}
 use Rattle.sn_world.specs.declared.stage.Held.TheVariants as held
 use Rattle.sn_world.specs.declared.stage.Stage.{Stage}
-use Rattle.sn_world.specs.Nodes.{Content, content_of}
+use Rattle.sn_world.specs.Nodes.{content_of}
 use Rattle.sn_world.specs.Pictures.{Pictures, held_extents, live_held, IsHeld, AreHeld}
 use Rattle.sn_world.specs.World.{Turn, world_of, turn_of}
 use Rattle.sn_world.specs.Rows.{unless}
 use Rattle.sn_world.specs.NewSynth.{control_of, with_value}
 use Rattle.sn_world.specs.ControlRuns.{ControlRun, ForNode, in_synth, with_values_from, with_run, with_runs, judge_node, set_controls, set_outcome}
 use Rattle.sn_nodecmd.specs.Reworks.{held_with}
-use Rattle.sn_nodecmd.proofs.TurningLemmas.{pictures-tree}
+use Rattle.sn_world.proofs.Turning.{pictures-tree, with_nodes}
 
 -- ---- payloads changed by themselves, and as they are seen
 
@@ -99,9 +99,6 @@ module _ (change : Definition → List Control → List Control) where
   same-content words held.Group = refl
   same-content words (held.Synth def controls state) = refl
 
-  abbrev with_nodes : Stage → List ℕ → List ReplyShape → Nodes Content → Turn
-  with_nodes stage words replies nodes = record { world = record (world_of stage words) { nodes = nodes }; replies = replies }
-
   pub world-reworked : (stage : Stage) (words : List ℕ) (replies : List ReplyShape) (id : ℤ)
       → turn_of (record stage { tree = changed_below (held_with change) id stage.tree }) words replies ≡ with_nodes stage words replies (reworked (in_synth change) id (with_payloads (content_of words) stage.tree.attached))
   world-reworked stage words replies id =
@@ -146,10 +143,10 @@ good-runs (r ∷ rs) d cs are = good-runs rs d (with_run (control_of d r.control
 pub set-done : (stage : Stage) (words : List ℕ) (replies : List ReplyShape) (r : ForNode ControlRun) → judge_node (world_of stage words) r.id ≡ None
     → set_outcome (Some r) (turn_of stage words replies) ≡ Ok (turn_of (record stage { tree = changed_below (held_with (with_runs r.all)) r.id stage.tree }) words replies)
 set-done stage words replies r judged =
-    ap (λ (o : Option Reason). unless o (Ok (with_nodes (with_runs r.all) stage words replies (set_controls r (world_of stage words)).nodes))) judged
+    ap (λ (o : Option Reason). unless o (Ok (with_nodes stage words replies (set_controls r (world_of stage words)).nodes))) judged
     ∙ ap (λ (t : Turn). let o : Result Turn Reason = Ok t in o) (sym (world-reworked (with_runs r.all) stage words replies r.id))
 
 pub set-refused : (stage : Stage) (words : List ℕ) (replies : List ReplyShape) (r : ForNode ControlRun) (reason : Reason) → judge_node (world_of stage words) r.id ≡ Some reason
     → set_outcome (Some r) (turn_of stage words replies) ≡ Err reason
 set-refused stage words replies r reason judged =
-    ap (λ (o : Option Reason). unless o (Ok (with_nodes (with_runs r.all) stage words replies (set_controls r (world_of stage words)).nodes))) judged
+    ap (λ (o : Option Reason). unless o (Ok (with_nodes stage words replies (set_controls r (world_of stage words)).nodes))) judged

@@ -1,5 +1,5 @@
 -- What a repetition makes of the tree.
-use Rattle.std.proofs.Common.{◌≡◌, ◌≤◌, ◌+◌, ◌-◌, ◌||◌, ◌&&◌, ℕ, ℤ, pos, negsuc, Bool, true, false, not, nat_lt, List, [], ◌∷◌, Option, Some, None, is_some, refl, ap, sym, subst, ◌∙◌, arith}
+use Rattle.std.proofs.Common.{◌≡◌, ◌≤◌, ◌+◌, ◌-◌, ◌&&◌, ℕ, ℤ, pos, negsuc, Bool, true, false, not, nat_lt, List, [], ◌∷◌, Option, Some, None, is_some, refl, ap, sym, subst, ◌∙◌, arith}
 use Rattle.std.specs.Prelude.{if◌then◌else◌}
 use Rattle.std.specs.Ordering.{int_eq}
 use Rattle.std.proofs.lemmas.Bool.{cond_both}
@@ -11,12 +11,12 @@ use Rattle.sn_tree.specs.declared.node.NodeView.{NodeView}
 use Rattle.sn_tree.specs.declared.node.TreeFault.TheVariants as faults
 use Rattle.sn_tree.specs.declared.node.Action.{Action}
 use Rattle.sn_tree.specs.declared.node.Action.TheVariants.{Head, Tail, Before, After}
-use Rattle.sn_tree.specs.Trees.{Label, Nodes, Sides, none, node, holds, count, joined, beside, put, leaf, subtree, without, view_of, view_from, first_id, last_id, with_payloads}
+use Rattle.sn_tree.specs.Trees.{Label, Nodes, Sides, none, node, holds, count, beside, put, leaf, subtree, without, with_payloads}
 use Rattle.sn_tree.specs.Views.{views_below}
 use Rattle.sn_tree.specs.Faults.{first_fault, detach_fault, is_inside, is_in_synth, is_beside_root}
 use Rattle.sn_tree.specs.Model.{Journal, NodeTree}
 use Rattle.sn_tree.specs.Steps.{followed, inserted, inserting, detached, detaching}
-use Rattle.sn_tree.proofs.PayloadLaws.{holds-payloads, count-payloads, synth-payloads, put-payloads, without-payloads, views-payloads}
+use Rattle.sn_tree.proofs.PayloadLaws.{holds-payloads, synth-payloads, put-payloads, without-payloads, views-payloads}
 use Rattle.sn_world.specs.declared.notices.NodeEvent.TheVariants.{Went}
 use Rattle.sn_world.specs.declared.repetition.NewNode.{NewNode}
 use Rattle.sn_world.specs.declared.stage.Held.{Held}
@@ -26,10 +26,11 @@ use Rattle.sn_world.specs.Nodes.{Content, group, content_of}
 use Rattle.sn_world.specs.Notices.{told}
 use Rattle.sn_world.specs.Freeing.{told_ends, freed, free_refusal}
 use Rattle.sn_world.specs.NewNodes.{is_used, next_after, add_action, action_for, replaces, left_by, placed, told_if, told_replaced, node_refusal, with_group, act_with}
-use Rattle.sn_world.specs.Pictures.{live_held, amount, AreHeld}
+use Rattle.sn_world.specs.Pictures.{live_held, amount}
 use Rattle.sn_world.specs.Rows.{first_of}
 use Rattle.sn_world.specs.World.{World, Turn, world_of, turn_of}
 use Rattle.sn_world.proofs.Counting.{amount-put, amount-leaf, amount-joined, amount-without}
+use Rattle.sn_world.proofs.FreedLemmas.{count-joined}
 use Rattle.sn_world.proofs.Inserting.{held-put}
 use Rattle.sn_world.proofs.Replacing.{goes_before, held-without, fewer, left-payloads, count-left}
 use Rattle.sn_tree.proofs.Replacing.{still_held}
@@ -37,10 +38,6 @@ use Rattle.sn_nodecmd.specs.Adding.{added}
 use Rattle.sn_nodecmd.specs.Folding.{room_in, saved_in, KeepsTree, Keeps}
 
 -- ---- how many nodes
-
-count-joined : (s t : Nodes Held) → count (joined s t) ≡ count s + count t
-count-joined none t = omega arith
-count-joined (node l below after) t = omega (arith, count-joined after t)
 
 count-beside : (action : Action) (new : Nodes Held) (l : Label Held) (below after : Nodes Held) → count (beside action new l below after) ≡ count new + count (node l below after)
 count-beside Head new l below after = omega (arith, count-joined new below)
@@ -104,21 +101,6 @@ keeps_inserted id kind action target tree there = record {
   extents = λ weight. omega (arith, amount-put weight action target (leaf id kind held.Group) tree.attached there, group_amount weight id kind);
   held = λ rate region h. held-put rate region action target (leaf id kind held.Group) tree.attached (tt, (tt, tt)) h;
 }
-
--- ---- whether a node is there
-
-seen_from : (parent previous id : ℤ) (t : Nodes Held) → is_some (view_from parent previous id t) ≡ holds id t
-seen_from parent previous id none = refl
-seen_from parent previous id (node l below after) = at (int_eq l.id id) (holds id below) (seen_from l.id (negsuc 0) id below) (seen_from parent l.id id after)
-  where
-    at : (here inner : Bool) → is_some (view_from l.id (negsuc 0) id below) ≡ inner → is_some (view_from parent l.id id after) ≡ holds id after
-        → is_some (if here then Some (record { kind = l.kind; running = l.running; parent = parent; previous = previous; next = first_id after; head = first_id below; tail = last_id (negsuc 0) below }) else if inner then view_from l.id (negsuc 0) id below else view_from parent l.id id after) ≡ (here || (inner || holds id after))
-    at true inner b a = refl
-    at false true b a = b
-    at false false b a = a
-
-pub is_seen : (id : ℤ) (t : Nodes Held) → is_some (view_of id t) ≡ holds id t
-is_seen id t = seen_from (negsuc 0) (negsuc 0) id t
 
 -- ---- freeing
 

@@ -1,9 +1,8 @@
 -- Controls that are asked for.
-use Rattle.std.specs.Prelude.{ℕ, ◌+◌, ◌*◌, ◌^◌, ◌<◌, List, map, length}
+use Rattle.std.specs.Prelude.{◌+◌, ◌*◌, ◌^◌, ◌<◌, List, map, length}
 use Rattle.sn_osc.specs.Bytes.{arguments_bytes}
-use Rattle.sn_world.specs.NewSynth.{ControlName}
+use Rattle.sn_world.specs.NewSynth.{ControlName, name_argument}
 use Rattle.sn_world.specs.ControlRuns.{ForNode}
-use Rattle.sn_world.specs.SynthQueries.{name_argument}
 use Rattle.sn_nodecmd.specs.declared.getting.AskedControls.{AskedControls}
 use Rattle.sn_nodecmd.specs.Runs.{name_of}
 

@@ -2,9 +2,7 @@ pub mod Asking
 pub mod Setting
 pub mod Judging
 pub mod Placing
-pub mod Given
 pub mod Runs
-pub mod Stepping
 pub mod Reworks
 pub mod Mapped
 pub mod Folding

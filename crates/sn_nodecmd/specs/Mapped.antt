@@ -1,5 +1,5 @@
 -- Mappings of controls as they are read, and what is against them in the nodes of a stage.
-use Rattle.std.specs.Prelude.{Bool, false, not, List, [], ◌∷◌, map, Option}
+use Rattle.std.specs.Prelude.{Bool, false, not, [], ◌∷◌, map, Option}
 use Rattle.sn_def.specs.Defs.{definition_of}
 use Rattle.sn_reply.specs.declared.reason.Reason.{Reason}
 use Rattle.sn_reply.specs.declared.reason.Reason.TheVariants as Reasons

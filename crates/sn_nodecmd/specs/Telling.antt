@@ -12,7 +12,7 @@ use Rattle.sn_world.specs.declared.stage.Stage.{Stage}
 use Rattle.sn_world.specs.Notices.{event_message, notices}
 use Rattle.sn_world.specs.declared.repetition.NewNode.{NewNode}
 use Rattle.sn_world.specs.NewNodes.{replaces, told_if}
-use Rattle.sn_world.specs.World.{World, Turn}
+use Rattle.sn_world.specs.World.{World}
 
 -- an event of a node that stands so; nothing of one that is not there
 abbrev pub said : NodeEvent → ℤ → Option NodeView → List Bool → List ReplyShape → List ReplyShape

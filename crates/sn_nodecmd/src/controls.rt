@@ -1,18 +1,19 @@
 //! The controls that a synth begins with.
-ghost use Rattle.std.specs.Prelude.{◌≡◌, ◌<◌, List, [], ℕ, map, length, unwrap_or, IfOk, Some};
+ghost use Rattle.std.specs.Prelude.{◌≡◌, ◌<◌, [], map, unwrap_or, IfOk, Some};
 ghost use Rattle.sn_osc.specs.Shape.{argument_of};
 ghost use Rattle.sn_def.specs.Defs.{definition_of};
 ghost use Rattle.sn_synth.specs.Conditions.{AreControlsOf};
 ghost use Rattle.sn_world.specs.Rows.{pairs};
 ghost use Rattle.sn_world.specs.NewSynth.{numbered, control_of, control_name, control_value, with_value, with_values, defaults};
 ghost use Rattle.sn_nodecmd.specs.Asking.{AreValues};
-ghost use Rattle.sn_nodecmd.specs.Setting.{number_of, with_pair, set_pairs};
+ghost use Rattle.sn_nodecmd.specs.Setting.{number_of, with_pair};
 
 use sn_def::{Control, Controls, Def};
 use sn_osc::Arg;
 use sn_ports::NoMemory;
 use std::alloc::Global;
 
+/// The control with a number, where the definition has one.
 pub fn numbered(def: &Def, number: i32) -> Option<u32>
     ensures { result ≡ control_of (definition_of def.now) (numbered number) }
 {

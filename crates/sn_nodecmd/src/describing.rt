@@ -4,19 +4,19 @@ ghost use Rattle.sn_osc.specs.Shape.{argument_of, message_of, int, string};
 ghost use Rattle.sn_reply.specs.Sending.{IsSendable};
 ghost use Rattle.sn_def.specs.Reading.{is_name};
 ghost use Rattle.sn_tree.specs.Trees.{count};
-ghost use Rattle.sn_tree.specs.Faults.{is_synth};
 ghost use Rattle.sn_world.specs.World.{world_of, turn_of};
 ghost use Rattle.sn_world.specs.Rows.{steps};
 ghost use Rattle.sn_world.specs.TreeQueries.{judge_tree, act_tree, tree_row};
 ghost use Rattle.sn_world.specs.Answers.{Follows, UnlessFollowed};
-ghost use Rattle.sn_nodecmd.specs.Stepping.{Acts};
+ghost use Rattle.sn_nodecmd.specs.Folding.{Steps};
 ghost use Rattle.sn_nodecmd.specs.Describing.{held_arguments, described, HaveFew, tree_reply};
 
+use crate::judging::is_synth;
 use sn_def::{Def, lines_are_read};
 use sn_osc::{Arg, Message};
 use sn_ports::NoMemory;
 use sn_reply::{Answer, Reason, Replies, To};
-use sn_tree::{Member, Members, NodeKind, Tree};
+use sn_tree::{Member, Members, Tree};
 use sn_world::{Held, Stage, TreeQuery, pairs, some_of};
 use std::alloc::Global;
 
@@ -87,15 +87,6 @@ fn tree_message(
     answer.into_message(b"/g_queryTree.reply")
 }
 
-fn is_synth(kind: NodeKind) -> bool
-    ensures { result ≡ is_synth kind }
-{
-    match kind {
-        NodeKind::Synth => true,
-        NodeKind::Group | NodeKind::Parallel => false,
-    }
-}
-
 /// A law: a tree has at most 4,096 nodes.
 fn are_few(tree: &Tree<Held>)
     ensures { count tree.now.attached ≤ 4096 }
@@ -111,7 +102,7 @@ fn answer(
     from: u32,
     replies: &mut Replies,
 ) -> Result<Option<Reason>, NoMemory>
-    ensures act { (words : List ℕ) → Acts result (judge_tree (world_of stage.now words) query.now) (act_tree from query.now (turn_of stage.now words replies.old)) (turn_of stage.now words replies.new) }
+    ensures act { (words : List ℕ) → Steps result (judge_tree (world_of stage.now words) query.now) (act_tree from query.now (turn_of stage.now words replies.old)) (turn_of stage.now words replies.new) }
     ensures earlier { take (length replies.old) replies.new ≡ replies.old }
 {
     are_few(&stage.tree);

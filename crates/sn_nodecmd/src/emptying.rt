@@ -1,12 +1,11 @@
 //! What lies below groups is freed.
-ghost use Rattle.std.specs.Prelude.{◌≡◌, ◌+◌, ◌*◌, ◌^◌, ◌<◌, map, length, IfOk, OnOk, List, ℕ, ℤ, pos, false};
+ghost use Rattle.std.specs.Prelude.{◌≡◌, ◌+◌, ◌*◌, ◌^◌, ◌<◌, map, length, IfOk, OnOk, List, ℕ, pos, false};
 ghost use Rattle.std.specs.List.{All};
 ghost use Rattle.std.specs.Ordering.{int_eq};
 ghost use Rattle.sn_tree.specs.Trees.{children};
-ghost use Rattle.sn_tree.specs.Faults.{is_synth};
 ghost use Rattle.sn_tree.specs.Below.{top_ids, synth_ids};
 ghost use Rattle.sn_osc.specs.Shape.{argument_of};
-ghost use Rattle.sn_world.specs.World.{World, Turn, turn_of};
+ghost use Rattle.sn_world.specs.World.{turn_of};
 ghost use Rattle.sn_world.specs.Freeing.{freed};
 ghost use Rattle.sn_world.specs.Emptying.{freed_each, group_refusal, free_all_row, deep_free_row};
 ghost use Rattle.sn_world.specs.Answers.{Continues, Follows, UnlessFollowed};
@@ -16,22 +15,14 @@ ghost use Rattle.sn_nodecmd.specs.Sparing.{SparesRoom};
 
 use crate::folding::{Repetition, each};
 use crate::freeing::{free_node, is_attached};
+use crate::judging::is_synth;
 use crate::telling::view_of;
 use sn_osc::Arg;
 use sn_ports::NoMemory;
 use sn_reply::{Reason, Replies};
-use sn_tree::{NodeKind, NodeView, Tree};
+use sn_tree::Tree;
 use sn_world::{DeepFree, FreeAll, Held, NodeId, Stage, singles, some_of};
 use std::alloc::Global;
-
-fn is_synth(view: &NodeView) -> bool
-    ensures { result ≡ is_synth view.now.kind }
-{
-    match view.kind {
-        NodeKind::Synth => true,
-        NodeKind::Group | NodeKind::Parallel => false,
-    }
-}
 
 /// The first reason against freeing what lies below a group.
 fn refusal(tree: &Tree<Held>, group: &NodeId) -> Option<Reason>
@@ -40,7 +31,7 @@ fn refusal(tree: &Tree<Held>, group: &NodeId) -> Option<Reason>
     let Some(view) = view_of(tree, group) else {
         return Some(Reason::NoSuchNode);
     };
-    if is_synth(&view) {
+    if is_synth(view.kind) {
         return Some(Reason::NotGroup);
     }
     None

@@ -1,20 +1,16 @@
 //! Repetitions that change the tree, each judged in what the earlier ones left.
-ghost use Rattle.std.specs.Prelude.{◌≡◌, ◌+◌, ◌≤◌, ◌<◌, ◌^◌, List, ℕ, length, Some, None, IfOk, IfErr};
-ghost use Rattle.sn_mem.specs.declared.extents.Extent.{Extent};
-ghost use Rattle.sn_pool.specs.Pools.{times, mark_of, room_of, saved_of};
+ghost use Rattle.std.specs.Prelude.{◌≡◌, ◌<◌, ◌^◌, List, ℕ, length, IfOk, IfErr};
 ghost use Rattle.sn_reply.specs.Replies.{ReplyShape};
-ghost use Rattle.sn_tree.specs.Trees.{none, count};
-ghost use Rattle.sn_world.specs.Answers.{Follows, UnlessFollowed, Continues};
-ghost use Rattle.sn_world.specs.Pictures.{live_held, held_extents, amount, Pictures};
+ghost use Rattle.sn_world.specs.Answers.{Follows, UnlessFollowed};
+ghost use Rattle.sn_world.specs.Pictures.{Pictures};
 ghost use Rattle.sn_world.specs.Rows.{steps};
-ghost use Rattle.sn_world.specs.World.{World, Turn, turn_of, world_of};
-ghost use Rattle.sn_nodecmd.specs.Folding.{IsAtRest, CanStep, Keeps, Steps, IsUnderway, WasAtRest};
+ghost use Rattle.sn_world.specs.World.{turn_of};
+ghost use Rattle.sn_nodecmd.specs.Folding.{IsAtRest, IsUnderway, WasAtRest};
 
-use sn_pool::{Mark, Pool};
+use sn_pool::Mark;
 use sn_ports::NoMemory;
 use sn_reply::{Reason, Replies};
-use sn_tree::Tree;
-use sn_world::{Held, Stage};
+use sn_world::{Stage, end_freed};
 use std::alloc::Global;
 
 /// What a message repeats.
@@ -43,53 +39,6 @@ pub trait Repetition {
         ensures row { (words : List ℕ) → Steps result (judge (world_of stage.old words) self.now) (act self.now (turn_of stage.old words replies.old)) (turn_of stage.new words replies.new) }
         ensures keeps { Keeps stage.old stage.new }
         ensures continues { Continues replies.old replies.new };
-}
-
-/// Gives the words of a freed node back.
-pub fn give_back(pool: &mut Pool, held: &Held)
-    requires live { (e : Extent) → 1 ≤ e.len → times e (held_extents held.now) ≤ times e pool.old.live }
-    requires room { amount (λ e. 1) (held_extents held.now) ≤ room_of pool.old.journal }
-    ensures live { (e : Extent) → 1 ≤ e.len → times e pool.old.live ≡ times e (held_extents held.now) + times e pool.new.live }
-    ensures room { room_of pool.old.journal ≤ amount (λ e. 1) (held_extents held.now) + room_of pool.new.journal }
-    ensures mark { mark_of pool.new.journal ≡ mark_of pool.old.journal }
-    ensures saved { saved_of pool.new.journal ≡ saved_of pool.old.journal }
-    ensures region { pool.new.region ≡ pool.old.region }
-{
-    match held {
-        Held::Group => {}
-        Held::Synth { state, .. } => {
-            if state.len > 0 {
-                pool.give_back(*state);
-            }
-        }
-    }
-}
-
-/// Ends a freed node, and gives its words back.
-fn end_node(pool: &mut Pool, held: Held)
-    requires live { (e : Extent) → 1 ≤ e.len → times e (held_extents held) ≤ times e pool.old.live }
-    requires room { amount (λ e. 1) (held_extents held) ≤ room_of pool.old.journal }
-    ensures live { (e : Extent) → 1 ≤ e.len → times e pool.old.live ≡ times e (held_extents held) + times e pool.new.live }
-    ensures room { room_of pool.old.journal ≤ amount (λ e. 1) (held_extents held) + room_of pool.new.journal }
-    ensures mark { mark_of pool.new.journal ≡ mark_of pool.old.journal }
-    ensures region { pool.new.region ≡ pool.old.region }
-{
-    give_back(pool, &held);
-}
-
-/// Ends the nodes that were freed, and gives their words back.
-fn end_freed(tree: &mut Tree<Held>, pool: &mut Pool)
-    requires closed { tree.old.journal ≡ None }
-    requires live { (e : Extent) → 1 ≤ e.len → times e (live_held tree.old.detached) ≤ times e pool.old.live }
-    requires room { amount (λ e. 1) (live_held tree.old.detached) ≤ room_of pool.old.journal }
-    ensures tree { tree.new ≡ record tree.old { detached = none } }
-    ensures live { (e : Extent) → 1 ≤ e.len → times e pool.old.live ≡ times e (live_held tree.old.detached) + times e pool.new.live }
-    ensures mark { mark_of pool.new.journal ≡ mark_of pool.old.journal }
-    ensures region { pool.new.region ≡ pool.old.region }
-{
-    while let Some(held) = tree.free() {
-        end_node(pool, held);
-    }
 }
 
 /// Opens the journals of a stage.

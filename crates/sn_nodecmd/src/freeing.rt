@@ -3,7 +3,7 @@ ghost use Rattle.std.specs.Prelude.{◌≡◌, ◌+◌, ◌*◌, ◌^◌, ◌<�
 ghost use Rattle.sn_tree.specs.Trees.{holds};
 ghost use Rattle.sn_tree.specs.Steps.{HasRoom, detached};
 ghost use Rattle.sn_osc.specs.Shape.{argument_of};
-ghost use Rattle.sn_world.specs.World.{World, Turn, turn_of};
+ghost use Rattle.sn_world.specs.World.{turn_of};
 ghost use Rattle.sn_world.specs.Freeing.{free_row, free_refusal, freed};
 ghost use Rattle.sn_world.specs.Answers.{Continues, Follows, UnlessFollowed};
 ghost use Rattle.sn_world.specs.Pictures.{Pictures};
@@ -20,7 +20,7 @@ use sn_world::{Held, NodeId, Stage, singles, some_of};
 use std::alloc::Global;
 
 /// Whether a node is in the tree.
-#[tactic(auto, using(crate::proofs::Stepping::is_seen))]
+#[tactic(auto, using(sn_world::proofs::Turning::is_seen))]
 pub fn is_attached(tree: &Tree<Held>, node: &NodeId) -> bool
     ensures { result ≡ holds node.now.id tree.now.attached }
 {

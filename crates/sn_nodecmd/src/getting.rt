@@ -1,5 +1,5 @@
 //! `/s_get`.
-ghost use Rattle.std.specs.Prelude.{◌≡◌, ◌≤◌, ◌<◌, ◌+◌, ◌*◌, ◌^◌, ◌∷◌, ◌++◌, [], Some, true, is_some, length, map, slice_index_or, IfOk, OnOk};
+ghost use Rattle.std.specs.Prelude.{◌≡◌, ◌<◌, ◌+◌, ◌*◌, ◌^◌, ◌∷◌, ◌++◌, [], Some, true, is_some, length, map, slice_index_or, IfOk, OnOk};
 ghost use Rattle.std.specs.List.{list_all};
 ghost use Rattle.std.specs.Option.{option_map};
 ghost use Rattle.sn_osc.specs.Shape.{argument_of, message_of, string};
@@ -14,9 +14,9 @@ ghost use Rattle.sn_reply.specs.Sending.{IsSendable};
 ghost use Rattle.sn_world.specs.World.{turn_of};
 ghost use Rattle.sn_world.specs.Pictures.{Pictures, WritesBuses};
 ghost use Rattle.sn_world.specs.Rows.{singles};
-ghost use Rattle.sn_world.specs.NewSynth.{control_name, control_of};
+ghost use Rattle.sn_world.specs.NewSynth.{control_name, name_argument, control_of};
 ghost use Rattle.sn_world.specs.ControlRuns.{asked_of};
-ghost use Rattle.sn_world.specs.SynthQueries.{name_argument, value_arguments, values_asked, values_message, values_outcome, values_row};
+ghost use Rattle.sn_world.specs.SynthQueries.{value_arguments, values_asked, values_message, values_outcome, values_row};
 ghost use Rattle.sn_world.specs.Answers.{Follows, UnlessFollowed};
 ghost use Rattle.sn_nodecmd.specs.Runs.{name_of};
 ghost use Rattle.sn_nodecmd.specs.Getting.{request_of, CanBeTold};

@@ -3,9 +3,9 @@ ghost use Rattle.std.specs.Prelude.{◌≡◌, ◌+◌, ◌*◌, ◌^◌, ◌<�
 ghost use Rattle.std.specs.Option.{option_map};
 ghost use Rattle.sn_tree.specs.Steps.{HasRoom};
 ghost use Rattle.sn_osc.specs.Shape.{argument_of};
-ghost use Rattle.sn_world.specs.World.{World, Turn, turn_of};
+ghost use Rattle.sn_world.specs.World.{turn_of};
 ghost use Rattle.sn_world.specs.Rows.{triples};
-ghost use Rattle.sn_world.specs.NewNodes.{of_kind, new_group, group_row, node_refusal, act_with};
+ghost use Rattle.sn_world.specs.NewNodes.{new_group, group_row, node_refusal, act_with};
 ghost use Rattle.sn_world.specs.Answers.{Continues, Follows, UnlessFollowed};
 ghost use Rattle.sn_world.specs.Pictures.{Pictures};
 ghost use Rattle.sn_nodecmd.specs.Folding.{IsAtRest, Keeps};

@@ -1,13 +1,23 @@
 //! The id of a new node, its place, and what is against it.
 ghost use Rattle.std.specs.Prelude.{◌≡◌, is_some, Some};
 ghost use Rattle.std.specs.Option.{option_map};
-ghost use Rattle.sn_tree.specs.Faults.{insert_fault, replace_fault};
+ghost use Rattle.sn_tree.specs.Faults.{insert_fault, is_synth, replace_fault};
 ghost use Rattle.sn_world.specs.NewNodes.{id_for, one_below, next_after, add_action, action_for, replaces, node_refusal};
 ghost use Rattle.sn_nodecmd.specs.Judging.{reason_for, fault_by};
 
 use sn_reply::Reason;
-use sn_tree::{Action, Spot, Tree, TreeFault};
+use sn_tree::{Action, NodeKind, Spot, Tree, TreeFault};
 use sn_world::{Held, NewNode, NodeId};
+
+/// Whether a kind is that of synths.
+pub fn is_synth(kind: NodeKind) -> bool
+    ensures { result ≡ is_synth kind }
+{
+    match kind {
+        NodeKind::Synth => true,
+        NodeKind::Group | NodeKind::Parallel => false,
+    }
+}
 
 /// The id that a new node gets.
 pub fn id_for(next_id: Option<i32>, new: &NewNode) -> Option<NodeId>

@@ -6,12 +6,12 @@ ghost use Rattle.sn_tree.specs.Steps.{HasRoom, moved};
 ghost use Rattle.sn_world.specs.Notices.{told};
 ghost use Rattle.sn_world.specs.declared.notices.NodeEvent.TheVariants.{Moved};
 ghost use Rattle.sn_osc.specs.Shape.{argument_of};
-ghost use Rattle.sn_world.specs.World.{World, Turn, turn_of};
+ghost use Rattle.sn_world.specs.World.{turn_of};
 ghost use Rattle.sn_world.specs.Rows.{pairs};
 ghost use Rattle.sn_world.specs.Moving.{move_refusal, node_move, move_from, move_row};
 ghost use Rattle.sn_world.specs.Answers.{Continues, Follows, UnlessFollowed};
 ghost use Rattle.sn_world.specs.Pictures.{Pictures};
-ghost use Rattle.sn_nodecmd.specs.Folding.{IsAtRest, Keeps};
+ghost use Rattle.sn_nodecmd.specs.Folding.{IsAtRest};
 ghost use Rattle.sn_nodecmd.specs.Relocating.{reason_of, refused_by};
 
 use crate::folding::{Repetition, each};

@@ -55,7 +55,8 @@ pub fn run_notify(
     replies: &mut Replies,
 ) -> Result<Option<Reason>, NoMemory>
     ensures row { (words : List ℕ) → Follows result (notify_row from (map argument_of arguments.now) (turn_of stage.old words replies.old)) (turn_of stage.new words replies.new) }
-    ensures unchanged { (words : List ℕ) → UnlessFollowed result (turn_of stage.new words replies.new ≡ turn_of stage.old words replies.old) }
+    ensures unchanged { UnlessFollowed result (stage.new ≡ stage.old) }
+    ensures untold { UnlessFollowed result (replies.new ≡ replies.old) }
     ensures others { stage.new ≡ record stage.old { notify = stage.new.notify } }
     ensures clients { length stage.new.notify ≡ length stage.old.notify }
 {

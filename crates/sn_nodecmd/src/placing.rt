@@ -19,7 +19,6 @@ ghost use Rattle.sn_nodecmd.specs.Placing.{place_in, taken, Adds, cleared};
 ghost use Rattle.sn_nodecmd.specs.Telling.{Tells, TellsOf};
 
 use crate::adding::{add, tell_replaced};
-use crate::folding::give_back;
 use crate::judging::replaces;
 use crate::telling::{tell_of, view_of};
 use sn_def::{Controls, Def};
@@ -28,7 +27,7 @@ use sn_pool::{POOL_BASE, Pool, Untaken};
 use sn_ports::NoMemory;
 use sn_reply::Replies;
 use sn_tree::{NodeKind, Tree};
-use sn_world::{Flags, Held, NewNode, NodeEvent, NodeId, Stage};
+use sn_world::{Flags, Held, NewNode, NodeEvent, NodeId, Stage, give_back};
 use std::alloc::Global;
 use std::sync::Arc;
 

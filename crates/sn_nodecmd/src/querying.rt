@@ -5,7 +5,7 @@ ghost use Rattle.sn_world.specs.World.{world_of, turn_of};
 ghost use Rattle.sn_world.specs.Rows.{steps};
 ghost use Rattle.sn_world.specs.Queries.{judge_query, act_query, query_row};
 ghost use Rattle.sn_world.specs.Answers.{Follows, UnlessFollowed};
-ghost use Rattle.sn_nodecmd.specs.Stepping.{Acts};
+ghost use Rattle.sn_nodecmd.specs.Folding.{Steps};
 
 use sn_osc::Arg;
 use sn_ports::NoMemory;
@@ -21,7 +21,7 @@ fn answer(
     from: u32,
     replies: &mut Replies,
 ) -> Result<Option<Reason>, NoMemory>
-    ensures act { (words : List ℕ) → Acts result (judge_query (world_of stage.now words) query.now) (act_query from query.now (turn_of stage.now words replies.old)) (turn_of stage.now words replies.new) }
+    ensures act { (words : List ℕ) → Steps result (judge_query (world_of stage.now words) query.now) (act_query from query.now (turn_of stage.now words replies.old)) (turn_of stage.now words replies.new) }
     ensures earlier { take (length replies.old) replies.new ≡ replies.old }
 {
     let Some(view) = stage.tree.node(query.id) else {

@@ -8,9 +8,8 @@ ghost use Rattle.sn_osc.specs.Bytes.{arguments_bytes};
 ghost use Rattle.sn_reply.specs.Sending.{IsAnswerable};
 ghost use Rattle.sn_world.specs.World.{turn_of};
 ghost use Rattle.sn_world.specs.Pictures.{Pictures, WritesWorld, KeepsOutside};
-ghost use Rattle.sn_world.specs.Commands.{node_command_of, node_row, run_node};
+ghost use Rattle.sn_world.specs.Commands.{ArgumentsOf, tree_command_of, node_command_of, node_row, run_node};
 ghost use Rattle.sn_world.specs.Answers.{Follows, UnlessFollowed, Handles, UnlessDone, AsksNothing};
-ghost use Rattle.sn_nodecmd.specs.Given.{ArgumentsOf};
 
 use crate::describing::run_tree_query;
 use crate::emptying::{run_deep_free, run_free_all};
@@ -34,6 +33,47 @@ use sn_tree::{Action, NodeKind};
 use sn_world::{Handled, NodeCommand, Stage};
 use std::alloc::Global;
 
+/// The command with an address that makes, moves or frees nodes.
+fn tree_command_of(address: &[u8]) -> Option<NodeCommand>
+    ensures { result ≡ tree_command_of address.now }
+{
+    if address == b"/g_new".as_slice() {
+        return Some(NodeCommand::NewGroup);
+    }
+    if address == b"/p_new".as_slice() {
+        return Some(NodeCommand::NewParallel);
+    }
+    if address == b"/n_free".as_slice() {
+        return Some(NodeCommand::Free);
+    }
+    if address == b"/g_freeAll".as_slice() {
+        return Some(NodeCommand::FreeAll);
+    }
+    if address == b"/g_deepFree".as_slice() {
+        return Some(NodeCommand::DeepFree);
+    }
+    if address == b"/g_queryTree".as_slice() {
+        return Some(NodeCommand::QueryTree);
+    }
+    if address == b"/n_before".as_slice() {
+        return Some(NodeCommand::Move(Action::Before));
+    }
+    if address == b"/n_after".as_slice() {
+        return Some(NodeCommand::Move(Action::After));
+    }
+    if address == b"/g_head".as_slice() {
+        return Some(NodeCommand::Move(Action::Head));
+    }
+    if address == b"/g_tail".as_slice() {
+        return Some(NodeCommand::Move(Action::Tail));
+    }
+    if address == b"/n_order".as_slice() {
+        return Some(NodeCommand::Order);
+    }
+    None
+}
+
+/// The command on nodes with an address.
 fn node_command_of(address: &[u8]) -> Option<NodeCommand>
     ensures { result ≡ node_command_of address.now }
 {
@@ -58,46 +98,13 @@ fn node_command_of(address: &[u8]) -> Option<NodeCommand>
     if address == b"/n_map".as_slice() {
         return Some(NodeCommand::MapControls);
     }
-    if address == b"/g_new".as_slice() {
-        return Some(NodeCommand::NewGroup);
-    }
-    if address == b"/p_new".as_slice() {
-        return Some(NodeCommand::NewParallel);
-    }
-    if address == b"/n_free".as_slice() {
-        return Some(NodeCommand::Free);
-    }
-    if address == b"/g_freeAll".as_slice() {
-        return Some(NodeCommand::FreeAll);
-    }
-    if address == b"/g_deepFree".as_slice() {
-        return Some(NodeCommand::DeepFree);
-    }
     if address == b"/n_query".as_slice() {
         return Some(NodeCommand::Query);
-    }
-    if address == b"/g_queryTree".as_slice() {
-        return Some(NodeCommand::QueryTree);
     }
     if address == b"/s_get".as_slice() {
         return Some(NodeCommand::GetControls);
     }
-    if address == b"/n_before".as_slice() {
-        return Some(NodeCommand::Move(Action::Before));
-    }
-    if address == b"/n_after".as_slice() {
-        return Some(NodeCommand::Move(Action::After));
-    }
-    if address == b"/g_head".as_slice() {
-        return Some(NodeCommand::Move(Action::Head));
-    }
-    if address == b"/g_tail".as_slice() {
-        return Some(NodeCommand::Move(Action::Tail));
-    }
-    if address == b"/n_order".as_slice() {
-        return Some(NodeCommand::Order);
-    }
-    None
+    tree_command_of(address)
 }
 
 /// The arguments of a message, where they are read.
@@ -129,7 +136,9 @@ fn run_row<P: Port>(
     requires pictures { Pictures stage.old (P.words port.old) }
     requires foot { WritesWorld (P.foot port.old) stage.old.pool.region }
     ensures row { Follows result (node_row command from (map argument_of arguments.now) (turn_of stage.old (P.words port.old) replies.old)) (turn_of stage.new (P.words port.new) replies.new) }
-    ensures unchanged { UnlessFollowed result (turn_of stage.new (P.words port.new) replies.new ≡ turn_of stage.old (P.words port.old) replies.old) }
+    ensures stage { UnlessFollowed result (stage.new ≡ stage.old) }
+    ensures words { UnlessFollowed result (P.words port.new ≡ P.words port.old) }
+    ensures untold { UnlessFollowed result (replies.new ≡ replies.old) }
     ensures pictures { Pictures stage.new (P.words port.new) }
     ensures clients { length stage.new.notify ≡ length stage.old.notify }
     ensures region { stage.new.pool.region ≡ stage.old.pool.region }
@@ -166,7 +175,7 @@ fn run_row<P: Port>(
 /// Runs a message from a client, where it is a command on nodes.
 ///
 /// `Done` comes where the command was carried out, `Failed` with the first reason against it, and `NotMine` where the address is that of
-/// another command or of none. All but `Done` leave the world and the replies as they were.
+/// another command or of none. All but `Done` leave the stage, the words and the replies as they were.
 pub fn run_node_command<P: Port>(
     alloc: Global,
     stage: &mut Stage,
@@ -181,6 +190,9 @@ pub fn run_node_command<P: Port>(
     ensures row { Handles result (run_node from (message_of message.now) (turn_of stage.old (P.words port.old) replies.old)) (turn_of stage.new (P.words port.new) replies.new) }
     ensures nothing { AsksNothing result }
     ensures unchanged { UnlessDone result (turn_of stage.new (P.words port.new) replies.new ≡ turn_of stage.old (P.words port.old) replies.old) }
+    ensures stage { UnlessDone result (stage.new ≡ stage.old) }
+    ensures words { UnlessDone result (P.words port.new ≡ P.words port.old) }
+    ensures untold { UnlessDone result (replies.new ≡ replies.old) }
     ensures pictures { Pictures stage.new (P.words port.new) }
     ensures clients { length stage.new.notify ≡ length stage.old.notify }
     ensures region { stage.new.pool.region ≡ stage.old.pool.region }

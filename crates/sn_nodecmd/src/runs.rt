@@ -5,7 +5,8 @@ ghost use Rattle.std.specs.Option.{option_map};
 ghost use Rattle.std.specs.List.{list_all};
 ghost use Rattle.sn_osc.specs.Shape.{argument_of};
 ghost use Rattle.sn_def.specs.Defs.{definition_of};
-ghost use Rattle.sn_world.specs.NewSynth.{control_of, control_name, int_of};
+ghost use Rattle.sn_world.specs.NewSynth.{control_of, control_name};
+ghost use Rattle.sn_world.specs.Runs as given;
 ghost use Rattle.sn_world.specs.ControlRuns.{count_of, one_value, first_values, same_values, left_after, run_with, value_run, values_run, fill_run, repeated, with_values_from, with_run, with_runs};
 ghost use Rattle.sn_nodecmd.specs.Runs.{name_of, is_int, value_in, values_of, run_of, read_of, reader};
 
@@ -66,7 +67,7 @@ fn is_int(argument: &Arg) -> bool
 
 /// A value for one control.
 fn one_value<'a>(value: &Arg) -> Option<RunValues<'a>>
-    ensures { option_map values_of result ≡ one_value (int_of (argument_of value.now)) }
+    ensures { option_map values_of result ≡ one_value (given.number (argument_of value.now)) }
 {
     match value {
         Arg::Int(value) => Some(RunValues::Same {
@@ -79,7 +80,7 @@ fn one_value<'a>(value: &Arg) -> Option<RunValues<'a>>
 
 /// One value for so many controls.
 fn same_values<'a>(count: u32, value: &Arg) -> Option<RunValues<'a>>
-    ensures { option_map values_of result ≡ same_values (Some count) (int_of (argument_of value.now)) }
+    ensures { option_map values_of result ≡ same_values (Some count) (given.number (argument_of value.now)) }
 {
     match value {
         Arg::Int(value) => Some(RunValues::Same {
@@ -122,7 +123,7 @@ fn past(arguments: &[Arg], count: u32) -> &[Arg]
 }
 
 fn read_value<'a>(control: &'a Arg, value: &Arg, rest: &'a [Arg]) -> Option<ReadRun<'a>>
-    ensures read { option_map read_of result ≡ run_with (control_name (argument_of control.now)) (one_value (int_of (argument_of value.now))) (map argument_of rest.now) }
+    ensures read { option_map read_of result ≡ run_with (control_name (argument_of control.now)) (one_value (given.number (argument_of value.now))) (map argument_of rest.now) }
     ensures fewer { IfSome result (λ r. length r.rest.now ≤ length rest.now) }
 {
     let Some(control) = control_name(control) else {
@@ -157,7 +158,7 @@ fn read_values<'a>(control: &'a Arg, count: &Arg, rest: &'a [Arg]) -> Option<Rea
 }
 
 fn read_fill<'a>(control: &'a Arg, count: &Arg, value: &Arg, rest: &'a [Arg]) -> Option<ReadRun<'a>>
-    ensures read { option_map read_of result ≡ run_with (control_name (argument_of control.now)) (same_values (count_of (argument_of count.now)) (int_of (argument_of value.now))) (map argument_of rest.now) }
+    ensures read { option_map read_of result ≡ run_with (control_name (argument_of control.now)) (same_values (count_of (argument_of count.now)) (given.number (argument_of value.now))) (map argument_of rest.now) }
     ensures fewer { IfSome result (λ r. length r.rest.now ≤ length rest.now) }
 {
     let Some(control) = control_name(control) else {

@@ -2,7 +2,7 @@
 ghost use Rattle.std.specs.Prelude.{◌≡◌, ◌++◌, IfOk, OnOk, List, ℕ};
 ghost use Rattle.sn_tree.specs.Trees.{view_of};
 ghost use Rattle.sn_tree.specs.Views.{views_below};
-ghost use Rattle.sn_world.specs.World.{World, Turn, turn_of};
+ghost use Rattle.sn_world.specs.World.{World, turn_of};
 ghost use Rattle.sn_world.specs.Notices.{told, event_message, notices};
 ghost use Rattle.sn_world.specs.Freeing.{told_ends};
 ghost use Rattle.sn_world.specs.Answers.{Continues};

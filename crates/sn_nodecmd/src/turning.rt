@@ -1,21 +1,22 @@
 //! `/n_run`.
-ghost use Rattle.std.specs.Prelude.{◌≡◌, ◌+◌, ◌^◌, ◌<◌, List, ℕ, None, Some, OnOk, OnErr, length, map};
+ghost use Rattle.std.specs.Prelude.{◌≡◌, ◌+◌, ◌*◌, ◌^◌, ◌<◌, true, List, ℕ, OnOk, Some, length, map};
 ghost use Rattle.sn_osc.specs.Shape.{argument_of};
-ghost use Rattle.sn_tree.specs.Faults.{set_run_fault, fault_of};
-ghost use Rattle.sn_tree.specs.Steps.{running};
-ghost use Rattle.sn_world.specs.declared.stage.Stage.{Stage};
-ghost use Rattle.sn_world.specs.World.{world_of, turn_of};
+ghost use Rattle.sn_tree.specs.Trees.{holds};
+ghost use Rattle.sn_tree.specs.Steps.{HasRoom, running};
+ghost use Rattle.sn_world.specs.World.{turn_of};
+ghost use Rattle.sn_world.specs.Notices.{told};
 ghost use Rattle.sn_world.specs.Pictures.{Pictures};
-ghost use Rattle.sn_world.specs.Rows.{steps};
-ghost use Rattle.sn_world.specs.RunFlags.{is_flagged, turning, judge_run, act_run, run_row};
-ghost use Rattle.sn_world.specs.Answers.{Follows, UnlessFollowed, Continues};
-ghost use Rattle.sn_nodecmd.specs.Stepping.{Acts, HasSteps, IsTurned};
+ghost use Rattle.sn_world.specs.RunFlags.{is_flagged, turning, run_row};
+ghost use Rattle.sn_world.specs.Answers.{Continues, Follows, UnlessFollowed};
+ghost use Rattle.sn_nodecmd.specs.Folding.{IsAtRest};
 
+use crate::folding::{Repetition, each};
+use crate::telling::tell;
 use sn_osc::Arg;
 use sn_ports::NoMemory;
 use sn_reply::{Reason, Replies};
-use sn_tree::NodeView;
-use sn_world::{NodeEvent, RunFlag, Stage, notify, pairs, some_of};
+use sn_tree::{NodeView, Tree};
+use sn_world::{Held, NodeEvent, NodeId, RunFlag, Stage, pairs, some_of};
 use std::alloc::Global;
 
 fn turning(on: bool) -> NodeEvent
@@ -35,97 +36,54 @@ fn is_flagged(on: bool, view: &NodeView) -> bool
     if on { view.running } else { !view.running }
 }
 
-/// Sets the run flag of a node, and tells clients where it has changed.
-fn turn(
+#[tactic(auto, using(sn_world::proofs::Turning::run_allowed))]
+fn set_flag(tree: &mut Tree<Held>, flag: &RunFlag)
+    requires there { holds flag.now.id tree.old.attached ≡ true }
+    requires room { HasRoom tree.old.journal }
+    ensures { tree.new ≡ running flag.now.id flag.now.on tree.old }
+{
+    match tree.set_run(flag.id, flag.on) {
+        Ok(()) => {}
+        Err(_) => unreachable!(),
+    }
+}
+
+/// Tells clients that the run flag of a node has changed.
+fn tell_turn(
     alloc: Global,
-    stage: &mut Stage,
+    stage: &Stage,
     flag: &RunFlag,
     replies: &mut Replies,
-) -> Result<Option<Reason>, NoMemory>
-    requires room { HasSteps 1 stage.old.tree.journal }
-    ensures act { (words : List ℕ) → Acts result (judge_run (world_of stage.old words) flag.now) (act_run flag.now (turn_of stage.old words replies.old)) (turn_of stage.new words replies.new) }
-    ensures turned { (begun : Stage) → IsTurned begun stage.old → IsTurned begun stage.new }
-    ensures room { (n : ℕ) → HasSteps (n + 1) stage.old.tree.journal → HasSteps n stage.new.tree.journal }
+) -> Result<(), NoMemory>
+    ensures told { OnOk result ((words : List ℕ) → turn_of stage.now words replies.new ≡ told (turning flag.now.on) flag.now.id (turn_of stage.now words replies.old)) }
     ensures continues { Continues replies.old replies.new }
 {
-    let Some(view) = stage.tree.node(flag.id) else {
-        return Ok(Some(Reason::NoSuchNode));
-    };
-    if is_flagged(flag.on, &view) {
-        return Ok(None);
-    }
-    match stage.tree.set_run(flag.id, flag.on) {
-        Ok(()) => {}
-        Err(_) => return Ok(Some(Reason::NoSuchNode)),
-    }
-    let Some(view) = stage.tree.node(flag.id) else {
-        return Ok(None);
-    };
-    notify(
-        alloc,
-        &stage.notify,
-        turning(flag.on),
-        flag.id,
-        &view,
-        replies,
-    )?;
-    Ok(None)
+    let node = NodeId { id: flag.id };
+    tell(alloc, stage, turning(flag.on), &node, replies)
 }
 
-/// Sets run flags one after the other, up to the first that is refused.
-#[tactic(auto, using(sn_world::proofs::Continuing::continues_then))]
-fn turn_all(
-    alloc: Global,
-    stage: &mut Stage,
-    flags: &[RunFlag],
-    replies: &mut Replies,
-) -> Result<Option<Reason>, NoMemory>
-    requires room { HasSteps (length flags.now) stage.old.tree.journal }
-    ensures row { (words : List ℕ) → Follows result (steps judge_run act_run flags.now (turn_of stage.old words replies.old)) (turn_of stage.new words replies.new) }
-    ensures turned { (begun : Stage) → IsTurned begun stage.old → IsTurned begun stage.new }
-    ensures continues { Continues replies.old replies.new }
-{
-    for flag in flags {
-        let refused = turn(alloc, stage, flag, replies)?;
-        if let Some(reason) = refused {
-            return Ok(Some(reason));
-        }
-    }
-    Ok(None)
-}
+impl Repetition for RunFlag {
+    ghost use Rattle.sn_world.specs.RunFlags.{judge_run, act_run};
 
-/// Sets all run flags, or none of them.
-fn turn_or_undo(
-    alloc: Global,
-    stage: &mut Stage,
-    flags: &[RunFlag],
-    replies: &mut Replies,
-) -> Result<Option<Reason>, NoMemory>
-    requires few { length flags.now < 2 ^ 32 }
-    requires settled { stage.old.tree.journal ≡ None }
-    ensures row { (words : List ℕ) → Follows result (steps judge_run act_run flags.now (turn_of stage.old words replies.old)) (turn_of stage.new words replies.new) }
-    ensures unchanged { UnlessFollowed result (stage.new ≡ stage.old) }
-    ensures unsaid { UnlessFollowed result (replies.new ≡ replies.old) }
-    ensures others { stage.new ≡ record stage.old { tree = stage.new.tree } }
-    ensures pictures { (words : List ℕ) → Pictures stage.old words → Pictures stage.new words }
-{
-    let before = replies.len();
-    stage.tree.begin(flags.len() as u32)?;
-    match turn_all(alloc, stage, flags, replies) {
-        Ok(None) => {
-            stage.tree.commit();
-            Ok(None)
+    ghost judge = { judge_run };
+
+    ghost act = { act_run };
+
+    fn step(
+        &self,
+        alloc: Global,
+        stage: &mut Stage,
+        replies: &mut Replies,
+    ) -> Result<Option<Reason>, NoMemory> {
+        let Some(view) = stage.tree.node(self.id) else {
+            return Ok(Some(Reason::NoSuchNode));
+        };
+        if is_flagged(self.on, &view) {
+            return Ok(None);
         }
-        Ok(Some(reason)) => {
-            stage.tree.undo();
-            replies.truncate(before);
-            Ok(Some(reason))
-        }
-        Err(error) => {
-            stage.tree.undo();
-            replies.truncate(before);
-            Err(error)
-        }
+        set_flag(&mut stage.tree, self);
+        tell_turn(alloc, stage, self, replies)?;
+        Ok(None)
     }
 }
 
@@ -136,16 +94,17 @@ pub fn run_flags(
     arguments: &[Arg],
     replies: &mut Replies,
 ) -> Result<Option<Reason>, NoMemory>
-    requires few { length arguments.now < 2 ^ 32 }
-    requires settled { stage.old.tree.journal ≡ None }
+    requires rest { IsAtRest stage.old }
+    requires few { 16 * length arguments.now + 2 ^ 20 < 2 ^ 31 }
     ensures row { (from : ℕ) (words : List ℕ) → Follows result (run_row from (map argument_of arguments.now) (turn_of stage.old words replies.old)) (turn_of stage.new words replies.new) }
     ensures unchanged { UnlessFollowed result (stage.new ≡ stage.old) }
-    ensures unsaid { UnlessFollowed result (replies.new ≡ replies.old) }
-    ensures others { stage.new ≡ record stage.old { tree = stage.new.tree } }
+    ensures untold { UnlessFollowed result (replies.new ≡ replies.old) }
     ensures pictures { (words : List ℕ) → Pictures stage.old words → Pictures stage.new words }
+    ensures clients { stage.new.notify ≡ stage.old.notify }
+    ensures region { stage.new.pool.region ≡ stage.old.pool.region }
 {
     let Some(flags) = some_of(pairs::<RunFlag>(alloc, arguments)?) else {
         return Ok(Some(Reason::Arguments));
     };
-    turn_or_undo(alloc, stage, &flags, replies)
+    each(alloc, stage, &flags, replies)
 }

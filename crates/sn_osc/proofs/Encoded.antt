@@ -1,17 +1,13 @@
 -- The bytes of a packet are its one spelling.
-use Rattle.std.proofs.Common.{◌≡◌, ℕ, zero, suc, ◌-◌, ◌*◌, ◌%◌, ◌^◌, ◌<◌, ◌≤◌, Bool, true, false, not, ltb, eqb, ◌&&◌, List, [], ◌∷◌, ◌++◌, length, map, replicate, refl, sym, ap, subst, ◌∙◌, append_assoc, arith, eq-eqb}
+use Rattle.std.proofs.Common.{◌≡◌, ℕ, zero, suc, ◌-◌, ◌*◌, ◌%◌, ◌^◌, ◌<◌, ◌≤◌, Bool, true, not, ltb, eqb, ◌&&◌, List, [], ◌∷◌, ◌++◌, length, map, replicate, refl, sym, ap, subst, ◌∙◌, append_assoc, arith, eq-eqb}
 use Rattle.std.specs.Int.{w32, w64, to_be_bytes}
 use Rattle.std.specs.List.{list_all}
-use Rattle.std.proofs.lemmas.Bool.{ltb-true, lt-ltb, eqb-true}
+use Rattle.std.proofs.lemmas.Bool.{and_from, ltb-true, lt-ltb, eqb-true}
 use Rattle.std.proofs.lemmas.List.{length-append, length-replicate}
 use Rattle.sn_osc.specs.Shape.{Argument, int, string, blob, BodyShape, bare, arguments, foreign, MessageShape, Shape, Shapes, message, bundle, none, more}
 use Rattle.sn_osc.specs.Bytes.{string_bytes, argument_bytes, arguments_bytes, tag_of, body_bytes, message_bytes, bundle_head, packet_bytes, elements_bytes, has_no_null, begins_with, is_argument, is_argument_tag, is_body, is_message, counts_as, is_early, is_packet, are_packets}
 use Rattle.sn_osc.specs.Grammar.{SpellsArgument, SpellsArguments, SpellsBody, SpellsMessage, SpellsWithin, SpellsElements, Spells, IsSpellable}
 use Rattle.sn_osc.proofs.Fields.{and_yes}
-
-both : (a b : Bool) → a ≡ true → b ≡ true → (a && b) ≡ true
-both true b e f = f
-both false b e f = absurd cc
 
 -- ---- what is spelled is allowed, and its spelling is the bytes
 
@@ -26,7 +22,7 @@ arguments_are (x ∷ xs) bytes h =
     let (front, rest, spelled, others, parts) = h in
     let a = argument_is x front spelled in
     let b = arguments_are xs rest others in
-    (parts ∙ ap (λ (t : List ℕ). t ++ rest) a.0 ∙ ap (λ (t : List ℕ). argument_bytes x ++ t) b.0, both _ _ a.1 b.1)
+    (parts ∙ ap (λ (t : List ℕ). t ++ rest) a.0 ∙ ap (λ (t : List ℕ). argument_bytes x ++ t) b.0, and_from _ _ a.1 b.1)
 
 -- the tags of arguments have no null byte
 tags_have_none : (xs : List Argument) → has_no_null (map tag_of xs) ≡ true
@@ -43,13 +39,13 @@ body_is (arguments xs) bytes h =
     (parts ∙ ap (λ (t : List ℕ). t ++ rest) spelled.1 ∙ ap (λ (t : List ℕ). string_bytes (44 ∷ map tag_of xs) ++ t) b.0, b.1)
 body_is (foreign ts rest) bytes h =
     let (tags, spelled, other, whole, parts) = h in
-    (parts ∙ ap (λ (t : List ℕ). t ++ rest) spelled.1, both _ _ (both _ _ spelled.0 other) (eq-eqb _ _ whole))
+    (parts ∙ ap (λ (t : List ℕ). t ++ rest) spelled.1, and_from _ _ (and_from _ _ spelled.0 other) (eq-eqb _ _ whole))
 
 message_is : (x : MessageShape) (bytes : List ℕ) → SpellsMessage x bytes → (bytes ≡ message_bytes x) × (is_message x ≡ true)
 message_is x bytes h =
     let (address, rest, slash, spelled, body, parts) = h in
     let b = body_is x.body rest body in
-    (parts ∙ ap (λ (t : List ℕ). t ++ rest) spelled.1 ∙ ap (λ (t : List ℕ). string_bytes x.address ++ t) b.0, both _ _ (both _ _ slash spelled.0) b.1)
+    (parts ∙ ap (λ (t : List ℕ). t ++ rest) spelled.1 ∙ ap (λ (t : List ℕ). string_bytes x.address ++ t) b.0, and_from _ _ (and_from _ _ slash spelled.0) b.1)
 
 mutual
   pub packet_is : (x : Shape) (deep around : ℕ) (bytes : List ℕ) → SpellsWithin deep around x bytes → (bytes ≡ packet_bytes x) × (is_packet deep around x ≡ true)
@@ -58,7 +54,7 @@ mutual
   packet_is (bundle tag inner) (suc deep) around bytes h =
       let (rest, fits, late, spelled, parts) = h in
       let inside = elements_are inner deep (counts_as around tag) rest spelled in
-      (parts ∙ ap (λ (t : List ℕ). bundle_head ++ to_be_bytes w64 tag ++ t) inside.0, both _ _ (both _ _ (lt-ltb _ _ fits) late) inside.1)
+      (parts ∙ ap (λ (t : List ℕ). bundle_head ++ to_be_bytes w64 tag ++ t) inside.0, and_from _ _ (and_from _ _ (lt-ltb _ _ fits) late) inside.1)
 
   pub elements_are : (xs : Shapes) (deep around : ℕ) (bytes : List ℕ) → SpellsElements deep around xs bytes → (bytes ≡ elements_bytes xs) × (are_packets deep around xs ≡ true)
   elements_are none deep around bytes h = (h, refl)
@@ -66,7 +62,7 @@ mutual
       let (front, rest, short, spelled, others, parts) = h in
       let a = packet_is x deep around front spelled in
       let b = elements_are xs deep around rest others in
-      (parts ∙ ap (λ (t : List ℕ). to_be_bytes w32 (length t) ++ t ++ rest) a.0 ∙ ap (λ (t : List ℕ). to_be_bytes w32 (length (packet_bytes x)) ++ packet_bytes x ++ t) b.0, both _ _ a.1 b.1)
+      (parts ∙ ap (λ (t : List ℕ). to_be_bytes w32 (length t) ++ t ++ rest) a.0 ∙ ap (λ (t : List ℕ). to_be_bytes w32 (length (packet_bytes x)) ++ packet_bytes x ++ t) b.0, and_from _ _ a.1 b.1)
 
 -- ---- what is allowed is spelled by its bytes, where these are few enough
 
@@ -151,7 +147,7 @@ few_inside tag inner few = omega (arith, few, length-append (bundle_head ++ to_b
 
 -- ---- each argument has 4 bytes or more
 
-four_each : (xs : List Argument) → 4 * length xs ≤ length (arguments_bytes xs)
+pub four_each : (xs : List Argument) → 4 * length xs ≤ length (arguments_bytes xs)
 four_each [] = omega arith
 four_each (int n ∷ xs) = omega (arith, four_each xs, length-append (argument_bytes (int n)) (arguments_bytes xs))
 four_each (string s ∷ xs) = omega (arith, four_each xs, length-append (string_bytes s) (arguments_bytes xs), length-append s (replicate (4 - length s % 4) 0), length-replicate {A = ℕ} (4 - length s % 4) 0)

@@ -1,5 +1,5 @@
 -- Frames that are taken one after another are the first of a stream.
-use Rattle.std.proofs.Common.{◌≡◌, ℕ, ℤ, suc, ◌+◌, ◌-◌, ◌<◌, ◌≤◌, Bool, true, false, not, cond, ltb, List, [], ◌∷◌, ◌++◌, length, map, take, drop, Option, Some, None, Ok, refl, sym, ap, subst, ◌∙◌, append_assoc, append-nil, take_all, get_or, add-one, arith, IsTrue, length-append}
+use Rattle.std.proofs.Common.{◌≡◌, ℕ, ℤ, suc, ◌+◌, ◌-◌, ◌<◌, ◌≤◌, Bool, true, false, not, cond, ltb, List, [], ◌∷◌, ◌++◌, length, map, take, drop, Option, Some, None, Result, Ok, Err, OnErr, refl, sym, ap, subst, ◌∙◌, append_assoc, append-nil, take_all, get_or, add-one, arith, IsTrue, length-append}
 use Rattle.std.specs.Int.{w32, from_be_bytes, cast_signed}
 use Rattle.std.proofs.lemmas.Bool.{ltb-false, le-ltb}
 use Rattle.std.proofs.lemmas.List.{take-append-drop, take-append-le, drop_at, length-drop}
@@ -87,6 +87,10 @@ piece_fits pieces i piece lt is =
 
 pub kept_len : (stream : List ℕ) (fs : List Frame) (f : Framing) → AreFirst stream fs f → length f.kept ≤ length stream
 kept_len stream fs f h = omega (arith, ap length h.whole, length-append (joined fs) f.kept)
+
+pub on_err : {T E P : Type 0} (r : Result T E) → P → OnErr r P
+on_err (Ok x) p = tt
+on_err (Err e) p = p
 
 -- ---- they are the only ones
 

@@ -1,6 +1,9 @@
 -- The whole frames at the front of bytes that came over a connection.
-use Rattle.std.specs.Prelude.{ℕ, zero, suc, List, [], ◌∷◌, ◌++◌, length}
-use Rattle.sn_osc.specs.Frames.{FirstFrame, cut, bad_size, frame, first_frame}
+use Rattle.std.specs.Prelude.{◌≡◌, ℕ, zero, suc, List, [], ◌∷◌, ◌++◌, length, IsTrue}
+use Rattle.std.specs.List.{AllByRecursion}
+use Rattle.sn_osc.specs.Bytes.{frame_bytes}
+use Rattle.sn_osc.specs.Framed.{HasNoFrame}
+use Rattle.sn_osc.specs.Frames.{FirstFrame, cut, bad_size, frame, is_frame_size, first_frame}
 
 -- the packets' bytes of the frames, and the bytes behind the last frame
 pub record Unpacked : Type 0 where
@@ -31,3 +34,15 @@ unpacked bytes = first_frames (length bytes) bytes
 -- more bytes come behind what is left
 abbrev pub joined_to : Unpacked → List ℕ → Unpacked
 joined_to u more = record { packets = u.packets ++ (unpacked (u.rest ++ more)).packets; rest = (unpacked (u.rest ++ more)).rest }
+
+-- the joined frames of packets
+abbrev pub joined_frames : List (List ℕ) → List ℕ
+joined_frames [] = []
+joined_frames (packet ∷ packets) = frame_bytes packet ++ joined_frames packets
+
+-- The frames of the packets are the first of the bytes, each packet has a size that it may have in a stream, and no whole frame stands first
+-- in the rest.
+pub record AreWholeFrames (bytes : List ℕ) (u : Unpacked) : Type 0 where
+  pub whole : bytes ≡ joined_frames u.packets ++ u.rest
+  pub sized : AllByRecursion (λ packet. IsTrue (is_frame_size (length packet))) u.packets
+  pub over : HasNoFrame u.rest

@@ -1,7 +1,6 @@
 //! Packets read from all of their bytes. `end` is the place behind the packet's last byte.
 ghost use Rattle.std.specs.Prelude.{◌≡◌, ◌≤◌, ◌<◌, ◌+◌, length, map, IfOk, IsTrue, Ok, Err};
-ghost use Rattle.std.specs.Int.{w64};
-ghost use Rattle.sn_osc.specs.Shape.{Shape, message, bundle, shape, shapes, message_of};
+ghost use Rattle.sn_osc.specs.Shape.{Shape, message, bundle, shape, shapes};
 ghost use Rattle.sn_osc.specs.Bytes.{counts_as, is_early};
 ghost use Rattle.sn_osc.specs.Grammar.{Spells};
 ghost use Rattle.sn_osc.specs.Reading.{Gives, IfBad, tag_in, is_headed, element_at, elements_in, bundle_in, packet_in, read};
@@ -64,6 +63,7 @@ pub fn counts_as(around: u64, tag: u64) -> u64
     if tag == AT_ONCE { around } else { tag }
 }
 
+/// Whether an enclosed tag is earlier than that of the bundle around it, where neither means at once.
 pub fn is_early(around: u64, tag: u64) -> bool
     ensures { result ≡ is_early around tag }
 {

@@ -1,6 +1,5 @@
 //! A stream that comes in pieces, cut into frames.
-ghost use Rattle.std.specs.Prelude.{◌≡◌, ◌≤◌, ◌<◌, ◌+◌, ◌-◌, ◌^◌, ◌++◌, ℕ, List, [], length, drop, vec_len, IfOk, OnOk, OnErr};
-ghost use Rattle.sn_osc.specs.Framing.{kept_place};
+ghost use Rattle.std.specs.Prelude.{◌≡◌, ◌⊎◌, ◌≤◌, ◌<◌, ◌+◌, ◌-◌, ◌^◌, ◌++◌, ◌∷◌, ℕ, List, [], length, drop, vec_len, vec_capacity, IfOk, OnOk, OnErr};
 ghost use Rattle.sn_osc.specs.Framed.{fed_with, Next, NextWhole, HasNoFrame, AreFirst, joined_pieces};
 
 use crate::frame::{Frame, NoFrame, Unframed, first_frame};
@@ -42,7 +41,19 @@ fn remove_front(bytes: &mut Vec<u8>, count: usize)
     bytes.truncate(len - count);
 }
 
+/// Puts a frame behind the others, where there is room for it.
+fn put_frame(frames: &mut Vec<Frame>, frame: Frame)
+    requires { vec_len frames.old < vec_capacity frames.old }
+    ensures { frames.new.items ≡ frames.old.items ++ frame ∷ [] }
+{
+    match frames.push(frame) {
+        Ok(()) => {}
+        Err(_) => unreachable!(),
+    }
+}
+
 impl Framer {
+    /// A framer that was fed nothing.
     pub fn new(alloc: Global) -> Self
         ensures { result ≡ record { kept = []; fed = 0 } }
     {
@@ -126,22 +137,35 @@ impl Framer {
         }
     }
 
-    /// Takes every whole frame that is kept, behind the frames taken before.
-    fn take_frames(&mut self, frames: &mut Vec<Frame>) -> Result<(), NoMemory>
-        ensures { (stream : List ℕ) → AreFirst stream frames.old.items self.old → OnOk result (AreFirst stream frames.new.items self.new × HasNoFrame self.new.kept) }
+    /// The next whole frame, if one is kept, and then there is room for it behind the frames taken before. After `NoMemory` all is as before.
+    fn next_with_room(&mut self, frames: &mut Vec<Frame>) -> Result<Option<Frame>, NoMemory>
+        ensures next { NextWhole self.old self.new result }
+        ensures frames { frames.new.items ≡ frames.old.items }
+        ensures room { OnOk result (vec_len frames.new < vec_capacity frames.new) }
     {
-        while let Some(frame) = self.next_whole()? {
-            frames.push(frame)?;
+        frames.reserve(1)?;
+        self.next_whole()
+    }
+
+    /// Takes every whole frame that is kept, behind the frames taken before. After `NoMemory` those that were taken stand there.
+    fn take_frames(&mut self, frames: &mut Vec<Frame>) -> Result<(), NoMemory>
+        ensures first { (stream : List ℕ) → AreFirst stream frames.old.items self.old → AreFirst stream frames.new.items self.new }
+        ensures whole { OnOk result (HasNoFrame self.new.kept) }
+    {
+        while let Some(frame) = self.next_with_room(frames)? {
+            put_frame(frames, frame);
         }
         Ok(())
     }
 
     /// Feeds a piece and takes every frame that is then whole, behind the frames taken before: they are the first
-    /// frames of the stream up to here, in order, and the rest is kept.
+    /// frames of the stream up to here, in order, and the rest is kept. After `NoMemory` they are the first frames too, and the rest is
+    /// kept, with the piece or without it.
     pub fn feed_and_take(&mut self, piece: &[u8], frames: &mut Vec<Frame>) -> Result<(), NoMemory>
         requires room { length self.old.kept + length piece.now < 2 ^ 32 }
         requires count { self.old.fed < 2 ^ 62 }
-        ensures { (stream : List ℕ) → AreFirst stream frames.old.items self.old → OnOk result (AreFirst (stream ++ piece.now) frames.new.items self.new × HasNoFrame self.new.kept) }
+        ensures ok { (stream : List ℕ) → AreFirst stream frames.old.items self.old → OnOk result (AreFirst (stream ++ piece.now) frames.new.items self.new × HasNoFrame self.new.kept) }
+        ensures err { (stream : List ℕ) → AreFirst stream frames.old.items self.old → OnErr result (AreFirst stream frames.new.items self.new ⊎ AreFirst (stream ++ piece.now) frames.new.items self.new) }
     {
         self.feed(piece)?;
         self.take_frames(frames)

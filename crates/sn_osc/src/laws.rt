@@ -8,7 +8,7 @@ ghost use Rattle.sn_osc.specs.Framed.{AreFirst, HasNoFrame, packet_of};
 ghost use Rattle.sn_osc.specs.Grammar.{Spells, IsSpellable};
 ghost use Rattle.sn_osc.specs.Reading.{fault, read};
 ghost use Rattle.sn_osc.specs.Faults.{FirstFault};
-ghost use Rattle.sn_osc.specs.Unpacking.{unpacked, joined_to};
+ghost use Rattle.sn_osc.specs.Unpacking.{Unpacked, AreWholeFrames, unpacked, joined_to};
 ghost use Rattle.sn_osc.specs.declared.fault.PacketFault.{PacketFault};
 ghost use Rattle.sn_osc.specs.declared.fault.PacketKind.{PacketKind};
 ghost use Rattle.sn_osc.specs.declared.frame.Frame.{Frame};
@@ -72,4 +72,11 @@ pub fn first_fault()
 /// The whole frames at the front of a stream are the same in whatever pieces it comes.
 pub fn joined_frames()
     ensures { (a b : List ℕ) → unpacked (a ++ b) ≡ joined_to (unpacked a) b }
+{}
+
+/// What is unpacked of bytes is all whole frames at their front: the frames are the first of the bytes, and no whole frame stands behind
+/// them. Nothing else is so.
+pub fn whole_frames()
+    ensures all { (bytes : List ℕ) → ((i : ℕ) → slice_index bytes i < 256) → AreWholeFrames bytes (unpacked bytes) }
+    ensures only { (bytes : List ℕ) (u : Unpacked) → ((i : ℕ) → slice_index bytes i < 256) → AreWholeFrames bytes u → unpacked bytes ≡ u }
 {}

@@ -1,7 +1,7 @@
 //! How many bytes the spelling of a packet has, up to 2^31 of them.
 ghost use Rattle.std.specs.Prelude.{◌≡◌, ◌≤◌, ◌^◌, ◌+◌, ◌-◌, ◌%◌, length, map, min};
 ghost use Rattle.sn_osc.specs.Shape.{bundle, argument_of, body_of, message_of, shape, shapes};
-ghost use Rattle.sn_osc.specs.Bytes.{string_bytes, blob_bytes, argument_bytes, arguments_bytes, body_bytes, message_bytes, packet_bytes, elements_bytes};
+ghost use Rattle.sn_osc.specs.Bytes.{string_bytes, blob_bytes, argument_bytes, arguments_bytes, body_bytes, message_bytes, packet_bytes};
 
 use crate::packet::{Arg, Body, Bundle, Message, Packet};
 

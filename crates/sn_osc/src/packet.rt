@@ -1,4 +1,4 @@
-ghost use Rattle.std.specs.Prelude.{◌≡◌, List, ℕ};
+ghost use Rattle.std.specs.Prelude.{◌≡◌, List};
 
 use sn_ports::Text;
 use std::marker::Model;
@@ -68,12 +68,14 @@ impl Model for Args {
 }
 
 impl Args {
+    /// The arguments of a vector.
     pub fn from_vec(items: Vec<Arg>) -> Self
         ensures { result ≡ items.items }
     {
         Args { items }
     }
 
+    /// The arguments, in order.
     pub fn as_slice(&self) -> &[Arg]
         ensures { result.now ≡ self.now }
     {

@@ -4,7 +4,7 @@ ghost use Rattle.std.specs.Int.{w32};
 ghost use Rattle.std.specs.List.{list_all};
 ghost use Rattle.sn_osc.specs.declared.fault.Undecoded.TheVariants as undecoded;
 ghost use Rattle.sn_osc.specs.Shape.{argument_of, body_of, message_of};
-ghost use Rattle.sn_osc.specs.Bytes.{has_no_null, is_argument_tag, begins_with};
+ghost use Rattle.sn_osc.specs.Bytes.{is_argument_tag, begins_with};
 ghost use Rattle.sn_osc.specs.Reading.{Gives, int_in, size_in, text_len, null_len, is_ended, padded_at, string_at, blob_at, argument_at, arguments_at, tags_at, arguments_in, body_in, message_in};
 
 use crate::fault::{PacketFault, PacketKind, Undecoded};
@@ -12,6 +12,7 @@ use crate::packet::{Arg, Args, Body, Message};
 use sn_ports::Text;
 use std::alloc::Global;
 
+/// A fault at a place.
 pub fn bad(kind: PacketKind, place: u32) -> Undecoded
     ensures { result ≡ undecoded.Bad (record { kind = kind; place = place }) }
 {
@@ -94,6 +95,7 @@ fn string(end: u32, bytes: &[u8]) -> Result<(&[u8], &[u8]), Undecoded>
     padded(end, len, len + (4 - len % 4), bytes)
 }
 
+/// The size in the first 4 bytes.
 pub fn size(bytes: &[u8]) -> u32
     requires { 4 ≤ length bytes.now }
     ensures { result ≡ size_in bytes.now }
@@ -117,6 +119,7 @@ fn blob(end: u32, bytes: &[u8]) -> Result<(&[u8], &[u8]), Undecoded>
     padded(end, len, whole, rest)
 }
 
+/// The number in the first 4 bytes.
 pub fn int(bytes: &[u8]) -> i32
     requires { 4 ≤ length bytes.now }
     ensures value { result ≡ int_in bytes.now }
@@ -203,6 +206,7 @@ fn behind_comma(tagged: &[u8]) -> &[u8]
     }
 }
 
+/// Whether the first byte is this one.
 pub fn begins_with(bytes: &[u8], first: u8) -> bool
     ensures { result ≡ begins_with first bytes.now }
 {
@@ -212,6 +216,7 @@ pub fn begins_with(bytes: &[u8], first: u8) -> bool
     }
 }
 
+/// Whether each tag is `i`, `s` or `b`.
 pub fn are_argument_tags(tags: &[u8]) -> bool
     ensures { result ≡ list_all is_argument_tag tags.now }
 {
@@ -237,6 +242,7 @@ fn body(alloc: Global, end: u32, bytes: &[u8]) -> Result<Body, Undecoded>
     })
 }
 
+/// The message of all of the bytes.
 #[tactic(auto, unfolding(crate::specs::Reading::message_in))]
 pub fn message(alloc: Global, end: u32, bytes: &[u8]) -> Result<Message, Undecoded>
     requires { length bytes.now ≤ end }

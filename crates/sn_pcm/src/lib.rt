@@ -9,4 +9,4 @@ mod wav;
 
 pub use pcm::{frames, pcm_length};
 pub use settings::Settings;
-pub use wav::{header, silent, too_long};
+pub use wav::{header, too_long};

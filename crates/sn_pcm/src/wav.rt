@@ -1,10 +1,8 @@
 //! The header of a WAV file.
-ghost use Rattle.std.specs.Prelude.{◌≡◌, ◌≤◌, ◌<◌, ◌+◌, ◌*◌, ◌^◌, ◌++◌, ◌↔◌, IsTrue, IfOk, replicate, length};
+ghost use Rattle.std.specs.Prelude.{◌≡◌, ◌≤◌, ◌<◌, ◌+◌, ◌↔◌, IsTrue};
 ghost use Rattle.sn_pcm.specs.Sound.{data_len, header_bytes};
 
 use crate::settings::Settings;
-use sn_ports::{NoMemory, Text};
-use std::alloc::Global;
 
 /// The greatest RIFF size, which is a number of 32 bits.
 const MOST_BYTES: u128 = 4294967295;
@@ -44,11 +42,4 @@ pub fn header(settings: &Settings, blocks: u64) -> [u8; 44]
         0, 0, 0, 1, 0, c0, c1, r0, r1, r2, r3, p0, p1, p2, p3, a0, a1, b0, b1, b'd', b'a', b't',
         b'a', d0, d1, d2, d3,
     ]
-}
-
-/// So many zero bytes.
-pub fn silent(alloc: Global, len: usize) -> Result<Text, NoMemory>
-    ensures { IfOk result (λ t. t.bytes ≡ replicate len 0) }
-{
-    Ok(Text::from_vec(vec![in alloc; 0; len]?))
 }

@@ -1,12 +1,13 @@
 -- Runs of free words among extents laid out one after the other.
 use Rattle.std.proofs.Common.{◌≡◌, ℕ, ◌+◌, ◌-◌, ◌<◌, ◌≤◌, ◌⊎◌, inl, inr, ⊎_elim, max, true, false, List, [], ◌∷◌, length, sym, refl, ap, ◌∙◌, subst, arith, leb, ltb, Option, Some, None, suc}
 use Rattle.std.specs.List.{insert}
-use Rattle.std.proofs.lemmas.Bool.{cond-true, cond-false, and_left, and_right, and_from, or_from, or_parts, cases_lt, lt-leb, le-leb, lt-ltb, le-ltb, leb-true, leb-false, ltb-true, ltb-false, true≢false, cond_both}
+use Rattle.std.proofs.lemmas.Bool.{cond-true, cond-false, or_from, or_parts, cases_lt, lt-ltb, le-ltb, leb-true, leb-false, ltb-true, ltb-false, true≢false, cond_both}
 use Rattle.sn_mem.specs.declared.extents.Extent.{Extent}
 use Rattle.sn_mem.specs.Words.{covers, has}
 use Rattle.sn_pool.specs.Pools.{AreLaidOut, with_extent}
 use Rattle.sn_pool.specs.declared.gaps.Gap.{Gap}
 use Rattle.sn_pool.specs.Gaps.{first_gap, longest_gap}
+use Rattle.sn_mem.proofs.Meetings.{covered, before, after}
 use Rattle.sn_pool.proofs.LaidOut.{laid_out_within}
 
 -- The n words from p lie between the two places, and in none of the extents.
@@ -14,15 +15,6 @@ pub record IsClear (from to : ℕ) (live : List Extent) (n p : ℕ) : Type 0 whe
   pub begins : from ≤ p
   pub ends : p + n ≤ to
   pub unused : (x : ℕ) → p ≤ x → x < p + n → has live x ≡ false
-
-pub covered : (e : Extent) (x : ℕ) → e.at ≤ x → x < e.at + e.len → covers e x ≡ true
-covered e x h k = and_from (leb e.at x) (ltb x (e.at + e.len)) (le-leb e.at x h) (lt-ltb x (e.at + e.len) k)
-
-pub before : (e : Extent) (x : ℕ) → x < e.at → covers e x ≡ false
-before e x h = and_left (leb e.at x) (ltb x (e.at + e.len)) (lt-leb e.at x h)
-
-pub after : (e : Extent) (x : ℕ) → e.at + e.len ≤ x → covers e x ≡ false
-after e x h = and_right (leb e.at x) (ltb x (e.at + e.len)) (le-ltb x (e.at + e.len) h)
 
 pub unused_below : (from to : ℕ) (es : List Extent) → AreLaidOut from to es → (x : ℕ) → x < from → has es x ≡ false
 unused_below from to [] h x lt = refl

@@ -7,7 +7,8 @@ use Rattle.sn_pool.specs.Pools.{AreLaidOut}
 use Rattle.sn_pool.specs.Gaps.{words_of}
 use Rattle.sn_pool.specs.Regions.{count_free}
 use Rattle.sn_pool.proofs.LaidOut.{laid_out_within}
-use Rattle.sn_pool.proofs.FreeRuns.{covered, after, unused_below}
+use Rattle.sn_mem.proofs.Meetings.{covered, after}
+use Rattle.sn_pool.proofs.FreeRuns.{unused_below}
 
 -- each of the words from p is used or not as one Bool says
 count_each : (live : List Extent) (p n : ℕ) (used : Bool) → ((x : ℕ) → p ≤ x → x < p + n → has live x ≡ used) → count_free live p n ≡ (if used then 0 else n)

@@ -1,4 +1,4 @@
-//! The pool, from which every buffer, unit state and delay line takes its words, and where the buses stand.
+//! The pool, from which every buffer, unit state and delay line takes its words, and where its region begins.
 #![tactic(auto)]
 
 mod gaps;
@@ -7,5 +7,6 @@ mod pool;
 #[cfg(test)]
 mod tests;
 
-pub use places::{AUDIO_BUSES, AUDIO_WORDS, CONTROL_BUSES, CONTROL_WORDS, POOL_BASE, Places};
+pub use places::{POOL_BASE, buses_lie_apart};
 pub use pool::{Mark, Pool, Untaken};
+pub use sn_mem::Places;

@@ -1,6 +1,6 @@
 ghost use Rattle.std.specs.Prelude.{◌≡◌, ◌<◌, None};
 
-use crate::{CONTROL_BUSES, POOL_BASE, Places, Pool, Untaken};
+use crate::{POOL_BASE, Places, Pool, Untaken};
 use sn_mem::Extent;
 use sn_ports::NoMemory;
 use std::collections::VecDeque;
@@ -83,7 +83,7 @@ fn undoing(rt: HostRuntime) -> Result<(), Fail> {
 fn buses(rt: HostRuntime) {
     let audio = Places::audio(127);
     assert_eq!(rt; (audio.at, audio.len), (8255, 65));
-    let control = Places::control(CONTROL_BUSES - 1);
+    let control = Places::control(1023);
     assert_eq!(rt; (control.at, control.len), (10366, 2));
     assert_eq!(rt; POOL_BASE, 10368);
 }

@@ -1,11 +1,12 @@
 -- Events that are taken one after another.
-use Rattle.std.proofs.Common.{◌≡◌, ◌≤◌, ◌<◌, ◌+◌, ℕ, zero, suc, List, [], ◌∷◌, ◌++◌, length, take, drop, map, Option, Some, None, ◌∙◌, refl, sym, ap, arith, append-nil, take-append-drop, take_all}
+use Rattle.std.proofs.Common.{◌≡◌, ◌≤◌, ◌<◌, ◌+◌, ℕ, zero, suc, List, [], ◌∷◌, ◌++◌, length, take, drop, min, map, Option, Some, None, ◌∙◌, refl, sym, ap, subst, arith, append-nil, take-append-drop, take_all}
 use Rattle.std.specs.List.{slice_get}
 use Rattle.std.proofs.lemmas.List.{drop-drop, length-drop}
 use Rattle.sn_ports.specs.Octets.{Octets}
-use Rattle.sn_ports.specs.Links.{LinkEvent, bytes, with_rest, IsFront, KeepsEvents, events_left, event_of}
+use Rattle.sn_ports.specs.Links.{LinkEvent, bytes, with_rest, IsFront, KeepsEvents, GivesWhatFits, events_left, event_of}
 use Rattle.sn_ports.specs.declared.links.Event.{Event}
 use Rattle.sn_ports.specs.declared.links.Event.TheVariants as event
+use Rattle.sn_ports.specs.declared.links.Fed.TheVariants as fed
 
 pub keeps_events-trans : (a b c : Option (List LinkEvent)) → KeepsEvents a b → KeepsEvents b c → KeepsEvents a c
 keeps_events-trans None b c p q = tt
@@ -67,3 +68,10 @@ all_given es at given n t into is whole same =
       next = ap (events_left given) here ∙ ap (λ (b : List ℕ). bytes b ∷ others) (sym all);
       left = none_given (drop (at + 1) es);
     }
+
+-- as many bytes of an event are given as there is room for
+pub what_fits : (es : List Event) (at given n room : ℕ) (t : Octets) → slice_get es at ≡ Some (event.Bytes t) → n ≡ min (length (drop given t.bytes)) room
+    → GivesWhatFits (events_left given (drop at es)) room (fed.Bytes n)
+what_fits es at given n room t is fits =
+    let here : drop at es ≡ event.Bytes t ∷ drop (at + 1) es = from_event es at (event.Bytes t) is in
+    subst (λ (l : List Event). GivesWhatFits (events_left given l) room (fed.Bytes n)) (sym here) fits

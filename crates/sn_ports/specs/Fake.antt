@@ -1,5 +1,5 @@
 -- What a contract sees of a source and of a sink in memory.
-use Rattle.std.specs.Prelude.{◌≡◌, ℕ, List, ◌+◌, ◌-◌, ◌^◌, min, Contains}
+use Rattle.std.specs.Prelude.{ℕ, List, ◌+◌, ◌-◌, ◌^◌, min, Contains}
 
 -- A source: the bytes that are left, how many a call gives at most, which calls fail, and how many calls and faults there were.
 pub record Played : Type 0 where
@@ -22,6 +22,6 @@ pub record Kept : Type 0 where
 abbrev pub counted : ℕ → ℕ → ℕ
 counted bits n = min (n + 1) (2 ^ bits - 1)
 
--- the next call of the source is one of those that fail
+-- the next call is one of those that fail
 abbrev pub FailsNext : List ℕ → ℕ → Type 0
 FailsNext fails calls = Contains fails calls

@@ -1,5 +1,5 @@
 -- What comes over a link, and what a link does with it.
-use Rattle.std.specs.Prelude.{◌≡◌, ◌≤◌, ◌<◌, ℕ, List, [], ◌∷◌, ◌++◌, length, take, drop, map, Option, None, Some, Result, MatchResult, IfOk, ⊤}
+use Rattle.std.specs.Prelude.{◌≡◌, ◌≤◌, ◌<◌, ℕ, List, [], ◌∷◌, ◌++◌, length, take, drop, min, map, Option, None, Some, Result, MatchResult, IfOk, ⊤}
 use Rattle.std.specs.List.{AllByRecursion}
 use Rattle.sn_ports.specs.declared.links.Event.{Event}
 use Rattle.sn_ports.specs.declared.links.Event.TheVariants as event
@@ -70,6 +70,18 @@ IsPlayable (event.Ticks n) = (0 < n) × (n ≤ 1024)
 
 abbrev pub ArePlayable : List Event → Type 0
 ArePlayable es = AllByRecursion IsPlayable es
+
+-- so many bytes of the next event are as many as there is room for
+abbrev pub FillRoom : List LinkEvent → ℕ → ℕ → Type 0
+FillRoom [] n room = Unit {0}
+FillRoom (ticks k ∷ others) n room = Unit {0}
+FillRoom (bytes next ∷ others) n room = n ≡ min (length next) room
+
+-- of the bytes of the next event as many were given as there is room for
+abbrev pub GivesWhatFits : List LinkEvent → ℕ → Fed → Type 0
+GivesWhatFits old room (fed.Bytes n) = FillRoom old n room
+GivesWhatFits old room (fed.Ticks n) = Unit {0}
+GivesWhatFits old room fed.End = Unit {0}
 
 -- the events that are left where so many bytes of the first were given
 abbrev pub events_left : ℕ → List Event → List LinkEvent

@@ -1,4 +1,9 @@
-ghost use Rattle.std.specs.Prelude.{◌≡◌};
+ghost use Rattle.std.specs.Prelude.{◌≡◌, OnOk, OnErr};
+ghost use Rattle.std.specs.Io.{ReadsAtMost};
+ghost use Rattle.std.specs.Io.KnownBytes.{ReadConsumes, WriteAppends};
+ghost use Rattle.sn_ports.specs.Causes.{HasCause};
+ghost use Rattle.sn_ports.specs.Fake.{counted};
+ghost use Rattle.sn_ports.specs.Transfer.{WritesSome};
 
 use crate::failed::Failed;
 use crate::traits::{Sink, Source};
@@ -25,7 +30,14 @@ impl<R: Read> Source for FileSource<R> {
 
     ghost faults = { λ s. s.faults };
 
-    fn read(&mut self, into: &mut [u8]) -> Result<usize, Failed> {
+    fn read(&mut self, into: &mut [u8]) -> Result<usize, Failed>
+        ensures bound { ReadsAtMost result into.new }
+        ensures bytes { ReadConsumes (R.remaining self.old.inner) (R.remaining self.new.inner) result into.new }
+        ensures cause { HasCause self.old.faults self.new.faults result }
+        // Each failure is counted once, and nothing else is.
+        ensures faults { OnErr result (self.new.faults ≡ counted 64 self.old.faults) }
+        ensures unfailed { OnOk result (self.new.faults ≡ self.old.faults) }
+    {
         match self.inner.read(into) {
             Ok(count) => Ok(count),
             Err(_) => {
@@ -66,7 +78,14 @@ impl<W: Write> Sink for FileSink<W> {
 
     ghost faults = { λ s. s.faults };
 
-    fn write(&mut self, piece: &[u8]) -> Result<usize, Failed> {
+    fn write(&mut self, piece: &[u8]) -> Result<usize, Failed>
+        ensures bound { WritesSome result piece.now }
+        ensures bytes { WriteAppends (W.contents self.old.inner) (W.contents self.new.inner) result piece.now }
+        ensures cause { HasCause self.old.faults self.new.faults result }
+        // Each failure is counted once, and nothing else is.
+        ensures faults { OnErr result (self.new.faults ≡ counted 64 self.old.faults) }
+        ensures unfailed { OnOk result (self.new.faults ≡ self.old.faults) }
+    {
         match self.inner.write(piece) {
             Ok(0) if !piece.is_empty() => {
                 self.faults = self.faults.saturating_add(1);

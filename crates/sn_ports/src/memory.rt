@@ -1,4 +1,4 @@
-ghost use Rattle.std.specs.Prelude.{◌≡◌, ◌⊎◌, ◌↔◌, ◌≤◌, ◌<◌, ◌+◌, ◌-◌, ◌++◌, ℕ, List, [], Some, IsTrue, IfOk, OnOk, OnErr, is_err, length, drop, take, min};
+ghost use Rattle.std.specs.Prelude.{◌≡◌, ◌⊎◌, ◌↔◌, ◌≤◌, ◌+◌, ◌-◌, [], Some, IsTrue, IfOk, OnOk, OnErr, is_err, length, drop, min};
 ghost use Rattle.std.specs.Io.{ReadsAtMost};
 ghost use Rattle.std.specs.Io.KnownBytes.{ReadConsumes, WriteAppends};
 ghost use Rattle.sn_ports.specs.Causes.{HasCause};
@@ -83,6 +83,7 @@ impl Source for MemorySource {
         ensures listed { self.new.fails ≡ self.old.fails }
         ensures calls { self.new.calls ≡ counted 32 self.old.calls }
         ensures faults { OnErr result (self.new.faults ≡ counted 64 self.old.faults) }
+        ensures unfailed { OnOk result (self.new.faults ≡ self.old.faults) }
     {
         if self.begins() {
             self.faults = self.faults.saturating_add(1);
@@ -178,6 +179,7 @@ impl Sink for MemorySink {
         ensures listed { self.new.fails ≡ self.old.fails }
         ensures calls { self.new.calls ≡ counted 32 self.old.calls }
         ensures faults { OnErr result (self.new.faults ≡ counted 64 self.old.faults) }
+        ensures unfailed { OnOk result (self.new.faults ≡ self.old.faults) }
     {
         let room = self.capacity as usize - self.bytes.len();
         if self.begins() || room == 0 {

@@ -1,8 +1,8 @@
-ghost use Rattle.std.specs.Prelude.{◌≡◌, ◌⊎◌, ◌↔◌, ◌≤◌, ◌<◌, ◌+◌, ◌++◌, ℕ, List, [], Some, IsTrue, IfOk, OnErr, is_err, length, take, min, map};
+ghost use Rattle.std.specs.Prelude.{◌≡◌, ◌⊎◌, ◌↔◌, ◌<◌, ◌+◌, [], Some, IsTrue, IfOk, OnOk, OnErr, is_err, length, take, min, map};
 ghost use Rattle.std.specs.Io.KnownBytes.{Keeps, WriteAppends};
 ghost use Rattle.sn_ports.specs.Causes.{HasCause};
 ghost use Rattle.sn_ports.specs.Fake.{FailsNext, counted};
-ghost use Rattle.sn_ports.specs.Links.{PlayedEvents, KeepsEvents, NextTakes, FeedsWithin, ArePlayable, event_of};
+ghost use Rattle.sn_ports.specs.Links.{KeepsEvents, NextTakes, FeedsWithin, GivesWhatFits, ArePlayable, event_of};
 ghost use Rattle.sn_ports.specs.Transfer.{WritesSome};
 
 use crate::calls::Calls;
@@ -107,6 +107,7 @@ impl Link for PlayedLink {
         requires room { 0 < length into.old }
         ensures bound { FeedsWithin result into.new }
         ensures events { NextTakes (Some self.old.left) (Some self.new.left) result into.new }
+        ensures given { IfOk result (GivesWhatFits self.old.left (length into.new)) }
         ensures sent { Keeps (Some self.old.sent) (Some self.new.sent) }
         ensures cause { HasCause self.old.faults self.new.faults result }
         // It fails exactly where the number of the call is one of those that fail.
@@ -115,6 +116,7 @@ impl Link for PlayedLink {
         ensures listed { self.new.fails ≡ self.old.fails }
         ensures calls { self.new.calls ≡ counted 32 self.old.calls }
         ensures faults { OnErr result (self.new.faults ≡ counted 64 self.old.faults) }
+        ensures unfailed { OnOk result (self.new.faults ≡ self.old.faults) }
     {
         if self.begins() {
             self.faults = self.faults.saturating_add(1);
@@ -153,6 +155,7 @@ impl Link for PlayedLink {
         ensures listed { self.new.fails ≡ self.old.fails }
         ensures calls { self.new.calls ≡ counted 32 self.old.calls }
         ensures faults { OnErr result (self.new.faults ≡ counted 64 self.old.faults) }
+        ensures unfailed { OnOk result (self.new.faults ≡ self.old.faults) }
     {
         let room = self.capacity as usize - self.sent.len();
         if self.begins() || piece.len() > room {

@@ -1,4 +1,4 @@
-ghost use Rattle.std.specs.Prelude.{◌≡◌, ◌≤◌, ◌+◌, ◌-◌, List, ℕ, [], ◌++◌, length, OnOk, OnErr, IfOk, vec_len, vec_capacity};
+ghost use Rattle.std.specs.Prelude.{◌≡◌, ◌≤◌, ◌+◌, ◌-◌, [], ◌++◌, length, OnOk, OnErr, IfOk, vec_len, vec_capacity};
 ghost use Rattle.sn_ports.specs.Octets.{Octets};
 
 use crate::failed::NoMemory;
@@ -21,6 +21,7 @@ impl Model for Text {
 }
 
 impl Text {
+    /// No bytes.
     pub fn new(alloc: Global) -> Self
         ensures { result.bytes ≡ [] }
     {
@@ -29,12 +30,14 @@ impl Text {
         }
     }
 
+    /// The bytes of a vector.
     pub fn from_vec(items: Vec<u8>) -> Self
         ensures { result.bytes ≡ items.items }
     {
         Text { items }
     }
 
+    /// A copy of the bytes.
     pub fn from_slice(alloc: Global, bytes: &[u8]) -> Result<Self, NoMemory>
         ensures { IfOk result (λ t. t.bytes ≡ bytes.now) }
     {
@@ -43,29 +46,33 @@ impl Text {
         })
     }
 
+    /// The bytes, as a vector.
     pub fn into_vec(self) -> Vec<u8>
         ensures { result.items ≡ self.bytes }
     {
         self.items
     }
 
+    /// The bytes.
     pub fn as_slice(&self) -> &[u8]
         ensures { result.now ≡ self.now.bytes }
     {
         &self.items
     }
 
+    /// How many bytes there are.
     pub fn len(&self) -> usize
         ensures { result ≡ length self.now.bytes }
     {
         self.items.len()
     }
 
-    /// Puts the piece at the end. After `NoMemory` the bytes are as before.
+    /// Puts the piece at the end. After `NoMemory` the bytes are as before, and there is as much room.
     pub fn append(&mut self, piece: &[u8]) -> Result<(), NoMemory>
         ensures ok { OnOk result (self.new.bytes ≡ self.old.bytes ++ piece.now) }
         ensures err { OnErr result (self.new.bytes ≡ self.old.bytes) }
         ensures room { self.old.spare ≤ self.new.spare + length piece.now }
+        ensures kept { OnErr result (self.old.spare ≤ self.new.spare) }
     {
         self.items.extend_from_slice(piece)?;
         Ok(())

@@ -14,6 +14,7 @@ pub struct Entry {
     pub number: u64,
     /// The client that sent them.
     pub from: u32,
+    /// What acts, in order.
     pub messages: Messages,
 }
 
@@ -22,6 +23,7 @@ pub struct Entry {
 pub enum Unput {
     /// As many entries wait as may.
     QueueFull,
+    /// Memory ran out.
     NoMemory,
 }
 
@@ -48,6 +50,7 @@ pub(crate) struct Held {
 }
 
 impl Entry {
+    /// The entry that waits at this place.
     pub(crate) fn of(place: Place, held: Held) -> Self
         ensures { waiting_of result ≡ waiting_at (place, held) }
     {

@@ -19,18 +19,21 @@ impl Model for Messages {
 }
 
 impl Messages {
+    /// The messages of a vector.
     pub fn from_vec(items: Vec<Message>) -> Self
         ensures { result ≡ items.items }
     {
         Messages { items }
     }
 
+    /// The messages, in order.
     pub fn as_slice(&self) -> &[Message]
         ensures { result.now ≡ self.now }
     {
         &self.items
     }
 
+    /// The messages, as a vector.
     pub fn into_vec(self) -> Vec<Message>
         ensures { result.items ≡ self }
     {

@@ -1,20 +1,18 @@
 -- Lengths of messages, and replies that can be sent.
-use Rattle.std.proofs.Common.{◌≡◌, ◌≤◌, ◌<◌, ℤ, ℕ, zero, suc, ◌+◌, ◌-◌, ◌*◌, ◌^◌, ◌%◌, Bool, true, false, not, ◌&&◌, List, [], ◌∷◌, ◌++◌, length, map, take, replicate, refl, ap, sym, subst, ◌∙◌, arith, length-append}
-use Rattle.std.specs.Prelude.{IsTrue, codes, ◌==◌}
-use Rattle.std.specs.List.{list_all, AllByRecursion}
+use Rattle.std.proofs.Common.{◌≡◌, ◌≤◌, ◌<◌, ℤ, ℕ, zero, suc, ◌+◌, ◌-◌, ◌*◌, ◌^◌, ◌%◌, Bool, true, false, not, ◌&&◌, List, [], ◌∷◌, ◌++◌, length, map, take, replicate, refl, ap, subst, ◌∙◌, arith, length-append}
+use Rattle.std.specs.Prelude.{codes, ◌==◌}
+use Rattle.std.specs.List.{list_all}
 use Rattle.std.specs.Fmt.{decimal}
-use Rattle.std.specs.Int.{w32, to_be_bytes, cast_unsigned}
 use Rattle.std.specs.Str.Parse.{AllDigits}
 use Rattle.std.proofs.lemmas.Fmt.{decimal_is_IsNumeral, length-decimal-le}
 use Rattle.std.proofs.lemmas.List.{length-map, length-replicate}
 use Rattle.std.proofs.lemmas.Grind.{common_steps}
 use Rattle.std.proofs.lemmas.List.Folds.{list_all-append}
-use Rattle.sn_osc.specs.Shape.{Argument, int, string, blob, BodyShape, arguments, MessageShape}
-use Rattle.sn_osc.specs.Bytes.{begins_with, is_body, body_bytes, string_bytes, blob_bytes, argument_bytes, arguments_bytes, tags_bytes, tag_of, message_bytes, is_message, has_no_null, is_argument, fits_int}
-use Rattle.sn_reply.specs.declared.reason.Reason.{Reason}
-use Rattle.sn_reply.specs.declared.reason.Reason.TheVariants as Reasons
+use Rattle.sn_osc.specs.Shape.{Argument, int, string, BodyShape, arguments, MessageShape}
+use Rattle.sn_osc.specs.Bytes.{begins_with, is_body, body_bytes, string_bytes, argument_bytes, arguments_bytes, tags_bytes, tag_of, has_no_null, is_argument, fits_int}
+use Rattle.sn_osc.proofs.Encoded.{four_each}
 use Rattle.sn_reply.specs.Replies.{ReplyShape}
-use Rattle.sn_reply.specs.Failing.{reason_text, definition_line, fail_message}
+use Rattle.sn_reply.specs.Failing.{definition_line}
 use Rattle.sn_reply.specs.Sending.{IsSendable, IsAnswerable, AllSendable, IsShortText}
 use Rattle.sn_reply.specs.Answering.{IsShort, AreShort, IsAddress}
 
@@ -36,14 +34,8 @@ second-of false b h = absurd cc
 pub length-string_bytes : (s : List ℕ) → length (string_bytes s) ≡ length s + (4 - length s % 4)
 length-string_bytes s = length-append s (replicate (4 - length s % 4) 0) ∙ ap (λ n. length s + n) (length-replicate (4 - length s % 4) 0)
 
-length-argument_bytes-least : (x : Argument) → 4 ≤ length (argument_bytes x)
-length-argument_bytes-least (int n) = omega arith
-length-argument_bytes-least (string s) = omega (arith, length-string_bytes s)
-length-argument_bytes-least (blob b) = simp length-append (omega arith)
-
 pub length-arguments_bytes-least : (xs : List Argument) → 4 * length xs ≤ length (arguments_bytes xs)
-length-arguments_bytes-least [] = omega arith
-length-arguments_bytes-least (x ∷ xs) = omega (arith, length-append (argument_bytes x) (arguments_bytes xs), length-argument_bytes-least x, length-arguments_bytes-least xs)
+length-arguments_bytes-least xs = four_each xs
 
 -- a message of arguments has few of them
 few-arguments : (address : List ℕ) (xs : List Argument) → IsAnswerable (record { address = address; body = arguments xs }) → 16 * length xs + 2 ^ 20 < 2 ^ 31

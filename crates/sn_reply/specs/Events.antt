@@ -1,7 +1,6 @@
 -- What clients are told when a block is settled.
-use Rattle.std.specs.Prelude.{ℤ, pos, List, [], ◌∷◌, ◌++◌, codes}
+use Rattle.std.specs.Prelude.{ℤ, pos, List, [], ◌∷◌, codes}
 use Rattle.sn_osc.specs.Shape.{Argument, int, arguments, MessageShape}
-use Rattle.sn_osc.specs.Bytes.{message_bytes, frame_bytes}
 use Rattle.sn_reply.specs.declared.events.Place.{Place}
 use Rattle.sn_reply.specs.declared.events.Notice.{Notice}
 use Rattle.sn_reply.specs.declared.events.Notice.TheVariants.{Tr, End, Off}

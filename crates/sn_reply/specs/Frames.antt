@@ -1,6 +1,7 @@
 -- Replies as the bytes that a client is sent.
-use Rattle.std.specs.Prelude.{ℕ, ◌+◌, ◌≤◌, Bool, true, false, ◌==◌, if◌then◌else◌, List, [], ◌∷◌, ◌++◌}
+use Rattle.std.specs.Prelude.{ℕ, ◌+◌, ◌≤◌, Bool, true, ◌==◌, if◌then◌else◌, List, [], ◌∷◌, ◌++◌}
 use Rattle.sn_ports.specs.Octets.{Octets}
+use Rattle.sn_ports.specs.Transfer.{Before}
 use Rattle.sn_osc.specs.Bytes.{message_bytes, frame_bytes}
 use Rattle.sn_reply.specs.Replies.{ReplyShape}
 use Rattle.sn_reply.specs.declared.replies.To.{To}
@@ -34,3 +35,10 @@ with_frames client (r ∷ rs) out = with_frames client rs (with_frame client r o
 abbrev pub EachHasRoom : ℕ → List Octets → Type 0
 EachHasRoom n [] = Unit {0}
 EachHasRoom n (t ∷ ts) = (n ≤ t.spare) × EachHasRoom n ts
+
+-- Each client has what it had, and perhaps more behind it.
+abbrev pub EachBegins : List (List ℕ) → List (List ℕ) → Type 0
+EachBegins [] [] = Unit {0}
+EachBegins [] (bytes ∷ others) = ⊥
+EachBegins (bytes ∷ others) [] = ⊥
+EachBegins (bytes ∷ others) (more ∷ rest) = Before bytes more × EachBegins others rest

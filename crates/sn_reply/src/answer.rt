@@ -1,5 +1,5 @@
 //! Replies of numbers and short names, argument by argument.
-ghost use Rattle.std.specs.Prelude.{◌≡◌, ◌≤◌, ◌<◌, ◌+◌, ◌^◌, ◌∷◌, ◌++◌, [], true, length, OnOk, OnErr, IfOk};
+ghost use Rattle.std.specs.Prelude.{◌≡◌, ◌<◌, ◌+◌, ◌^◌, ◌∷◌, ◌++◌, [], true, length, OnOk, OnErr, IfOk};
 ghost use Rattle.sn_osc.specs.Shape.{int, string, arguments, message_of};
 ghost use Rattle.sn_osc.specs.Bytes.{has_no_null, arguments_bytes};
 ghost use Rattle.sn_reply.specs.Sending.{IsSendable};
@@ -69,7 +69,6 @@ impl Answer {
     }
 
     /// The message with these arguments.
-
     pub fn into_message(self, address: &[u8]) -> Result<Message, NoMemory>
         requires address { IsAddress address.now }
         requires few { length self < 2 ^ 24 }
@@ -81,6 +80,7 @@ impl Answer {
             body: Body::Args(Args::from_vec(self.items)),
         })
     }
+
     /// The message with these arguments, where their bytes are few enough.
     pub fn into_long_message(self, address: &[u8]) -> Result<Message, NoMemory>
         requires address { IsAddress address.now }

@@ -1,5 +1,5 @@
 //! What clients are told when a block is settled.
-ghost use Rattle.std.specs.Prelude.{◌≡◌, ◌≤◌, ◌+◌, ◌++◌, length, ℕ, List};
+ghost use Rattle.std.specs.Prelude.{◌≡◌, ◌≤◌, ◌+◌, ◌++◌, length};
 ghost use Rattle.sn_osc.specs.Shape.{arguments};
 ghost use Rattle.sn_osc.specs.Bytes.{int_bytes, arguments_bytes, message_bytes, frame_bytes};
 ghost use Rattle.sn_reply.specs.Events.{place_arguments, trigger_arguments, notice_message};

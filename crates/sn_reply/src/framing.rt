@@ -1,9 +1,10 @@
 //! What is still to be sent to each client: frames of replies.
-ghost use Rattle.std.specs.Prelude.{◌≡◌, ◌+◌, ◌++◌, ◌≤◌, ◌<◌, ◌^◌, map, length, IfOk, OnOk};
+ghost use Rattle.std.specs.Prelude.{◌≡◌, ◌+◌, ◌++◌, ◌≤◌, ◌<◌, ◌^◌, map, length, IfOk, OnOk, OnErr};
 ghost use Rattle.sn_osc.specs.Shape.{message_of};
 ghost use Rattle.sn_osc.specs.Bytes.{message_bytes, frame_bytes};
 ghost use Rattle.sn_ports.specs.Octets.{bytes_of};
-ghost use Rattle.sn_reply.specs.Frames.{goes_to, frame_to, with_frame, with_frames, EachHasRoom};
+ghost use Rattle.sn_ports.specs.Transfer.{Before};
+ghost use Rattle.sn_reply.specs.Frames.{goes_to, frame_to, with_frame, with_frames, EachBegins, EachHasRoom};
 ghost use Rattle.sn_reply.specs.Replies.{ReplyShape, reply_of};
 ghost use Rattle.sn_reply.specs.Sending.{IsSendable};
 
@@ -38,6 +39,8 @@ fn frame(alloc: Global, message: Message) -> Result<Text, NoMemory>
 fn put_own(out: &mut Text, room: u32, client: u32, to: To, frame: &[u8]) -> Result<(), NoMemory>
     requires few { room + length frame.now < 2 ^ 32 }
     ensures frame { (r : ReplyShape) → r.to ≡ to → frame_bytes (message_bytes r.message) ≡ frame.now → OnOk result (out.new.bytes ≡ out.old.bytes ++ frame_to client r) }
+    ensures behind { Before out.old.bytes out.new.bytes }
+    ensures kept { OnErr result (out.new.bytes ≡ out.old.bytes) }
     ensures room { room ≤ out.old.spare → room ≤ out.new.spare }
 {
     if !goes_to(client, to) {
@@ -54,6 +57,8 @@ fn put_frame(out: &mut [Text], room: u32, client: u32, to: To, frame: &[u8]) -> 
     requires clients { client + length out.old < 2 ^ 32 }
     ensures len { length out.new ≡ length out.old }
     ensures frames { (r : ReplyShape) → r.to ≡ to → frame_bytes (message_bytes r.message) ≡ frame.now → OnOk result (map bytes_of out.new ≡ with_frame client r (map bytes_of out.old)) }
+    ensures behind { EachBegins (map bytes_of out.old) (map bytes_of out.new) }
+    ensures front { (r : ReplyShape) → r.to ≡ to → frame_bytes (message_bytes r.message) ≡ frame.now → OnErr result (EachBegins (map bytes_of out.new) (with_frame client r (map bytes_of out.old))) }
     ensures room { EachHasRoom room out.old → EachHasRoom room out.new }
 {
     let Some((first, rest)) = out.split_first_mut() else {
@@ -70,6 +75,8 @@ fn put_reply(alloc: Global, out: &mut [Text], room: u32, reply: Reply) -> Result
     requires sendable { IsSendable (message_of reply.message) }
     ensures len { length out.new ≡ length out.old }
     ensures frames { OnOk result (map bytes_of out.new ≡ with_frame 0 (reply_of reply) (map bytes_of out.old)) }
+    ensures behind { EachBegins (map bytes_of out.old) (map bytes_of out.new) }
+    ensures front { OnErr result (EachBegins (map bytes_of out.new) (with_frame 0 (reply_of reply) (map bytes_of out.old))) }
     ensures room { EachHasRoom room out.old → EachHasRoom room out.new }
 {
     let to = reply.to;
@@ -78,12 +85,14 @@ fn put_reply(alloc: Global, out: &mut [Text], room: u32, reply: Reply) -> Result
 }
 
 /// Appends the frames of replies to what each client that they go to is sent, in order. Where each had room for so many bytes more, it
-/// still has.
+/// still has. After `NoMemory` nothing that a client was to be sent is lost, and what stands behind it is a front of these frames.
 pub fn send(alloc: Global, out: &mut [Text], room: u32, replies: Replies) -> Result<(), NoMemory>
     requires room { room < 2 ^ 30 }
     requires clients { length out.old < 2 ^ 32 }
     ensures len { length out.new ≡ length out.old }
     ensures frames { OnOk result (map bytes_of out.new ≡ with_frames 0 replies (map bytes_of out.old)) }
+    ensures behind { EachBegins (map bytes_of out.old) (map bytes_of out.new) }
+    ensures front { OnErr result (EachBegins (map bytes_of out.new) (with_frames 0 replies (map bytes_of out.old))) }
     ensures room { EachHasRoom room out.old → EachHasRoom room out.new }
 {
     for reply in replies.into_vec() {

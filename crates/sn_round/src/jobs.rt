@@ -39,6 +39,7 @@ impl Ids {
         Ok(())
     }
 
+    /// The ids, in their order.
     pub fn as_slice(&self) -> &[i32]
         ensures { result.now ≡ self.now }
     {
@@ -79,6 +80,7 @@ impl Jobs {
         Ok(())
     }
 
+    /// The jobs, in their order.
     pub fn as_slice(&self) -> &[u32]
         ensures { result.now ≡ self.now }
     {
@@ -91,7 +93,9 @@ impl Jobs {
 /// A joint has no synths and touches nothing.
 #[derive(Drop)]
 pub struct Job {
+    /// The synths that it renders.
     pub synths: Ids,
+    /// The words that it may touch.
     pub foot: Foot,
     /// Its predecessors.
     pub before: Jobs,

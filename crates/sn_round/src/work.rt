@@ -4,6 +4,7 @@ ghost use Rattle.sn_mem.specs.Words.{writes, touches};
 
 use sn_mem::{Foot, Port, Scratch};
 
+/// What the jobs of a round do with the words.
 pub trait Work: Sync {
     ghost use Rattle.sn_mem.specs.declared.extents.Foot.{Foot};
 

@@ -82,9 +82,9 @@ written_more out before after old mid new taken w = Appends-trans _ _ _ _ _ take
 
 -- ---- from block to block
 
-pub begins : (s : Settings) (total : ℕ) (so ro : Option (List ℕ)) (r : Running) → IsAtBoundary s r → IsGoing s r total total so so ro ro r
+pub begins : (s : Settings) (total : ℕ) (sound_old replies_old : Option (List ℕ)) (r : Running) → IsAtBoundary s r → IsGoing s r total total sound_old sound_old replies_old replies_old r
 unfolding pcm
-begins s total so ro r stands = record {
+begins s total sound_old replies_old r stands = record {
   session = session_of r;
   sound_out = [];
   replies_out = [];
@@ -96,8 +96,8 @@ begins s total so ro r stands = record {
   clashes = refl;
   sound = sym (append-nil r.sound);
   replies = refl;
-  sound_taken = nothing_more so;
-  replies_taken = nothing_more ro;
+  sound_taken = nothing_more sound_old;
+  replies_taken = nothing_more replies_old;
 }
 
 same_blocks : (s : Settings) (p : Session) (r : Running) (out : List ℕ) (begun : List ℕ) → r.settings ≡ s → r.world ≡ p.world → r.waiting ≡ p.waiting → out ++ r.sound ≡ begun ++ pcm s p.samples
@@ -131,9 +131,9 @@ block_replies s p r out alone world waiting clashes so_far =
     ∙ sym (append_assoc out (to_first (at_boundary r).replies) (frames_to 0 rs))
     ∙ (λ i. boundary_replies p r out alone world waiting clashes so_far i ++ frames_to 0 (settled_world p r world waiting i).replies)
 
-pub goes_on : (s : Settings) (begun : Running) (total left : ℕ) (so sm sn ro rm rn : Option (List ℕ)) (old new : Running)
-    → IsGoing s begun total (suc left) so sm ro rm old → IsBlock sm sn rm rn old new → IsGoing s begun total left so sn ro rn new
-goes_on s begun total left so sm sn ro rm rn old new g b =
+pub goes_on : (s : Settings) (begun : Running) (total left : ℕ) (sound_old sound_mid sound_new replies_old replies_mid replies_new : Option (List ℕ)) (old new : Running)
+    → IsGoing s begun total (suc left) sound_old sound_mid replies_old replies_mid old → IsBlock sound_mid sound_new replies_mid replies_new old new → IsGoing s begun total left sound_old sound_new replies_old replies_new new
+goes_on s begun total left sound_old sound_mid sound_new replies_old replies_mid replies_new old new g b =
     let p = g.session in
     let next = settle old.block (play_block s old.block (boundary old.block p)) in
     let world : new.world ≡ next.world = b.world ∙ ap (λ t. t.world) (settled_world p old g.world g.waiting) in
@@ -218,13 +218,13 @@ data_made s n b p none =
     let made : length samples ≡ n * (64 * s.channels) = omega (arith, samples_made s n b p, ap length none) in
     pcm_length_is s samples ∙ whole_bytes n s.channels s.bits (length samples) (width_cases s.bits s.bits_are) made
 
-pub ended : (s : Settings) (begun : Running) (total : ℕ) (so sm sn ro rm rn : Option (List ℕ)) (r : Running) → IsGoing s begun total 0 so sm ro rm r → IsEnd sm sn rm rn r → IsEnded s begun total so sn ro rn
-ended s begun total so sm sn ro rm rn r g e =
+pub ended : (s : Settings) (begun : Running) (total : ℕ) (sound_old sound_mid sound_new replies_old replies_mid replies_new : Option (List ℕ)) (r : Running) → IsGoing s begun total 0 sound_old sound_mid replies_old replies_mid r → IsEnd sound_mid sound_new replies_mid replies_new r → IsEnded s begun total sound_old sound_new replies_old replies_new
+ended s begun total sound_old sound_mid sound_new replies_old replies_mid replies_new r g e =
     let final = blocks s total begun.block (session_of begun) in
     let at : r.block ≡ begun.block + total = omega (arith, g.count) in
     record {
-      sound = subst (Appends so sn) (g.sound ∙ ap (λ (p : Session). begun.sound ++ pcm s p.samples) g.plays) (Appends-trans _ _ _ _ _ g.sound_taken e.sound);
-      replies = subst (Appends ro rn) (boundary_replies g.session r g.replies_out g.stands.alone g.world g.waiting g.clashes g.replies ∙ ap (λ (p : Session). (boundary r.block p).replies) g.plays ∙ ap (λ (n : ℕ). (boundary n final).replies) at) (Appends-trans _ _ _ _ _ g.replies_taken e.replies);
+      sound = subst (Appends sound_old sound_new) (g.sound ∙ ap (λ (p : Session). begun.sound ++ pcm s p.samples) g.plays) (Appends-trans _ _ _ _ _ g.sound_taken e.sound);
+      replies = subst (Appends replies_old replies_new) (boundary_replies g.session r g.replies_out g.stands.alone g.world g.waiting g.clashes g.replies ∙ ap (λ (p : Session). (boundary r.block p).replies) g.plays ∙ ap (λ (n : ℕ). (boundary n final).replies) at) (Appends-trans _ _ _ _ _ g.replies_taken e.replies);
     }
 
 abbrev make : World → WaitingList → List Clash → List ℤ → List ℕ → Session
@@ -240,17 +240,17 @@ pub record IsOpened (s : Settings) (packets : List Shape) (r : Running) : Type 0
   pub replies : to_first r.replies ≡ []
 
 -- has played them
-pub all_played : (s : Settings) (packets : List Shape) (r : Running) (so sn ro rn : Option (List ℕ)) → IsOpened s packets r → IsEnded s r (last_of s packets) so sn ro rn
-    → Appends so sn (sound_of s packets) × Appends ro rn (replies_of s packets)
-all_played s packets r so sn ro rn o e =
+pub all_played : (s : Settings) (packets : List Shape) (r : Running) (sound_old sound_new replies_old replies_new : Option (List ℕ)) → IsOpened s packets r → IsEnded s r (last_of s packets) sound_old sound_new replies_old replies_new
+    → Appends sound_old sound_new (sound_of s packets) × Appends replies_old replies_new (replies_of s packets)
+all_played s packets r sound_old sound_new replies_old replies_new o e =
     let last = last_of s packets in
     let p : session_of r ≡ begun s packets = session_is (session_of r) (begun s packets) o.world o.waiting o.clashes refl o.replies in
     let final : blocks s last r.block (session_of r) ≡ blocks s last 0 (begun s packets) = ap (λ (n : ℕ). blocks s last n (session_of r)) o.block ∙ ap (blocks s last 0) p in
     let size : data_len s last ≡ length (pcm s (blocks s last 0 (begun s packets)).samples) = sym (data_made s last 0 (begun s packets) refl) in
     let head : r.sound ≡ header_bytes s (length (pcm s (blocks s last 0 (begun s packets)).samples)) = o.sound ∙ ap (header_bytes s) size in
     let at : r.block + last ≡ last = omega (arith, o.block) in (
-      subst (Appends so sn) (ap (λ (q : Session). r.sound ++ pcm s q.samples) final ∙ ap (λ (t : List ℕ). t ++ pcm s (blocks s last 0 (begun s packets)).samples) head) e.sound,
-      subst (Appends ro rn) (ap (λ (q : Session). (boundary (r.block + last) q).replies) final ∙ ap (λ (n : ℕ). (boundary n (blocks s last 0 (begun s packets))).replies) at) e.replies,
+      subst (Appends sound_old sound_new) (ap (λ (q : Session). r.sound ++ pcm s q.samples) final ∙ ap (λ (t : List ℕ). t ++ pcm s (blocks s last 0 (begun s packets)).samples) head) e.sound,
+      subst (Appends replies_old replies_new) (ap (λ (q : Session). (boundary (r.block + last) q).replies) final ∙ ap (λ (n : ℕ). (boundary n (blocks s last 0 (begun s packets))).replies) at) e.replies,
     )
   where
     session_is : (p q : Session) → p.world ≡ q.world → p.waiting ≡ q.waiting → p.clashes ≡ q.clashes → p.samples ≡ q.samples → p.replies ≡ q.replies → p ≡ q
@@ -261,17 +261,17 @@ on_ok (Ok x) f h = f h
 on_ok (Err e) f h = tt
 
 -- the head of the sound was written before the rest of it
-pub headed : (s : Settings) (r : Running) (total : ℕ) (head : List ℕ) (so sm sn ro rn : Option (List ℕ)) → r.sound ≡ [] → Appends so sm head → IsEnded s r total sm sn ro rn
-    → IsEnded s (record r { sound = head }) total so sn ro rn
-headed s r total head so sm sn ro rn silent taken e = record {
-  sound = subst (λ (t : List ℕ). Appends so sn (head ++ (t ++ pcm s (blocks s total r.block (session_of r)).samples))) silent (Appends-trans _ _ _ _ _ taken e.sound);
+pub headed : (s : Settings) (r : Running) (total : ℕ) (head : List ℕ) (sound_old sound_mid sound_new replies_old replies_new : Option (List ℕ)) → r.sound ≡ [] → Appends sound_old sound_mid head → IsEnded s r total sound_mid sound_new replies_old replies_new
+    → IsEnded s (record r { sound = head }) total sound_old sound_new replies_old replies_new
+headed s r total head sound_old sound_mid sound_new replies_old replies_new silent taken e = record {
+  sound = subst (λ (t : List ℕ). Appends sound_old sound_new (head ++ (t ++ pcm s (blocks s total r.block (session_of r)).samples))) silent (Appends-trans _ _ _ _ _ taken e.sound);
   replies = e.replies;
 }
 
 -- a block whose bytes were written
-pub block_done : (so sn ro rn : Option (List ℕ)) (old settled wrote new : Running) → settled ≡ after_block old → wrote ≡ record settled { sound = wrote.sound } → new ≡ record wrote { replies = new.replies }
-    → length old.replies ≡ 1 → length new.replies ≡ 1 → IsWritten settled.sound wrote.sound so sn → IsWritten (to_first wrote.replies) (to_first new.replies) ro rn → IsBlock so sn ro rn old new
-block_done so sn ro rn old settled wrote new done sounded replied alone alone' sound replies = record {
+pub block_done : (sound_old sound_new replies_old replies_new : Option (List ℕ)) (old settled wrote new : Running) → settled ≡ after_block old → wrote ≡ record settled { sound = wrote.sound } → new ≡ record wrote { replies = new.replies }
+    → length old.replies ≡ 1 → length new.replies ≡ 1 → IsWritten settled.sound wrote.sound sound_old sound_new → IsWritten (to_first wrote.replies) (to_first new.replies) replies_old replies_new → IsBlock sound_old sound_new replies_old replies_new old new
+block_done sound_old sound_new replies_old replies_new old settled wrote new done sounded replied alone alone' sound replies = record {
   settings = ap (λ r. r.settings) replied ∙ ap (λ r. r.settings) sounded ∙ ap (λ r. r.settings) done;
   standing = ap (λ r. r.standing) replied ∙ ap (λ r. r.standing) sounded ∙ ap (λ r. r.standing) done;
   clients = alone' ∙ sym (settled_alone old alone);
@@ -279,6 +279,6 @@ block_done so sn ro rn old settled wrote new done sounded replied alone alone' s
   waiting = ap (λ r. r.waiting) replied ∙ ap (λ r. r.waiting) sounded ∙ ap (λ r. r.waiting) done;
   clashes = ap (λ r. r.clashes) replied ∙ ap (λ r. r.clashes) sounded ∙ ap (λ r. r.clashes) done;
   block = ap (λ r. r.block) replied ∙ ap (λ r. r.block) sounded ∙ ap (λ r. r.block) done;
-  sound = subst (λ (t : List ℕ). IsWritten t new.sound so sn) (ap (λ r. r.sound) done) (subst (λ (t : List ℕ). IsWritten settled.sound t so sn) (sym (ap (λ r. r.sound) replied)) sound);
-  replies = subst (λ (t : List (List ℕ)). IsWritten (to_first t) (to_first new.replies) ro rn) (ap (λ r. r.replies) sounded ∙ ap (λ r. r.replies) done) replies;
+  sound = subst (λ (t : List ℕ). IsWritten t new.sound sound_old sound_new) (ap (λ r. r.sound) done) (subst (λ (t : List ℕ). IsWritten settled.sound t sound_old sound_new) (sym (ap (λ r. r.sound) replied)) sound);
+  replies = subst (λ (t : List (List ℕ)). IsWritten (to_first t) (to_first new.replies) replies_old replies_new) (ap (λ r. r.replies) sounded ∙ ap (λ r. r.replies) done) replies;
 }

@@ -1,7 +1,7 @@
 -- A stream has one answer, and what was played is what it gives.
 use Rattle.std.proofs.Common.{◌≡◌, Bool, true, false, IsTrue, ℕ, ◌+◌, ◌<◌, ◌≤◌, ◌⊎◌, List, [], ◌∷◌, ◌++◌, length, Option, Some, None, refl, sym, ap, subst, ◌∙◌, arith, inl, inr}
 use Rattle.std.specs.Prelude.{IfSome}
-use Rattle.std.specs.Io.KnownBytes.{Appends}
+use Rattle.std.specs.Io.KnownBytes.{Appends, Keeps}
 use Rattle.sn_osc.specs.Shape.{Shape}
 use Rattle.sn_pcm.specs.declared.settings.Settings.{Settings}
 use Rattle.sn_pcm.specs.Sound.{data_len, header_bytes}
@@ -9,7 +9,7 @@ use Rattle.sn_server.specs.declared.outcome.Outcome.{Outcome}
 use Rattle.sn_server.specs.declared.outcome.Outcome.TheVariants.{Done, NoMemory, BadWords, BadStream, LongStream, LongSound, ReadFault, SoundFault, ReplyFault}
 use Rattle.sn_osc.specs.declared.fault.StreamFault.{StreamFault}
 use Rattle.sn_server.specs.Going.{IsEnded}
-use Rattle.sn_server.specs.Outcomes.{IsTooLong, HasAnswer, IsAnswer, Played}
+use Rattle.sn_server.specs.Outcomes.{IsTooLong, HasAnswer, IsAnswer, Played, IsUnplayed, IsUntouched}
 use Rattle.sn_server.specs.Play.{last_of, sound_of, replies_of, arrived}
 use Rattle.sn_engine.specs.Running.{Running, opened}
 use Rattle.sn_osc.specs.Frames.{Frames, StreamFaultAt}
@@ -90,14 +90,14 @@ arrived_engine s packets = record (opened s 0 None 1) { waiting = arrived s pack
 done_is : (m n : ℕ) → Done m ≡ Done n → m ≡ n
 done_is m n e = cc
 
-pub done_played : (s : Settings) (stream so sn ro rn : Option (List ℕ)) (bytes : List ℕ) (packets : List Shape) (blocks n : ℕ) (e : Running)
+pub done_played : (s : Settings) (stream sound_old sound_new replies_old replies_new : Option (List ℕ)) (bytes : List ℕ) (packets : List Shape) (blocks n : ℕ) (e : Running)
     → IfSome stream (λ xs. bytes ≡ xs) → Frames packets bytes → blocks ≡ last_of s packets → e ≡ arrived_engine s packets
-    → IsEnded s (record e { sound = header_bytes s (data_len s blocks) }) blocks so sn ro rn → Done blocks ≡ Done n → Played s stream n so sn ro rn
-done_played s None so sn ro rn bytes packets blocks n e are frames last is ended same = tt
-done_played s (Some stream) so sn ro rn bytes packets blocks n e are frames last is ended same =
-    let ended_last = subst (λ (k : ℕ). IsEnded s (record e { sound = header_bytes s (data_len s k) }) k so sn ro rn) last ended in
-    let begun = subst (λ (r : Running). IsEnded s (record r { sound = header_bytes s (data_len s (last_of s packets)) }) (last_of s packets) so sn ro rn) is ended_last in
-    let bytes_out = all_played s packets (record (arrived_engine s packets) { sound = header_bytes s (data_len s (last_of s packets)) }) so sn ro rn (record { world = refl; waiting = refl; clashes = refl; block = refl; sound = refl; replies = refl }) begun in
+    → IsEnded s (record e { sound = header_bytes s (data_len s blocks) }) blocks sound_old sound_new replies_old replies_new → Done blocks ≡ Done n → Played s stream n sound_old sound_new replies_old replies_new
+done_played s None sound_old sound_new replies_old replies_new bytes packets blocks n e are frames last is ended same = tt
+done_played s (Some stream) sound_old sound_new replies_old replies_new bytes packets blocks n e are frames last is ended same =
+    let ended_last = subst (λ (k : ℕ). IsEnded s (record e { sound = header_bytes s (data_len s k) }) k sound_old sound_new replies_old replies_new) last ended in
+    let begun = subst (λ (r : Running). IsEnded s (record r { sound = header_bytes s (data_len s (last_of s packets)) }) (last_of s packets) sound_old sound_new replies_old replies_new) is ended_last in
+    let bytes_out = all_played s packets (record (arrived_engine s packets) { sound = header_bytes s (data_len s (last_of s packets)) }) sound_old sound_new replies_old replies_new (record { world = refl; waiting = refl; clashes = refl; block = refl; sound = refl; replies = refl }) begun in
     (packets, subst (Frames packets) are frames, sym (done_is blocks n same) ∙ last, bytes_out.0, bytes_out.1)
 
 -- the answer of a stream whose sound is too long
@@ -121,3 +121,23 @@ faulty_answer s (Some xs) bytes packets blocks are size frames last short = (blo
 pub not_long : (b : Bool) (P : Type 0) → (P → IsTrue b) → b ≡ false → P → ⊥
 not_long true P tells is h = absurd cc
 not_long false P tells is h = let t : IsTrue false = tells h in absurd cc
+
+-- ---- a stream that has no packets
+
+pub unplayed : (o played : Outcome) (P : Type 0) → (IsUnplayed played → ⊥) → IsUnplayed o → o ≡ played → P
+unplayed o played P never is e = absurd (never (subst (λ (x : Outcome). IsUnplayed x) e is))
+
+kept : (old : Option (List ℕ)) → Keeps old old
+kept None = tt
+kept (Some xs) = refl
+
+pub unplayed_untouched : (o : Outcome) (sound replies : Option (List ℕ)) → IsUnplayed o → IsUntouched o sound sound replies replies
+unplayed_untouched NoMemory sound replies is = tt
+unplayed_untouched (BadStream packet place fault) sound replies is = (kept sound, kept replies)
+unplayed_untouched (LongStream n) sound replies is = (kept sound, kept replies)
+unplayed_untouched ReadFault sound replies is = (kept sound, kept replies)
+unplayed_untouched (Done n) sound replies is = tt
+unplayed_untouched (BadWords i) sound replies is = (kept sound, kept replies)
+unplayed_untouched (LongSound n) sound replies is = (kept sound, kept replies)
+unplayed_untouched SoundFault sound replies is = tt
+unplayed_untouched ReplyFault sound replies is = tt

@@ -31,7 +31,7 @@ use Rattle.sn_server.specs.Play.{Session, boundary}
 use Rattle.sn_server.specs.declared.ended.Ended.{Ended}
 use Rattle.sn_server.specs.declared.ended.Ended.TheVariants.{Quit, NoMemory, Closed, Cut, BadFrame, LinkFault, SoundFault, Worn}
 use Rattle.sn_server.specs.PlayEvents.{Live, Over, Course, going, ended, ends, arrive_one, arrive_each, with_offer, keep, receive, is_worn, worn, unless_worn, after_tick, tick}
-use Rattle.sn_server.specs.Served.{WhereGiven}
+use Rattle.sn_server.specs.Served.{ByEnd, WhereGiven}
 use Rattle.sn_server.specs.Serving.{engine_of, framer_of, with_packet, with_packets, IsBad, IsLive, IsReady, HasEnded, GoesOn, Follows, IsTickEnd, IsTicked, HasQuit, IsWornOut, HasLeft}
 use Rattle.sn_server.proofs.GoingLemmas.{pcm-append}
 use Rattle.sn_server.proofs.JoiningLemmas.{not_worn}
@@ -93,10 +93,10 @@ after_piece piece v = record {
   fed = v.fed + length piece;
 }
 
-pub received : (s : Settings) (v : Live) (piece : List ℕ) (so sn ro rm rn : Option (List ℕ)) (e0 e1 e2 : Running) (f0 f1 f2 : Framing) → IsLive s so sn ro rm v e0 f0
+pub received : (s : Settings) (v : Live) (piece : List ℕ) (sound_old sound_new sent_old sent_mid sent_new : Option (List ℕ)) (e0 e1 e2 : Running) (f0 f1 f2 : Framing) → IsLive s sound_old sound_new sent_old sent_mid v e0 f0
     → f1 ≡ fed_with piece f0 → e1 ≡ with_packets (unpacked f1.kept).packets e0 → f2 ≡ record f1 { kept = (unpacked f1.kept).rest }
-    → Appends rm rn (to_first e1.replies) → e2 ≡ record e1 { replies = [] ∷ [] } → IsLive s so sn ro rn (after_piece piece v) e2 f2
-received s v piece so sn ro rm rn e0 e1 e2 f0 f1 f2 live fed offered kept sent empty =
+    → Appends sent_mid sent_new (to_first e1.replies) → e2 ≡ record e1 { replies = [] ∷ [] } → IsLive s sound_old sound_new sent_old sent_new (after_piece piece v) e2 f2
+received s v piece sound_old sound_new sent_old sent_mid sent_new e0 e1 e2 f0 f1 f2 live fed offered kept sent empty =
     let packets = (unpacked (v.kept ++ piece)).packets in
     let piece_fed : f1 ≡ fed_with piece (framer_of v) = fed ∙ ap (fed_with piece) live.framer in
     let o = arrived_each s v.session.replies packets v (engine_of s v) (record { pending = []; engine = refl; all = append-nil v.session.replies }) in
@@ -105,20 +105,20 @@ received s v piece so sn ro rm rn e0 e1 e2 f0 f1 f2 live fed offered kept sent e
     record {
       engine = empty ∙ ap (λ (r : Running). record r { replies = [] ∷ [] }) engine;
       framer = kept ∙ ap (λ (f : Framing). record f { kept = (unpacked f.kept).rest }) piece_fed;
-      sound = subst (λ xs. Appends so sn (pcm s xs)) (sym (sound_of_each v.block packets v.session)) live.sound;
-      sent = subst (Appends ro rn) o.all (Appends-trans ro rm rn v.session.replies o.pending live.sent (subst (Appends rm rn) (ap (λ r. to_first r.replies) engine) sent));
+      sound = subst (λ xs. Appends sound_old sound_new (pcm s xs)) (sym (sound_of_each v.block packets v.session)) live.sound;
+      sent = subst (Appends sent_old sent_new) o.all (Appends-trans sent_old sent_mid sent_new v.session.replies o.pending live.sent (subst (Appends sent_mid sent_new) (ap (λ r. to_first r.replies) engine) sent));
     }
 
-pub received_whole : (s : Settings) (v : Live) (piece : List ℕ) (so sn ro rn : Option (List ℕ)) (e : Running) (f : Framing) → IsLive s so sn ro rn (after_piece piece v) e f → first_frame f.kept ≡ cut
-    → GoesOn s so sn ro rn (receive piece v) e f
-received_whole s v piece so sn ro rn e f live stops =
+pub received_whole : (s : Settings) (v : Live) (piece : List ℕ) (sound_old sound_new sent_old sent_new : Option (List ℕ)) (e : Running) (f : Framing) → IsLive s sound_old sound_new sent_old sent_new (after_piece piece v) e f → first_frame f.kept ≡ cut
+    → GoesOn s sound_old sound_new sent_old sent_new (receive piece v) e f
+received_whole s v piece sound_old sound_new sent_old sent_new e f live stops =
     let w = after_piece piece v in
     let at : first_frame w.kept ≡ cut = ap (λ (g : Framing). first_frame g.kept) (sym live.framer) ∙ stops in
     record { live = w; course = ap (λ x. keep x w.kept w.fed w.block w.session) at; stands = live }
 
-bad_end : (s : Settings) (v : Live) (piece : List ℕ) (so sn ro rn : Option (List ℕ)) (e : Running) (f : Framing) (size : ℤ) → IsLive s so sn ro rn (after_piece piece v) e f
-    → first_frame f.kept ≡ bad_size size → HasEnded s so sn ro rn (receive piece v) (BadFrame size)
-bad_end s v piece so sn ro rn e f size live stops =
+bad_end : (s : Settings) (v : Live) (piece : List ℕ) (sound_old sound_new sent_old sent_new : Option (List ℕ)) (e : Running) (f : Framing) (size : ℤ) → IsLive s sound_old sound_new sent_old sent_new (after_piece piece v) e f
+    → first_frame f.kept ≡ bad_size size → HasEnded s sound_old sound_new sent_old sent_new (receive piece v) (BadFrame size)
+bad_end s v piece sound_old sound_new sent_old sent_new e f size live stops =
     let w = after_piece piece v in
     let at : first_frame w.kept ≡ bad_size size = ap (λ (g : Framing). first_frame g.kept) (sym live.framer) ∙ stops in
     record {
@@ -129,16 +129,16 @@ bad_end s v piece so sn ro rn e f size live stops =
       sent = live.sent;
     }
 
-pub received_bad : (s : Settings) (v : Live) (piece : List ℕ) (so sn ro rn : Option (List ℕ)) (e : Running) (f : Framing) (how : Ended) → IsLive s so sn ro rn (after_piece piece v) e f
-    → IsBad (first_frame f.kept) how → WhereGiven how (HasEnded s so sn ro rn (receive piece v) how)
-received_bad s v piece so sn ro rn e f (BadFrame size) live stops = bad_end s v piece so sn ro rn e f size live stops
-received_bad s v piece so sn ro rn e f Quit live stops = absurd stops
-received_bad s v piece so sn ro rn e f NoMemory live stops = absurd stops
-received_bad s v piece so sn ro rn e f Closed live stops = absurd stops
-received_bad s v piece so sn ro rn e f (Cut kept) live stops = absurd stops
-received_bad s v piece so sn ro rn e f LinkFault live stops = absurd stops
-received_bad s v piece so sn ro rn e f SoundFault live stops = absurd stops
-received_bad s v piece so sn ro rn e f (Worn n blocks) live stops = absurd stops
+pub received_bad : (s : Settings) (v : Live) (piece : List ℕ) (sound_old sound_new sent_old sent_new : Option (List ℕ)) (e : Running) (f : Framing) (how : Ended) → IsLive s sound_old sound_new sent_old sent_new (after_piece piece v) e f
+    → IsBad (first_frame f.kept) how → WhereGiven how (HasEnded s sound_old sound_new sent_old sent_new (receive piece v) how)
+received_bad s v piece sound_old sound_new sent_old sent_new e f (BadFrame size) live stops = bad_end s v piece sound_old sound_new sent_old sent_new e f size live stops
+received_bad s v piece sound_old sound_new sent_old sent_new e f Quit live stops = absurd stops
+received_bad s v piece sound_old sound_new sent_old sent_new e f NoMemory live stops = absurd stops
+received_bad s v piece sound_old sound_new sent_old sent_new e f Closed live stops = absurd stops
+received_bad s v piece sound_old sound_new sent_old sent_new e f (Cut kept) live stops = absurd stops
+received_bad s v piece sound_old sound_new sent_old sent_new e f LinkFault live stops = absurd stops
+received_bad s v piece sound_old sound_new sent_old sent_new e f SoundFault live stops = absurd stops
+received_bad s v piece sound_old sound_new sent_old sent_new e f (Worn n blocks) live stops = absurd stops
 
 -- ---- blocks
 
@@ -165,10 +165,10 @@ pub after_one : (s : Settings) (n : ℕ) (v : Live) → v.fed < 4611686018427387
 after_one s n v few less goes =
     not_worn v (if quits_at v.block v.session.waiting v.session.world then ends (boundary v.block v.session) Quit else tick s n (after_tick s v)) few less ∙ ap (λ (b : Bool). if b then ends (boundary v.block v.session) Quit else tick s n (after_tick s v)) (goes_by (quits_at v.block v.session.waiting v.session.world) goes)
 
-pub ticked : (s : Settings) (v : Live) (so sm sn ro rm rn : Option (List ℕ)) (e0 e1 : Running) (f : Framing) → IsLive s so sm ro rm v e0 f
-    → e1 ≡ record (after_block e0) { sound = []; replies = [] ∷ [] } → Appends sm sn (after_block e0).sound → Appends rm rn (to_first (after_block e0).replies)
-    → IsLive s so sn ro rn (after_tick s v) e1 f
-ticked s v so sm sn ro rm rn e0 e1 f live done sounded replied =
+pub ticked : (s : Settings) (v : Live) (sound_old sound_mid sound_new sent_old sent_mid sent_new : Option (List ℕ)) (e0 e1 : Running) (f : Framing) → IsLive s sound_old sound_mid sent_old sent_mid v e0 f
+    → e1 ≡ record (after_block e0) { sound = []; replies = [] ∷ [] } → Appends sound_mid sound_new (after_block e0).sound → Appends sent_mid sent_new (to_first (after_block e0).replies)
+    → IsLive s sound_old sound_new sent_old sent_new (after_tick s v) e1 f
+ticked s v sound_old sound_mid sound_new sent_old sent_mid sent_new e0 e1 f live done sounded replied =
     let p = boundary v.block v.session in
     let walked = walk v.block p.world in
     let samples = outputs s v.block walked in
@@ -182,34 +182,34 @@ ticked s v so sm sn ro rm rn e0 e1 f live done sounded replied =
       engine = done ∙ ap (λ (r : Running). record (after_block r) { sound = []; replies = [] ∷ [] }) live.engine
           ∙ ap (λ (n : ℕ). record (engine_of s (after_tick s v)) { world = (settled n (unsaid walked)).world }) block;
       framer = live.framer;
-      sound = subst (Appends so sn) (sym (pcm-append s v.session.samples samples))
-          (Appends-trans so sm sn (pcm s v.session.samples) (pcm s samples) live.sound (subst (Appends sm sn) (ap (λ (r : Running). (after_block r).sound) live.engine) sounded));
-      sent = subst (Appends ro rn) (sym (append_assoc v.session.replies (frames_to 0 first) (frames_to 0 (said v.block))))
-          (Appends-trans ro rm rn v.session.replies (frames_to 0 first ++ frames_to 0 (said v.block)) live.sent (subst (Appends rm rn) replies replied));
+      sound = subst (Appends sound_old sound_new) (sym (pcm-append s v.session.samples samples))
+          (Appends-trans sound_old sound_mid sound_new (pcm s v.session.samples) (pcm s samples) live.sound (subst (Appends sound_mid sound_new) (ap (λ (r : Running). (after_block r).sound) live.engine) sounded));
+      sent = subst (Appends sent_old sent_new) (sym (append_assoc v.session.replies (frames_to 0 first) (frames_to 0 (said v.block))))
+          (Appends-trans sent_old sent_mid sent_new v.session.replies (frames_to 0 first ++ frames_to 0 (said v.block)) live.sent (subst (Appends sent_mid sent_new) replies replied));
     }
 
-pub quitted : (s : Settings) (n : ℕ) (v : Live) (so sm sn ro rm rn : Option (List ℕ)) (e : Running) (f : Framing) → IsLive s so sm ro rm v e f
-    → v.fed < 4611686018427387904 → v.block < 4611686018427387904 → flow_at e ≡ flows.Quit → Keeps sm sn → Appends rm rn (to_first (at_boundary e).replies) → HasEnded s so sn ro rn (tick s (suc n) v) Quit
-quitted s n v so sm sn ro rm rn e f live few less quits silent replied =
+pub quitted : (s : Settings) (n : ℕ) (v : Live) (sound_old sound_mid sound_new sent_old sent_mid sent_new : Option (List ℕ)) (e : Running) (f : Framing) → IsLive s sound_old sound_mid sent_old sent_mid v e f
+    → v.fed < 4611686018427387904 → v.block < 4611686018427387904 → flow_at e ≡ flows.Quit → Keeps sound_mid sound_new → Appends sent_mid sent_new (to_first (at_boundary e).replies) → HasEnded s sound_old sound_new sent_old sent_new (tick s (suc n) v) Quit
+quitted s n v sound_old sound_mid sound_new sent_old sent_mid sent_new e f live few less quits silent replied =
     let first = replies_at v.block v.session.waiting v.session.clashes v.session.world in
     let replies : to_first (at_boundary e).replies ≡ frames_to 0 first = ap (λ (r : Running). to_first (at_boundary r).replies) live.engine ∙ ap to_first (one_sent first []) in
     record {
       over = record { session = boundary v.block v.session; ending = Quit };
       course = after_quit s n v few less (subst (λ r. flow_at r ≡ flows.Quit) live.engine quits);
       ending = refl;
-      sound = Appends-kept so sm sn (pcm s v.session.samples) live.sound silent;
-      sent = Appends-trans ro rm rn v.session.replies (frames_to 0 first) live.sent (subst (Appends rm rn) replies replied);
+      sound = Appends-kept sound_old sound_mid sound_new (pcm s v.session.samples) live.sound silent;
+      sent = Appends-trans sent_old sent_mid sent_new v.session.replies (frames_to 0 first) live.sent (subst (Appends sent_mid sent_new) replies replied);
     }
 
 -- so many ticks are left of a course
-pub record IsTicking (s : Settings) (so sn ro rn : Option (List ℕ)) (c : Course) (left : ℕ) (e : Running) (f : Framing) : Type 0 where
+pub record IsTicking (s : Settings) (sound_old sound_new sent_old sent_new : Option (List ℕ)) (c : Course) (left : ℕ) (e : Running) (f : Framing) : Type 0 where
   pub live : Live
   pub course : tick s left live ≡ c
-  pub stands : IsLive s so sn ro rn live e f
+  pub stands : IsLive s sound_old sound_new sent_old sent_new live e f
 
-pub ticks_on : (s : Settings) (so sm sn ro rm rn : Option (List ℕ)) (c : Course) (left less : ℕ) (e0 e1 : Running) (f : Framing) → IsTicking s so sm ro rm c left e0 f → left ≡ suc less → HasLeft e0 f
-    → IsTicked sm sn rm rn e0 e1 → IsTicking s so sn ro rn c less e1 f
-ticks_on s so sm sn ro rm rn c left less e0 e1 f i more enough t =
+pub ticks_on : (s : Settings) (sound_old sound_mid sound_new sent_old sent_mid sent_new : Option (List ℕ)) (c : Course) (left less : ℕ) (e0 e1 : Running) (f : Framing) → IsTicking s sound_old sound_mid sent_old sent_mid c left e0 f → left ≡ suc less → HasLeft e0 f
+    → IsTicked sound_mid sound_new sent_mid sent_new e0 e1 → IsTicking s sound_old sound_new sent_old sent_new c less e1 f
+ticks_on s sound_old sound_mid sound_new sent_old sent_mid sent_new c left less e0 e1 f i more enough t =
     let v = i.live in
     let few : v.fed < 4611686018427387904 = omega (arith, enough.fed, ap (λ (g : Framing). g.fed) i.stands.framer) in
     let before : v.block < 4611686018427387904 = omega (arith, enough.block, ap (λ (r : Running). r.block) i.stands.engine) in
@@ -217,11 +217,11 @@ ticks_on s so sm sn ro rm rn c left less e0 e1 f i more enough t =
     record {
       live = after_tick s v;
       course = sym (after_one s less v few before goes) ∙ ap (λ (n : ℕ). tick s n v) (sym more) ∙ i.course;
-      stands = ticked s v so sm sn ro rm rn e0 e1 f i.stands t.engine t.sound t.replies;
+      stands = ticked s v sound_old sound_mid sound_new sent_old sent_mid sent_new e0 e1 f i.stands t.engine t.sound t.replies;
     }
 
-pub ticked_ready : (so sn ro rn : Option (List ℕ)) (e0 e1 : Running) (f : Framing) → IsReady e0 f → IsTicked so sn ro rn e0 e1 → IsReady e1 f
-ticked_ready so sn ro rn e0 e1 f r t = record {
+pub ticked_ready : (sound_old sound_new sent_old sent_new : Option (List ℕ)) (e0 e1 : Running) (f : Framing) → IsReady e0 f → IsTicked sound_old sound_new sent_old sent_new e0 e1 → IsReady e1 f
+ticked_ready sound_old sound_new sent_old sent_new e0 e1 f r t = record {
   standing = ap (λ (r : Running). r.standing) t.engine;
   silent = ap (λ (r : Running). r.sound) t.engine;
   said = ap (λ (r : Running). r.replies) t.engine;
@@ -230,46 +230,49 @@ ticked_ready so sn ro rn e0 e1 f r t = record {
   kept = r.kept;
 }
 
-pub ticked_block : (so sn ro rn : Option (List ℕ)) (e0 e1 : Running) → IsTicked so sn ro rn e0 e1 → e1.block ≡ e0.block + 1
-ticked_block so sn ro rn e0 e1 t = ap (λ (r : Running). r.block) t.engine
+pub ticked_block : (sound_old sound_new sent_old sent_new : Option (List ℕ)) (e0 e1 : Running) → IsTicked sound_old sound_new sent_old sent_new e0 e1 → e1.block ≡ e0.block + 1
+ticked_block sound_old sound_new sent_old sent_new e0 e1 t = ap (λ (r : Running). r.block) t.engine
 
-pub all_ticked : (s : Settings) (so sn ro rn : Option (List ℕ)) (c : Course) (left : ℕ) (e : Running) (f : Framing) → IsTicking s so sn ro rn c left e f → left ≡ 0 → GoesOn s so sn ro rn c e f
-all_ticked s so sn ro rn c left e f i none = record { live = i.live; course = sym i.course ∙ ap (λ (n : ℕ). tick s n i.live) none; stands = i.stands }
+pub all_ticked : (s : Settings) (sound_old sound_new sent_old sent_new : Option (List ℕ)) (c : Course) (left : ℕ) (e : Running) (f : Framing) → IsTicking s sound_old sound_new sent_old sent_new c left e f → left ≡ 0 → GoesOn s sound_old sound_new sent_old sent_new c e f
+all_ticked s sound_old sound_new sent_old sent_new c left e f i none = record { live = i.live; course = sym i.course ∙ ap (λ (n : ℕ). tick s n i.live) none; stands = i.stands }
 
 -- ---- ends
 
-pub given : (how : Ended) (P : Type 0) → P → WhereGiven how P
-given Quit P p = p
-given Closed P p = p
-given (Cut kept) P p = p
-given (BadFrame size) P p = p
-given (Worn n blocks) P p = p
-given NoMemory P p = tt
-given LinkFault P p = tt
-given SoundFault P p = tt
+pub by_end : (how : Ended) (P Q : Type 0) → P → Q → ByEnd how P Q
+by_end Quit P Q p q = p
+by_end Closed P Q p q = p
+by_end (Cut kept) P Q p q = p
+by_end (BadFrame size) P Q p q = p
+by_end (Worn n blocks) P Q p q = p
+by_end NoMemory P Q p q = q
+by_end LinkFault P Q p q = q
+by_end SoundFault P Q p q = q
 
-pub given_so : (how : Ended) (P Q : Type 0) → (P → Q) → WhereGiven how P → WhereGiven how Q
-given_so Quit P Q f p = f p
-given_so Closed P Q f p = f p
-given_so (Cut kept) P Q f p = f p
-given_so (BadFrame size) P Q f p = f p
-given_so (Worn n blocks) P Q f p = f p
-given_so NoMemory P Q f p = tt
-given_so LinkFault P Q f p = tt
-given_so SoundFault P Q f p = tt
+pub by_end_so : (how : Ended) (P R Q S : Type 0) → (P → R) → (Q → S) → ByEnd how P Q → ByEnd how R S
+by_end_so Quit P R Q S f g h = f h
+by_end_so Closed P R Q S f g h = f h
+by_end_so (Cut kept) P R Q S f g h = f h
+by_end_so (BadFrame size) P R Q S f g h = f h
+by_end_so (Worn n blocks) P R Q S f g h = f h
+by_end_so NoMemory P R Q S f g h = g h
+by_end_so LinkFault P R Q S f g h = g h
+by_end_so SoundFault P R Q S f g h = g h
+
+pub given : (how : Ended) (P : Type 0) → P → WhereGiven how P
+given how P p = by_end how P (Unit {0}) p tt
 
 -- it is worn out
-pub worn_is : (s : Settings) (so sn ro rn : Option (List ℕ)) (v : Live) (e : Running) (f : Framing) (how : Ended) → IsLive s so sn ro rn v e f → IsWornOut e f how → (is_worn v ≡ true) × ((worn v).ending ≡ how)
-worn_is s so sn ro rn v e f how live w = (
+pub worn_is : (s : Settings) (sound_old sound_new sent_old sent_new : Option (List ℕ)) (v : Live) (e : Running) (f : Framing) (how : Ended) → IsLive s sound_old sound_new sent_old sent_new v e f → IsWornOut e f how → (is_worn v ≡ true) × ((worn v).ending ≡ how)
+worn_is s sound_old sound_new sent_old sent_new v e f how live w = (
   sym (λ i. nat_le 4611686018427387904 (live.framer i).fed || nat_le 4611686018427387904 (live.engine i).block) ∙ w.most,
   sym (λ i. Worn (live.framer i).fed (live.engine i).block) ∙ sym w.numbers,
 )
 
-pub worn_tick : (s : Settings) (so sn ro rn : Option (List ℕ)) (c : Course) (left less : ℕ) (e : Running) (f : Framing) (how : Ended) → IsTicking s so sn ro rn c left e f → left ≡ suc less → IsWornOut e f how
-    → HasEnded s so sn ro rn c how
-worn_tick s so sn ro rn c left less e f how i more w =
+pub worn_tick : (s : Settings) (sound_old sound_new sent_old sent_new : Option (List ℕ)) (c : Course) (left less : ℕ) (e : Running) (f : Framing) (how : Ended) → IsTicking s sound_old sound_new sent_old sent_new c left e f → left ≡ suc less → IsWornOut e f how
+    → HasEnded s sound_old sound_new sent_old sent_new c how
+worn_tick s sound_old sound_new sent_old sent_new c left less e f how i more w =
     let v = i.live in
-    let is = worn_is s so sn ro rn v e f how i.stands w in
+    let is = worn_is s sound_old sound_new sent_old sent_new v e f how i.stands w in
     let rest = if quits_at v.block v.session.waiting v.session.world then ends (boundary v.block v.session) Quit else tick s less (after_tick s v) in
     record {
       over = worn v;
@@ -279,30 +282,30 @@ worn_tick s so sn ro rn c left less e f how i more w =
       sent = i.stands.sent;
     }
 
-quit_tick : (s : Settings) (so sm sn ro rm rn : Option (List ℕ)) (c : Course) (left less : ℕ) (e : Running) (f : Framing) → IsTicking s so sm ro rm c left e f → left ≡ suc less → HasLeft e f → HasQuit sm sn rm rn e
-    → HasEnded s so sn ro rn c Quit
-quit_tick s so sm sn ro rm rn c left less e f i more enough q =
+quit_tick : (s : Settings) (sound_old sound_mid sound_new sent_old sent_mid sent_new : Option (List ℕ)) (c : Course) (left less : ℕ) (e : Running) (f : Framing) → IsTicking s sound_old sound_mid sent_old sent_mid c left e f → left ≡ suc less → HasLeft e f → HasQuit sound_mid sound_new sent_mid sent_new e
+    → HasEnded s sound_old sound_new sent_old sent_new c Quit
+quit_tick s sound_old sound_mid sound_new sent_old sent_mid sent_new c left less e f i more enough q =
     let v = i.live in
     let few : v.fed < 4611686018427387904 = omega (arith, enough.fed, ap (λ (g : Framing). g.fed) i.stands.framer) in
     let before : v.block < 4611686018427387904 = omega (arith, enough.block, ap (λ (r : Running). r.block) i.stands.engine) in
-    let h = quitted s less v so sm sn ro rm rn e f i.stands few before q.flow q.sound q.replies in
+    let h = quitted s less v sound_old sound_mid sound_new sent_old sent_mid sent_new e f i.stands few before q.flow q.sound q.replies in
     record { over = h.over; course = sym i.course ∙ ap (λ (n : ℕ). tick s n v) more ∙ h.course; ending = h.ending; sound = h.sound; sent = h.sent }
 
 abbrev pub failed : Ended → Result (Unit {0}) Ended
 failed how = Err how
 
-pub ended_tick : (s : Settings) (so sm sn ro rm rn : Option (List ℕ)) (c : Course) (left less : ℕ) (e : Running) (f : Framing) (how : Ended) → IsTicking s so sm ro rm c left e f → left ≡ suc less → HasLeft e f
-    → IsTickEnd how → (failed how ≡ failed Quit → HasQuit sm sn rm rn e) → WhereGiven how (HasEnded s so sn ro rn c how)
-ended_tick s so sm sn ro rm rn c left less e f Quit i more enough is quit = quit_tick s so sm sn ro rm rn c left less e f i more enough (quit refl)
-ended_tick s so sm sn ro rm rn c left less e f NoMemory i more enough is quit = tt
-ended_tick s so sm sn ro rm rn c left less e f LinkFault i more enough is quit = tt
-ended_tick s so sm sn ro rm rn c left less e f SoundFault i more enough is quit = tt
-ended_tick s so sm sn ro rm rn c left less e f Closed i more enough is quit = absurd is
-ended_tick s so sm sn ro rm rn c left less e f (Cut kept) i more enough is quit = absurd is
-ended_tick s so sm sn ro rm rn c left less e f (BadFrame size) i more enough is quit = absurd is
-ended_tick s so sm sn ro rm rn c left less e f (Worn n blocks) i more enough is quit = absurd is
+pub ended_tick : (s : Settings) (sound_old sound_mid sound_new sent_old sent_mid sent_new : Option (List ℕ)) (c : Course) (left less : ℕ) (e : Running) (f : Framing) (how : Ended) → IsTicking s sound_old sound_mid sent_old sent_mid c left e f → left ≡ suc less → HasLeft e f
+    → IsTickEnd how → (failed how ≡ failed Quit → HasQuit sound_mid sound_new sent_mid sent_new e) → WhereGiven how (HasEnded s sound_old sound_new sent_old sent_new c how)
+ended_tick s sound_old sound_mid sound_new sent_old sent_mid sent_new c left less e f Quit i more enough is quit = quit_tick s sound_old sound_mid sound_new sent_old sent_mid sent_new c left less e f i more enough (quit refl)
+ended_tick s sound_old sound_mid sound_new sent_old sent_mid sent_new c left less e f NoMemory i more enough is quit = tt
+ended_tick s sound_old sound_mid sound_new sent_old sent_mid sent_new c left less e f LinkFault i more enough is quit = tt
+ended_tick s sound_old sound_mid sound_new sent_old sent_mid sent_new c left less e f SoundFault i more enough is quit = tt
+ended_tick s sound_old sound_mid sound_new sent_old sent_mid sent_new c left less e f Closed i more enough is quit = absurd is
+ended_tick s sound_old sound_mid sound_new sent_old sent_mid sent_new c left less e f (Cut kept) i more enough is quit = absurd is
+ended_tick s sound_old sound_mid sound_new sent_old sent_mid sent_new c left less e f (BadFrame size) i more enough is quit = absurd is
+ended_tick s sound_old sound_mid sound_new sent_old sent_mid sent_new c left less e f (Worn n blocks) i more enough is quit = absurd is
 
-pub follows_err : (s : Settings) (so sn ro rn : Option (List ℕ)) (c : Course) (e : Running) (f : Framing) (r : Result (Unit {0}) Ended) (how : Ended) → IsErrAnd r (λ k. k ≡ how)
-    → WhereGiven how (HasEnded s so sn ro rn c how) → Follows s so sn ro rn c e f r
-follows_err s so sn ro rn c e f (Ok x) how is h = absurd is
-follows_err s so sn ro rn c e f (Err k) how is h = subst (λ (k : Ended). WhereGiven k (HasEnded s so sn ro rn c k)) (sym is) h
+pub follows_err : (s : Settings) (sound_old sound_new sent_old sent_new : Option (List ℕ)) (c : Course) (e : Running) (f : Framing) (r : Result (Unit {0}) Ended) (how : Ended) → IsErrAnd r (λ k. k ≡ how)
+    → WhereGiven how (HasEnded s sound_old sound_new sent_old sent_new c how) → Follows s sound_old sound_new sent_old sent_new c e f r
+follows_err s sound_old sound_new sent_old sent_new c e f (Ok x) how is h = absurd is
+follows_err s sound_old sound_new sent_old sent_new c e f (Err k) how is h = subst (λ (k : Ended). WhereGiven k (HasEnded s sound_old sound_new sent_old sent_new c k)) (sym is) h

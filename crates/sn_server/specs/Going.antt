@@ -23,7 +23,7 @@ pub record IsAtBoundary (s : Settings) (r : Running) : Type 0 where
 
 -- With so many blocks to come, an engine holds what a session does, and what was written with what is still to be written is the
 -- head of the sound and the session's samples, and the session's replies.
-pub record IsGoing (s : Settings) (begun : Running) (total left : ℕ) (so sn ro rn : Option (List ℕ)) (r : Running) : Type 0 where
+pub record IsGoing (s : Settings) (begun : Running) (total left : ℕ) (sound_old sound_new replies_old replies_new : Option (List ℕ)) (r : Running) : Type 0 where
   pub session : Session
   pub sound_out : List ℕ
   pub replies_out : List ℕ
@@ -35,8 +35,8 @@ pub record IsGoing (s : Settings) (begun : Running) (total left : ℕ) (so sn ro
   pub clashes : r.clashes ≡ session.clashes
   pub sound : sound_out ++ r.sound ≡ begun.sound ++ pcm s session.samples
   pub replies : replies_out ++ to_first r.replies ≡ session.replies
-  pub sound_taken : Appends so sn sound_out
-  pub replies_taken : Appends ro rn replies_out
+  pub sound_taken : Appends sound_old sound_new sound_out
+  pub replies_taken : Appends replies_old replies_new replies_out
 
 -- some front of the bytes that were to be written was written
 pub record IsWritten (before after : List ℕ) (old new : Option (List ℕ)) : Type 0 where
@@ -49,7 +49,7 @@ abbrev pub after_block : Running → Running
 after_block r = with_settled (with_block (at_boundary r))
 
 -- that, and some of the bytes written
-pub record IsBlock (so sn ro rn : Option (List ℕ)) (old new : Running) : Type 0 where
+pub record IsBlock (sound_old sound_new replies_old replies_new : Option (List ℕ)) (old new : Running) : Type 0 where
   pub settings : new.settings ≡ old.settings
   pub standing : new.standing ≡ Settled
   pub clients : length new.replies ≡ length (after_block old).replies
@@ -57,15 +57,15 @@ pub record IsBlock (so sn ro rn : Option (List ℕ)) (old new : Running) : Type 
   pub waiting : new.waiting ≡ (after_block old).waiting
   pub clashes : new.clashes ≡ (after_block old).clashes
   pub block : new.block ≡ old.block + 1
-  pub sound : IsWritten (after_block old).sound new.sound so sn
-  pub replies : IsWritten (to_first (after_block old).replies) (to_first new.replies) ro rn
+  pub sound : IsWritten (after_block old).sound new.sound sound_old sound_new
+  pub replies : IsWritten (to_first (after_block old).replies) (to_first new.replies) replies_old replies_new
 
 -- the boundary after the last block, and all bytes written
-pub record IsEnd (so sn ro rn : Option (List ℕ)) (old : Running) : Type 0 where
-  pub sound : Appends so sn old.sound
-  pub replies : Appends ro rn (to_first (at_boundary old).replies)
+pub record IsEnd (sound_old sound_new replies_old replies_new : Option (List ℕ)) (old : Running) : Type 0 where
+  pub sound : Appends sound_old sound_new old.sound
+  pub replies : Appends replies_old replies_new (to_first (at_boundary old).replies)
 
 -- what was written in all, from the first block to the boundary after the last
-pub record IsEnded (s : Settings) (begun : Running) (total : ℕ) (so sn ro rn : Option (List ℕ)) : Type 0 where
-  pub sound : Appends so sn (begun.sound ++ pcm s (blocks s total begun.block (session_of begun)).samples)
-  pub replies : Appends ro rn (boundary (begun.block + total) (blocks s total begun.block (session_of begun))).replies
+pub record IsEnded (s : Settings) (begun : Running) (total : ℕ) (sound_old sound_new replies_old replies_new : Option (List ℕ)) : Type 0 where
+  pub sound : Appends sound_old sound_new (begun.sound ++ pcm s (blocks s total begun.block (session_of begun)).samples)
+  pub replies : Appends replies_old replies_new (boundary (begun.block + total) (blocks s total begun.block (session_of begun))).replies

@@ -1,5 +1,5 @@
 -- What each outcome of a run says.
-use Rattle.std.specs.Prelude.{◌≡◌, ◌⊎◌, ◌<◌, ◌≤◌, ◌+◌, ℕ, List, length, Option, IfSome}
+use Rattle.std.specs.Prelude.{◌≡◌, ◌⊎◌, ◌<◌, ◌≤◌, ◌+◌, ℕ, List, length, Option, IfSome, ⊤}
 use Rattle.std.specs.Io.KnownBytes.{Appends, Consumes, IsAtEnd, Keeps}
 use Rattle.sn_osc.specs.Shape.{Shape}
 use Rattle.sn_pcm.specs.declared.settings.Settings.{Settings}
@@ -42,30 +42,49 @@ abbrev pub Played : Settings → Option (List ℕ) → ℕ → Option (List ℕ)
 Played s stream blocks sound_old sound_new replies_old replies_new = IfSome stream (λ bytes. (packets : List Shape) × Frames packets bytes
     × (blocks ≡ last_of s packets) × Appends sound_old sound_new (sound_of s packets) × Appends replies_old replies_new (replies_of s packets))
 
+-- packets whose frames are the bytes of a stream, where they are told, and these are not too many
+pub record ArePacketsOf (stream : Option (List ℕ)) (packets : List Shape) : Type 0 where
+  pub bytes : List ℕ
+  pub told : IfSome stream (λ xs. bytes ≡ xs)
+  pub size : length bytes ≤ 16777216
+  pub frames : Frames packets bytes
+
+-- an outcome of a stream that has no packets, or from which none came
+abbrev pub IsUnplayed : Outcome → Type 0
+IsUnplayed NoMemory = ⊤
+IsUnplayed (BadStream packet place fault) = ⊤
+IsUnplayed (LongStream n) = ⊤
+IsUnplayed ReadFault = ⊤
+IsUnplayed (Done n) = ⊥
+IsUnplayed (BadWords i) = ⊥
+IsUnplayed (LongSound n) = ⊥
+IsUnplayed SoundFault = ⊥
+IsUnplayed ReplyFault = ⊥
+
 -- both sinks are as they were where the stream or its length is refused, or the source failed
 abbrev pub IsUntouched : Outcome → Option (List ℕ) → Option (List ℕ) → Option (List ℕ) → Option (List ℕ) → Type 0
-IsUntouched (LongStream n) so sn ro rn = Keeps so sn × Keeps ro rn
-IsUntouched (BadStream packet place fault) so sn ro rn = Keeps so sn × Keeps ro rn
-IsUntouched (LongSound n) so sn ro rn = Keeps so sn × Keeps ro rn
-IsUntouched ReadFault so sn ro rn = Keeps so sn × Keeps ro rn
-IsUntouched (BadWords i) so sn ro rn = Keeps so sn × Keeps ro rn
-IsUntouched (Done n) so sn ro rn = Unit {0}
-IsUntouched NoMemory so sn ro rn = Unit {0}
-IsUntouched SoundFault so sn ro rn = Unit {0}
-IsUntouched ReplyFault so sn ro rn = Unit {0}
+IsUntouched (LongStream n) sound_old sound_new replies_old replies_new = Keeps sound_old sound_new × Keeps replies_old replies_new
+IsUntouched (BadStream packet place fault) sound_old sound_new replies_old replies_new = Keeps sound_old sound_new × Keeps replies_old replies_new
+IsUntouched (LongSound n) sound_old sound_new replies_old replies_new = Keeps sound_old sound_new × Keeps replies_old replies_new
+IsUntouched ReadFault sound_old sound_new replies_old replies_new = Keeps sound_old sound_new × Keeps replies_old replies_new
+IsUntouched (BadWords i) sound_old sound_new replies_old replies_new = Keeps sound_old sound_new × Keeps replies_old replies_new
+IsUntouched (Done n) sound_old sound_new replies_old replies_new = Unit {0}
+IsUntouched NoMemory sound_old sound_new replies_old replies_new = Unit {0}
+IsUntouched SoundFault sound_old sound_new replies_old replies_new = Unit {0}
+IsUntouched ReplyFault sound_old sound_new replies_old replies_new = Unit {0}
 
 -- so many bytes were taken
 abbrev pub Takes : ℕ → Option (List ℕ) → Option (List ℕ) → Type 0
 Takes n old new = (front : List ℕ) × Consumes old new front × (length front ≡ n)
 
--- What is taken of the stream: all of it; of one that is too long as many bytes as show it; a front of one on which the source failed; and
+-- What is taken of the stream: all of it; of one that is too long as many bytes as show it; of one on which the source failed a front of fewer; and
 -- nothing where the words are refused.
 abbrev pub TakesStream : Outcome → Option (List ℕ) → Option (List ℕ) → Type 0
 TakesStream (Done n) old new = IsAtEnd new
 TakesStream (BadStream packet place fault) old new = IsAtEnd new
 TakesStream (LongSound n) old new = IsAtEnd new
 TakesStream (LongStream n) old new = Takes n old new
-TakesStream ReadFault old new = (front : List ℕ) × Consumes old new front
+TakesStream ReadFault old new = (front : List ℕ) × Consumes old new front × (length front ≤ 16777216)
 TakesStream SoundFault old new = IsAtEnd new
 TakesStream ReplyFault old new = IsAtEnd new
 TakesStream NoMemory old new = Keeps old new ⊎ IsAtEnd new

@@ -18,37 +18,49 @@ WhileOpen s [] c = Unit {0}
 WhileOpen s (e ∷ es) (ended o) = ⊥
 WhileOpen s (e ∷ es) (going v) = (is_worn v ≡ false) × WhileOpen s es (after_event s e (going v))
 
+-- a fact about the ends that the events give, and another about faults and want of memory
+abbrev pub ByEnd : Ended → Type 0 → Type 0 → Type 0
+ByEnd Quit P Q = P
+ByEnd Closed P Q = P
+ByEnd (Cut kept) P Q = P
+ByEnd (BadFrame size) P Q = P
+ByEnd (Worn n blocks) P Q = P
+ByEnd NoMemory P Q = Q
+ByEnd LinkFault P Q = Q
+ByEnd SoundFault P Q = Q
+
 -- a fact about the ends that the events give
 abbrev pub WhereGiven : Ended → Type 0 → Type 0
-WhereGiven Quit P = P
-WhereGiven Closed P = P
-WhereGiven (Cut kept) P = P
-WhereGiven (BadFrame size) P = P
-WhereGiven (Worn n blocks) P = P
-WhereGiven NoMemory P = Unit {0}
-WhereGiven LinkFault P = Unit {0}
-WhereGiven SoundFault P = Unit {0}
+WhereGiven how P = ByEnd how P (Unit {0})
+
+-- Each event that was taken was taken while a course went on. It is said where events are told.
+pub record WasOpen (s : Settings) (c : Course) (left_old left_new : Option (List LinkEvent)) : Type 0 where
+  pub events : List LinkEvent
+  pub taken : Known left_old left_new (λ old new. TakesEach old events new)
+  pub while_open : WhileOpen s events c
 
 -- The events that were taken give this end, and none was taken after it; the sink took the sound that they give, and what they answer was
 -- sent. Each is said where it is told.
-pub record IsServed (s : Settings) (base : ℕ) (lo ln : Option (List LinkEvent)) (so sn ro rn : Option (List ℕ)) (how : Ended) : Type 0 where
+pub record IsServed (s : Settings) (base : ℕ) (left_old left_new : Option (List LinkEvent)) (sound_old sound_new sent_old sent_new : Option (List ℕ)) (how : Ended) : Type 0 where
   pub events : List LinkEvent
-  pub taken : Known lo ln (λ old new. TakesEach old events new)
+  pub taken : Known left_old left_new (λ old new. TakesEach old events new)
   pub while_open : WhileOpen s events (going (beginning s base))
   pub ending : (play_events s base events).ending ≡ how
-  pub sound : Appends so sn (play_events s base events).sound
-  pub sent : Appends ro rn (play_events s base events).sent
+  pub sound : Appends sound_old sound_new (play_events s base events).sound
+  pub sent : Appends sent_old sent_new (play_events s base events).sent
 
+-- At an end that events give, those that were taken give it. At a fault, and where memory ran out, none was taken after an end.
 abbrev pub Served : Settings → ℕ → Option (List LinkEvent) → Option (List LinkEvent) → Option (List ℕ) → Option (List ℕ) → Option (List ℕ) → Option (List ℕ) → Ended → Type 0
-Served s base lo ln so sn ro rn how = WhereGiven how (IsServed s base lo ln so sn ro rn how)
+Served s base left_old left_new sound_old sound_new sent_old sent_new how =
+    ByEnd how (IsServed s base left_old left_new sound_old sound_new sent_old sent_new how) (WasOpen s (going (beginning s base)) left_old left_new)
 
 -- where nothing more comes, no event is left
 abbrev pub AtClose : Ended → Option (List LinkEvent) → Option (List LinkEvent) → Type 0
-AtClose Closed lo ln = Known lo ln (λ old new. new ≡ [])
-AtClose (Cut kept) lo ln = Known lo ln (λ old new. new ≡ [])
-AtClose Quit lo ln = Unit {0}
-AtClose (BadFrame size) lo ln = Unit {0}
-AtClose (Worn n blocks) lo ln = Unit {0}
-AtClose NoMemory lo ln = Unit {0}
-AtClose LinkFault lo ln = Unit {0}
-AtClose SoundFault lo ln = Unit {0}
+AtClose Closed left_old left_new = Known left_old left_new (λ old new. new ≡ [])
+AtClose (Cut kept) left_old left_new = Known left_old left_new (λ old new. new ≡ [])
+AtClose Quit left_old left_new = Unit {0}
+AtClose (BadFrame size) left_old left_new = Unit {0}
+AtClose (Worn n blocks) left_old left_new = Unit {0}
+AtClose NoMemory left_old left_new = Unit {0}
+AtClose LinkFault left_old left_new = Unit {0}
+AtClose SoundFault left_old left_new = Unit {0}

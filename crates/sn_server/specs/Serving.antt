@@ -20,7 +20,7 @@ use Rattle.sn_server.specs.declared.ended.Ended.{Ended}
 use Rattle.sn_server.specs.declared.ended.Ended.TheVariants.{Quit, NoMemory, Closed, Cut, BadFrame, LinkFault, SoundFault, Worn}
 use Rattle.sn_server.specs.Going.{to_first, after_block}
 use Rattle.sn_server.specs.PlayEvents.{Live, Over, Course, going, ended, is_worn, after_event, after_events, at_end, beginning}
-use Rattle.sn_server.specs.Served.{TakesEach, WhileOpen, WhereGiven}
+use Rattle.sn_server.specs.Served.{TakesEach, WhileOpen, WasOpen, ByEnd, WhereGiven}
 
 -- ---- how far it has come
 
@@ -88,29 +88,29 @@ abbrev pub framer_of : Live → Framing
 framer_of v = record { kept = v.kept; fed = v.fed }
 
 -- An engine and a framer hold what a connection does, and what it gave was written.
-pub record IsLive (s : Settings) (so sn ro rn : Option (List ℕ)) (v : Live) (e : Running) (f : Framing) : Type 0 where
+pub record IsLive (s : Settings) (sound_old sound_new sent_old sent_new : Option (List ℕ)) (v : Live) (e : Running) (f : Framing) : Type 0 where
   pub engine : e ≡ engine_of s v
   pub framer : f ≡ framer_of v
-  pub sound : Appends so sn (pcm s v.session.samples)
-  pub sent : Appends ro rn v.session.replies
+  pub sound : Appends sound_old sound_new (pcm s v.session.samples)
+  pub sent : Appends sent_old sent_new v.session.replies
 
 -- a connection that has ended, and what it gave was written
-pub record HasEnded (s : Settings) (so sn ro rn : Option (List ℕ)) (c : Course) (how : Ended) : Type 0 where
+pub record HasEnded (s : Settings) (sound_old sound_new sent_old sent_new : Option (List ℕ)) (c : Course) (how : Ended) : Type 0 where
   pub over : Over
   pub course : c ≡ ended over
   pub ending : over.ending ≡ how
-  pub sound : Appends so sn (pcm s over.session.samples)
-  pub sent : Appends ro rn over.session.replies
+  pub sound : Appends sound_old sound_new (pcm s over.session.samples)
+  pub sent : Appends sent_old sent_new over.session.replies
 
-pub record GoesOn (s : Settings) (so sn ro rn : Option (List ℕ)) (c : Course) (e : Running) (f : Framing) : Type 0 where
+pub record GoesOn (s : Settings) (sound_old sound_new sent_old sent_new : Option (List ℕ)) (c : Course) (e : Running) (f : Framing) : Type 0 where
   pub live : Live
   pub course : c ≡ going live
-  pub stands : IsLive s so sn ro rn live e f
+  pub stands : IsLive s sound_old sound_new sent_old sent_new live e f
 
 -- where it has come by a step, and what the step answers
 abbrev pub Follows : Settings → Option (List ℕ) → Option (List ℕ) → Option (List ℕ) → Option (List ℕ) → Course → Running → Framing → Result Unit Ended → Type 0
-Follows s so sn ro rn c e f (Ok x) = GoesOn s so sn ro rn c e f
-Follows s so sn ro rn c e f (Err how) = WhereGiven how (HasEnded s so sn ro rn c how)
+Follows s sound_old sound_new sent_old sent_new c e f (Ok x) = GoesOn s sound_old sound_new sent_old sent_new c e f
+Follows s sound_old sound_new sent_old sent_new c e f (Err how) = WhereGiven how (HasEnded s sound_old sound_new sent_old sent_new c how)
 
 -- an engine and a framer that can take what comes: no more entries were put than bytes were used
 pub record IsReady (e : Running) (f : Framing) : Type 0 where
@@ -122,17 +122,17 @@ pub record IsReady (e : Running) (f : Framing) : Type 0 where
   pub kept : length f.kept ≤ 65540
 
 -- A boundary, its block and its settling, and what came of them was written.
-pub record IsTicked (so sn ro rn : Option (List ℕ)) (old new : Running) : Type 0 where
+pub record IsTicked (sound_old sound_new sent_old sent_new : Option (List ℕ)) (old new : Running) : Type 0 where
   pub flow : flow_at old ≡ On
   pub engine : new ≡ record (after_block old) { sound = []; replies = [] ∷ [] }
-  pub sound : Appends so sn (after_block old).sound
-  pub replies : Appends ro rn (to_first (after_block old).replies)
+  pub sound : Appends sound_old sound_new (after_block old).sound
+  pub replies : Appends sent_old sent_new (to_first (after_block old).replies)
 
 -- A boundary at which `/quit` was accepted, and its replies were sent.
-pub record HasQuit (so sn ro rn : Option (List ℕ)) (old : Running) : Type 0 where
+pub record HasQuit (sound_old sound_new sent_old sent_new : Option (List ℕ)) (old : Running) : Type 0 where
   pub flow : flow_at old ≡ flows.Quit
-  pub sound : Keeps so sn
-  pub replies : Appends ro rn (to_first (at_boundary old).replies)
+  pub sound : Keeps sound_old sound_new
+  pub replies : Appends sent_old sent_new (to_first (at_boundary old).replies)
 
 -- as many bytes came, or as many blocks were done, as may
 pub record IsWornOut (e : Running) (f : Framing) (how : Ended) : Type 0 where
@@ -147,33 +147,34 @@ pub record HasLeft (e : Running) (f : Framing) : Type 0 where
 -- ---- one event after another
 
 -- a step took an event, which gives its course, while more could be taken
-pub record TookEvent (lo ln : Option (List LinkEvent)) (v : Live) (P : LinkEvent → Type 0) : Type 0 where
+pub record TookEvent (left_old left_new : Option (List LinkEvent)) (v : Live) (P : LinkEvent → Type 0) : Type 0 where
   pub event : LinkEvent
   pub while_open : is_worn v ≡ false
-  pub taken : Known lo ln (λ old new. Takes old new event)
+  pub taken : Known left_old left_new (λ old new. Takes old new event)
   pub gives : P event
 
 -- The events that were taken end a course so, none was taken after its end, and what it gave was written.
-pub record EndsBy (s : Settings) (lo ln : Option (List LinkEvent)) (so sn ro rn : Option (List ℕ)) (c : Course) (how : Ended) : Type 0 where
+pub record EndsBy (s : Settings) (left_old left_new : Option (List LinkEvent)) (sound_old sound_new sent_old sent_new : Option (List ℕ)) (c : Course) (how : Ended) : Type 0 where
   pub events : List LinkEvent
-  pub taken : Known lo ln (λ old new. TakesEach old events new)
+  pub taken : Known left_old left_new (λ old new. TakesEach old events new)
   pub while_open : WhileOpen s events c
   pub over : Over
   pub course : at_end (after_events s events c) ≡ over
   pub ending : over.ending ≡ how
-  pub sound : Appends so sn (pcm s over.session.samples)
-  pub sent : Appends ro rn over.session.replies
+  pub sound : Appends sound_old sound_new (pcm s over.session.samples)
+  pub sent : Appends sent_old sent_new over.session.replies
 
 -- an event was taken, or this is the end
 abbrev pub Took : Settings → Option (List LinkEvent) → Option (List LinkEvent) → Option (List ℕ) → Option (List ℕ) → Option (List ℕ) → Option (List ℕ) → Live → Running → Framing → Result Unit Ended → Type 0
-Took s lo ln so sn ro rn v e f (Ok x) = TookEvent lo ln v (λ x. GoesOn s so sn ro rn (after_event s x (going v)) e f)
-Took s lo ln so sn ro rn v e f (Err how) = WhereGiven how (EndsBy s lo ln so sn ro rn (going v) how)
+Took s left_old left_new sound_old sound_new sent_old sent_new v e f (Ok x) = TookEvent left_old left_new v (λ x. GoesOn s sound_old sound_new sent_old sent_new (after_event s x (going v)) e f)
+Took s left_old left_new sound_old sound_new sent_old sent_new v e f (Err how) =
+    ByEnd how (EndsBy s left_old left_new sound_old sound_new sent_old sent_new (going v) how) (WasOpen s (going v) left_old left_new)
 
 -- the events so far have given this
-pub record IsServing (s : Settings) (base : ℕ) (lo ln : Option (List LinkEvent)) (so sn ro rn : Option (List ℕ)) (e : Running) (f : Framing) : Type 0 where
+pub record IsServing (s : Settings) (base : ℕ) (left_old left_new : Option (List LinkEvent)) (sound_old sound_new sent_old sent_new : Option (List ℕ)) (e : Running) (f : Framing) : Type 0 where
   pub events : List LinkEvent
-  pub taken : Known lo ln (λ old new. TakesEach old events new)
+  pub taken : Known left_old left_new (λ old new. TakesEach old events new)
   pub while_open : WhileOpen s events (going (beginning s base))
   pub live : Live
   pub course : after_events s events (going (beginning s base)) ≡ going live
-  pub stands : IsLive s so sn ro rn live e f
+  pub stands : IsLive s sound_old sound_new sent_old sent_new live e f

@@ -91,8 +91,8 @@ pub fn receive<L: Link>(
     requires fed { framer.old.fed + length piece.now ≤ 2 ^ 62 }
     requires new { framer.old.fed < 2 ^ 62 }
     requires few { length piece.now ≤ 65536 }
-    ensures follows { (s : Settings) (v : Live) (so sn ro : Option (List ℕ)) → IsLive s so sn ro (L.sent link.old) v engine.old framer.old
-        → Follows s so sn ro (L.sent link.new) (receive piece.now v) engine.new framer.new result }
+    ensures follows { (s : Settings) (v : Live) (sound_old sound_new sent_old : Option (List ℕ)) → IsLive s sound_old sound_new sent_old (L.sent link.old) v engine.old framer.old
+        → Follows s sound_old sound_new sent_old (L.sent link.new) (receive piece.now v) engine.new framer.new result }
     ensures ready { OnOk result (IsReady engine.new framer.new) }
     ensures fed { OnOk result (framer.new.fed ≡ framer.old.fed + length piece.now) }
     ensures block { OnOk result (engine.new.block ≡ engine.old.block) }

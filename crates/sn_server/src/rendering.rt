@@ -1,7 +1,6 @@
 ghost use Rattle.std.specs.Prelude.{◌≡◌, ◌<◌, ◌≤◌, ◌^◌, length, OnOk};
 ghost use Rattle.sn_ports.specs.Causes.{Rose};
 ghost use Rattle.sn_server.specs.Going.{IsAtBoundary, IsBlock, IsEnd, IsEnded, IsWritten, to_first};
-ghost use Rattle.sn_engine.specs.Running.{Running};
 ghost use Rattle.sn_engine.specs.declared.standing.Standing.TheVariants.{Settled};
 ghost use Rattle.sn_server.specs.declared.rendering.Stop.TheVariants as stops;
 

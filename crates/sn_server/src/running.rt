@@ -1,21 +1,21 @@
-ghost use Rattle.std.specs.Prelude.{◌≡◌, ◌⊎◌, ◌↔◌, ◌<◌, ◌≤◌, ◌+◌, ◌^◌, ℕ, List, [], Some, None, IfSome, IfOk, OnOk, length, map, unwrap_or};
-ghost use Rattle.std.specs.Io.KnownBytes.{Appends};
+ghost use Rattle.std.specs.Prelude.{◌≡◌, ◌⊎◌, ◌<◌, ◌≤◌, ◌+◌, ℕ, List, [], Some, None, Err, IfOk, IfErr, OnOk, map, unwrap_or};
+ghost use Rattle.std.specs.Io.KnownBytes.{Appends, IsAtEnd};
 ghost use Rattle.sn_osc.specs.Shape.{shape};
 ghost use Rattle.sn_pcm.specs.Sound.{data_len, header_bytes};
+ghost use Rattle.sn_pcm.specs.declared.settings.Settings.{Settings};
 ghost use Rattle.sn_ports.specs.Causes.{Rose};
 ghost use Rattle.sn_server.specs.Arriving.{ArePut, IsBegun};
 ghost use Rattle.sn_server.specs.Going.{IsAtBoundary, IsEnded};
-ghost use Rattle.sn_server.specs.Outcomes.{Played, IsTooLong, IsAnswer, HasAnswer, IsUntouched, TakesStream};
+ghost use Rattle.sn_server.specs.Outcomes.{Played, IsTooLong, IsAnswer, HasAnswer, ArePacketsOf, IsUnplayed, IsUntouched, TakesStream};
 ghost use Rattle.sn_server.specs.Play.{arrive, arrived};
 ghost use Rattle.sn_engine.specs.Running.{opened};
-ghost use Rattle.sn_osc.specs.Frames.{Frames, StreamFaultAt};
 ghost use Rattle.sn_server.specs.declared.outcome.Outcome.{Outcome};
 
 use crate::outcome::Outcome;
 use crate::rendering::{Stop, render_blocks};
 use crate::stream::{Unframed, Unread, decode_stream, read_stream};
 use sn_engine::Engine;
-use sn_osc::{Elements, Packet};
+use sn_osc::Elements;
 use sn_pcm::{Settings, header, too_long};
 use sn_ports::{Gate, NoMemory, Sink, Source, write_all};
 use std::alloc::Global;
@@ -84,6 +84,34 @@ fn play<H: Threads + Sync, O: Sink, R: Sink, G: Gate>(
     render_blocks(rt, alloc, blocks, engine, sound, replies, gate)
 }
 
+/// The packets of a stream that is read to its end, or the outcome of one that has none.
+fn read_packets<S: Source>(alloc: Global, source: &mut S) -> Result<Elements, Outcome>
+    ensures packets { IfOk result (λ v. ArePacketsOf (S.left source.old) (map shape v.items)) }
+    ensures end { OnOk result (IsAtEnd (S.left source.new)) }
+    ensures unplayed { IfErr result IsUnplayed }
+    ensures answer { (s : Settings) → IfErr result (λ o. IsAnswer s (S.left source.old) o) }
+    ensures taken { IfErr result (λ o. TakesStream o (S.left source.old) (S.left source.new)) }
+    ensures read { result ≡ Err Outcome.ReadFault → Rose (S.faults source.old) (S.faults source.new) }
+{
+    let bytes = match read_stream(alloc, source) {
+        Ok(bytes) => bytes,
+        Err(Unread::NoMemory) => return Err(Outcome::NoMemory),
+        Err(Unread::TooLong) => return Err(Outcome::LongStream {
+            bytes: MOST_BYTES + 1,
+        }),
+        Err(Unread::Failed) => return Err(Outcome::ReadFault),
+    };
+    match decode_stream(alloc, &bytes) {
+        Ok(packets) => Ok(packets),
+        Err(Unframed::NoMemory) => Err(Outcome::NoMemory),
+        Err(Unframed::Bad(bad)) => Err(Outcome::BadStream {
+            packet: bad.packet,
+            place: bad.place,
+            fault: bad.fault,
+        }),
+    }
+}
+
 /// Reads, decodes and plays a stream.
 fn run_stream<H: Threads + Sync, S: Source, O: Sink, R: Sink, G: Gate>(
     rt: &H,
@@ -103,24 +131,9 @@ fn run_stream<H: Threads + Sync, S: Source, O: Sink, R: Sink, G: Gate>(
     ensures reply { result ≡ Outcome.ReplyFault → Rose (R.faults replies.old) (R.faults replies.new) }
     ensures untouched { IsUntouched result (O.taken sound.old) (O.taken sound.new) (R.taken replies.old) (R.taken replies.new) }
 {
-    let bytes = match read_stream(alloc, source) {
-        Ok(bytes) => bytes,
-        Err(Unread::NoMemory) => return Outcome::NoMemory,
-        Err(Unread::TooLong) => return Outcome::LongStream {
-            bytes: MOST_BYTES + 1,
-        },
-        Err(Unread::Failed) => return Outcome::ReadFault,
-    };
-    let packets = match decode_stream(alloc, &bytes) {
+    let packets = match read_packets(alloc, source) {
         Ok(packets) => packets,
-        Err(Unframed::NoMemory) => return Outcome::NoMemory,
-        Err(Unframed::Bad(bad)) => {
-            return Outcome::BadStream {
-                packet: bad.packet,
-                place: bad.place,
-                fault: bad.fault,
-            };
-        }
+        Err(outcome) => return outcome,
     };
     let Ok(engine) = opened(alloc, settings, packets) else {
         return Outcome::NoMemory;

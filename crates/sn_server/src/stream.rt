@@ -1,4 +1,4 @@
-ghost use Rattle.std.specs.Prelude.{◌≡◌, ◌≤◌, ◌<◌, ◌+◌, ◌^◌, ◌++◌, List, ℕ, length, map, IfOk, IfSome, OnOk, OnErr, MatchOption, IsTrue};
+ghost use Rattle.std.specs.Prelude.{◌≡◌, ◌≤◌, ◌<◌, ◌+◌, ◌++◌, List, ℕ, length, map, IfOk, IfSome, OnOk, IsTrue};
 ghost use Rattle.std.specs.Io.KnownBytes.{Consumes, IsAtEnd, Keeps};
 ghost use Rattle.sn_ports.specs.Causes.{Rose};
 ghost use Rattle.sn_osc.specs.Shape.{Shape, shape};
@@ -24,6 +24,7 @@ pub struct BadFrame {
     pub packet: u32,
     /// The place of the fault, in bytes of the stream.
     pub place: u64,
+    /// What is at fault.
     pub fault: StreamFault,
 }
 
@@ -61,15 +62,15 @@ pub fn room(alloc: Global, len: usize) -> Result<Vec<u8>, AllocError>
 
 /// Reads a stream to its end.
 ///
-/// `TooLong` comes where 16,777,217 bytes were taken, and `Failed` only where the source's count of faults rose. Nothing was taken where
-/// memory ran out.
+/// `TooLong` comes where 16,777,217 bytes were taken, and `Failed` only where the source's count of faults rose and fewer were taken. Nothing
+/// was taken where memory ran out.
 pub fn read_stream<S: Source>(alloc: Global, source: &mut S) -> Result<Vec<u8>, Unread>
     ensures bytes { IfOk result (λ v. IfSome (S.left source.old) (λ xs. v.items ≡ xs)) }
     ensures end { OnOk result (IsAtEnd (S.left source.new)) }
     ensures size { IfOk result (λ v. length v.items ≤ 16777216) }
     ensures too_long { result ≡ Err Unread.TooLong → IfSome (S.left source.old) (λ xs. 16777216 < length xs) }
     ensures front { result ≡ Err Unread.TooLong → Takes 16777217 (S.left source.old) (S.left source.new) }
-    ensures some { result ≡ Err Unread.Failed → (given : List ℕ) × Consumes (S.left source.old) (S.left source.new) given }
+    ensures some { result ≡ Err Unread.Failed → (given : List ℕ) × Consumes (S.left source.old) (S.left source.new) given × (length given ≤ 16777216) }
     ensures none { result ≡ Err Unread.NoMemory → Keeps (S.left source.old) (S.left source.new) }
     ensures failed { result ≡ Err Unread.Failed → Rose (S.faults source.old) (S.faults source.new) }
 {

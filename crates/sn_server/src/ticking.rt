@@ -118,8 +118,8 @@ pub fn ticks<H: Threads + Sync, L: Link, O: Sink, G: Gate>(
     gate: &G,
 ) -> Result<(), Ended>
     requires ready { IsReady engine.old framer.now }
-    ensures follows { (s : Settings) (v : Live) (so ro : Option (List ℕ)) → IsLive s so (O.taken sound.old) ro (L.sent link.old) v engine.old framer.now
-        → Follows s so (O.taken sound.new) ro (L.sent link.new) (tick s count v) engine.new framer.now result }
+    ensures follows { (s : Settings) (v : Live) (sound_old sent_old : Option (List ℕ)) → IsLive s sound_old (O.taken sound.old) sent_old (L.sent link.old) v engine.old framer.now
+        → Follows s sound_old (O.taken sound.new) sent_old (L.sent link.new) (tick s count v) engine.new framer.now result }
     ensures ready { OnOk result (IsReady engine.new framer.now) }
     ensures block { OnOk result (engine.new.block ≡ engine.old.block + count) }
     ensures open { IfErr result StaysOpen }

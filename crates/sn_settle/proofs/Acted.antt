@@ -1,8 +1,7 @@
 -- Synths that are paused and freed.
-use Rattle.std.proofs.Common.{◌≡◌, ◌≤◌, ◌<◌, ◌+◌, ◌*◌, ◌||◌, ℕ, ℤ, pos, negsuc, Bool, true, false, not, List, [], ◌∷◌, ◌++◌, length, Option, Some, None, is_some, refl, ap, sym, subst, ◌∙◌, arith, length-append, append_assoc}
+use Rattle.std.proofs.Common.{◌≡◌, ◌≤◌, ◌<◌, ◌+◌, ◌*◌, ℕ, ℤ, pos, negsuc, Bool, true, false, not, List, [], ◌∷◌, ◌++◌, length, Option, Some, None, refl, ap, sym, subst, ◌∙◌, arith, length-append, append_assoc}
 use Rattle.std.specs.Prelude.{if◌then◌else◌}
 use Rattle.std.specs.Ordering.{int_eq}
-use Rattle.std.proofs.lemmas.Bool.{cond_both}
 use Rattle.std.proofs.lemmas.List.{append-nil}
 use Rattle.sn_ports.specs.Octets.{Octets}
 use Rattle.sn_mem.specs.declared.extents.Extent.{Extent}
@@ -13,21 +12,23 @@ use Rattle.sn_reply.specs.declared.events.Notice.{Notice}
 use Rattle.sn_reply.specs.declared.events.Notice.TheVariants as notice
 use Rattle.sn_tree.specs.declared.node.NodeView.{NodeView}
 use Rattle.sn_tree.specs.declared.node.TreeFault.TheVariants as faults
-use Rattle.sn_tree.specs.Trees.{Label, Nodes, none, node, holds, subtree, without, joined, changed, with_running, view_from, view_of, with_payloads, first_id, last_id}
-use Rattle.sn_tree.specs.Faults.{first_fault, set_run_fault, detach_fault}
+use Rattle.sn_tree.specs.Trees.{Nodes, none, holds, subtree, without, joined, changed, with_running, view_of, with_payloads}
+use Rattle.sn_tree.specs.Faults.{first_fault, detach_fault}
 use Rattle.sn_tree.specs.Model.{Journal, NodeTree}
 use Rattle.sn_tree.specs.Steps.{HasRoom, running, detached}
 use Rattle.sn_tree.proofs.PayloadLaws.{changed-payloads, without-payloads, view-payloads}
 use Rattle.sn_world.specs.declared.endings.Ending.{Ending}
 use Rattle.sn_world.specs.declared.stage.Held.{Held}
 use Rattle.sn_world.specs.declared.stage.Stage.{Stage}
-use Rattle.sn_world.specs.Nodes.{Content, content_of}
+use Rattle.sn_world.specs.Nodes.{content_of}
 use Rattle.sn_world.specs.Buffers.{AreBuffers}
 use Rattle.sn_mem.specs.Buffers.{overlaps}
-use Rattle.sn_world.specs.Pictures.{Pictures, held_extents, live_held, amount, AreHeld}
+use Rattle.sn_world.specs.Pictures.{Pictures, live_held, AreHeld}
 use Rattle.sn_world.specs.Settling.{notices_of, place_of, paused_at, freed_at, acted_at, acted, all_acted}
 use Rattle.sn_world.specs.World.{Turn, world_of, turn_of}
-use Rattle.sn_world.proofs.Counting.{amount-joined, amount-without, overlaps-amount, times-amount}
+use Rattle.sn_world.proofs.Counting.{amount-without, overlaps-amount, times-amount}
+use Rattle.sn_world.proofs.Replacing.{held-without}
+use Rattle.sn_world.proofs.Turning.{held-turned, live-turned, pictures-tree, with_tree, with_nodes}
 use Rattle.sn_settle.specs.Telling.{HaveRoom, AreTold}
 use Rattle.sn_settle.specs.Acting.{IsActed}
 use Rattle.sn_settle.proofs.Sending.{told_none, told_then, notices_of-append}
@@ -35,83 +36,19 @@ use Rattle.sn_settle.proofs.Sending.{told_none, told_then, notices_of-append}
 pub has_room : (j : Option (Journal Held)) → j ≡ None → HasRoom j
 has_room j is = subst HasRoom (sym is) tt
 
-pub run_allowed : (id : ℤ) (t : Nodes Held) → holds id t ≡ true → set_run_fault id t ≡ None
-run_allowed id t is = ap (λ (b : Bool). first_fault ((not b, faults.NoNode) ∷ [])) is
-
 pub detach_allowed : (id : ℤ) (t : Nodes Held) → holds id t ≡ true → int_eq id (pos 0) ≡ false → detach_fault id t ≡ None
 detach_allowed id t is other =
     ap (λ (b : Bool). first_fault ((not b, faults.NoNode) ∷ (int_eq id (pos 0), faults.IsRoot) ∷ [])) is ∙ ap (λ (b : Bool). first_fault ((false, faults.NoNode) ∷ (b, faults.IsRoot) ∷ [])) other
 
--- ---- a node that is seen is there
-
-seen_from : (parent previous id : ℤ) (t : Nodes Held) → is_some (view_from parent previous id t) ≡ holds id t
-seen_from parent previous id none = refl
-seen_from parent previous id (node l below after) = at (int_eq l.id id) (holds id below) (seen_from l.id (negsuc 0) id below) (seen_from parent l.id id after)
-  where
-    at : (here inner : Bool) → is_some (view_from l.id (negsuc 0) id below) ≡ inner → is_some (view_from parent l.id id after) ≡ holds id after
-        → is_some (if here then Some (record { kind = l.kind; running = l.running; parent = parent; previous = previous; next = first_id after; head = first_id below; tail = last_id (negsuc 0) below }) else if inner then view_from l.id (negsuc 0) id below else view_from parent l.id id after) ≡ (here || (inner || holds id after))
-    at true inner b a = refl
-    at false true b a = b
-    at false false b a = a
-
-pub is_there : (id : ℤ) (t : Nodes Held) (view : NodeView) → view_of id t ≡ Some view → holds id t ≡ true
-is_there id t view seen = sym (seen_from (negsuc 0) (negsuc 0) id t) ∙ ap is_some seen
-
--- ---- nodes that stay
-
-held-turned : (rate : ℕ) (region : Extent) (id : ℤ) (on : Bool) (t : Nodes Held) → AreHeld rate region t → AreHeld rate region (changed id (with_running on) t)
-held-turned rate region id on none h = h
-held-turned rate region id on (node l below after) h =
-    cond_both (int_eq l.id id) (node (with_running on l) below after) (if holds id below then node l (changed id (with_running on) below) after else node l below (changed id (with_running on) after)) (AreHeld rate region)
-    (λ _. h)
-    (λ _. cond_both (holds id below) (node l (changed id (with_running on) below) after) (node l below (changed id (with_running on) after)) (AreHeld rate region)
-    (λ _. (h.0, (held-turned rate region id on below h.1.0, h.1.1)))
-    (λ _. (h.0, (h.1.0, held-turned rate region id on after h.1.1))))
-
-live-turned : (id : ℤ) (on : Bool) (t : Nodes Held) → live_held (changed id (with_running on) t) ≡ live_held t
-live-turned id on none = refl
-live-turned id on (node l below after) =
-    cond_both (int_eq l.id id) (node (with_running on l) below after) (if holds id below then node l (changed id (with_running on) below) after else node l below (changed id (with_running on) after)) (λ (t : Nodes Held). live_held t ≡ live_held (node l below after))
-    (λ _. refl)
-    (λ _. cond_both (holds id below) (node l (changed id (with_running on) below) after) (node l below (changed id (with_running on) after)) (λ (t : Nodes Held). live_held t ≡ live_held (node l below after))
-    (λ _. ap (λ es. held_extents l.payload ++ (es ++ live_held after)) (live-turned id on below))
-    (λ _. ap (λ es. held_extents l.payload ++ (live_held below ++ es)) (live-turned id on after)))
-
-held-without : (rate : ℕ) (region : Extent) (id : ℤ) (t : Nodes Held) → AreHeld rate region t → AreHeld rate region (without id t)
-held-without rate region id none h = h
-held-without rate region id (node l below after) h =
-    cond_both (int_eq l.id id) after (if holds id below then node l (without id below) after else node l below (without id after)) (AreHeld rate region)
-    (λ _. h.1.1)
-    (λ _. cond_both (holds id below) (node l (without id below) after) (node l below (without id after)) (AreHeld rate region)
-    (λ _. (h.0, (held-without rate region id below h.1.0, h.1.1)))
-    (λ _. (h.0, (h.1.0, held-without rate region id after h.1.1))))
-
 -- ---- pausing
 
-abbrev with_tree : Stage → NodeTree Held → Stage
-with_tree stage tree = record stage { tree = tree }
-
-abbrev with_nodes : Stage → List ℕ → List ReplyShape → Nodes Content → Turn
-with_nodes stage words replies nodes = record { world = record (world_of stage words) { nodes = nodes }; replies = replies }
-
-turned_pictures : (stage : Stage) (id : ℤ) (words : List ℕ) → Pictures stage words → Pictures (with_tree stage (running id false stage.tree)) words
-turned_pictures stage id words p = record {
-  rate = p.rate;
-  rate_fits = p.rate_fits;
-  base = p.base;
-  bounded = p.bounded;
-  fits = p.fits;
-  synths = held-turned stage.rate stage.pool.region id false stage.tree.attached p.synths;
-  buffers = p.buffers;
-  live = λ e some. omega (arith, p.live e some, ap (times e) (live-turned id false stage.tree.attached));
-  apart = λ x. omega (arith, p.apart x, ap (overlaps x) (live-turned id false stage.tree.attached));
-  attached = p.attached;
-  settled = ap (λ (j : Option (Journal Held)). (running id false (record { attached = stage.tree.attached; detached = stage.tree.detached; journal = j })).journal) p.settled;
-  closed = p.closed;
-}
+turned_pictures : (stage : Stage) (id : ℤ) (words : List ℕ) → Pictures stage words → Pictures (with_tree (running id false stage.tree) stage) words
+turned_pictures stage id words p =
+    pictures-tree stage (running id false stage.tree) words (λ rate region h. held-turned rate region id false stage.tree.attached h) (live-turned id false stage.tree.attached) refl
+    (ap (λ (j : Option (Journal Held)). (running id false (record { attached = stage.tree.attached; detached = stage.tree.detached; journal = j })).journal) p.settled) p
 
 pub paused_acted : (stage : Stage) (id : ℤ) (view : NodeView) (tree : NodeTree Held) (event : Notice) (a b : List Octets) → view.running ≡ true → tree ≡ running id false stage.tree → event ≡ notice.Off (place_of id view)
-    → AreTold stage.notify (event ∷ []) a b → IsActed 1 (paused_at id view) stage (with_tree stage tree) a b
+    → AreTold stage.notify (event ∷ []) a b → IsActed 1 (paused_at id view) stage (with_tree tree stage) a b
 paused_acted stage id view tree event a b on is event_is told = record {
   events = event ∷ [];
   few = omega arith;
@@ -121,12 +58,12 @@ paused_acted stage id view tree event a b on is event_is told = record {
       let after : List ReplyShape = replies ++ notices_of stage.notify off in
       ap (λ (r : Bool). if r then with_nodes stage words after (changed id (with_running false) (with_payloads (content_of words) stage.tree.attached)) else t) on
       ∙ ap (with_nodes stage words after) (changed-payloads (content_of words) id (with_running false) (with_running false) (λ l. refl) stage.tree.attached)
-      ∙ ap (λ (s : NodeTree Held). turn_of (with_tree stage s) words after) (sym is)
-      ∙ ap (λ (e : Notice). turn_of (with_tree stage tree) words (replies ++ notices_of stage.notify (e ∷ []))) (sym event_is);
+      ∙ ap (λ (s : NodeTree Held). turn_of (with_tree s stage) words after) (sym is)
+      ∙ ap (λ (e : Notice). turn_of (with_tree tree stage) words (replies ++ notices_of stage.notify (e ∷ []))) (sym event_is);
   told = told;
   notify = refl;
   region = refl;
-  pictures = λ words p. subst (λ (s : NodeTree Held). Pictures (with_tree stage s) words) (sym is) (turned_pictures stage id words p);
+  pictures = λ words p. subst (λ (s : NodeTree Held). Pictures (with_tree s stage) words) (sym is) (turned_pictures stage id words p);
 }
 
 -- ---- freeing

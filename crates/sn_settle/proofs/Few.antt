@@ -1,7 +1,7 @@
 -- No more nodes run than there are.
-use Rattle.std.proofs.Common.{◌≡◌, ◌≤◌, ◌+◌, Bool, true, false, cond, List, ◌∷◌, ◌++◌, length, arith}
+use Rattle.std.proofs.Common.{◌≤◌, ◌+◌, Bool, true, false, cond, ◌∷◌, ◌++◌, length, arith}
 use Rattle.std.proofs.lemmas.List.{length-append}
-use Rattle.sn_tree.specs.Trees.{Label, Nodes, none, node, count, running_labels}
+use Rattle.sn_tree.specs.Trees.{Nodes, none, node, count, running_labels}
 
 pub few_running : {P : Type 0} (t : Nodes P) → length (running_labels t) ≤ count t
 few_running none = omega arith

@@ -1,6 +1,5 @@
 -- The words of what a node holds may be written.
-use Rattle.std.proofs.Common.{◌≡◌, ◌≤◌, ◌<◌, ◌+◌, ℕ, ℤ, Bool, List, [], ◌∷◌, arith, ap, subst, sym}
-use Rattle.sn_ports.specs.Octets.{Octets}
+use Rattle.std.proofs.Common.{◌<◌, ◌+◌, ℕ, List, arith}
 use Rattle.sn_mem.specs.declared.extents.Extent.{Extent}
 use Rattle.sn_mem.specs.declared.extents.Foot.{Foot}
 use Rattle.sn_mem.specs.Words.{MayRead, MayWrite}

@@ -8,7 +8,7 @@ use Rattle.sn_def.specs.StateWords.{unit_words, units_words}
 use Rattle.sn_reply.specs.declared.events.Notice.{Notice}
 use Rattle.sn_world.specs.declared.endings.Ending.{Ending}
 use Rattle.sn_world.specs.Noted.{Noted}
-use Rattle.sn_world.specs.Settling.{triggers_at, endings_at, unit_triggers, unit_endings}
+use Rattle.sn_world.specs.Settling.{unit_triggers, unit_endings}
 use Rattle.sn_settle.proofs.Sending.{IsUnderway}
 
 pub read_word : (f : Foot) (at n : ℕ) → MayRead f at n → 1 ≤ n → touches f at ≡ true

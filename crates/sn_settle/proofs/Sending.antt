@@ -1,20 +1,19 @@
 -- What is sent to a client where events are told one after the other.
-use Rattle.std.proofs.Common.{◌≡◌, ◌≢◌, ◌≤◌, ◌<◌, ◌+◌, ◌*◌, ◌==◌, ◌⊎◌, ⊎_elim, ℕ, zero, suc, Bool, true, false, List, [], ◌∷◌, ◌++◌, length, get_or, set, refl, ap, sym, subst, ◌∙◌, arith, length-append, length-set, get_or-set_same, get_or-set_other, append_assoc}
+use Rattle.std.proofs.Common.{◌≡◌, ◌≢◌, ◌≤◌, ◌<◌, ◌+◌, ◌*◌, ◌==◌, ⊎_elim, ℕ, zero, suc, Bool, true, false, List, [], ◌∷◌, ◌++◌, length, get_or, set, refl, ap, sym, subst, ◌∙◌, arith, length-append, length-set, get_or-set_same, get_or-set_other, append_assoc}
 use Rattle.std.specs.Prelude.{if◌then◌else◌}
 use Rattle.std.proofs.lemmas.Bool.{cases_eq, eqb-true, eq-eqb}
 use Rattle.std.proofs.lemmas.List.{append-nil}
 use Rattle.sn_ports.specs.Octets.{Octets}
 use Rattle.sn_osc.specs.Bytes.{message_bytes, frame_bytes}
-use Rattle.sn_reply.specs.Frames.{goes_to, frame_to, frames_to}
+use Rattle.sn_reply.specs.Frames.{frame_to, frames_to}
 use Rattle.sn_reply.specs.Replies.{ReplyShape}
-use Rattle.sn_reply.specs.declared.replies.To.TheVariants.{Client}
 use Rattle.sn_reply.specs.declared.events.Notice.{Notice}
 use Rattle.sn_reply.specs.Events.{notice_message}
 use Rattle.sn_world.specs.declared.endings.Ending.{Ending}
 use Rattle.sn_world.specs.Notices.{notices}
 use Rattle.sn_world.specs.Noted.{Noted}
 use Rattle.sn_world.specs.Settling.{notices_of}
-use Rattle.sn_settle.specs.Telling.{out_of, HaveRoom, AreSent, AreTold, AreNoted, CanLook, AreSeen}
+use Rattle.sn_settle.specs.Telling.{out_of, HaveRoom, AreTold, CanLook, AreSeen}
 
 frames_to-append : (client : ℕ) (rs ss : List ReplyShape) → frames_to client (rs ++ ss) ≡ frames_to client rs ++ frames_to client ss
 frames_to-append client [] ss = refl

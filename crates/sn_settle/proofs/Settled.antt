@@ -1,32 +1,33 @@
 -- A block that is settled.
-use Rattle.std.proofs.Common.{◌≡◌, ◌≢◌, ◌≤◌, ◌<◌, ◌+◌, ◌*◌, ◌==◌, ℕ, ℤ, Bool, true, false, List, [], ◌∷◌, ◌++◌, length, get_or, set, Option, Some, None, refl, ap, sym, subst, ◌∙◌, arith, get_or-set_other}
+use Rattle.std.proofs.Common.{◌≡◌, ◌≤◌, ◌<◌, ◌+◌, ◌*◌, ◌==◌, ℕ, ℤ, Bool, true, false, List, [], ◌∷◌, ◌++◌, length, get_or, set, Option, Some, None, refl, ap, sym, subst, ◌∙◌, arith, get_or-set_other, inr}
 use Rattle.std.specs.Prelude.{if◌then◌else◌}
 use Rattle.sn_ports.specs.Octets.{Octets}
 use Rattle.sn_mem.specs.declared.extents.Extent.{Extent}
 use Rattle.sn_mem.specs.Buses.{AudioBus, ControlBus, audio_buses, control_buses}
 use Rattle.sn_mem.proofs.BusLaws.{audio_same, control_same}
+use Rattle.sn_mem.proofs.BufferWords.{no_overlap}
 use Rattle.sn_def.specs.declared.unit.Unit.{Unit as UnitLine}
 use Rattle.sn_def.specs.Defs.{definition_of}
 use Rattle.sn_def.specs.StateWords.{unit_words}
-use Rattle.sn_reply.specs.Replies.{ReplyShape}
 use Rattle.sn_reply.specs.declared.events.Notice.{Notice}
-use Rattle.sn_tree.specs.Trees.{Label, Nodes, running_labels, with_payloads}
+use Rattle.sn_tree.specs.Trees.{Label, Nodes, none, node, running_labels, with_payloads}
 use Rattle.sn_world.specs.declared.endings.Ending.{Ending}
 use Rattle.sn_world.specs.declared.stage.Held.{Held}
 use Rattle.sn_world.specs.declared.stage.Held.TheVariants as held
 use Rattle.sn_world.specs.declared.stage.Stage.{Stage}
-use Rattle.sn_mem.specs.Buffers.{Buffer, buffers_of}
+use Rattle.sn_mem.specs.declared.buffers.BufferPlace.{BufferPlace}
+use Rattle.sn_mem.specs.Buffers.{Buffer, buffers_of, overlaps}
 use Rattle.sn_world.specs.Nodes.{Content, content_of}
 use Rattle.sn_world.specs.Noted.{Noted}
-use Rattle.sn_world.specs.Pictures.{Pictures, IsHeld}
-use Rattle.sn_world.specs.Settling.{done_action, after_ending, settled_at, settled_units, triggers_in, endings_in, settled_nodes, notices_of, told_all, all_acted, with_settled, settled}
+use Rattle.sn_world.specs.Pictures.{Pictures, IsHeld, AreHeld, KeepsOutside, held_extents, live_held}
+use Rattle.sn_world.specs.Settling.{done_action, after_ending, settled_at, settled_units, triggers_in, notices_of, told_all, all_acted, with_settled, settled}
 use Rattle.sn_world.specs.SettleWords.{settled_held, walk_triggers, walk_endings, settled_walk, walk_room}
 use Rattle.sn_world.specs.World.{World, Turn, world_of, turn_of}
 use Rattle.sn_world.proofs.Changes.{pictured_again}
-use Rattle.sn_settle.proofs.Labels.{HoldEach, running_held}
+use Rattle.sn_world.proofs.Walking.{HoldEach, running_held, parts_of}
 use Rattle.sn_world.proofs.WalkedStage.{can_walk, buffers_walked}
 use Rattle.sn_world.proofs.SettleWalks.{IsSettled, triggers_are, endings_are, settled_are, walk_unended, few_events}
-use Rattle.sn_settle.specs.Telling.{out_of, HaveRoom, AreSent, AreTold, CanLook}
+use Rattle.sn_settle.specs.Telling.{HaveRoom, AreSent, AreTold, CanLook}
 use Rattle.sn_settle.specs.Acting.{IsActed}
 use Rattle.sn_settle.proofs.Sending.{told_then, notices_of-append}
 use Rattle.sn_settle.proofs.Acted.{no_act}
@@ -49,9 +50,20 @@ low_held : (rate : ℕ) (region : Extent) (h : Held) (ws : List ℕ) (x : ℕ) �
 low_held rate region held.Group ws x is low = refl
 low_held rate region (held.Synth def controls state) ws x is low = low_units rate (definition_of def.value).units state.at ws x (omega (arith, low, is.within.0))
 
-low_walk : (rate : ℕ) (region : Extent) (ls : List (Label Held)) (ws : List ℕ) (x : ℕ) → HoldEach rate region ls → x < region.at → get_or (settled_walk rate ls ws) x 0 ≡ get_or ws x 0
-low_walk rate region [] ws x each low = refl
-low_walk rate region (l ∷ ls) ws x each low = low_walk rate region ls (settled_held rate l.payload ws) x each.1 low ∙ low_held rate region l.payload ws x each.0 low
+low_walk : (rate : ℕ) (region : Extent) (places : List (Option BufferPlace)) (ls : List (Label Held)) (ws : List ℕ) (x : ℕ) → HoldEach rate region places ls → x < region.at → get_or (settled_walk rate ls ws) x 0 ≡ get_or ws x 0
+low_walk rate region places [] ws x each low = refl
+low_walk rate region places (l ∷ ls) ws x each low = low_walk rate region places ls (settled_held rate l.payload ws) x each.1 low ∙ low_held rate region l.payload ws x each.0.0 low
+
+-- ---- no node has a word behind the region
+
+own_inside : (rate : ℕ) (region : Extent) (h : Held) (x : ℕ) → IsHeld rate region h → region.at + region.len ≤ x → overlaps x (held_extents h) ≡ 0
+own_inside rate region held.Group x is high = refl
+own_inside rate region (held.Synth def controls state) x is high = no_overlap state x (inr (omega (arith, high, is.within.1)))
+
+held_inside : (rate : ℕ) (region : Extent) (t : Nodes Held) (x : ℕ) → AreHeld rate region t → region.at + region.len ≤ x → overlaps x (live_held t) ≡ 0
+held_inside rate region none x are high = refl
+held_inside rate region (node l below after) x are high =
+    omega (arith, parts_of l below after x, own_inside rate region l.payload x are.0 high, held_inside rate region below x are.1.0 high, held_inside rate region after x are.1.1 high)
 
 -- ---- a stage and its words
 
@@ -66,13 +78,16 @@ module _ (stage : Stage) (b : ℕ) (ws : List ℕ) (p : Pictures stage ws) where
   words = settled_walk stage.rate (running_labels stage.tree.attached) ws
 
   low : (x : ℕ) → x < 10368 → get_or words x 0 ≡ get_or ws x 0
-  low x lt = low_walk stage.rate stage.pool.region (running_labels stage.tree.attached) ws x (running_held stage.rate stage.pool.region stage.tree.attached p.synths) (omega (arith, lt, p.base))
+  low x lt = low_walk stage.rate stage.pool.region stage.buffers (running_labels stage.tree.attached) ws x (running_held stage.rate stage.pool.region stage.buffers stage.tree.attached p.synths p.base p.buffers.each p.apart) (omega (arith, lt, p.base))
 
   settled_nodes_are : IsSettled stage.rate stage.tree.attached ws words
   settled_nodes_are = settled_are stage.rate stage.pool.region stage.tree.attached ws (can_walk stage ws p)
 
   pub long : length words ≡ length ws
   long = settled_nodes_are.kept.length
+
+  pub outside_kept : KeepsOutside stage.pool.region ws words
+  outside_kept = λ k behind past. settled_nodes_are.kept.others k behind (held_inside stage.rate stage.pool.region stage.tree.attached k p.synths past)
 
   abbrev with_world : World → Turn
   with_world w = record { world = w; replies = notices_of stage.notify events }

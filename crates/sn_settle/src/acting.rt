@@ -1,65 +1,18 @@
 //! Done actions: synths that are paused and freed.
-ghost use Rattle.std.specs.Prelude.{◌≡◌, ◌≤◌, ◌+◌, ◌*◌, ℕ, ℤ, pos, List, length, true, false, None, Some};
+ghost use Rattle.std.specs.Prelude.{◌≡◌, ◌≤◌, ◌*◌, ℕ, pos, List, length, true, false, None, Some};
 ghost use Rattle.std.specs.Ordering.{int_eq};
-ghost use Rattle.sn_mem.specs.declared.extents.Extent.{Extent};
-ghost use Rattle.sn_pool.specs.Pools.{times};
-ghost use Rattle.sn_tree.specs.Trees.{none, holds, view_of};
+ghost use Rattle.sn_tree.specs.Trees.{holds, view_of};
 ghost use Rattle.sn_tree.specs.Steps.{running, detached};
-ghost use Rattle.sn_world.specs.Pictures.{Pictures, held_extents, live_held};
+ghost use Rattle.sn_world.specs.Pictures.{Pictures};
 ghost use Rattle.sn_world.specs.Settling.{place_of, paused_at, freed_at, acted_at, acted, all_acted};
 ghost use Rattle.sn_settle.specs.Telling.{HaveRoom};
 ghost use Rattle.sn_settle.specs.Acting.{IsActed};
 
 use crate::telling::tell;
-use sn_pool::Pool;
 use sn_ports::Text;
 use sn_reply::{Notice, Place};
 use sn_tree::{NodeView, Tree};
-use sn_world::{Ending, Held, Stage};
-
-/// Gives the words of a freed node back.
-fn give_back(pool: &mut Pool, held: &Held)
-    requires live { (e : Extent) → 1 ≤ e.len → times e (held_extents held.now) ≤ times e pool.old.live }
-    requires closed { pool.old.journal ≡ None }
-    ensures live { (e : Extent) → 1 ≤ e.len → times e pool.old.live ≡ times e (held_extents held.now) + times e pool.new.live }
-    ensures closed { pool.new.journal ≡ None }
-    ensures region { pool.new.region ≡ pool.old.region }
-{
-    match held {
-        Held::Group => {}
-        Held::Synth { state, .. } => {
-            if state.len > 0 {
-                pool.give_back(*state);
-            }
-        }
-    }
-}
-
-/// Ends a freed node, and gives its words back.
-fn end_node(pool: &mut Pool, held: Held)
-    requires live { (e : Extent) → 1 ≤ e.len → times e (held_extents held) ≤ times e pool.old.live }
-    requires closed { pool.old.journal ≡ None }
-    ensures live { (e : Extent) → 1 ≤ e.len → times e pool.old.live ≡ times e (held_extents held) + times e pool.new.live }
-    ensures closed { pool.new.journal ≡ None }
-    ensures region { pool.new.region ≡ pool.old.region }
-{
-    give_back(pool, &held);
-}
-
-/// Ends the nodes that were freed, and gives their words back.
-fn end_freed(tree: &mut Tree<Held>, pool: &mut Pool)
-    requires closed { tree.old.journal ≡ None }
-    requires live { (e : Extent) → 1 ≤ e.len → times e (live_held tree.old.detached) ≤ times e pool.old.live }
-    requires pool { pool.old.journal ≡ None }
-    ensures tree { tree.new ≡ record tree.old { detached = none } }
-    ensures live { (e : Extent) → 1 ≤ e.len → times e pool.old.live ≡ times e (live_held tree.old.detached) + times e pool.new.live }
-    ensures pool { pool.new.journal ≡ None }
-    ensures region { pool.new.region ≡ pool.old.region }
-{
-    while let Some(held) = tree.free() {
-        end_node(pool, held);
-    }
-}
+use sn_world::{Ending, Held, Stage, end_freed};
 
 /// Where a synth stands.
 fn place_of(ending: &Ending, view: &NodeView) -> Place
@@ -73,7 +26,7 @@ fn place_of(ending: &Ending, view: &NodeView) -> Place
     }
 }
 
-#[tactic(auto, using(crate::proofs::Acted::run_allowed, crate::proofs::Acted::has_room))]
+#[tactic(auto, using(sn_world::proofs::Turning::run_allowed, crate::proofs::Acted::has_room))]
 fn stop(tree: &mut Tree<Held>, ending: &Ending)
     requires there { holds ending.now.node tree.old.attached ≡ true }
     requires closed { tree.old.journal ≡ None }

@@ -43,6 +43,7 @@ pub fn done_action(unit: &Unit) -> Option<i32>
     }
 }
 
+/// Whether a unit sends triggers.
 pub fn sends(unit: &Unit) -> bool
     ensures { result ≡ sends unit.now.kind }
 {

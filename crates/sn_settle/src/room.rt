@@ -1,5 +1,5 @@
 //! How much may come of the settling of a block.
-ghost use Rattle.std.specs.Prelude.{◌≡◌, ◌≤◌, ◌*◌, length};
+ghost use Rattle.std.specs.Prelude.{◌≡◌, ◌≤◌, length};
 ghost use Rattle.sn_tree.specs.Trees.{running_labels};
 ghost use Rattle.sn_world.specs.SettleWords.{unit_room, units_room, held_room, walk_room};
 

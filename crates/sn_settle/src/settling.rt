@@ -1,7 +1,7 @@
 //! What happens after a block.
 ghost use Rattle.std.specs.Prelude.{◌≡◌, ◌≤◌, ◌<◌, ◌*◌, ◌^◌, [], false, length};
 ghost use Rattle.sn_tree.specs.Trees.{running_labels};
-ghost use Rattle.sn_world.specs.Pictures.{Pictures, WritesWorld};
+ghost use Rattle.sn_world.specs.Pictures.{Pictures, WritesWorld, KeepsOutside};
 ghost use Rattle.sn_world.specs.Settling.{settled};
 ghost use Rattle.sn_world.specs.SettleWords.{walk_room};
 ghost use Rattle.sn_world.specs.World.{world_of, turn_of};
@@ -39,6 +39,7 @@ pub fn settle<P: Port>(
     ensures pictures { Pictures stage.new (P.words port.new) }
     ensures clients { stage.new.notify ≡ stage.old.notify }
     ensures region { stage.new.pool.region ≡ stage.old.pool.region }
+    ensures others { KeepsOutside stage.old.pool.region (P.words port.old) (P.words port.new) }
     ensures len { length (P.words port.new) ≡ length (P.words port.old) }
     ensures foot { P.foot port.new ≡ P.foot port.old }
     ensures rest { P.rest port.new ≡ P.rest port.old }

@@ -1,5 +1,5 @@
 -- The index of a unit on buses or on a buffer is the same whatever the wires and the control buses hold.
-use Rattle.std.proofs.Common.{◌≡◌, ◌≤◌, ◌<◌, ℕ, zero, suc, ◌+◌, ◌==◌, List, [], ◌∷◌, ℤ, pos, ◌+ℤ◌, Bool, true, false, length, get_or, refl, ap, sym, subst, ◌∙◌, arith, All, lit<, Option, Some, None}
+use Rattle.std.proofs.Common.{◌≡◌, ◌≤◌, ◌<◌, ℕ, zero, suc, ◌+◌, ◌==◌, List, [], ◌∷◌, ℤ, pos, ◌+ℤ◌, Bool, true, length, get_or, refl, ap, sym, subst, ◌∙◌, arith, All, lit<, Option, Some, None}
 use Rattle.std.specs.Prelude.{zip}
 use Rattle.std.specs.List.{list_any}
 use Rattle.std.proofs.lemmas.Bool.{eq-eqb, or_left, or_right}
@@ -25,7 +25,7 @@ use Rattle.sn_io.specs.BufferUnits.{is_buffer_unit, numbered}
 use Rattle.sn_io.specs.Conditions.{MayReadAudio, MayReadControl, MayWriteAudio, MayWriteControl, MayReadBuffer, MayWriteBuffer, IsWholeIfSome}
 use Rattle.sn_synth.specs.Synths.{followed, control_value, control_values, input_block, input_blocks}
 use Rattle.sn_synth.specs.Conditions.{AreControlsOf, no_control, index_value, index_of, MayPlay, MayPlayAll, Reaches, MayOutput}
-use Rattle.sn_synth.proofs.BuiltRows.{hears_index, reads_index, writes_index, sets_index, first_index, reads_a_buffer, writes_a_buffer}
+use Rattle.sn_synth.proofs.RowLaws.{hears_index, reads_index, writes_index, sets_index, first_index, reads_a_buffer, writes_a_buffer}
 
 any_at : {A : Type 0} (p : A → Bool) (xs : List A) (k : ℕ) (d : A) → k < length xs → p (get_or xs k d) ≡ true → list_any p xs ≡ true
 any_at p [] k d lt h = absurd (omega arith)

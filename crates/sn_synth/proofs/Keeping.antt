@@ -31,7 +31,7 @@ use Rattle.sn_synth.specs.UnitBlocks.{inner}
 use Rattle.sn_synth.specs.Synths.{now_of, input_blocks, control_values}
 use Rattle.sn_synth.specs.Words.{plain_after, unit_after, Going, after_unit, after_units, begun, synth_words}
 use Rattle.sn_synth.specs.Conditions.{AreControlsOf, MayPlayAll, Reaches, MayOutput}
-use Rattle.sn_synth.proofs.BuiltRows.{state_long}
+use Rattle.sn_synth.proofs.RowLaws.{state_long}
 use Rattle.sn_synth.proofs.Indices.{may_output}
 use Rattle.sn_synth.proofs.Picturing.{further}
 

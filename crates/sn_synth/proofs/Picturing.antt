@@ -32,15 +32,15 @@ use Rattle.sn_io.specs.BufferUnits.{BufferBlock, is_buffer_unit, buffer_unit}
 use Rattle.sn_io.specs.BuffersOverWords.{buffer_unit_over}
 use Rattle.sn_io.specs.OverWords.{bus_unit_over}
 use Rattle.sn_io.specs.Conditions.{MayReach, MayReachBuffer}
-use Rattle.sn_io.proofs.Meaning.{UnitMeans as BusMeans, unit_means as bus_unit_means, audio_inside, control_inside}
+use Rattle.sn_io.proofs.Meaning.{UnitMeans as BusMeans, unit_means as bus_unit_means, audio_inside, control_inside, no_bus as off_buses}
 use Rattle.sn_synth.specs.UnitBlocks.{inner, inner_block, plain_block, UnitEffect, on_buses, on_buffers, unit_block}
 use Rattle.sn_synth.specs.Synths.{Playing, now_of, input_blocks, control_values, play_unit, play_units, before_units, synth_block}
 use Rattle.sn_synth.specs.Words.{plain_after, unit_after, Going, after_unit, after_units, begun, synth_words}
 use Rattle.sn_synth.specs.Conditions.{AreControlsOf, MayPlayAll, Reaches, MayOutput}
-use Rattle.sn_synth.proofs.BuiltRows.{state_long}
+use Rattle.sn_synth.proofs.RowLaws.{state_long}
 use Rattle.sn_synth.proofs.Indices.{may_output}
 use Rattle.sn_io.proofs.BufferMeaning.{BufferMeans, buffer_unit_means}
-use Rattle.sn_synth.proofs.Standing.{no_buffers, stands}
+use Rattle.sn_io.proofs.Standing.{no_buffers, stands}
 
 -- Where the state lies: it has none of the buses' words, it is inside the words, and so is each word of the foot.
 pub record Lies (f : Foot) (at len words : ℕ) : Type 0 where
@@ -59,8 +59,7 @@ pub record PlainMeans (at len p : ℕ) (ws us : List ℕ) (outputs : List (List 
   pub others : (j : ℕ) → 10368 ≤ j → (j < at) ⊎ (at + len ≤ j) → get_or us j 0 ≡ get_or ws j 0
 
 no_bus : (at len p n j : ℕ) → (0 < len → 10368 ≤ at) → p + n ≤ len → j < 10368 → (j < at + p) ⊎ (at + p + n ≤ j)
-no_bus at len p zero j apart le low = ⊎_elim (λ (l : j < at + p). inl l) (λ (r : at + p ≤ j). inr (omega arith)) (cases_lt j (at + p))
-no_bus at len p (suc n) j apart le low = let a : 10368 ≤ at = apart (omega arith) in inl (omega arith)
+no_bus at len p n j apart le low = off_buses (at + p) n j (λ some. let from : 10368 ≤ at = apart (omega (arith, some, le)) in omega arith) low
 
 put_inside : (ws : List ℕ) (at len p : ℕ) (xs : List ℕ) → p + length xs ≤ len → (0 < len → at + len ≤ length ws) → window (put ws (at + p) xs) at len ≡ put (window ws at len) p xs
 unfolding put

@@ -1,5 +1,5 @@
 -- One more unit.
-use Rattle.std.proofs.Common.{◌≡◌, ◌≤◌, ◌<◌, ℕ, ◌+◌, Option, List, [], ◌∷◌, ◌++◌, ℤ, length, get_or, take, drop, true, refl, ap, sym, subst, ◌∙◌, arith, All}
+use Rattle.std.proofs.Common.{◌≡◌, ◌≤◌, ◌<◌, ℕ, ◌+◌, Option, List, [], ◌∷◌, ◌++◌, ℤ, length, get_or, take, drop, refl, ap, sym, subst, ◌∙◌, arith, All}
 use Rattle.std.proofs.lemmas.List.{drop_more, length-map}
 use Rattle.std.proofs.lemmas.List.Sums.{fold_more}
 use Rattle.std.proofs.lemmas.List.Elements.{All-nil, All-cons}
@@ -20,11 +20,10 @@ use Rattle.sn_mem.specs.Words.{MayWrite}
 use Rattle.sn_mem.specs.Buffers.{AreApart}
 use Rattle.sn_mem.proofs.BufferWords.{part_apart}
 use Rattle.sn_mem.proofs.Feet.{part_at}
-use Rattle.sn_synth.specs.UnitBlocks.{is_played}
 use Rattle.sn_synth.specs.Synths.{input_block, input_blocks, now_of}
 use Rattle.sn_synth.specs.Words.{unit_after, Going, after_unit, after_units}
 use Rattle.sn_synth.specs.Conditions.{IsKnown, AreKnown, Reaches, MayOutput, CanRun}
-use Rattle.sn_synth.proofs.BuiltRows.{built_kind, inputs_few, same_words, outputs_long}
+use Rattle.sn_synth.proofs.RowLaws.{played, inputs_few, same_words, outputs_long}
 
 -- ---- what a unit line that fits allows
 
@@ -49,23 +48,22 @@ inputs_known c w c' w' u e e' fits =
     subst P (sym e) (subst Q (sym e') (known (row_of u.kind).inputs c w 0 u.inputs fits.inputs))
 
 pub inputs_at_most : (c w : ℕ) (u : UnitLine) → UnitFits c w u → length u.inputs ≤ 12
-inputs_at_most c w u fits = let few = inputs_few u.kind (built_kind u.kind fits.built) in let most = fits.most_inputs in omega arith
+inputs_at_most c w u fits = let few = inputs_few u.kind (played u.kind) in let most = fits.most_inputs in omega arith
 
 long_blocks : (values : List ℤ) (wires : List (List ℤ)) (xs : List Input) → length (input_blocks values wires xs) ≡ length xs
 long_blocks values wires xs = length-map xs (input_block values wires)
 
 size_is : (rate c w : ℕ) (values : List ℤ) (wires : List (List ℤ)) (u : UnitLine) → UnitFits c w u → words_of (row_of u.kind).words (most_frames rate (input_blocks values wires u.inputs)) ≡ unit_words rate u
 unfolding unit_words
-size_is rate c w values wires u fits = let least = fits.fewest_inputs in same_words u.kind rate c w values wires u.inputs (built_kind u.kind fits.built) fits.inputs (omega arith)
+size_is rate c w values wires u fits = let least = fits.fewest_inputs in same_words u.kind rate c w values wires u.inputs (played u.kind) fits.inputs (omega arith)
 
 pub can_run : (rate : ℕ) (f : Foot) (places : List (Option BufferPlace)) (at c w n len : ℕ) (values : List ℤ) (wires : List (List ℤ)) (u : UnitLine) → UnitFits c w u → MayOutput f places values u → n ≡ u.outputs → len ≡ unit_words rate u → (0 < len → 10368 ≤ at) → MayWrite f at len → AreApart (record { at = at; len = len }) places → CanRun u.kind rate f places n at len (input_blocks values wires u.inputs)
 can_run rate f places at c w n len values wires u fits may many size apart state buffers =
     let long = long_blocks values wires u.inputs in
-    let built : is_played u.kind ≡ true = built_kind u.kind fits.built in
     let least = fits.fewest_inputs in
     let P : ℕ → Type 0 = λ n. Reaches u.kind f places n (input_blocks values wires u.inputs) in
     record {
-      built = built;
+      played = played u.kind;
       enough = omega arith;
       size = size_is rate c w values wires u fits ∙ sym size;
       apart = apart;
@@ -77,7 +75,7 @@ can_run rate f places at c w n len values wires u fits may many size apart state
 pub outputs_are : (c w n : ℕ) (u : UnitLine) (now : Now) (places : List (Option BufferPlace)) (ws : List ℕ) (at len : ℕ) (inputs : List (List ℤ)) → UnitFits c w u → n ≡ u.outputs → length (unit_after u.kind now n places ws at len inputs).1 ≡ u.outputs
 outputs_are c w n u now places ws at len inputs fits many =
     let P : ℕ → Type 0 = λ n. length (unit_after u.kind now n places ws at len inputs).1 ≡ u.outputs in
-    subst P (sym many) (outputs_long u.kind now places ws at len inputs u.outputs (built_kind u.kind fits.built) fits.fewest_outputs fits.most_outputs)
+    subst P (sym many) (outputs_long u.kind now places ws at len inputs u.outputs (played u.kind) fits.fewest_outputs fits.most_outputs)
 
 -- ---- the units to come
 

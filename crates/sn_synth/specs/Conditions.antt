@@ -86,7 +86,7 @@ AreKnown controls wires inputs = All (IsKnown controls wires) inputs
 
 -- a unit of a kind with so many outputs, at a rate, on the blocks of its inputs, with its state in so many words from a place on
 pub record CanRun (kind : Kind) (rate : ℕ) (f : Foot) (places : List (Option BufferPlace)) (n at len : ℕ) (inputs : List (List ℤ)) : Type 0 where
-  pub built : is_played kind ≡ true
+  pub played : is_played kind ≡ true
   pub enough : length (row_of kind).inputs ≤ length inputs
   pub size : words_of (row_of kind).words (most_frames rate inputs) ≡ len
   pub apart : 0 < len → 10368 ≤ at

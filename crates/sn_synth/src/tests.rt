@@ -19,12 +19,6 @@ const FIRST: &[u8] = b"snova 1\ndef first\nx = InFeedback 1\ny = Add x 1\nOut.ar
 
 const SECOND: &[u8] = b"snova 1\ndef second\nx = InFeedback 0\ny = Add x 10\nOut.ar 1 y\nend\n";
 
-const LINK: &[u8] =
-    b"snova 1\ndef link\ncontrol bus 5\nOut.kr bus 7 -2\na b = In.kr bus\nOut.ar 8 a b\nend\n";
-
-const PAN: &[u8] =
-    b"snova 1\ndef pan\ncontrol out 4\nx = Add 0.25 0.25\nl r = Pan2 x 0.5 1.0\nOut.ar out r l\nend\n";
-
 fn own(value: i32) -> Control
     ensures { result.bus ≡ None }
 {
@@ -174,38 +168,6 @@ fn a_tone_sounds_over_two_blocks(rt: HostRuntime) -> Result<(), Fail> {
 }
 
 #[test]
-fn signals_on_one_bus_are_summed(rt: HostRuntime) -> Result<(), Fail> {
-    let alloc = rt.alloc();
-    let dc = read(alloc, DC)?;
-    let mut desk = Desk::new(alloc)?;
-    desk.play(alloc, &dc, &[own(16), own(1_677_721_600)], 0)?;
-    assert_eq!(rt; desk.sample(16, 63), 1_677_721_600);
-    desk.play(alloc, &dc, &[own(16), own(1_677_721_600)], 0)?;
-    assert_eq!(rt; desk.sample(16, 63), 2_147_483_647);
-    desk.play(alloc, &dc, &[own(16), own(-1_677_721_600)], 0)?;
-    assert_eq!(rt; desk.sample(16, 63), 469_762_047);
-    assert_eq!(rt; desk.sample(17, 0), 469_762_047);
-    desk.play(alloc, &dc, &[own(16), own(7)], 1)?;
-    assert_eq!(rt; desk.sample(16, 0), 7);
-    assert_eq!(rt; desk.word(1040), 2);
-    Ok(())
-}
-
-#[test]
-fn a_channel_on_no_bus_is_not_written(rt: HostRuntime) -> Result<(), Fail> {
-    let alloc = rt.alloc();
-    let dc = read(alloc, DC)?;
-    let mut desk = Desk::new(alloc)?;
-    desk.play(alloc, &dc, &[own(127), own(5)], 0)?;
-    assert_eq!(rt; desk.sample(127, 0), 5);
-    assert_eq!(rt; desk.word(8320), 0);
-    assert_eq!(rt; desk.word(8321), 0);
-    desk.play(alloc, &dc, &[own(-1), own(6)], 0)?;
-    assert_eq!(rt; desk.sample(0, 0), 6);
-    Ok(())
-}
-
-#[test]
 fn a_control_follows_its_bus(rt: HostRuntime) -> Result<(), Fail> {
     let alloc = rt.alloc();
     let dc = read(alloc, DC)?;
@@ -217,19 +179,6 @@ fn a_control_follows_its_bus(rt: HostRuntime) -> Result<(), Fail> {
     };
     desk.play(alloc, &dc, &[own(20), amp], 0)?;
     assert_eq!(rt; desk.sample(20, 0), -9);
-    Ok(())
-}
-
-#[test]
-fn a_unit_with_two_outputs_gives_two_wires(rt: HostRuntime) -> Result<(), Fail> {
-    let alloc = rt.alloc();
-    let pan = read(alloc, PAN)?;
-    let mut desk = Desk::new(alloc)?;
-    desk.play(alloc, &pan, &[own(4)], 0)?;
-    assert_eq!(rt; desk.sample(4, 0), 6_291_456);
-    assert_eq!(rt; desk.sample(4, 63), 6_291_456);
-    assert_eq!(rt; desk.sample(5, 0), 2_097_152);
-    assert_eq!(rt; desk.sample(6, 0), 0);
     Ok(())
 }
 
@@ -247,18 +196,5 @@ fn two_synths_feed_each_other(rt: HostRuntime) -> Result<(), Fail> {
     }
     desk.play(alloc, &second, &[], 4)?;
     assert_eq!(rt; desk.sample(1, 63), 10);
-    Ok(())
-}
-
-#[test]
-fn a_control_bus_links_units(rt: HostRuntime) -> Result<(), Fail> {
-    let alloc = rt.alloc();
-    let link = read(alloc, LINK)?;
-    let mut desk = Desk::new(alloc)?;
-    desk.play(alloc, &link, &[own(5)], 0)?;
-    assert_eq!(rt; desk.word(8330), 1);
-    assert_eq!(rt; desk.word(8331), 7);
-    assert_eq!(rt; desk.sample(8, 63), 7);
-    assert_eq!(rt; desk.sample(9, 0), -2);
     Ok(())
 }

@@ -1,8 +1,8 @@
 //! The units of a synth, one after the other.
-ghost use Rattle.std.specs.Prelude.{◌≡◌, ◌<◌, ◌≤◌, ◌+◌, ◌-◌, ◌^◌, ◌++◌, ◌||◌, ℕ, length, true, if◌then◌else◌};
+ghost use Rattle.std.specs.Prelude.{◌≡◌, ◌<◌, ◌≤◌, ◌^◌, length, true};
 ghost use Rattle.std.specs.List.{All};
-ghost use Rattle.sn_def.specs.WellFormed.{UnitFits, UnitsFit, outputs_of};
-ghost use Rattle.sn_def.specs.StateWords.{words_of, unit_words, units_words};
+ghost use Rattle.sn_def.specs.WellFormed.{UnitsFit, outputs_of};
+ghost use Rattle.sn_def.specs.StateWords.{words_of, units_words};
 ghost use Rattle.sn_def.specs.Units.{row_of};
 ghost use Rattle.sn_filt.specs.Rings.{most_frames};
 ghost use Rattle.sn_mem.specs.Words.{MayWrite};
@@ -13,7 +13,7 @@ ghost use Rattle.sn_io.specs.BusUnits.{is_bus_unit};
 ghost use Rattle.sn_io.specs.BufferUnits.{is_buffer_unit};
 ghost use Rattle.sn_io.specs.Conditions.{MayReach};
 ghost use Rattle.sn_synth.specs.UnitBlocks.{is_inner, is_plain, inner};
-ghost use Rattle.sn_synth.specs.Synths.{input_blocks, now_of};
+ghost use Rattle.sn_synth.specs.Synths.{now_of};
 ghost use Rattle.sn_synth.specs.Words.{plain_after, unit_after, after_units, begun};
 ghost use Rattle.sn_synth.specs.Conditions.{MayOutput, CanRun};
 

@@ -1,5 +1,8 @@
-ghost use Rattle.std.specs.Prelude.{◌≡◌, ◌<◌, ◌≤◌, None, IfOk};
-ghost use Rattle.sn_ports.specs.Causes.{Rose};
+ghost use Rattle.std.specs.Prelude.{◌≡◌, ◌<◌, ◌≤◌, None, IfOk, OnOk, OnErr, length};
+ghost use Rattle.sn_ports.specs.Causes.{HasCause, Rose};
+ghost use Rattle.sn_ports.specs.Fake.{counted};
+ghost use Rattle.sn_ports.specs.Links.{FeedsWithin};
+ghost use Rattle.sn_ports.specs.Transfer.{WritesSome};
 
 use crate::line::Line;
 use sn_ports::{Failed, Fed, Link};
@@ -36,6 +39,7 @@ impl<S: Read + Write + OpenStream + AsRawFd + Drop, C: Clock + Drop> TcpLink<S, 
     fn fails(&mut self) -> Failed
         ensures later { self.old.faults ≤ self.new.faults }
         ensures rose { Rose self.old.faults self.new.faults }
+        ensures once { self.new.faults ≡ counted 64 self.old.faults }
     {
         self.faults = self.faults.saturating_add(1);
         Failed
@@ -56,14 +60,27 @@ impl<S: Read + Write + OpenStream + AsRawFd + Drop, C: Clock + Drop> Link for Tc
 
     ghost faults = { λ link. link.faults };
 
-    fn next(&mut self, into: &mut [u8]) -> Result<Fed, Failed> {
+    fn next(&mut self, into: &mut [u8]) -> Result<Fed, Failed>
+        requires room { 0 < length into.old }
+        ensures bound { FeedsWithin result into.new }
+        ensures cause { HasCause self.old.faults self.new.faults result }
+        // Each failure is counted once, and nothing else is.
+        ensures faults { OnErr result (self.new.faults ≡ counted 64 self.old.faults) }
+        ensures unfailed { OnOk result (self.new.faults ≡ self.old.faults) }
+    {
         match self.line.next(into) {
             Ok(fed) => Ok(fed),
             Err(_) => Err(self.fails()),
         }
     }
 
-    fn send(&mut self, piece: &[u8]) -> Result<usize, Failed> {
+    fn send(&mut self, piece: &[u8]) -> Result<usize, Failed>
+        ensures bound { WritesSome result piece.now }
+        ensures cause { HasCause self.old.faults self.new.faults result }
+        // Each failure is counted once, and nothing else is.
+        ensures faults { OnErr result (self.new.faults ≡ counted 64 self.old.faults) }
+        ensures unfailed { OnOk result (self.new.faults ≡ self.old.faults) }
+    {
         match self.line.send(piece) {
             Ok(count) if count > 0 || piece.is_empty() => Ok(count),
             _ => Err(self.fails()),

@@ -16,9 +16,9 @@ use Rattle.sn_tree.specs.declared.node.TreeFault.TheVariants.{NoNode, NotGroup, 
 use Rattle.sn_tree.specs.Trees.{Nodes, none, node, holds, joined, put, subtree, without, label_of, count, changed, with_running, without_first}
 use Rattle.sn_tree.specs.Faults.{first_fault, spot_fault, insert_fault, detach_fault, set_run_fault, is_missing, is_beside_root, is_in_synth}
 use Rattle.sn_tree.specs.Order.{Key, entry_of, flat, tree_of, length-flat, take_at, drop_at, flat_is, tree_is, is_flat, tree_of-flat}
-use Rattle.sn_tree.specs.Places.{IsSmall, Found, Spotted, lifted, IsPlace, IsSetRunning}
+use Rattle.sn_tree.specs.Places.{IsSmall, Spotted, lifted, IsPlace, IsSetRunning}
 use Rattle.sn_tree.specs.Arranged.{arranged, IsArranged}
-use Rattle.sn_tree.proofs.Placing.{flat-joined, found}
+use Rattle.sn_tree.proofs.Placing.{flat-joined}
 use Rattle.sn_tree.proofs.Spotting.{few, small, item}
 
 pub no_label : {P : Type 0} (id : ℤ) (t : Nodes P) → holds id t ≡ false → label_of id t ≡ None
@@ -47,9 +47,6 @@ no_fault id action target t h s l = insert_rest id action target t h s ∙ ap (�
 
 pub not_there : {P : Type 0} (t : Nodes P) (id : ℤ) → holds id t ≡ false → detach_fault id t ≡ Some NoNode
 not_there t id h = rw h refl
-
-pub is_root : {P : Type 0} (t : Nodes P) (id : ℤ) → holds id t ≡ true → id ≡ pos 0 → detach_fault id t ≡ Some IsRoot
-is_root t id h e = let z : int_eq id (pos 0) ≡ true = (Decides-int_eq id (pos 0)).1 e in rw (h, z) refl
 
 pub can_go : {P : Type 0} (t : Nodes P) (id : ℤ) → holds id t ≡ true → (id ≡ pos 0 → ⊥) → detach_fault id t ≡ None
 can_go t id h e = let z : int_eq id (pos 0) ≡ false = false_from_ne_true (int_eq id (pos 0)) (λ b. e ((Decides-int_eq id (pos 0)).0 b)) in rw (h, z) refl
@@ -157,9 +154,6 @@ shrunk es id p s = s.place.shrinks
 
 pub sub_count : (es : List Entry) (id : ℤ) (p : ℕ) (s : Spotted es id p) → count (subtree id (tree_of es)) ≡ 1 + count s.place.below
 sub_count es id p s = omega (arith, ap count s.place.top)
-
-pub parts_count : (id : ℤ) (t : Nodes Key) → holds id t ≡ true → count (without id t) + count (subtree id t) ≡ count t
-parts_count id t h = let r : Found t id [] = found t id [] h in omega (arith, r.shrinks, ap count r.top)
 
 -- a run flag set
 

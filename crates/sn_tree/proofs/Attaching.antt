@@ -328,12 +328,6 @@ module _ (es : List Entry) (n : ℕ) (id : ℤ) (action : Action) (target : ℤ)
   at_within : place.at ≤ length (flat attached_before)
   at_within = omega (arith, h.at_place.at, ap length s.flat)
 
-  pub place_first : place.at ≤ n + part.from
-  place_first = omega (arith, at_within, long_front)
-
-  pub target_within : place.target + 1 ≤ length es
-  target_within = omega (arith, h.at_place.target, ap length s.flat, long_front, s.cut)
-
   pub behind_within : (n + part.from) + part.count ≤ length es
   behind_within = omega (arith, part_within (drop n es) id part h.top, length-drop n es, s.cut)
 

@@ -6,12 +6,11 @@ use Rattle.std.proofs.lemmas.Bool.{cases_Bool, cases_lt, lt-ltb, le-ltb}
 use Rattle.std.proofs.lemmas.Bool.Decides.{eqb_tells, Decides-int_eq}
 use Rattle.slab.specs.Slab.{Slab, get, Updates}
 use Rattle.sn_tree.specs.declared.node.NodeKind.{NodeKind}
-use Rattle.sn_tree.specs.declared.node.NodeKind.TheVariants.{Group}
 use Rattle.sn_tree.specs.declared.node.Spot.{Spot}
 use Rattle.sn_tree.specs.declared.node.Action.{Action}
 use Rattle.sn_tree.specs.declared.node.Action.TheVariants.{Head, Tail, Before, After}
 use Rattle.sn_tree.specs.declared.node.TreeFault.{TreeFault}
-use Rattle.sn_tree.specs.Trees.{Nodes, Sides, none, node, holds, ids, subtree, without, joined, count, has_top, shares, put, leaf, with_payloads, with_payloads_of, changed, with_running, last_top}
+use Rattle.sn_tree.specs.Trees.{Nodes, Sides, none, node, holds, subtree, without, joined, count, has_top, shares, put, leaf, with_payloads, with_payloads_of, changed, with_running, last_top}
 use Rattle.std.specs.List.{AllByRecursion}
 use Rattle.sn_tree.specs.declared.node.TreeFault.TheVariants.{NoNode, InUse, NotGroup, IsRoot, Inside, TooMany}
 use Rattle.sn_tree.specs.Faults.{first_fault, is_beside_root, is_missing, is_in_synth, detach_fault, insert_fault, move_fault, attach_fault}
@@ -19,10 +18,10 @@ use Rattle.sn_tree.specs.Order.{Key}
 use Rattle.sn_tree.specs.Arranged.{Arranged}
 use Rattle.sn_tree.specs.Saving.{SavedNodes, HasSpare, spent, noted, forgotten}
 use Rattle.sn_tree.specs.Model.{NodeTree}
-use Rattle.sn_tree.specs.Steps.{occurrences, HasRoom, followed, stepped, inserted, inserting, detaching, attaching, moving, setting, detached, attached, moved, running}
+use Rattle.sn_tree.specs.Steps.{HasRoom, followed, stepped, inserted, inserting, detaching, attaching, moving, setting, detached, attached, moved, running}
 use Rattle.sn_tree.specs.Kept.{same_key, uses, payload_of, filled, IsRooted, IsSaved, IsKept, mark_of, origin, journal_shown, shown}
 use Rattle.sn_tree.proofs.Distinct.{occurs-put, occurs-parts, occurs-set, distinct_leaf, each_detached, each_left, last_distinct, distinct_attached}
-use Rattle.sn_tree.proofs.Keeping.{agree, uses-put, used_detaching, used_attaching, used_moving, used_setting, inserting_map, detaching_map, attaching_map, moving_map, setting_map}
+use Rattle.sn_tree.proofs.Keeping.{agree, held_apart, uses-put, used_detaching, used_attaching, used_moving, used_setting, inserting_map, detaching_map, attaching_map, moving_map, setting_map}
 
 -- the root stays where it is
 
@@ -89,6 +88,19 @@ pub insert_free : {P : Type 0} (id : ℤ) (action : Action) (target : ℤ) (t : 
 insert_free id action target t h =
     (none_holds ((holds id t, InUse) ∷ (is_missing target t, NoNode) ∷ (is_beside_root action target, IsRoot) ∷ (is_in_synth action target t, NotGroup) ∷ (nat_lt 4096 (count t + 1), TooMany) ∷ []) h).0
 
+not_missing : (b : Bool) → not b ≡ false → b ≡ true
+not_missing true h = refl
+not_missing false h = sym h
+
+pub insert_there : {P : Type 0} (id : ℤ) (action : Action) (target : ℤ) (t : Nodes P) → insert_fault id action target t ≡ None → holds target t ≡ true
+insert_there id action target t h =
+    not_missing (holds target t) (none_holds ((holds id t, InUse) ∷ (is_missing target t, NoNode) ∷ (is_beside_root action target, IsRoot) ∷ (is_in_synth action target t, NotGroup) ∷ (nat_lt 4096 (count t + 1), TooMany) ∷ []) h).1.0
+
+pub move_there : {P : Type 0} (id : ℤ) (action : Action) (target : ℤ) (t : Nodes P) → move_fault id action target t ≡ None → holds target (without id t) ≡ true
+move_there id action target t h =
+    let all = none_holds ((is_missing id t, NoNode) ∷ (is_missing target t, NoNode) ∷ (int_eq id (pos 0), IsRoot) ∷ (is_beside_root action target, IsRoot) ∷ (is_in_synth action target t, NotGroup) ∷ (holds target (subtree id t), Inside) ∷ []) h in
+    held_apart id target t (not_missing (holds target t) all.1.0) all.1.1.1.1.1.0
+
 pub move_root : {P : Type 0} (id : ℤ) (action : Action) (target : ℤ) (t : Nodes P) → move_fault id action target t ≡ None → (int_eq id (pos 0) ≡ false) × (is_beside_root action target ≡ false)
 move_root id action target t h =
     let all = none_holds ((is_missing id t, NoNode) ∷ (is_missing target t, NoNode) ∷ (int_eq id (pos 0), IsRoot) ∷ (is_beside_root action target, IsRoot) ∷ (is_in_synth action target t, NotGroup) ∷ (holds target (subtree id t), Inside) ∷ []) h in
@@ -97,6 +109,10 @@ move_root id action target t h =
 pub attach_beside : {P : Type 0} (id : ℤ) (action : Action) (target : ℤ) (t d : Nodes P) → attach_fault id action target t d ≡ None → is_beside_root action target ≡ false
 attach_beside id action target t d h =
     (none_holds ((shares (last_top id d) t, InUse) ∷ (not (has_top id d), NoNode) ∷ (is_missing target t, NoNode) ∷ (is_beside_root action target, IsRoot) ∷ (is_in_synth action target t, NotGroup) ∷ (nat_lt 4096 (count t + count (last_top id d)), TooMany) ∷ []) h).1.1.1.0
+
+pub attach_there : {P : Type 0} (id : ℤ) (action : Action) (target : ℤ) (t d : Nodes P) → attach_fault id action target t d ≡ None → holds target t ≡ true
+attach_there id action target t d h =
+    not_missing (holds target t) (none_holds ((shares (last_top id d) t, InUse) ∷ (not (has_top id d), NoNode) ∷ (is_missing target t, NoNode) ∷ (is_beside_root action target, IsRoot) ∷ (is_in_synth action target t, NotGroup) ∷ (nat_lt 4096 (count t + count (last_top id d)), TooMany) ∷ []) h).1.1.0
 
 pub attach_apart : {P : Type 0} (id : ℤ) (action : Action) (target : ℤ) (t d : Nodes P) → attach_fault id action target t d ≡ None → shares (last_top id d) t ≡ false
 attach_apart id action target t d h =
@@ -169,12 +185,12 @@ module _ {P : Type 0} (root : P) (slots : List (Option P)) (nodes nodes' : Arran
           (λ i. shown root slots (is i) (less i))
           ∙ (step_shown root slots nodes (moving id action target nodes) saved (moving id action target) (moving id action target) (moving_map (payload_of root slots) nodes id action target) (λ h. moving_map h nodes id action target) ∙ ap (moved id action target) view)
 
-      pub move_keeps : int_eq id (pos 0) ≡ false → is_beside_root action target ≡ false → IsKept slots nodes' saved'
-      move_keeps z b = subst (λ s. IsKept slots nodes' s) (sym less) (subst (λ n. IsKept slots n (spent 1 saved)) (sym is) there)
+      pub move_keeps : int_eq id (pos 0) ≡ false → is_beside_root action target ≡ false → holds target (without id nodes.attached) ≡ true → IsKept slots nodes' saved'
+      move_keeps z b held = subst (λ s. IsKept slots nodes' s) (sym less) (subst (λ n. IsKept slots n (spent 1 saved)) (sym is) there)
         where
           there : IsKept slots (moving id action target nodes) (spent 1 saved)
           there = record {
-            now = record { keys = λ key. omega (arith, used_moving key id action target nodes, kept.now.keys key) };
+            now = record { keys = λ key. omega (arith, used_moving key id action target nodes held, kept.now.keys key) };
             rooted = rooted_put action target (subtree id nodes.attached) (without id nodes.attached) b (rooted_without id nodes.attached z kept.rooted);
             distinct = λ x. omega (arith, occurs-parts x id nodes.attached, occurs-put x action target (subtree id nodes.attached) (without id nodes.attached), kept.distinct x);
             aside = kept.aside;
@@ -192,16 +208,12 @@ module _ {P : Type 0} (root : P) (slots : List (Option P)) (nodes nodes' : Arran
         where
           there : IsKept slots (attaching id action target nodes) (spent 1 saved)
           there = record {
-            now = record { keys = λ key. omega (arith, used_attaching key id action target nodes, kept.now.keys key) };
+            now = record { keys = λ key. omega (arith, used_attaching key id action target nodes (attach_there id action target nodes.attached nodes.detached z), kept.now.keys key) };
             rooted = rooted_put action target (last_top id nodes.detached) nodes.attached (attach_beside id action target nodes.attached nodes.detached z) kept.rooted;
             distinct = distinct_attached action target (last_top id nodes.detached) nodes.attached (attach_apart id action target nodes.attached nodes.detached z) (last_distinct id nodes.detached kept.aside) kept.distinct;
             aside = each_left id nodes.detached kept.aside;
             before = spent_before slots 1 saved kept.before;
           }
-
--- nothing was changed
-pub kept_same : {P : Type 0} (slots : List (Option P)) (nodes nodes' : Arranged) (saved : Option SavedNodes) → IsKept slots nodes saved → nodes' ≡ nodes → IsKept slots nodes' saved
-kept_same slots nodes nodes' saved k e = subst (λ n. IsKept slots n saved) (sym e) k
 
 -- a new node and its payload
 
@@ -216,7 +228,7 @@ module _ {P : Type 0} (root : P) (slots slots' : List (Option P)) (new : ℕ) (p
       (λ (e : ((key == new) ≡ false) × (key ≢ new)). ap (λ o. unwrap_or o root) (others key e.1))
       (eqb_tells key new)
 
-  more_filled : (key : Key) → filled slots key + (if same_key (Some new) key then 1 else 0) ≤ filled slots' key
+  more_filled : (key : Key) → filled slots key + (if same_key (Some new) key then 1 else 0) ≡ filled slots' key
   more_filled None = omega arith
   more_filled (Some key) =
       ⊎_elim
@@ -234,9 +246,9 @@ module _ {P : Type 0} (root : P) (slots slots' : List (Option P)) (new : ℕ) (p
   kept_nodes t h = agree (payload_of root slots') (payload_of root slots) t (λ key u. same_payload key (omega (arith, h key)))
 
   module _ (nodes : Arranged) (saved : Option SavedNodes) (kept : IsKept slots nodes saved) (id : ℤ) (kind : NodeKind) (action : Action) (target : ℤ) where
-    pub inserted_keeps : is_beside_root action target ≡ false → holds id nodes.attached ≡ false → IsKept slots' (inserting id kind action target (Some new) nodes) (noted new saved)
-    inserted_keeps b free = record {
-      now = record { keys = λ key. omega (arith, uses-put key action target (leaf id kind (Some new)) nodes.attached, kept.now.keys key, more_filled key) };
+    pub inserted_keeps : is_beside_root action target ≡ false → holds id nodes.attached ≡ false → holds target nodes.attached ≡ true → IsKept slots' (inserting id kind action target (Some new) nodes) (noted new saved)
+    inserted_keeps b free held = record {
+      now = record { keys = λ key. omega (arith, uses-put key action target (leaf id kind (Some new)) nodes.attached held, kept.now.keys key, more_filled key) };
       rooted = rooted_put action target (leaf id kind (Some new)) nodes.attached b kept.rooted;
       distinct = distinct_leaf id kind action target (Some new) nodes.attached free kept.distinct;
       aside = kept.aside;
@@ -274,9 +286,9 @@ module _ {P : Type 0} (root : P) (slots slots' : List (Option P)) (new : ℕ) (p
 pub insert_gives : {P : Type 0} (root : P) (s0 s1 s2 : Slab P) (nodes nodes' : Arranged) (saved saved' : Option SavedNodes) (tree : NodeTree P) (id : ℤ) (kind : NodeKind) (spot' spot : Spot) (payload : P) (key made : ℕ)
     → IsKept s0.slots nodes saved → shown root s0.slots nodes saved ≡ tree → s1 ≡ record s0 { capacity = s1.capacity }
     → key ≡ s1.vacant_key → made ≡ s1.vacant_key → get s1 made ≡ None → Updates s1 s2 made (Some payload) → spot' ≡ spot
-    → nodes' ≡ inserting id kind spot'.action spot'.target (Some key) nodes → saved' ≡ noted key saved → is_beside_root spot.action spot.target ≡ false → holds id nodes.attached ≡ false
+    → nodes' ≡ inserting id kind spot'.action spot'.target (Some key) nodes → saved' ≡ noted key saved → is_beside_root spot.action spot.target ≡ false → holds id nodes.attached ≡ false → holds spot.target nodes.attached ≡ true
     → IsKept s2.slots nodes' saved' × (shown root s2.slots nodes' saved' ≡ inserted id kind spot.action spot.target payload tree)
-insert_gives root s0 s1 s2 nodes nodes' saved saved' tree id kind spot' spot payload key made f e kept v m vacant updates same nd sd b free =
+insert_gives root s0 s1 s2 nodes nodes' saved saved' tree id kind spot' spot payload key made f e kept v m vacant updates same nd sd b free held =
     let same_slots : s1.slots ≡ s0.slots = ap (λ (s : Slab _). s.slots) kept in
     let k : made ≡ key = m ∙ sym v in
     let filled1 : IsKept s1.slots nodes saved = subst (λ l. IsKept l nodes saved) (sym same_slots) f in
@@ -285,21 +297,9 @@ insert_gives root s0 s1 s2 nodes nodes' saved saved' tree id kind spot' spot pay
     let up : Updates s1 s2 key (Some payload) = subst (λ n. Updates s1 s2 n (Some payload)) k updates in
     let n2 : nodes' ≡ inserting id kind spot.action spot.target (Some key) nodes =
     nd ∙ ap (λ (q : Spot). inserting id kind q.action q.target (Some key) nodes) same in (
-      subst (λ q. IsKept s2.slots nodes' q) (sym sd) (subst (λ n. IsKept s2.slots n (noted key saved)) (sym n2) (inserted_keeps root s1.slots s2.slots key payload vac up.changed up.others nodes saved filled1 id kind spot.action spot.target b free)),
+      subst (λ q. IsKept s2.slots nodes' q) (sym sd) (subst (λ n. IsKept s2.slots n (noted key saved)) (sym n2) (inserted_keeps root s1.slots s2.slots key payload vac up.changed up.others nodes saved filled1 id kind spot.action spot.target b free held)),
       (λ i. shown root s2.slots (n2 i) (sd i)) ∙ (inserted_shows root s1.slots s2.slots key payload vac up.changed up.others nodes saved filled1 id kind spot.action spot.target ∙ ap (inserted id kind spot.action spot.target payload) view1),
     )
-
--- the root alone
-
-pub root_kept : {P : Type 0} (slots : List (Option P)) (nodes : Arranged) → nodes ≡ (record { attached = leaf (pos 0) Group None; detached = none }) → IsKept slots nodes None
-root_kept slots nodes e = subst (λ n. IsKept slots n None) (sym e) (record { now = record { keys = alone }; rooted = record { label = record { id = pos 0; kind = Group; running = true; payload = None }; below = none; is = refl; id = refl; kind = refl; key = refl }; distinct = once; aside = tt; before = tt })
-  where
-    once : (x : ℤ) → occurrences int_eq x (ids (leaf {P = Key} (pos 0) Group None)) ≤ 1
-    once x = ⊎_elim (λ (n : int_eq (pos 0) x ≡ true). rw n (omega arith)) (λ (n : int_eq (pos 0) x ≡ false). rw n (omega arith)) (cases_Bool (int_eq (pos 0) x))
-
-    alone : (key : Key) → uses key (leaf (pos 0) Group None) + uses key none ≤ filled slots key
-    alone None = omega arith
-    alone (Some key) = omega arith
 
 -- nothing was put in
 

@@ -1,13 +1,14 @@
 -- What lies below a node.
-use Rattle.std.proofs.Common.{◌≡◌, ℕ, ◌+◌, ◌≤◌, ℤ, pos, Bool, true, false, ◌||◌, List, [], ◌∷◌, ◌++◌, length, take, drop, sym, refl, ap, ◌∙◌, subst, ⊎_elim, arith, append_assoc, length-append, Option}
+use Rattle.std.proofs.Common.{◌≡◌, ℕ, ◌+◌, ◌≤◌, ℤ, pos, Bool, true, false, ◌||◌, List, [], ◌∷◌, ◌++◌, length, take, drop, sym, refl, ap, ◌∙◌, subst, ⊎_elim, arith, append_assoc, length-append, Option, Some, None}
 use Rattle.std.specs.Prelude.{if◌then◌else◌}
 use Rattle.std.specs.List.{IsFirstAndRest, All}
+use Rattle.std.specs.Option.{option_map}
 use Rattle.std.specs.Ordering.{int_eq}
 use Rattle.std.proofs.lemmas.Bool.{cases_Bool, or_from, or_parts}
-use Rattle.std.proofs.lemmas.List.{append-nil}
 use Rattle.std.proofs.lemmas.List.Elements.{All-nil, All-cons, All-append}
 use Rattle.sn_tree.specs.declared.entry.Entry.{Entry}
-use Rattle.sn_tree.specs.Trees.{Nodes, none, node, count, holds, ids, children, subtree, with_payloads}
+use Rattle.sn_tree.specs.declared.node.NodeKind.TheVariants.{Group}
+use Rattle.sn_tree.specs.Trees.{Label, Nodes, none, node, count, holds, ids, label_of, children, subtree, with_payloads}
 use Rattle.sn_tree.specs.Faults.{is_synth}
 use Rattle.sn_tree.specs.Order.{Key, entry_of, flat, tree_of, IsFlat, length-flat, take_at, drop_at}
 use Rattle.sn_tree.specs.Places.{Spotted}
@@ -17,7 +18,7 @@ use Rattle.sn_tree.specs.Model.{NodeTree}
 use Rattle.sn_tree.specs.Kept.{payload_of, IsRooted, shown}
 use Rattle.sn_tree.specs.Steps.{occurrences, AllDistinct}
 use Rattle.sn_tree.specs.Below.{top_ids, synth_ids, synths_of}
-use Rattle.sn_tree.proofs.PayloadLaws.{holds-payloads, children-payloads, subtree-payloads}
+use Rattle.sn_tree.proofs.PayloadLaws.{relabelled, holds-payloads, label-payloads, children-payloads, subtree-payloads}
 use Rattle.sn_tree.proofs.Distinct.{occurs-node}
 use Rattle.sn_tree.proofs.Viewing.{cut_tree, first_back}
 
@@ -54,10 +55,6 @@ listing_next whole rest found more e after past h f p m =
           ∙ (ap (λ l. found ++ top_ids (tree_of l)) (sym f.0)
           ∙ h.same))));
     }
-
-pub listing_end : (whole rest : List Entry) (found : List ℤ) → IsListing whole rest found → length rest ≡ 0 → found ≡ top_ids (tree_of whole)
-listing_end whole [] found h z = sym (append-nil found) ∙ h.same
-listing_end whole (e ∷ rest) found h z = absurd (omega arith)
 
 -- the synths
 
@@ -162,6 +159,21 @@ root_whole nodes r =
     ∙ ap (λ (y : ℤ). if int_eq y (pos 0) then node r.label r.below none else if holds (pos 0) r.below then subtree (pos 0) r.below else none) r.id
     ∙ sym r.is
 
+root_label : (nodes : Nodes Key) → IsRooted nodes → (label : Label Key) × (label_of (pos 0) nodes ≡ Some label) × (label.kind ≡ Group)
+root_label nodes r = (
+  r.label,
+  ap (label_of (pos 0)) r.is
+      ∙ ap (λ (y : ℤ). if int_eq y (pos 0) then Some r.label else if holds (pos 0) r.below then label_of (pos 0) r.below else None) r.id,
+  r.kind,
+)
+
+kind_of : {P : Type 0} (f : Key → P) (o : Option (Label Key)) → option_map (λ (l : Label P). l.kind) (option_map (relabelled f) o) ≡ option_map (λ (l : Label Key). l.kind) o
+kind_of f None = refl
+kind_of f (Some label) = refl
+
+pub root_counts : (nodes : Nodes Key) → IsRooted nodes → 1 ≤ count nodes
+root_counts nodes r = omega (arith, ap count r.is)
+
 -- the same of the tree that they stand for
 
 module _ {P : Type 0} (root : P) (slots : List (Option P)) (nodes : Arranged) (saved : Option SavedNodes) (tree : NodeTree P) (e : shown root slots nodes saved ≡ tree) where
@@ -179,6 +191,14 @@ module _ {P : Type 0} (root : P) (slots : List (Option P)) (nodes : Arranged) (s
       ∙ (subtree-payloads (payload_of root slots) (pos 0) nodes.attached
       ∙ (ap (with_payloads (payload_of root slots)) (root_whole nodes.attached r)
       ∙ is))
+
+  pub group_shown : IsRooted nodes.attached → option_map (λ (l : Label P). l.kind) (label_of (pos 0) tree.attached) ≡ Some Group
+  group_shown r =
+      let (label, found, is_group) = root_label nodes.attached r in
+      sym (ap (λ (t : NodeTree P). option_map (λ (l : Label P). l.kind) (label_of (pos 0) t.attached)) e)
+      ∙ (ap (option_map (λ (l : Label P). l.kind)) (label-payloads (payload_of root slots) (pos 0) nodes.attached)
+      ∙ (kind_of (payload_of root slots) (label_of (pos 0) nodes.attached)
+      ∙ (ap (option_map (λ (l : Label Key). l.kind)) found ∙ ap Some is_group)))
 
   pub tops_shown : (id : ℤ) → top_ids (children id nodes.attached) ≡ top_ids (children id tree.attached)
   tops_shown id =

@@ -1,5 +1,5 @@
 -- Keys and payloads after a change.
-use Rattle.std.proofs.Common.{◌≡◌, ◌≢◌, ℕ, ◌+◌, ◌<◌, ◌≤◌, ℤ, Bool, true, false, List, Option, Some, None, sym, refl, ap, ◌∙◌, subst, ⊎_elim, arith}
+use Rattle.std.proofs.Common.{◌≡◌, ◌≢◌, ℕ, ◌+◌, ◌<◌, ◌≤◌, ℤ, Bool, true, false, ◌||◌, List, Option, Some, None, sym, refl, ap, ◌∙◌, subst, ⊎_elim, arith}
 use Rattle.std.specs.Prelude.{◌==◌, is_some, unwrap_or, slice_index_or, if◌then◌else◌}
 use Rattle.std.specs.Ordering.{int_eq}
 use Rattle.std.specs.Option.{option_map}
@@ -8,11 +8,12 @@ use Rattle.std.proofs.lemmas.Bool.Decides.{eqb_tells}
 use Rattle.sn_tree.specs.declared.node.NodeKind.{NodeKind}
 use Rattle.sn_tree.specs.declared.node.Action.{Action}
 use Rattle.sn_tree.specs.declared.node.Action.TheVariants.{Head, Tail, Before, After}
-use Rattle.sn_tree.specs.Trees.{Label, Nodes, none, node, holds, label_of, subtree, without, joined, beside, put, leaf, with_payloads, with_payloads_of, changed, with_running, has_top, last_top, without_last, without_first}
+use Rattle.sn_tree.specs.Trees.{Label, Nodes, none, node, holds, label_of, subtree, without, joined, beside, put, leaf, with_payloads, with_payloads_of, changed, with_running, has_top, last_top, without_last}
 use Rattle.sn_tree.specs.Order.{Key}
 use Rattle.sn_tree.specs.Arranged.{Arranged}
 use Rattle.sn_tree.specs.Steps.{inserting, detaching, attaching, moving, setting}
-use Rattle.sn_tree.specs.Kept.{same_key, uses, payload_of, IsFilled}
+use Rattle.sn_tree.specs.Saving.{SavedNodes}
+use Rattle.sn_tree.specs.Kept.{same_key, uses, payload_of, filled, IsFilled, IsSaved, IsKept}
 use Rattle.sn_tree.proofs.PayloadLaws.{relabelled, put-payloads, without-payloads, subtree-payloads, joined-payloads, label-payloads, changed-payloads, last_top-payloads, without_last-payloads}
 
 pub same_key-refl : (key : Key) → same_key key key ≡ true
@@ -29,14 +30,14 @@ uses-beside key Tail new label below after = omega (arith, uses-joined key below
 uses-beside key Before new label below after = omega (arith, uses-joined key new (node label below after))
 uses-beside key After new label below after = omega (arith, uses-joined key new after)
 
-pub uses-put : (key : Key) (action : Action) (target : ℤ) (new t : Nodes Key) → uses key (put action target new t) ≤ uses key t + uses key new
-uses-put key action target new none = omega arith
-uses-put key action target new (node label below after) =
+pub uses-put : (key : Key) (action : Action) (target : ℤ) (new t : Nodes Key) → holds target t ≡ true → uses key (put action target new t) ≡ uses key t + uses key new
+uses-put key action target new none h = cc
+uses-put key action target new (node label below after) h =
     ⊎_elim
     (λ (n : int_eq label.id target ≡ true). rw n (omega (arith, uses-beside key action new label below after)))
     (λ (n : int_eq label.id target ≡ false). ⊎_elim
-    (λ (i : holds target below ≡ true). rw (n, i) (omega (arith, uses-put key action target new below)))
-    (λ (i : holds target below ≡ false). rw (n, i) (omega (arith, uses-put key action target new after)))
+    (λ (i : holds target below ≡ true). rw (n, i) (omega (arith, uses-put key action target new below i)))
+    (λ (i : holds target below ≡ false). let there : holds target after ≡ true = rw (n, i) at h in rw (n, i) (omega (arith, uses-put key action target new after there)))
     (cases_Bool (holds target below)))
     (cases_Bool (int_eq label.id target))
 
@@ -159,18 +160,58 @@ uses-last key id (node label below after) =
     (cases_Bool (int_eq label.id id)))
     (cases_Bool (has_top id after))
 
-pub used_detaching : (key : Key) (id : ℤ) (nodes : Arranged) → used key (detaching id nodes) ≤ used key nodes
+pub used_detaching : (key : Key) (id : ℤ) (nodes : Arranged) → used key (detaching id nodes) ≡ used key nodes
 used_detaching key id nodes = omega (arith, uses-parts key id nodes.attached, uses-joined key nodes.detached (subtree id nodes.attached))
 
-pub used_moving : (key : Key) (id : ℤ) (action : Action) (target : ℤ) (nodes : Arranged) → used key (moving id action target nodes) ≤ used key nodes
-used_moving key id action target nodes = omega (arith, uses-parts key id nodes.attached, uses-put key action target (subtree id nodes.attached) (without id nodes.attached))
+pub used_moving : (key : Key) (id : ℤ) (action : Action) (target : ℤ) (nodes : Arranged) → holds target (without id nodes.attached) ≡ true → used key (moving id action target nodes) ≡ used key nodes
+used_moving key id action target nodes held = omega (arith, uses-parts key id nodes.attached, uses-put key action target (subtree id nodes.attached) (without id nodes.attached) held)
 
-pub used_attaching : (key : Key) (id : ℤ) (action : Action) (target : ℤ) (nodes : Arranged) → used key (attaching id action target nodes) ≤ used key nodes
-used_attaching key id action target nodes = omega (arith, uses-last key id nodes.detached, uses-put key action target (last_top id nodes.detached) nodes.attached)
+pub used_attaching : (key : Key) (id : ℤ) (action : Action) (target : ℤ) (nodes : Arranged) → holds target nodes.attached ≡ true → used key (attaching id action target nodes) ≡ used key nodes
+used_attaching key id action target nodes held = omega (arith, uses-last key id nodes.detached, uses-put key action target (last_top id nodes.detached) nodes.attached held)
 
-pub used_setting : (key : Key) (id : ℤ) (on : Bool) (nodes : Arranged) → used key (setting id on nodes) ≤ used key nodes
+pub used_setting : (key : Key) (id : ℤ) (on : Bool) (nodes : Arranged) → used key (setting id on nodes) ≡ used key nodes
 used_setting key id on nodes = omega (arith, uses-changed key id on nodes.attached)
 
-pub uses_first : (key : Key) (t : Nodes Key) → uses key (without_first t) ≤ uses key t
-uses_first key none = omega arith
-uses_first key (node label below after) = omega (arith, uses-joined key below after)
+-- the same keys have payloads
+
+pub filled_keeps : {P : Type 0} (slots slots' : List (Option P)) (nodes : Arranged) (saved : Option SavedNodes) → ((key : Key) → filled slots' key ≡ filled slots key) → IsKept slots nodes saved → IsKept slots' nodes saved
+filled_keeps slots slots' nodes saved same kept = record {
+  now = record { keys = λ key. kept.now.keys key ∙ sym (same key) };
+  rooted = kept.rooted;
+  distinct = kept.distinct;
+  aside = kept.aside;
+  before = before saved kept.before;
+}
+  where
+    before : (s : Option SavedNodes) → IsSaved slots s → IsSaved slots' s
+    before None h = tt
+    before (Some s) h = (λ key. h.0 key ∙ sym (same key), h.1, h.2, h.3)
+
+-- a node that is not in the subtree taken out is still there
+
+held_first : (a b c left : Bool) → (a || (b || c)) ≡ true → (b ≡ true → left ≡ true) → (a || (left || c)) ≡ true
+held_first true b c left h k = refl
+held_first false b c true h k = refl
+held_first false true c false h k = let bad : false ≡ true = k refl in cc
+held_first false false c false h k = h
+
+held_last : (a b c left : Bool) → (a || (b || c)) ≡ true → (c ≡ true → left ≡ true) → (a || (b || left)) ≡ true
+held_last true b c left h k = refl
+held_last false true c left h k = refl
+held_last false false c left h k = k h
+
+held_after : (a b c : Bool) → (a || (b || c)) ≡ true → (a || (b || false)) ≡ false → c ≡ true
+held_after true b c h o = absurd cc
+held_after false true c h o = absurd cc
+held_after false false c h o = h
+
+pub held_apart : {P : Type 0} (id target : ℤ) (t : Nodes P) → holds target t ≡ true → holds target (subtree id t) ≡ false → holds target (without id t) ≡ true
+held_apart id target none h out = h
+held_apart id target (node label below after) h out =
+    ⊎_elim
+    (λ (n : int_eq label.id id ≡ true). let o : holds target (node label below none) ≡ false = rw n at out in rw n (held_after (int_eq label.id target) (holds target below) (holds target after) h o))
+    (λ (n : int_eq label.id id ≡ false). ⊎_elim
+    (λ (i : holds id below ≡ true). let o : holds target (subtree id below) ≡ false = rw (n, i) at out in rw (n, i) (held_first (int_eq label.id target) (holds target below) (holds target after) (holds target (without id below)) h (λ b. held_apart id target below b o)))
+    (λ (i : holds id below ≡ false). let o : holds target (subtree id after) ≡ false = rw (n, i) at out in rw (n, i) (held_last (int_eq label.id target) (holds target below) (holds target after) (holds target (without id after)) h (λ b. held_apart id target after b o)))
+    (cases_Bool (holds id below)))
+    (cases_Bool (int_eq label.id id))

@@ -7,6 +7,7 @@ pub mod Following
 pub mod Showing
 pub mod Walking
 pub mod Writing
+pub mod Dropping
 pub mod Journaling
 pub mod Moving
 pub mod Replacing
@@ -18,4 +19,5 @@ pub mod Listing
 pub mod Tallying
 pub mod Attaching
 pub mod Sharing
+pub mod Rooting
 pub mod Gathering

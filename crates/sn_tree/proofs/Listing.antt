@@ -1,6 +1,5 @@
 -- Going over a node and all nodes below it.
 use Rattle.std.proofs.Common.{◌≡◌, ℕ, ◌+◌, ◌≤◌, ℤ, List, [], ◌∷◌, ◌++◌, length, take, drop, Option, Some, sym, refl, ap, ◌∙◌, subst, arith, append_assoc, length-drop}
-use Rattle.std.specs.Prelude.{if◌then◌else◌}
 use Rattle.std.specs.List.{IsFirstAndRest}
 use Rattle.sn_tree.specs.declared.entry.Entry.{Entry}
 use Rattle.sn_tree.specs.Trees.{Nodes, none, node, joined, subtree, with_payloads}
@@ -8,12 +7,12 @@ use Rattle.sn_tree.specs.Order.{Key, label_in, tree_of, IsFlat}
 use Rattle.sn_tree.specs.Arranged.{Arranged}
 use Rattle.sn_tree.specs.Saving.{SavedNodes}
 use Rattle.sn_tree.specs.Model.{NodeTree}
-use Rattle.sn_tree.specs.Kept.{same_key, uses, payload_of, filled, IsFilled, shown}
+use Rattle.sn_tree.specs.Kept.{uses, payload_of, IsFilled, shown}
 use Rattle.sn_tree.specs.Walking.{payload_at, IsLeft}
 use Rattle.sn_tree.specs.Members.{tops, members, members_of}
 use Rattle.sn_tree.proofs.PayloadLaws.{relabelled, joined-payloads, subtree-payloads}
-use Rattle.sn_tree.proofs.Keeping.{same_key-refl, uses-parts}
-use Rattle.sn_tree.proofs.Walking.{parts, rest_tree, rest_flat, rest_uses, held_at}
+use Rattle.sn_tree.proofs.Keeping.{uses-parts}
+use Rattle.sn_tree.proofs.Walking.{parts, rest_tree, first_flat, first_payload}
 use Rattle.sn_tree.proofs.Viewing.{cut_tree, first_back}
 
 pub tops-payloads : {P Q : Type 0} (f : P → Q) (t : Nodes P) → tops (with_payloads f t) ≡ tops t
@@ -42,24 +41,11 @@ counting_next whole rest count e after past h f p =
       within = omega (arith, ap length p, length-drop e.below after, ap length f.0, h.within);
     }
 
-pub counting_end : (whole rest : List Entry) (count : ℕ) → IsCounting whole rest count → length rest ≡ 0 → count ≡ tops (tree_of whole)
-counting_end whole [] count h z = omega (arith, h.same)
-counting_end whole (e ∷ rest) count h z = absurd (omega arith)
-
 -- the steps of the walk
 
 module _ {P : Type 0} (root : P) (slots : List (Option P)) (es : List Entry) (e : Entry) (after : List Entry) (left : IsLeft slots es) (f : IsFirstAndRest es e after) where
   whole : IsFlat (e ∷ after)
-  whole = subst (λ l. IsFlat l) f.0 left.flat
-
-  used : (key : Key) → (if same_key e.key key then 1 else 0) + uses key (tree_of after) ≤ filled slots key
-  used key = omega (arith, rest_uses e after whole key, ap (λ l. uses key (tree_of l)) f.0, left.keys key)
-
-  pub member_payload : payload_at root slots e.key ≡ Some (payload_of root slots e.key)
-  member_payload = held_at root slots e.key (let b : 1 ≤ (if same_key e.key e.key then 1 else 0) = rw (same_key-refl e.key) (omega arith) in omega (arith, used e.key))
-
-  pub member_left : IsLeft slots after
-  member_left = record { flat = rest_flat e after whole; keys = λ key. omega (arith, used key) }
+  whole = first_flat root slots es e after left f
 
   member_steps : members_of root slots es ≡ (relabelled (payload_of root slots) (label_in e), tops (tree_of (take e.below after))) ∷ members_of root slots after
   member_steps =
@@ -90,7 +76,7 @@ module _ {P : Type 0} (root : P) (slots : List (Option P)) (es : List Entry) (e 
   pub member_given : (id : ℤ) (payload : P) (children : ℕ) (below : List Entry) → id ≡ e.id → Some payload ≡ payload_at root slots e.key → below ≡ take e.below after → children ≡ tops (tree_of below)
       → members_of root slots es ≡ ((record { id = id; kind = e.kind; running = e.running; payload = payload }), children) ∷ members_of root slots after
   member_given id payload children below i p b c =
-      let same : payload_of root slots e.key ≡ payload = some_same (sym member_payload ∙ sym p) in
+      let same : payload_of root slots e.key ≡ payload = some_same (sym (first_payload root slots es e after left f) ∙ sym p) in
       let n : tops (tree_of (take e.below after)) ≡ children = sym (c ∙ ap (λ l. tops (tree_of l)) b) in
       member_steps ∙ (λ j. ((record { id = sym i j; kind = e.kind; running = e.running; payload = same j }), n j) ∷ members_of root slots after)
     where

@@ -4,7 +4,7 @@ use Rattle.std.specs.Prelude.{if◌then◌else◌, Result, Ok, Err, MatchResult}
 use Rattle.std.specs.Ordering.{int_eq}
 use Rattle.std.proofs.lemmas.Bool.{cases_Bool, or_parts}
 use Rattle.std.proofs.lemmas.List.{append-nil, reverse-reverse, take-append-le, drop-append-le, take-append-drop}
-use Rattle.std.proofs.lemmas.List.Elements.{All-append, All-take, All-drop}
+use Rattle.std.proofs.lemmas.List.Elements.{All-append}
 use Rattle.sn_tree.specs.declared.entry.Entry.{Entry}
 use Rattle.sn_tree.specs.declared.entry.Place.{Place}
 use Rattle.sn_tree.specs.declared.node.Action.{Action}
@@ -70,9 +70,6 @@ module _ (action : Action) (target : ℤ) where
 
     pub no_target : holds id t ≡ true → holds target t ≡ false → move_fault id action target t ≡ Some NoNode
     no_target h k = rw (h, k) refl
-
-    pub root_moved : holds id t ≡ true → holds target t ≡ true → int_eq id (pos 0) ≡ true → move_fault id action target t ≡ Some IsRoot
-    root_moved h k z = rw (h, k, z) refl
 
     pub spot_refused : (x : TreeFault) → holds id t ≡ true → holds target t ≡ true → int_eq id (pos 0) ≡ false → spot_fault action target t ≡ Some x → move_fault id action target t ≡ Some x
     spot_refused x h k z s =
@@ -152,13 +149,6 @@ put_back_is ws es new action target place n e c p =
     (λ i. lifted place (c i) (front i ++ (moved i ++ left i)))
     ∙ (ap (λ l. lifted place (count new) (take place.at ws ++ (flat new ++ l))) (sym (append-nil (drop place.at ws)))
     ∙ (sym (p.puts [] new) ∙ append-nil (flat (put action target new (tree_of ws)))))
-
-pub small_back : (place : Place) (n k : ℕ) (es mid : List Entry) → IsSmall es → mid ≡ take place.at es ++ (drop k (drop place.at es) ++ take k (drop place.at es)) → IsSmall (take (place.target + 1) mid)
-small_back place n k es mid s e =
-    let q = λ (x : Entry). x.below ≤ 4096 in
-    All-take q (place.target + 1) mid (subst (λ l. IsSmall l) (sym e)
-    (All-append q (take place.at es) (drop k (drop place.at es) ++ take k (drop place.at es)) (All-take q place.at es s)
-    (All-append q (drop k (drop place.at es)) (take k (drop place.at es)) (All-drop q k (drop place.at es) (All-drop q place.at es s)) (All-take q k (drop place.at es) (All-drop q place.at es s)))))
 
 pub moved_list : (es end out : List Entry) (id : ℤ) (p : ℕ) (s : Spotted es id p) (action : Action) (target : ℤ) (place : Place) (n m : ℕ) → IsFlat es → length es ≤ 4096 → n ≡ 1 + count s.place.below
     → move_fault id action target (tree_of es) ≡ None → end ≡ moved_to_end p n es → m ≡ length end - n → IsPlace (take m end) action target place → out ≡ put_back_list place n end

@@ -9,7 +9,7 @@ use Rattle.sn_tree.specs.declared.node.NodeView.{NodeView}
 use Rattle.sn_tree.specs.declared.node.TreeFault.TheVariants.{NoNode, InUse, NotGroup, IsRoot, Inside, TooMany}
 use Rattle.sn_tree.specs.Trees.{Label, Nodes, none, node, holds, label_of, children, count, ids, subtree, without, joined, beside, put, changed, first_id, last_id, first_of, view_from, with_payloads, has_top, last_top, without_last, shares, first_label, without_first}
 use Rattle.sn_tree.specs.Views.{seen, views_from, views_at}
-use Rattle.sn_tree.specs.Faults.{labels_synth, is_inside, is_beside_root, spot_fault, insert_fault, replace_fault, detach_fault, set_run_fault, move_fault, attach_fault, first_fault}
+use Rattle.sn_tree.specs.Faults.{labels_synth, is_inside, is_beside_root, insert_fault, replace_fault, detach_fault, set_run_fault, move_fault, attach_fault, first_fault}
 
 -- a label with its payload changed
 abbrev pub relabelled : {P Q : Type 0} → (P → Q) → Label P → Label Q
@@ -166,9 +166,6 @@ module _ {P Q : Type 0} (f : P → Q) where
 
   pub synth-payloads : (id : ℤ) (t : Nodes P) → labels_synth (label_of id (with_payloads f t)) ≡ labels_synth (label_of id t)
   synth-payloads id t = ap labels_synth (label-payloads id t) ∙ synth-map (label_of id t)
-
-  pub spot_fault-payloads : (action : Action) (target : ℤ) (t : Nodes P) → spot_fault action target (with_payloads f t) ≡ spot_fault action target t
-  spot_fault-payloads action target t = λ i. first_fault ((not (holds-payloads target t i), NoNode) ∷ (is_beside_root action target, IsRoot) ∷ (is_inside action && synth-payloads target t i, NotGroup) ∷ [])
 
   pub insert_fault-payloads : (id : ℤ) (action : Action) (target : ℤ) (t : Nodes P) → insert_fault id action target (with_payloads f t) ≡ insert_fault id action target t
   insert_fault-payloads id action target t = λ i. first_fault (

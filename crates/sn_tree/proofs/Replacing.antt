@@ -21,7 +21,7 @@ use Rattle.sn_tree.specs.Steps.{HasRoom, inserting, inserted, replacing, replace
 use Rattle.sn_tree.specs.Kept.{IsKept, shown}
 use Rattle.sn_tree.proofs.Placing.{found}
 use Rattle.sn_tree.proofs.Following.{insert_gives, detach_gives, detach_keeps, spare}
-use Rattle.sn_tree.proofs.Arranging.{Shows, IsPutList, put_list, taken_shows, count_is}
+use Rattle.sn_tree.proofs.Arranging.{Shows, IsPutList, put_list, taken_shows}
 
 -- ---- the target, once the new node stands before it
 
@@ -152,7 +152,7 @@ replace_gives root s0 s1 s2 nodes nodes' saved saved1 saved2 tree id kind spot t
     let can : CanReplace id target nodes.attached = can_replace id target nodes.attached allowed in
     let mid : Arranged = inserting id kind Before target (Some key) nodes in
     let at : Spot = record { action = Before; target = target } in
-    let put_in = insert_gives root s0 s1 s2 nodes mid saved saved1 tree id kind at at payload key made f e kept v m vacant updates refl refl noted_is can.below_root can.free in
+    let put_in = insert_gives root s0 s1 s2 nodes mid saved saved1 tree id kind at at payload key made f e kept v m vacant updates refl refl noted_is can.below_root can.free can.there in
     let is : nodes' ≡ replacing id kind target (Some key) nodes = nd ∙ ap (λ (q : Spot). replacing id kind q.target (Some key) nodes) same in (
       detach_keeps root s2.slots mid nodes' saved1 saved2 (inserted id kind Before target payload tree) put_in.1 put_in.0 spent_is target is can.below_root,
       detach_gives root s2.slots mid nodes' saved1 saved2 (inserted id kind Before target payload tree) put_in.1 put_in.0 spent_is target is,

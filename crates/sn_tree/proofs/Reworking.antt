@@ -1,5 +1,5 @@
 -- Payloads changed in a node and in all nodes below it.
-use Rattle.std.proofs.Common.{◌≡◌, ◌≢◌, ◌||◌, suc, ◌+◌, ◌<◌, ◌≤◌, ℤ, Bool, true, false, List, [], ◌∷◌, ◌++◌, length, Option, Some, None, sym, refl, ap, ◌∙◌, subst, ⊎_elim, arith}
+use Rattle.std.proofs.Common.{◌≡◌, ◌≢◌, ◌||◌, suc, ◌+◌, ◌<◌, ◌≤◌, ℤ, Bool, true, false, List, [], ◌∷◌, ◌++◌, Option, Some, None, sym, refl, ap, ◌∙◌, subst, ⊎_elim, arith}
 use Rattle.std.specs.Prelude.{◌==◌, is_some, slice_index_or, if◌then◌else◌}
 use Rattle.std.specs.List.{IsFirstAndRest}
 use Rattle.std.specs.Ordering.{int_eq}
@@ -38,9 +38,6 @@ pub record IsChanging {P : Type 0} (change : P → P) (root : P) (slots : List (
   pub keeps : (key : Key) → filled slots' key ≡ filled slots key
   pub each : (key : Key) → 1 ≤ filled slots key → repeated change (hits key rest) (payload_of root' slots' key) ≡ repeated change (hits key es) (payload_of root slots key)
 
-pub changing_start : {P : Type 0} (change : P → P) (root : P) (slots : List (Option P)) (es : List Entry) → IsChanging change root slots es root slots es
-changing_start change root slots es = record { keeps = λ key. refl; each = λ key h. refl }
-
 pub same_key_is : (a b : Key) → same_key a b ≡ true → a ≡ b
 same_key_is None None h = refl
 same_key_is None (Some b) h = cc
@@ -66,10 +63,6 @@ module _ {P : Type 0} (change : P → P) (root : P) (slots : List (Option P)) (e
         ap (repeated change (hits key after)) (s.others key k full1) ∙ (ap (λ n. repeated change n (payload_of root1 slots1 key)) (sym more) ∙ before))
         (cases_Bool (same_key e.key key));
   }
-
-  pub changing_end : (root1 : P) (slots1 : List (Option P)) (rest : List Entry) → IsChanging change root slots es root1 slots1 rest → length rest ≡ 0 → AreChanged change root slots root1 slots1 es
-  changing_end root1 slots1 [] h z = record { keeps = h.keeps; each = h.each }
-  changing_end root1 slots1 (e ∷ rest) h z = absurd (omega arith)
 
 -- what the change makes of the nodes
 

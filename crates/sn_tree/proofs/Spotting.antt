@@ -13,7 +13,7 @@ use Rattle.sn_tree.specs.declared.node.NodeKind.TheVariants.{Synth}
 use Rattle.sn_tree.specs.declared.node.Action.{Action}
 use Rattle.sn_tree.specs.declared.node.Action.TheVariants.{Head, Tail, Before, After}
 use Rattle.sn_tree.specs.Trees.{Label, Nodes, none, node, holds, put, subtree, without, children, count, ids, next_after, first_of}
-use Rattle.sn_tree.specs.declared.node.TreeFault.TheVariants.{NoNode, IsRoot, NotGroup}
+use Rattle.sn_tree.specs.declared.node.TreeFault.TheVariants.{IsRoot, NotGroup}
 use Rattle.sn_tree.specs.Faults.{is_inside, is_synth, is_beside_root, first_fault, spot_fault}
 use Rattle.sn_tree.specs.Order.{Key, entry_of, flat, tree_of, IsFlat, adjusted, length-flat, take_at, drop_at}
 use Rattle.sn_tree.specs.Places.{IsSmall, named, placed, Found, Spotted, place_for, with_new, lifted, IsPlace, taken_out}
@@ -261,9 +261,6 @@ put_list es id p s Head new zs =
 put_list es id p s Tail new zs = put_behind es id p s new zs
 put_list es id p s After new zs = put_behind es id p s new zs
 
-pub no_spot : {P : Type 0} (t : Nodes P) (action : Action) (id : ℤ) → holds id t ≡ false → spot_fault action id t ≡ Some NoNode
-no_spot t action id h = rw h refl
-
 pub spot_is : (es : List Entry) (id : ℤ) (p : ℕ) (s : Spotted es id p) (d : Entry) (action : Action) → spot_fault action id (tree_of es) ≡ first_fault ((is_beside_root action id, IsRoot) ∷ (is_inside action && is_synth (get_or es p d).kind, NotGroup) ∷ [])
 spot_is es id p s d action =
     let k : (get_or es p d).kind ≡ s.place.label.kind = ap (λ (e : Entry). e.kind) (item es id p s d) in
@@ -316,9 +313,6 @@ taken_list es id p s n h =
 pub lift_list : (place : Place) (by : ℕ) (es raised : List Entry) (d : Entry) → place.target < length es → place.inside ≡ true → raised ≡ adjusted (λ n. n + by) (take place.target es)
     → slice_set (raised ++ drop place.target es) place.target (record (get_or (raised ++ drop place.target es) place.target d) { below = (get_or (raised ++ drop place.target es) place.target d).below + by }) ≡ lifted place by es
 lift_list place by es raised d h inside r = set_seam raised (drop place.target es) place.target by d (omega (arith, ap length r, length-adjusted (λ n. n + by) (take place.target es), length-take place.target es)) (omega (arith, length-drop place.target es)) ∙ (λ i. r i ++ with_new (sym inside i) by (drop place.target es))
-
-pub not_lifted : (place : Place) (by : ℕ) (es raised : List Entry) → place.inside ≡ false → raised ≡ adjusted (λ n. n + by) (take place.target es) → raised ++ drop place.target es ≡ lifted place by es
-not_lifted place by es raised outside r = (λ i. r i ++ with_new_not by (drop place.target es) i) ∙ ap (λ b. adjusted (λ n. n + by) (take place.target es) ++ with_new b by (drop place.target es)) (sym outside)
 
 pub take_out_list : (p n : ℕ) (es low mid out : List Entry) → p + n ≤ length es → low ≡ adjusted (λ k. k - n) (take p es)
     → mid ≡ take p (low ++ drop p es) ++ (drop n (drop p (low ++ drop p es)) ++ take n (drop p (low ++ drop p es)))

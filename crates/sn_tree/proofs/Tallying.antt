@@ -1,12 +1,12 @@
 -- The payloads of the entries are those of the tree.
-use Rattle.std.proofs.Common.{◌≡◌, ℕ, ◌+◌, ◌≤◌, List, [], ◌∷◌, ◌++◌, Option, Some, None, refl, ap, sym, ◌∙◌, arith}
+use Rattle.std.proofs.Common.{◌≡◌, ◌+◌, ◌≤◌, List, [], ◌∷◌, ◌++◌, Option, Some, None, refl, ap, ◌∙◌, arith}
 use Rattle.std.specs.Prelude.{if◌then◌else◌}
 use Rattle.sn_tree.specs.declared.entry.Entry.{Entry}
-use Rattle.sn_tree.specs.Trees.{Nodes, none, node, count, with_payloads}
-use Rattle.sn_tree.specs.Order.{Key, entry_of, flat, tree_of, IsFlat}
+use Rattle.sn_tree.specs.Trees.{Nodes, none, node, payloads, with_payloads}
+use Rattle.sn_tree.specs.Order.{Key, flat, tree_of, IsFlat}
 use Rattle.sn_tree.specs.Kept.{same_key, uses, payload_of, filled}
 use Rattle.sn_tree.specs.Walking.{payload_at}
-use Rattle.sn_tree.specs.Tallies.{payloads, in_front, held_in}
+use Rattle.sn_tree.specs.Tallies.{in_front, held_in}
 use Rattle.sn_tree.proofs.Keeping.{same_key-refl}
 use Rattle.sn_tree.proofs.Walking.{held_at}
 

@@ -1,20 +1,20 @@
 -- Finding where a node stands.
 use Rattle.std.proofs.Common.{◌≡◌, ◌≢◌, ℕ, zero, suc, ◌+◌, ◌-◌, ◌<◌, ◌≤◌, ℤ, negsuc, true, false, ◌||◌, nat_lt, List, [], ◌∷◌, ◌++◌, length, take, drop, length-drop, length-take, Some, None, sym, refl, ap, ◌∙◌, subst, ⊎_elim, arith, reverse, append_assoc}
-use Rattle.std.proofs.lemmas.List.{reverse-append, append-nil}
+use Rattle.std.proofs.lemmas.List.{reverse-append}
 use Rattle.std.specs.List.{position, position_or_len, IsFirstAndRest}
 use Rattle.std.specs.Ordering.{int_eq}
 use Rattle.std.proofs.lemmas.Bool.{cases_Bool, cases_lt, or_from, or_parts, cond-true, cond-false, lt-ltb, le-ltb}
 use Rattle.sn_tree.specs.declared.entry.Entry.{Entry}
 use Rattle.sn_tree.specs.declared.node.NodeView.{NodeView}
 use Rattle.sn_tree.specs.Trees.{Nodes, none, node, holds, last_id, view_from, view_of}
-use Rattle.sn_tree.specs.Order.{Key, label_in, flat, tree_of, IsFlat, length-flat, take_at, drop_at, flat_is, tree_is}
+use Rattle.sn_tree.specs.Order.{Key, label_in, flat, tree_of, IsFlat, length-flat, take_at, flat_is, tree_is}
 use Rattle.sn_tree.specs.Places.{named}
 use Rattle.sn_tree.specs.Views.{seen, views_from, views_at, views_below}
 use Rattle.sn_tree.specs.Reaching.{IsAt, IsToward, views_in_level, pending, AllFlat, steps_left, IsStep}
 use Rattle.sn_tree.specs.declared.views.Level.{Level}
 use Rattle.sn_tree.proofs.Placing.{named-flat}
 use Rattle.sn_tree.proofs.Spotting.{not_spotted}
-use Rattle.sn_tree.proofs.Walking.{Opened, opened, below_within}
+use Rattle.sn_tree.proofs.Walking.{parts, skip_list, skip_tree, below_within}
 
 pub at_front : (id : ℤ) (n k : ℕ) (es : List Entry) → IsAt id k es → k < n → IsAt id k (take n es)
 at_front id zero k es h l = absurd (omega arith)
@@ -67,23 +67,19 @@ at_position id es n e =
 -- what a level is cut into
 
 module _ (e : Entry) (es : List Entry) (h : IsFlat (e ∷ es)) where
-  parts : Opened e es
-  parts = opened e es h
-
-  front_list : take e.below es ≡ flat parts.below
-  front_list = ap (take e.below) parts.rest ∙ take_at e.below (flat parts.below) (flat parts.after) (parts.size ∙ sym (length-flat parts.below))
-
-  back_list : drop e.below es ≡ flat parts.after
-  back_list = ap (drop e.below) parts.rest ∙ drop_at e.below (flat parts.below) (flat parts.after) (parts.size ∙ sym (length-flat parts.below))
+  front_list : take e.below es ≡ flat (parts e es h).below
+  front_list =
+      ap (take e.below) (parts e es h).rest
+      ∙ take_at e.below (flat (parts e es h).below) (flat (parts e es h).after) ((parts e es h).size ∙ sym (length-flat (parts e es h).below))
 
   pub front_flat : IsFlat (take e.below es)
-  front_flat = flat_is (take e.below es) parts.below front_list
+  front_flat = flat_is (take e.below es) (parts e es h).below front_list
 
   pub back_flat : IsFlat (drop e.below es)
-  back_flat = flat_is (drop e.below es) parts.after back_list
+  back_flat = flat_is (drop e.below es) (parts e es h).after (skip_list e es h)
 
   pub cut_tree : tree_of (e ∷ es) ≡ node (label_in e) (tree_of (take e.below es)) (tree_of (drop e.below es))
-  cut_tree = parts.tree ∙ (λ i. node (label_in e) (sym (tree_is (take e.below es) parts.below front_list) i) (sym (tree_is (drop e.below es) parts.after back_list) i))
+  cut_tree = (parts e es h).tree ∙ (λ i. node (label_in e) (sym (tree_is (take e.below es) (parts e es h).below front_list) i) (sym (skip_tree e es h) i))
 
 -- the last node of a level
 
@@ -98,10 +94,6 @@ last_of whole rest last e after h f =
       flat = back_flat e after fl;
       same = ap (last_id last) (sym (cut_tree e after fl)) ∙ (ap (λ l. last_id last (tree_of l)) (sym f.0) ∙ h.same);
     }
-
-pub last_end : (whole rest : List Entry) (last : ℤ) → IsLastOf whole rest last → length rest ≡ 0 → last ≡ last_id (negsuc 0) (tree_of whole)
-last_end whole [] last h z = h.same
-last_end whole (e ∷ es) last h z = absurd (omega arith)
 
 -- the way to a node
 
@@ -180,10 +172,6 @@ toward_start es id n h e = record { flat = h; at = at_position id es n e; same =
 pub not_there : (es : List Entry) (id : ℤ) → IsFlat es → None ≡ position (λ (x : Entry). int_eq x.id id) es → holds id (tree_of es) ≡ false
 not_there es id h e = not_spotted es id h (sym e)
 
-pub toward_never : {X : Type 0} (whole level : List Entry) (parent previous id : ℤ) (left : ℕ) → IsToward whole level parent previous id left → length level ≡ 0 → X
-toward_never whole [] parent previous id left h z = absurd h.at
-toward_never whole (e ∷ es) parent previous id left h z = absurd (omega arith)
-
 pub no_view : (parent previous id : ℤ) (t : Nodes Key) → holds id t ≡ false → view_from parent previous id t ≡ None
 no_view parent previous id none h = refl
 no_view parent previous id (node label below after) h =
@@ -206,20 +194,8 @@ see_list level e rest h f =
     ap (λ l. views_from level.corner.parent level.corner.previous (tree_of l)) f.0
     ∙ ap (views_from level.corner.parent level.corner.previous) (cut_tree e rest (subst (λ l. IsFlat l) f.0 h))
 
-see_empty : (es : List Entry) (parent previous : ℤ) → length es ≡ 0 → views_from parent previous (tree_of es) ≡ []
-see_empty [] parent previous z = refl
-see_empty (e ∷ es) parent previous z = absurd (omega arith)
-
 reverse_push : {X : Type 0} (xs : List X) (x : X) → reverse (xs ++ x ∷ []) ≡ x ∷ reverse xs
 reverse_push xs x = reverse-append xs (x ∷ [])
-
--- nothing was left of the level
-pub see_nothing : (level : Level) (levels : List Level) (views : List (ℤ × NodeView)) → length level.entries.now ≡ 0 → IsStep level levels levels views views
-see_nothing level levels views z = record {
-  same = ap (λ l. views ++ (l ++ pending (reverse levels))) (sym (see_empty level.entries.now level.corner.parent level.corner.previous z));
-  flat = λ h. h;
-  fewer = omega arith;
-}
 
 -- the first node is seen
 pub see_first : (level after_level below_level : Level) (before mid after : List Level) (views more : List (ℤ × NodeView)) (e : Entry) (rest below past : List Entry) (view : ℤ × NodeView)
@@ -249,10 +225,6 @@ see_first level after_level below_level before mid after views more e rest below
     }
 
 -- where nothing is left
-pub seen_all : (ls : List Level) (views whole : List (ℤ × NodeView)) → views ++ pending (reverse ls) ≡ whole → length ls ≡ 0 → views ≡ whole
-seen_all [] views whole h z = sym (append-nil views) ∙ h
-seen_all (l ∷ ls) views whole h z = absurd (omega arith)
-
 pub no_views : {P : Type 0} (parent previous id : ℤ) (t : Nodes P) → holds id t ≡ false → views_at parent previous id t ≡ []
 no_views parent previous id none h = refl
 no_views parent previous id (node label below after) h =

@@ -65,7 +65,7 @@ module _ (e : Entry) (es : List Entry) (h : IsFlat (e ∷ es)) where
   rest_list : es ≡ flat (joined parts.below parts.after)
   rest_list = parts.rest ∙ sym (flat-joined parts.below parts.after)
 
-  skip_list : drop e.below es ≡ flat parts.after
+  pub skip_list : drop e.below es ≡ flat parts.after
   skip_list = ap (drop e.below) parts.rest ∙ drop_at e.below (flat parts.below) (flat parts.after) (parts.size ∙ sym (length-flat parts.below))
 
   pub below_within : e.below ≤ length es
@@ -77,7 +77,7 @@ module _ (e : Entry) (es : List Entry) (h : IsFlat (e ∷ es)) where
   pub rest_tree : tree_of es ≡ joined parts.below parts.after
   rest_tree = tree_is es (joined parts.below parts.after) rest_list
 
-  skip_tree : tree_of (drop e.below es) ≡ parts.after
+  pub skip_tree : tree_of (drop e.below es) ≡ parts.after
   skip_tree = tree_is (drop e.below es) parts.after skip_list
 
   pub rest_uses : (key : Key) → uses key (tree_of (e ∷ es)) ≡ (if same_key e.key key then 1 else 0) + uses key (tree_of es)
@@ -158,25 +158,30 @@ held_at root slots (Some key) h = there (slice_index_or slots key None) h
     there None h = absurd (omega arith)
     there (Some p) h = refl
 
-module _ {P : Type 0} (root : P) (slots : List (Option P)) (es rest : List Entry) (e : Entry) (after : List Entry)
-    (left : IsLeft slots es) (h : IsFromRunning es rest) (f : IsFirstAndRest rest e after) where
-  whole : IsFlat (e ∷ after)
-  whole = subst (λ l. IsFlat l) f.0 h.past.flat
-
-  pub first_runs : e.running ≡ true
-  first_runs = subst (λ l. BeginsRunning l) f.0 h.runs
+module _ {P : Type 0} (root : P) (slots : List (Option P)) (es : List Entry) (e : Entry) (after : List Entry) (left : IsLeft slots es) (f : IsFirstAndRest es e after) where
+  pub first_flat : IsFlat (e ∷ after)
+  first_flat = subst (λ l. IsFlat l) f.0 left.flat
 
   used : (key : Key) → (if same_key e.key key then 1 else 0) + uses key (tree_of after) ≤ filled slots key
-  used key = omega (arith, rest_uses e after whole key, ap (λ l. uses key (tree_of l)) f.0, h.past.within key, left.keys key)
+  used key = omega (arith, rest_uses e after first_flat key, ap (λ l. uses key (tree_of l)) f.0, left.keys key)
 
   pub first_payload : payload_at root slots e.key ≡ Some (payload_of root slots e.key)
   first_payload = held_at root slots e.key (let b : 1 ≤ (if same_key e.key e.key then 1 else 0) = rw (same_key-refl e.key) (omega arith) in omega (arith, used e.key))
 
   pub rest_left : IsLeft slots after
-  rest_left = record { flat = rest_flat e after whole; keys = λ key. omega (arith, used key) }
+  rest_left = record { flat = rest_flat e after first_flat; keys = λ key. omega (arith, used key) }
+
+-- the walk comes to the next node that runs
+pub left_from : {P : Type 0} (slots : List (Option P)) (es rest : List Entry) → IsLeft slots es → IsFromRunning es rest → IsLeft slots rest
+left_from slots es rest left h = record { flat = h.past.flat; keys = λ key. omega (arith, h.past.within key, left.keys key) }
+
+module _ {P : Type 0} (root : P) (slots : List (Option P)) (es rest : List Entry) (e : Entry) (after : List Entry)
+    (left : IsLeft slots es) (h : IsFromRunning es rest) (f : IsFirstAndRest rest e after) where
+  pub first_runs : e.running ≡ true
+  first_runs = subst (λ l. BeginsRunning l) f.0 h.runs
 
   pub steps : left_of root slots es ≡ relabelled (payload_of root slots) (label_in e) ∷ left_of root slots after
-  steps = sym (left_same root slots es rest h.past) ∙ (ap (left_of root slots) f.0 ∙ stepped e after whole (payload_of root slots) first_runs)
+  steps = sym (left_same root slots es rest h.past) ∙ (ap (left_of root slots) f.0 ∙ stepped e after (first_flat root slots rest e after (left_from slots es rest left h) f) (payload_of root slots) first_runs)
 
 pub never : {A B : Type 0} (o : Option A) (a : A) → o ≡ Some a → None ≡ o → B
 never o a h e = let bad : None ≡ Some a = e ∙ h in cc
@@ -191,7 +196,7 @@ pub given : {P : Type 0} (root : P) (slots : List (Option P)) (es rest : List En
     → left_of root slots es ≡ (record { id = id; kind = e.kind; running = true; payload = payload }) ∷ left_of root slots after
 given root slots es rest e after id payload left h f i p =
     steps root slots es rest e after left h f
-    ∙ ap (λ l. l ∷ left_of root slots after) (label_is (payload_of root slots) e id payload i (first_runs root slots es rest e after left h f) (same_of (sym (first_payload root slots es rest e after left h f) ∙ sym p)))
+    ∙ ap (λ l. l ∷ left_of root slots after) (label_is (payload_of root slots) e id payload i (first_runs root slots es rest e after left h f) (same_of (sym (first_payload root slots rest e after (left_from slots es rest left h) f) ∙ sym p)))
   where
     same_of : {A : Type 0} {a b : A} → Some a ≡ Some b → a ≡ b
     same_of q = cc

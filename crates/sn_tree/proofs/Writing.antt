@@ -16,7 +16,7 @@ use Rattle.sn_tree.specs.Kept.{same_key, uses, payload_of, filled, IsFilled, IsS
 use Rattle.sn_tree.specs.Steps.{mark_in, remarked, rewritten, saved_written, written}
 use Rattle.sn_tree.proofs.PayloadLaws.{relabelled, holds-payloads, label-payloads}
 use Rattle.sn_tree.proofs.Showing.{payload_shown}
-use Rattle.sn_tree.proofs.Keeping.{same_key-refl, agree, uses_label, uses_here, labelled}
+use Rattle.sn_tree.proofs.Keeping.{same_key-refl, agree, uses_label, uses_here, labelled, filled_keeps}
 
 pub same_is : (a b : Key) → same_key a b ≡ true → a ≡ b
 same_is None None h = refl
@@ -194,19 +194,19 @@ module _ {P : Type 0} (root : P) (slots : List (Option P)) (nodes : Arranged) (s
         let both = written_by (payload_of root (slice_set slots key (Some w))) (Some key) (ap (λ o. unwrap_or o root) slot_now) slot_others e in
         λ i. record { attached = both.0 i; detached = both.1 i; journal = saved_by (payload_of root (slice_set slots key (Some w))) (Some key) (ap (λ o. unwrap_or o root) slot_now) slot_others e root (slice_set slots key (Some w)) (λ k. refl) saved is_kept.before i }
 
-    still_filled : (other : Key) → filled slots other ≤ filled (slice_set slots key (Some w)) other
-    still_filled None = omega arith
-    still_filled (Some other) = ⊎_elim
-        (λ (q : ((other == key) ≡ true) × (other ≡ key)). let y : slice_index_or (slice_set slots key (Some w)) other None ≡ Some w = ap (λ n. slice_index_or (slice_set slots key (Some w)) n None) q.1 ∙ slot_now in rw y (at_most_one slots (Some other)))
-        (λ (q : ((other == key) ≡ false) × (other ≢ key)). let o = get_or-set_other slots key other (Some w) None q.1 in rw o (omega arith))
+    same_filled : (other : Key) → filled (slice_set slots key (Some w)) other ≡ filled slots other
+    same_filled None = refl
+    same_filled (Some other) = ⊎_elim
+        (λ (q : ((other == key) ≡ true) × (other ≡ key)).
+        let now : slice_index_or (slice_set slots key (Some w)) other None ≡ Some w = ap (λ n. slice_index_or (slice_set slots key (Some w)) n None) q.1 ∙ slot_now in
+        let full : filled (slice_set slots key (Some w)) (Some other) ≡ 1 = ap (λ o. if is_some o then 1 else 0) now in
+        let was : 1 ≤ filled slots (Some other) = subst (λ n. 1 ≤ filled slots (Some n)) (sym q.1) slot_filled in
+        omega (arith, full, was, at_most_one slots (Some other)))
+        (λ (q : ((other == key) ≡ false) × (other ≢ key)). ap (λ o. if is_some o then 1 else 0) (get_or-set_other slots key other (Some w) None q.1))
         (eqb_tells other key)
 
     pub slot_keeps : IsKept (slice_set slots key (Some w)) nodes saved
-    slot_keeps = record { now = record { keys = λ other. omega (arith, is_filled.keys other, still_filled other) }; rooted = is_kept.rooted; distinct = is_kept.distinct; aside = is_kept.aside; before = before saved is_kept.before }
-      where
-        before : (s : Option SavedNodes) → IsSaved slots s → IsSaved (slice_set slots key (Some w)) s
-        before None q = tt
-        before (Some s) q = (λ other. omega (arith, q.0 other, still_filled other), q.1, q.2, q.3)
+    slot_keeps = filled_keeps slots (slice_set slots key (Some w)) nodes saved same_filled is_kept
 
 -- there is no such node
 

@@ -1,7 +1,7 @@
 -- The ids of nodes that lie below a node.
 use Rattle.std.specs.Prelude.{ℤ, if◌then◌else◌, List, [], ◌∷◌, ◌++◌}
 use Rattle.sn_tree.specs.declared.entry.Entry.{Entry}
-use Rattle.sn_tree.specs.Trees.{Label, Nodes, none, node}
+use Rattle.sn_tree.specs.Trees.{Nodes, none, node}
 use Rattle.sn_tree.specs.Faults.{is_synth}
 
 module _ {P : Type 0} where

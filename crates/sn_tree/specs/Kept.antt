@@ -1,5 +1,5 @@
 -- How the nodes, by the keys of their payloads, and the payloads stand for a tree.
-use Rattle.std.specs.Prelude.{◌≡◌, ℕ, suc, ◌+◌, ◌≤◌, ◌==◌, nat_lt, pos, Bool, true, false, List, [], ◌∷◌, Option, Some, None, is_some, unwrap_or, slice_index_or, if◌then◌else◌}
+use Rattle.std.specs.Prelude.{◌≡◌, ℕ, suc, ◌+◌, ◌==◌, nat_lt, pos, Bool, true, false, List, [], ◌∷◌, Option, Some, None, is_some, unwrap_or, slice_index_or, if◌then◌else◌}
 use Rattle.std.specs.Ordering.{int_eq}
 use Rattle.sn_tree.specs.declared.node.NodeKind.TheVariants.{Group}
 use Rattle.sn_tree.specs.Trees.{Label, Nodes, none, node, ids, with_payloads, with_payloads_of}
@@ -49,15 +49,15 @@ pub record IsRooted (nodes : Nodes Key) : Type 0 where
   pub kind : label.kind ≡ Group
   pub key : label.payload ≡ None
 
--- no payload is used twice, and none is missing
+-- each payload is that of one node: none is used twice, none is missing, and none is kept without a node
 pub record IsFilled {P : Type 0} (slots : List (Option P)) (nodes : Arranged) : Type 0 where
-  pub keys : (key : Key) → uses key nodes.attached + uses key nodes.detached ≤ filled slots key
+  pub keys : (key : Key) → uses key nodes.attached + uses key nodes.detached ≡ filled slots key
 
--- the same of what a journal keeps, beside the payloads that were put in since
+-- the same of what a journal keeps: each payload is that of one saved node, or was put in since
 abbrev pub IsSaved : {P : Type 0} → List (Option P) → Option SavedNodes → Type 0
 IsSaved slots None = Unit {0}
 IsSaved slots (Some saved) =
-    ((key : Key) → uses key saved.nodes.attached + (uses key saved.nodes.detached + times key saved.made) ≤ filled slots key)
+    ((key : Key) → uses key saved.nodes.attached + (uses key saved.nodes.detached + times key saved.made) ≡ filled slots key)
     × IsRooted saved.nodes.attached × AllDistinct int_eq (ids saved.nodes.attached) × EachDistinct saved.nodes.detached
 
 pub record IsKept {P : Type 0} (slots : List (Option P)) (nodes : Arranged) (saved : Option SavedNodes) : Type 0 where

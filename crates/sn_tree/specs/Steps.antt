@@ -3,7 +3,7 @@ use Rattle.std.specs.Prelude.{◌≡◌, ℕ, ◌+◌, ◌-◌, ◌<◌, ◌≤�
 use Rattle.sn_tree.specs.declared.node.NodeKind.{NodeKind}
 use Rattle.sn_tree.specs.declared.node.Action.{Action}
 use Rattle.sn_tree.specs.declared.node.Action.TheVariants.{Before}
-use Rattle.sn_tree.specs.Trees.{Label, Nodes, Sides, none, node, put, leaf, without, subtree, joined, changed, with_running, with_payload, with_payloads, with_payloads_of, label_of, last_top, without_last, without_first}
+use Rattle.sn_tree.specs.Trees.{Label, Nodes, Sides, none, node, put, leaf, without, subtree, joined, changed, with_running, with_payload, payloads, with_payloads, with_payloads_of, label_of, last_top, without_last, without_first}
 use Rattle.sn_tree.specs.Model.{Journal, NodeTree}
 
 -- how often a value is in a list, by a test of equality
@@ -14,11 +14,6 @@ occurrences same x (y ∷ ys) = (if same y x then 1 else 0) + occurrences same x
 -- no value is in a list twice
 abbrev pub AllDistinct : {A : Type 0} → (A → A → Bool) → List A → Type 0
 AllDistinct same xs = (x : _) → occurrences same x xs ≤ 1
-
--- the payloads in the order of the walk
-abbrev pub payloads_of : {P : Type 0} → Nodes P → List P
-payloads_of none = []
-payloads_of (node label below after) = label.payload ∷ (payloads_of below ++ payloads_of after)
 
 module _ {P : Type 0} where
   -- steps on the attached and the detached nodes
@@ -128,7 +123,7 @@ module _ {P : Type 0} where
     pub room : journal.room ≡ steps
     pub attached_marks : IsShapedAs journal.marks.saved.attached old.attached
     pub detached_marks : IsShapedAs journal.marks.saved.detached old.detached
-    pub distinct : AllDistinct ◌==◌ (payloads_of journal.marks.saved.attached ++ payloads_of journal.marks.saved.detached)
+    pub distinct : AllDistinct ◌==◌ (payloads journal.marks.saved.attached ++ payloads journal.marks.saved.detached)
     pub present : journal.marks.present ≡ with_payloads_of Some journal.marks.saved
 
   -- the saved nodes are back, and the journal is closed

@@ -1,13 +1,7 @@
 -- What is gathered from the payloads of all nodes.
-use Rattle.std.specs.Prelude.{List, [], ◌∷◌, ◌++◌, Option, Some, None}
+use Rattle.std.specs.Prelude.{List, [], ◌∷◌, Option, Some, None}
 use Rattle.sn_tree.specs.declared.entry.Entry.{Entry}
-use Rattle.sn_tree.specs.Trees.{Nodes, none, node}
 use Rattle.sn_tree.specs.Walking.{payload_at}
-
--- the payloads in the order of the walk
-abbrev pub payloads : {P : Type 0} → Nodes P → List P
-payloads none = []
-payloads (node label below after) = label.payload ∷ (payloads below ++ payloads after)
 
 -- one after the other is added
 abbrev pub gathered : {A P : Type 0} → (A → P → A) → A → List P → A

@@ -183,6 +183,11 @@ module _ {P : Type 0} where
   abbrev pub view_of : ℤ → Nodes P → Option NodeView
   view_of id nodes = view_from (negsuc 0) (negsuc 0) id nodes
 
+-- the payloads in the order of the walk
+abbrev pub payloads : {P : Type 0} → Nodes P → List P
+payloads none = []
+payloads (node label below after) = label.payload ∷ (payloads below ++ payloads after)
+
 -- each payload changed
 abbrev pub with_payloads : {P Q : Type 0} → (P → Q) → Nodes P → Nodes Q
 with_payloads f none = none

@@ -1,5 +1,5 @@
 //! Changes of the list.
-ghost use Rattle.std.specs.Prelude.{◌≡◌, ◌≤◌, ◌<◌, ◌+◌, ◌-◌, ◌^◌, ◌++◌, List, length, take, drop, reverse, None, Some, MatchResult};
+ghost use Rattle.std.specs.Prelude.{◌≡◌, ◌≤◌, ◌<◌, ◌+◌, ◌-◌, ◌++◌, List, length, take, drop, reverse, Some, MatchResult};
 ghost use Rattle.sn_tree.specs.declared.entry.Entry.{Entry};
 ghost use Rattle.sn_tree.specs.Faults.{detach_fault, move_fault, set_run_fault};
 ghost use Rattle.sn_tree.specs.Order.{IsFlat, tree_of, adjusted};

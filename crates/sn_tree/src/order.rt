@@ -1,10 +1,10 @@
 //! The nodes in one list: the attached ones in the order of the walk, and the detached ones behind them in reverse order.
-ghost use Rattle.std.specs.Prelude.{◌≡◌, ◌≤◌, ◌+◌, ◌<◌, None, Some, true, List, ◌++◌, [], ◌∷◌, IfSome, IfNone, length, take, drop, IfOk, OnOk, OnErr, MatchResult, ℤ, pos};
+ghost use Rattle.std.specs.Prelude.{◌≡◌, ◌≤◌, ◌+◌, ◌<◌, None, Some, true, List, ◌++◌, [], ◌∷◌, IfSome, IfNone, length, take, drop, IfOk, OnOk, OnErr, MatchResult, pos};
 ghost use Rattle.std.specs.List.{insert};
 ghost use Rattle.std.specs.Option.{option_map};
 ghost use Rattle.sn_tree.specs.declared.entry.Entry.{Entry};
 ghost use Rattle.sn_tree.specs.declared.node.NodeKind.TheVariants.{Group};
-ghost use Rattle.sn_tree.specs.Trees.{none, holds, count, ids, next_after, first_of, children, label_of, put, leaf, without, subtree, joined, changed, with_running, first_label, without_first};
+ghost use Rattle.sn_tree.specs.Trees.{none, count, ids, next_after, first_of, children, label_of, put, leaf, without, subtree, joined, changed, with_running, first_label, without_first};
 ghost use Rattle.sn_tree.specs.Faults.{insert_fault, replace_fault, attach_fault, detach_fault, move_fault, set_run_fault, fault_of};
 ghost use Rattle.sn_tree.specs.Steps.{attaching, moving, replacing};
 ghost use Rattle.sn_tree.specs.Aside.{brought};

@@ -1,5 +1,5 @@
 //! Finding nodes, and places for them, in the list.
-ghost use Rattle.std.specs.Prelude.{◌≡◌, ◌≤◌, ◌+◌, None, Some, length, drop, false, ◌&&◌, [], ◌∷◌, MatchResult, MatchOption, ℤ, pos};
+ghost use Rattle.std.specs.Prelude.{◌≡◌, ◌≤◌, ◌+◌, None, Some, length, drop, false, ◌&&◌, [], ◌∷◌, MatchResult, MatchOption};
 ghost use Rattle.std.specs.List.{position};
 ghost use Rattle.std.specs.Ordering.{int_eq};
 ghost use Rattle.sn_tree.specs.Trees.{holds, ids, next_after, first_of, children, label_of};

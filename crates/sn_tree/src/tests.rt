@@ -29,23 +29,6 @@ fn groups_are_walked_in_their_order(rt: HostRuntime) -> Result<(), Fail> {
     Ok(())
 }
 
-#[test]
-fn a_detached_subtree_leaves_the_walk(rt: HostRuntime) -> Result<(), Fail> {
-    let mut tree = Tree::new(rt.alloc(), 0u32)?;
-    tree.insert(1, NodeKind::Group, spot(Action::Tail, 0), 0)?;
-    tree.insert(2, NodeKind::Group, spot(Action::Tail, 1), 0)?;
-    tree.insert(3, NodeKind::Synth, spot(Action::Tail, 2), 0)?;
-    tree.insert(4, NodeKind::Synth, spot(Action::Tail, 1), 0)?;
-    assert_eq!(rt; tree.detach(0), Err(TreeFault::IsRoot));
-    assert_eq!(rt; tree.detach(9), Err(TreeFault::NoNode));
-    assert_eq!(rt; tree.detach(2), Ok(()));
-    assert_eq!(rt; tree.len(), 3);
-    assert_eq!(rt; tree.first(1), Some(4));
-    assert_eq!(rt; tree.next_in_walk(1), Some(4));
-    assert_eq!(rt; tree.payload(3).copied(), None);
-    Ok(())
-}
-
 /// The root and 4,095 groups, each in the one before; the payload of each is its id.
 fn nested(alloc: Global) -> Result<Tree<i32>, Uninserted<i32>>
     ensures { IfOk result (λ t. t.journal ≡ None) }
@@ -86,23 +69,6 @@ fn a_node_takes_the_place_of_a_subtree(rt: HostRuntime) -> Result<(), Fail> {
 }
 
 #[test]
-fn a_tree_has_4096_nodes_at_most(rt: HostRuntime) -> Result<(), Fail> {
-    let mut tree = nested(rt.alloc())?;
-    assert_eq!(rt; tree.len(), 4096);
-    let refused = tree.insert(4096, NodeKind::Group, spot(Action::Tail, 0), 5);
-    assert!(rt; matches!(refused, Err(Uninserted::Fault(TreeFault::TooMany, 5))));
-    tree.replace(4096, NodeKind::Group, 4095, 0)?;
-    tree.replace(4095, NodeKind::Group, 4096, 0)?;
-    assert_eq!(rt; tree.len(), 4096);
-    let mut node = 0;
-    for id in 1..4096 {
-        assert_eq!(rt; tree.next_in_walk(node), Some(id));
-        node = id;
-    }
-    Ok(())
-}
-
-#[test]
 fn nested_groups_are_moved_and_freed(rt: HostRuntime) -> Result<(), Fail> {
     let mut tree = nested(rt.alloc())?;
     assert_eq!(rt; tree.move_to(2, spot(Action::Head, 0)), Ok(()));
@@ -115,25 +81,6 @@ fn nested_groups_are_moved_and_freed(rt: HostRuntime) -> Result<(), Fail> {
         assert_eq!(rt; tree.free(), Some(id));
     }
     assert_eq!(rt; tree.free(), None);
-    Ok(())
-}
-
-#[test]
-fn a_full_tree_takes_no_subtree_back(rt: HostRuntime) -> Result<(), Fail> {
-    let mut tree = nested(rt.alloc())?;
-    tree.detach(4095)?;
-    tree.insert(4096, NodeKind::Synth, spot(Action::Tail, 0), 5)?;
-    assert_eq!(rt;
-        tree.attach(4095, spot(Action::Tail, 4096)),
-        Err(TreeFault::NotGroup)
-    );
-    assert_eq!(rt;
-        tree.attach(4095, spot(Action::Tail, 0)),
-        Err(TreeFault::TooMany)
-    );
-    tree.detach(4096)?;
-    tree.attach(4095, spot(Action::Tail, 0))?;
-    assert_eq!(rt; tree.len(), 4096);
     Ok(())
 }
 
@@ -158,25 +105,6 @@ fn a_walk_leaves_out_what_is_paused(rt: HostRuntime) -> Result<(), Fail> {
     }
     assert_eq!(rt; ids.as_slice(), [0, 3, 5].as_slice());
     assert_eq!(rt; payloads.as_slice(), [10, 13, 25].as_slice());
-    Ok(())
-}
-
-#[test]
-fn what_is_detached_first_ends_first(rt: HostRuntime) -> Result<(), Fail> {
-    let mut tree = Tree::new(rt.alloc(), 0u32)?;
-    tree.insert(1, NodeKind::Group, spot(Action::Tail, 0), 11)?;
-    tree.insert(2, NodeKind::Synth, spot(Action::Tail, 1), 12)?;
-    tree.insert(3, NodeKind::Synth, spot(Action::Tail, 1), 13)?;
-    tree.insert(4, NodeKind::Synth, spot(Action::Tail, 0), 14)?;
-    assert_eq!(rt; tree.free(), None);
-    assert_eq!(rt; tree.detach(4), Ok(()));
-    assert_eq!(rt; tree.detach(1), Ok(()));
-    assert_eq!(rt; tree.free(), Some(14));
-    assert_eq!(rt; tree.free(), Some(11));
-    assert_eq!(rt; tree.free(), Some(12));
-    assert_eq!(rt; tree.free(), Some(13));
-    assert_eq!(rt; tree.free(), None);
-    assert_eq!(rt; tree.len(), 1);
     Ok(())
 }
 
@@ -208,32 +136,6 @@ fn a_kept_journal_leaves_what_was_done(rt: HostRuntime) -> Result<(), Fail> {
     Ok(())
 }
 
-#[test]
-fn groups_are_ordered_by_moves(rt: HostRuntime) -> Result<(), Fail> {
-    let mut tree = Tree::new(rt.alloc(), 0u32)?;
-    tree.insert(6, NodeKind::Group, spot(Action::Tail, 0), 0)?;
-    tree.insert(7, NodeKind::Group, spot(Action::Tail, 0), 0)?;
-    tree.insert(8, NodeKind::Group, spot(Action::Tail, 0), 0)?;
-    assert_eq!(rt; tree.move_to(8, spot(Action::Head, 0)), Ok(()));
-    assert_eq!(rt; tree.move_to(7, spot(Action::After, 8)), Ok(()));
-    assert_eq!(rt; tree.first(0), Some(8));
-    assert_eq!(rt; tree.next_in_walk(8), Some(7));
-    assert_eq!(rt; tree.next_in_walk(7), Some(6));
-    assert_eq!(rt; tree.next_in_walk(6), None);
-    Ok(())
-}
-
-#[test]
-fn a_group_does_not_go_into_itself(rt: HostRuntime) -> Result<(), Fail> {
-    let mut tree = Tree::new(rt.alloc(), 0u32)?;
-    tree.insert(4, NodeKind::Group, spot(Action::Tail, 0), 0)?;
-    tree.insert(5, NodeKind::Group, spot(Action::Tail, 4), 0)?;
-    let below = tree.move_to(4, spot(Action::Tail, 5));
-    assert_eq!(rt; below, Err(TreeFault::Inside));
-    assert_eq!(rt; tree.first(4), Some(5));
-    Ok(())
-}
-
 struct Raise(u32);
 
 impl ChangePayload<u32> for Raise {
@@ -256,74 +158,6 @@ fn payloads_change_below_a_group_alone(rt: HostRuntime) -> Result<(), Fail> {
         payloads.push(*member.payload)?;
     }
     assert_eq!(rt; payloads.as_slice(), [10, 111, 112, 13].as_slice());
-    Ok(())
-}
-
-#[test]
-fn the_subtree_that_was_detached_last_is_put_back(rt: HostRuntime) -> Result<(), Fail> {
-    let mut tree = Tree::new(rt.alloc(), 10u32)?;
-    tree.insert(1, NodeKind::Group, spot(Action::Tail, 0), 11)?;
-    tree.insert(2, NodeKind::Group, spot(Action::Tail, 0), 12)?;
-    tree.insert(3, NodeKind::Synth, spot(Action::Tail, 2), 13)?;
-    tree.insert(4, NodeKind::Synth, spot(Action::Tail, 2), 14)?;
-    tree.detach(2)?;
-    tree.insert(2, NodeKind::Group, spot(Action::Tail, 0), 22)?;
-    tree.insert(5, NodeKind::Synth, spot(Action::Tail, 2), 25)?;
-    tree.detach(2)?;
-    tree.attach(2, spot(Action::Head, 1))?;
-    assert_eq!(rt; tree.next_in_walk(1), Some(2));
-    assert_eq!(rt; tree.next_in_walk(2), Some(5));
-    assert_eq!(rt; tree.next_in_walk(5), None);
-    assert_eq!(rt; tree.payload(2).copied(), Some(22));
-    tree.detach(2)?;
-    assert_eq!(rt; tree.free(), Some(12));
-    tree.attach(3, spot(Action::Before, 1))?;
-    assert_eq!(rt; tree.first(0), Some(3));
-    Ok(())
-}
-
-#[test]
-fn an_attached_node_is_not_put_back(rt: HostRuntime) -> Result<(), Fail> {
-    let mut tree = Tree::new(rt.alloc(), 10u32)?;
-    tree.insert(1, NodeKind::Group, spot(Action::Tail, 0), 11)?;
-    assert_eq!(rt;
-        tree.attach(1, spot(Action::Tail, 0)),
-        Err(TreeFault::NoNode)
-    );
-    assert_eq!(rt; tree.len(), 2);
-    Ok(())
-}
-
-#[test]
-fn used_ids_are_not_put_back(rt: HostRuntime) -> Result<(), Fail> {
-    let mut tree = Tree::new(rt.alloc(), 10u32)?;
-    tree.insert(1, NodeKind::Group, spot(Action::Tail, 0), 11)?;
-    tree.insert(2, NodeKind::Synth, spot(Action::Tail, 1), 12)?;
-    tree.detach(1)?;
-    tree.insert(2, NodeKind::Synth, spot(Action::Tail, 0), 22)?;
-    assert_eq!(rt;
-        tree.attach(1, spot(Action::Tail, 9)),
-        Err(TreeFault::InUse)
-    );
-    tree.detach(2)?;
-    assert_eq!(rt;
-        tree.attach(1, spot(Action::Tail, 9)),
-        Err(TreeFault::NoNode)
-    );
-    Ok(())
-}
-
-#[test]
-fn a_subtree_is_not_put_back_beside_the_root(rt: HostRuntime) -> Result<(), Fail> {
-    let mut tree = Tree::new(rt.alloc(), 10u32)?;
-    tree.insert(2, NodeKind::Synth, spot(Action::Tail, 0), 22)?;
-    tree.detach(2)?;
-    assert_eq!(rt;
-        tree.attach(2, spot(Action::Before, 0)),
-        Err(TreeFault::IsRoot)
-    );
-    tree.attach(2, spot(Action::Head, 0))?;
-    assert_eq!(rt; tree.payload(2).copied(), Some(22));
     Ok(())
 }
 

@@ -3,7 +3,7 @@ ghost use Rattle.std.specs.Prelude.{◌≡◌, ◌≤◌, ℕ, reverse, None, So
 ghost use Rattle.std.specs.Option.{option_map, option_copied, option_copied_mut};
 ghost use Rattle.std.specs.Borrow.{sem};
 ghost use Rattle.sn_tree.specs.declared.node.NodeKind.TheVariants.{Group};
-ghost use Rattle.sn_tree.specs.Trees.{none, count, holds, ids, next_after, first_of, children, label_of, leaf, running_labels, first_label, subtree, view_of};
+ghost use Rattle.sn_tree.specs.Trees.{none, count, holds, ids, next_after, first_of, children, label_of, leaf, running_labels, first_label, subtree, payloads, view_of};
 ghost use Rattle.sn_tree.specs.Faults.{attach_fault, insert_fault, insert_fault_of, replace_fault, returned, detach_fault, move_fault, set_run_fault, fault_of};
 ghost use Rattle.std.specs.List.{All};
 ghost use Rattle.std.specs.Ordering.{int_eq};
@@ -14,7 +14,7 @@ ghost use Rattle.sn_tree.specs.Views.{views_below};
 ghost use Rattle.sn_tree.specs.Members.{members};
 ghost use Rattle.sn_tree.specs.Below.{top_ids, synth_ids};
 ghost use Rattle.sn_tree.specs.Reworking.{changed_below};
-ghost use Rattle.sn_tree.specs.Tallies.{gathered, payloads};
+ghost use Rattle.sn_tree.specs.Tallies.{gathered};
 ghost use Rattle.slab.specs.Slab.{get};
 
 use crate::below::{synths_in, tops_in};
@@ -57,9 +57,10 @@ impl<P> Model for Tree<P> {
     ghost invariant = { λ t. IsKept t.payloads.slots t.order t.saved };
 }
 
-/// Drops the payloads under these keys.
+/// Drops the payloads under these keys, and no other.
 fn remove_all<P: Drop>(payloads: &mut Slab<P>, keys: Vec<usize>)
-    ensures { (key : ℕ) → times (Some key) (reverse keys.items) ≡ 0 → get payloads.new key ≡ get payloads.old key }
+    ensures others { (key : ℕ) → times (Some key) (reverse keys.items) ≡ 0 → get payloads.new key ≡ get payloads.old key }
+    ensures dropped { (key : ℕ) → 1 ≤ times (Some key) (reverse keys.items) → get payloads.new key ≡ None }
 {
     let mut keys = keys;
     while let Some(key) = keys.pop() {
@@ -422,6 +423,13 @@ impl<P: Drop> Tree<P> {
         let _ = &self.order;
     }
 
+    /// A law: the root is attached, and is a group.
+    pub fn root_is_a_group(&self)
+        ensures { option_map (λ l. l.kind) (label_of (pos 0) self.now.attached) ≡ Some Group }
+    {
+        let _ = &self.order;
+    }
+
     /// A law: the root lies below no node.
     pub fn root_is_on_top(&self, id: i32)
         ensures { holds (pos 0) (children id self.now.attached) ≡ false }
@@ -439,6 +447,7 @@ impl<P: Drop> Tree<P> {
     /// How many nodes are attached, the root among them: 1 to 4,096.
     pub fn len(&self) -> u32
         ensures value { result ≡ count self.now.attached }
+        ensures some { 1 ≤ result }
         ensures bound { result ≤ 4096 }
     {
         self.order.len() as u32

@@ -1,3 +1,5 @@
 pub mod FirstBad
 pub mod Loops
+pub mod Passing
+pub mod RenderLine
 pub mod ServeLine

@@ -1,27 +1,17 @@
 -- What words that choose settings and a port are.
-use Rattle.std.proofs.Common.{◌≡◌, ◌≤◌, ℕ, Bool, true, false, not, cond, nat_lt, List, [], length, Option, Some, None, Result, Ok, Err, refl, sym, ap, subst, arith}
+use Rattle.std.proofs.Common.{◌≡◌, ◌≤◌, ℕ, Bool, true, false, not, cond, nat_lt, nat_le, List, [], length, Option, Some, None, Result, Ok, Err, refl, sym, ap, subst, ◌∙◌, arith}
+use Rattle.std.proofs.lemmas.Bool.{and_from, le-leb}
 use Rattle.std.proofs.lemmas.Bool.Decides.{nat_tests}
 use Rattle.std.specs.Prelude.{codes}
 use Rattle.sn_fixed.specs.Natural.{natural}
 use Rattle.sn_pcm.specs.Allowed.{is_within}
 use Rattle.sn_ports.specs.Octets.{Octets}
+use Rattle.sn_words.specs.Choices.{Choices}
 use Rattle.sn_words.specs.Keys.{first_bad, choices}
-use Rattle.sn_words.specs.Laws.{AreGood, Tells, ServesBy}
+use Rattle.sn_words.specs.Laws.{IsServeLine, ServesBy}
 use Rattle.sn_words.specs.Serving.{ServeChoices, between, port_word, port_of, by_port, by_settings, serve_words_of}
 use Rattle.sn_words.specs.Words.{begins_with}
-use Rattle.sn_words.proofs.FirstBad.{finds_first_bad}
-
--- the last of the choices, and its test failed
-passed : (test : Bool) (i : ℕ) (rest : Result ServeChoices ℕ) (chosen : ServeChoices) → cond test (Err i) rest ≡ Ok chosen → (test ≡ false) × (rest ≡ Ok chosen)
-passed true i rest chosen e = absurd cc
-passed false i rest chosen e = (refl, e)
-
-negated : (test : Bool) → not test ≡ false → test ≡ true
-negated true e = refl
-negated false e = absurd cc
-
-not_fewer : (n : ℕ) → nat_lt n 3 ≡ false → 3 ≤ n
-not_fewer n e = grind (arith, nat_tests)
+use Rattle.sn_words.proofs.Passing.{passed, went_on, chosen_where, negated, is_negated, not_fewer, not_short, all_good, none_is_bad}
 
 none_bad : (words : List Octets) (bad : Option ℕ) (chosen : ServeChoices) → by_settings words bad ≡ Ok chosen → (bad ≡ None) × (by_port words (port_of (natural (port_word words))) ≡ Ok chosen)
 none_bad words None chosen e = (refl, e)
@@ -43,12 +33,17 @@ is_number (Some n) port e =
     let (same, least, greatest) = in_range n (is_within 1 65535 n) port refl e in
     (ap Some same, subst (λ k. 1 ≤ k) same least, subst (λ k. k ≤ 65535) same greatest)
 
-all_good : (words : List Octets) → first_bad [] words ≡ None → AreGood words (length words)
-all_good words e = let P : Option ℕ → Type 0 = λ index. Tells words index in subst P e (finds_first_bad words)
+-- a number in the range of ports is a port
+allowed_port : (port : ℕ) → 1 ≤ port → port ≤ 65535 → port_of (Some port) ≡ Some port
+allowed_port port least greatest =
+    chosen_where (is_within 1 65535 port) (Some port) None (and_from (nat_le 1 port) (nat_le port 65535) (le-leb 1 port least) (le-leb port 65535 greatest))
 
-pub serves_by : (words : List Octets) (chosen : ServeChoices) → ServesBy words chosen
+by_choice : (words : List Octets) (port : Option ℕ) (chosen : ServeChoices) → port ≡ Some chosen.port → chosen.settings ≡ choices (between words) → by_port words port ≡ Ok chosen
+by_choice words port chosen is same = ap (by_port words) is ∙ ap (λ (s : Choices). Ok (record { settings = s; port = chosen.port })) (sym same)
+
+line_of : (words : List Octets) (chosen : ServeChoices) → serve_words_of words ≡ Ok chosen → IsServeLine words chosen
 unfolding serve_words_of
-serves_by words chosen e =
+line_of words chosen e =
     let (first, e1) = passed (not (begins_with (codes "serve") words)) 0 _ chosen e in
     let (enough, e2) = passed (nat_lt (length words) 3) (length words) _ chosen e1 in
     let (none, e3) = none_bad words (first_bad [] (between words)) chosen e2 in
@@ -56,10 +51,21 @@ serves_by words chosen e =
     let (number, least, greatest) = is_number (natural (port_word words)) chosen.port port in
     record {
       first = negated (begins_with (codes "serve") words) first;
-      enough = not_fewer (length words) enough;
+      enough = not_fewer (length words) 3 enough;
       good = all_good (between words) none;
       settings = settings;
       port = number;
       least = least;
       greatest = greatest;
     }
+
+of_line : (words : List Octets) (chosen : ServeChoices) → IsServeLine words chosen → serve_words_of words ≡ Ok chosen
+unfolding serve_words_of
+of_line words chosen line =
+    went_on (not (begins_with (codes "serve") words)) (Err 0) _ (is_negated (begins_with (codes "serve") words) line.first)
+    ∙ went_on (nat_lt (length words) 3) (Err (length words)) _ (not_short (length words) 3 line.enough)
+    ∙ ap (by_settings words) (none_is_bad (between words) line.good)
+    ∙ by_choice words (port_of (natural (port_word words))) chosen (ap port_of line.port ∙ allowed_port chosen.port line.least line.greatest) line.settings
+
+pub serves_by : (words : List Octets) (chosen : ServeChoices) → ServesBy words chosen
+serves_by words chosen = (line_of words chosen, of_line words chosen)

@@ -1,7 +1,8 @@
 //! Laws about the definitions of this crate. Each function's contract is one law.
 ghost use Rattle.std.specs.Prelude.{List};
 ghost use Rattle.sn_ports.specs.Octets.{Octets};
-ghost use Rattle.sn_words.specs.Laws.{FindsFirstBad, HasOpeningDefaults, ServesBy};
+ghost use Rattle.sn_words.specs.Choices.{Choices};
+ghost use Rattle.sn_words.specs.Laws.{FindsFirstBad, HasOpeningDefaults, RendersBy, ServesBy};
 ghost use Rattle.sn_words.specs.Serving.{ServeChoices};
 
 /// The index of the first bad word is that of a bad word, and each word before it is good. Where
@@ -15,7 +16,12 @@ pub fn defaults_stand()
     ensures { HasOpeningDefaults }
 {}
 
-/// Words that choose settings and a port are `serve`, good words, a port from 1 to 65535 and one more word.
+/// Words choose settings exactly where they are `render`, good words and three more words.
+pub fn chosen_settings()
+    ensures { (words : List Octets) (chosen : Choices) → RendersBy words chosen }
+{}
+
+/// Words choose settings and a port exactly where they are `serve`, good words, a port from 1 to 65535 and one more word.
 pub fn chosen_port()
     ensures { (words : List Octets) (chosen : ServeChoices) → ServesBy words chosen }
 {}

@@ -10,7 +10,7 @@ mod serve;
 #[cfg(test)]
 mod tests;
 
-pub use laws::{chosen_port, defaults_stand, first_bad_word};
+pub use laws::{chosen_port, chosen_settings, defaults_stand, first_bad_word};
 pub use lines::BadWord;
 pub use render::settings;
 pub use serve::{ServeWords, serve_words};

@@ -1,5 +1,5 @@
 -- Values that are kept by their names.
-use Rattle.std.proofs.Common.{◌≡◌, ◌+◌, length, arith, ℕ, Bool, true, false, cond, not, is_some, List, [], ◌∷◌, map, Option, Some, None, refl, ap, sym, subst, ◌∙◌, T}
+use Rattle.std.proofs.Common.{◌≡◌, ◌+◌, length, arith, ℕ, Bool, true, false, cond, not, is_some, List, [], ◌∷◌, map, Option, Some, None, refl, ap, sym, ◌∙◌}
 use Rattle.std.specs.Option.{option_map, option_copied}
 use Rattle.std.specs.Ordering.{nat_cmp, eq_by_cmp, is_eq, match_ordering}
 use Rattle.std.specs.declared.cmp.Ordering.{Ordering}

@@ -1,9 +1,13 @@
 pub mod Parsing
 pub mod RunLemmas
+pub mod RunsRead
+pub mod ControlRunsRead
 pub mod StepLaws
 pub mod Continuing
 pub mod Meanings
 pub mod Counting
+pub mod FreedLemmas
+pub mod Turning
 pub mod Walking
 pub mod BufferLaws
 pub mod WalkedStage

@@ -1,12 +1,11 @@
 -- Words that are all 0 stand for the opening world.
-use Rattle.std.proofs.Common.{◌≡◌, ◌≤◌, ◌<◌, ◌+◌, ◌*◌, ℕ, zero, suc, ℤ, pos, List, [], ◌∷◌, ◌++◌, get_or, replicate, refl, ap, sym, subst, ◌∙◌, arith, Option}
+use Rattle.std.proofs.Common.{◌≡◌, ◌≤◌, ◌<◌, ◌+◌, ◌*◌, ℕ, zero, suc, ℤ, pos, List, [], ◌∷◌, ◌++◌, replicate, refl, ap, ◌∙◌, arith}
 use Rattle.std.specs.Prelude.{slice_index}
-use Rattle.sn_mem.specs.Blocks.{table, sample_in, samples_at}
+use Rattle.sn_mem.specs.Blocks.{table, sample_in}
 use Rattle.sn_mem.specs.Buses.{AudioBus, ControlBus, audio_bus, control_bus, audio_buses, control_buses}
-use Rattle.sn_mem.proofs.Windows.{table_same}
 use Rattle.std.proofs.lemmas.List.{length-replicate}
 use Rattle.sn_world.specs.declared.stage.Stage.{Stage}
-use Rattle.sn_world.specs.World.{World, world_of}
+use Rattle.sn_world.specs.World.{world_of}
 use Rattle.sn_world.specs.Opening.{opening, silent_audio, silent_control, IsOpening}
 use Rattle.sn_world.specs.Pictures.{Pictures}
 use Rattle.sn_world.proofs.BufferLaws.{opening_live, opening_buffers, opening_are, no-times}

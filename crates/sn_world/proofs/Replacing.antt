@@ -1,5 +1,5 @@
 -- A node that is put in the place of another: what is left of the nodes, and of their words.
-use Rattle.std.proofs.Common.{◌≡◌, ◌≤◌, ◌<◌, ◌+◌, ◌||◌, ℕ, ℤ, pos, Bool, true, false, List, refl, ap, sym, subst, ◌∙◌, ⊎_elim, arith}
+use Rattle.std.proofs.Common.{◌≡◌, ◌≤◌, ◌+◌, ◌||◌, ℕ, ℤ, pos, Bool, true, false, List, refl, ap, sym, subst, ◌∙◌, ⊎_elim, arith}
 use Rattle.std.specs.Prelude.{if◌then◌else◌}
 use Rattle.std.specs.Ordering.{int_eq}
 use Rattle.std.proofs.lemmas.Bool.{cases_Bool, cond_both}
@@ -10,7 +10,7 @@ use Rattle.sn_mem.specs.Words.{covers}
 use Rattle.sn_tree.specs.declared.node.NodeKind.{NodeKind}
 use Rattle.sn_tree.specs.declared.node.Action.{Action}
 use Rattle.sn_tree.specs.declared.node.Action.TheVariants.{Before}
-use Rattle.sn_tree.specs.Trees.{Label, Nodes, none, node, holds, count, joined, put, leaf, subtree, without, with_payloads}
+use Rattle.sn_tree.specs.Trees.{Nodes, none, node, holds, count, joined, put, leaf, subtree, without, with_payloads}
 use Rattle.sn_tree.proofs.PayloadLaws.{holds-payloads, put-payloads, without-payloads, count-payloads}
 use Rattle.sn_tree.proofs.Replacing.{still_held, subtree-before}
 use Rattle.sn_world.specs.declared.stage.Held.{Held}

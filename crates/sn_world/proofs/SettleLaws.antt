@@ -1,5 +1,5 @@
 -- What is settled of a world is what is settled of its words.
-use Rattle.std.proofs.Common.{◌≡◌, ◌≢◌, ◌≤◌, ◌<◌, ◌+◌, ◌==◌, ◌&&◌, ◌⊎◌, inl, inr, ⊎_elim, ℕ, ℤ, Bool, true, false, List, [], ◌∷◌, ◌++◌, Option, Some, None, length, get_or, set, refl, ap, sym, subst, ◌∙◌, arith, length-set, get_or-set_other, append_assoc}
+use Rattle.std.proofs.Common.{◌≡◌, ◌≢◌, ◌≤◌, ◌<◌, ◌+◌, ◌==◌, ◌&&◌, ◌⊎◌, inl, inr, ⊎_elim, ℕ, ℤ, Bool, true, false, List, [], ◌∷◌, ◌++◌, Option, Some, None, length, get_or, set, refl, ap, sym, ◌∙◌, arith, length-set, get_or-set_other}
 use Rattle.std.specs.Prelude.{if◌then◌else◌}
 use Rattle.sn_mem.specs.declared.extents.Extent.{Extent}
 use Rattle.sn_mem.specs.Blocks.{window, put, sample_in}
@@ -11,18 +11,15 @@ use Rattle.sn_def.specs.Defs.{definition_of}
 use Rattle.sn_def.specs.StateWords.{unit_words, units_words}
 use Rattle.sn_reply.specs.declared.events.Notice.{Notice}
 use Rattle.sn_reply.specs.declared.events.Notice.TheVariants as notice
-use Rattle.sn_tree.specs.Trees.{Label, Nodes, none, node, running_labels, with_payload, with_payloads}
 use Rattle.sn_world.specs.declared.stage.Held.{Held}
 use Rattle.sn_world.specs.declared.stage.Held.TheVariants as held
-use Rattle.sn_world.specs.Nodes.{Content, group, synth, content_of}
-use Rattle.sn_mem.specs.Buffers.{overlaps}
-use Rattle.sn_world.specs.Pictures.{held_extents, live_held, IsHeld, AreHeld}
-use Rattle.sn_world.specs.declared.endings.Ending.{Ending}
-use Rattle.sn_world.specs.Settling.{sends, done_action, triggers_at, ending_of, after_ending, endings_at, settled_at, unit_triggers, unit_endings, settled_units, content_triggers, content_endings, settled_content, triggers_in, endings_in, settled_nodes}
-use Rattle.sn_world.specs.SettleWords.{held_triggers, held_endings, settled_held, walk_triggers, walk_endings, settled_walk}
+use Rattle.sn_world.specs.Nodes.{Content, synth, content_of}
+use Rattle.sn_world.specs.Pictures.{held_extents, IsHeld}
+use Rattle.sn_world.specs.Settling.{sends, done_action, triggers_at, ending_of, after_ending, endings_at, settled_at, unit_triggers, unit_endings, settled_units, content_triggers, content_endings, settled_content}
+use Rattle.sn_world.specs.SettleWords.{held_triggers, held_endings, settled_held}
 use Rattle.sn_world.proofs.OwnWords.{sender_words, ender_words}
-use Rattle.sn_mem.proofs.BufferWords.{AgreesOn, outside}
-use Rattle.sn_world.proofs.Walking.{IsKept, CanWalk, same_content, same_label, same_node, same_nodes, kept_on, can_go_on, parts_of, held_from}
+use Rattle.sn_mem.proofs.BufferWords.{outside}
+use Rattle.sn_world.proofs.Walking.{IsKept}
 
 -- ---- a unit's words among those of its synth
 

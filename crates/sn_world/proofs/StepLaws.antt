@@ -1,5 +1,5 @@
 -- Repetitions that may all be judged before any acts.
-use Rattle.std.proofs.Common.{◌≡◌, List, [], ◌∷◌, Option, Some, None, Result, Ok, Err, refl, ap, sym, ◌∙◌}
+use Rattle.std.proofs.Common.{◌≡◌, List, [], ◌∷◌, Option, Some, None, Result, Ok, refl, ap, ◌∙◌}
 use Rattle.sn_reply.specs.declared.reason.Reason.{Reason}
 use Rattle.sn_world.specs.Rows.{or_else}
 use Rattle.sn_world.specs.World.{World, Turn}

@@ -1,9 +1,9 @@
 -- What a stage and its words stand for after a walk over its nodes.
-use Rattle.std.proofs.Common.{◌≡◌, ◌≤◌, ◌<◌, ◌+◌, ℕ, zero, suc, List, Option, length, ap, sym, ◌∙◌, arith}
+use Rattle.std.proofs.Common.{◌≡◌, ◌≤◌, ◌<◌, ◌+◌, ℕ, zero, suc, List, length, ap, sym, ◌∙◌, arith}
 use Rattle.sn_tree.specs.Trees.{running_labels}
 use Rattle.sn_world.specs.declared.stage.Stage.{Stage}
-use Rattle.sn_mem.specs.Buffers.{Buffer, buffers_of, live_places, overlaps}
-use Rattle.sn_world.specs.World.{World, world_of}
+use Rattle.sn_mem.specs.Buffers.{buffers_of, live_places, overlaps}
+use Rattle.sn_world.specs.World.{world_of}
 use Rattle.sn_world.specs.Walk.{walk, with_walked}
 use Rattle.sn_world.specs.WalkWords.{walk_words}
 use Rattle.sn_world.specs.Pictures.{live_held, Pictures}

@@ -1,27 +1,24 @@
 -- The words that a walk leaves stand for the nodes and the buses after the walk.
-use Rattle.std.proofs.Common.{◌≡◌, ◌≤◌, ◌<◌, ◌+◌, ◌⊎◌, inl, inr, ℕ, zero, suc, ℤ, Bool, true, false, Option, List, [], ◌∷◌, ◌++◌, length, get_or, refl, ap, sym, subst, ◌∙◌, arith}
+use Rattle.std.proofs.Common.{◌≡◌, ◌≤◌, ◌<◌, ◌+◌, inl, inr, ℕ, ℤ, Bool, true, false, Option, List, [], ◌∷◌, ◌++◌, length, get_or, refl, ap, sym, subst, ◌∙◌, arith}
 use Rattle.std.specs.Prelude.{if◌then◌else◌}
 use Rattle.sn_mem.specs.declared.extents.Extent.{Extent}
-use Rattle.sn_mem.specs.Blocks.{window}
 use Rattle.sn_mem.specs.declared.buffers.BufferPlace.{BufferPlace}
 use Rattle.std.proofs.lemmas.Bool.Decides.{leb_tells}
 use Rattle.sn_def.specs.declared.control.Control.{Control}
 use Rattle.sn_def.specs.Defs.{definition_of}
 use Rattle.sn_def.specs.Definition.{Definition}
-use Rattle.sn_synth.specs.Synths.{synth_block}
-use Rattle.sn_synth.specs.Words.{synth_words}
 use Rattle.sn_world.proofs.Meanings.{played}
 use Rattle.sn_world.specs.Buffers.{AreEach}
 use Rattle.sn_world.proofs.BufferLaws.{are_places}
-use Rattle.sn_tree.specs.Trees.{Label, Nodes, none, node, running_labels, with_payload, with_payloads}
+use Rattle.sn_tree.specs.Trees.{Label, Nodes, none, node, running_labels, with_payloads}
 use Rattle.sn_world.specs.declared.stage.Held.{Held}
 use Rattle.sn_world.specs.declared.stage.Held.TheVariants as held
-use Rattle.sn_world.specs.Nodes.{Content, Synth, group, synth, content_of}
+use Rattle.sn_world.specs.Nodes.{Content, synth, content_of}
 use Rattle.sn_world.specs.Walk.{Walked, walk_nodes, content_after}
 use Rattle.sn_world.specs.WalkWords.{held_words, walk_words}
 use Rattle.sn_mem.specs.Buffers.{Resources, resources_of, overlaps, live_places}
 use Rattle.sn_mem.proofs.BufferWords.{AgreesOn, overlaps-append, covered_from, outside, same_window}
-use Rattle.sn_world.specs.Pictures.{held_extents, live_held, IsHeld, AreHeld, IsSynthOf, IsApart}
+use Rattle.sn_world.specs.Pictures.{held_extents, live_held, IsHeld, AreHeld, IsApart}
 
 -- ---- what a change of other words leaves
 

@@ -1,5 +1,5 @@
 -- What a message does, whichever command it is.
-use Rattle.std.specs.Prelude.{ℕ, zero, suc, ◌-◌, Bool, true, is_none, List, [], Option, Some, None, Result, Ok, Err, if◌then◌else◌, codes}
+use Rattle.std.specs.Prelude.{◌≡◌, ℕ, zero, suc, ◌-◌, Bool, true, is_none, List, [], Option, Some, None, Result, Ok, Err, if◌then◌else◌, codes}
 use Rattle.std.specs.Str.{bytes_eq}
 use Rattle.sn_osc.specs.Shape.{Argument, BodyShape, bare, arguments, foreign, MessageShape}
 use Rattle.sn_osc.specs.Reading.{read}
@@ -38,15 +38,21 @@ use Rattle.sn_world.specs.Emptying.{free_all_row, deep_free_row}
 use Rattle.sn_world.specs.Moving.{move_row}
 use Rattle.sn_world.specs.NodeOrder.{order_row}
 
--- the command on control buses, on buffers, on definitions or on the server itself with an address
-abbrev pub bus_command_of : List ℕ → Option BusCommand
-bus_command_of address =
-    if bytes_eq address (codes "/c_set") then Some buses.Set
-    else if bytes_eq address (codes "/c_setn") then Some buses.SetRuns
-    else if bytes_eq address (codes "/c_fill") then Some buses.Fill
-    else if bytes_eq address (codes "/c_get") then Some buses.Get
-    else if bytes_eq address (codes "/c_getn") then Some buses.GetRuns
-    else if bytes_eq address (codes "/b_alloc") then Some buses.AllocBuffer
+-- the command on definitions or on the server itself with an address
+abbrev pub server_command_of : List ℕ → Option BusCommand
+server_command_of address =
+    if bytes_eq address (codes "/sync") then Some buses.Sync
+    else if bytes_eq address (codes "/d_recv") then Some buses.Receive
+    else if bytes_eq address (codes "/d_free") then Some buses.Free
+    else if bytes_eq address (codes "/status") then Some buses.Status
+    else if bytes_eq address (codes "/clearSched") then Some buses.ClearSched
+    else if bytes_eq address (codes "/quit") then Some buses.Quit
+    else None
+
+-- the command on buffers, on definitions or on the server itself with an address
+abbrev pub buffer_command_of : List ℕ → Option BusCommand
+buffer_command_of address =
+    if bytes_eq address (codes "/b_alloc") then Some buses.AllocBuffer
     else if bytes_eq address (codes "/b_free") then Some buses.FreeBuffer
     else if bytes_eq address (codes "/b_zero") then Some buses.ZeroBuffer
     else if bytes_eq address (codes "/b_query") then Some buses.QueryBuffers
@@ -55,13 +61,17 @@ bus_command_of address =
     else if bytes_eq address (codes "/b_fill") then Some buses.FillSamples
     else if bytes_eq address (codes "/b_get") then Some buses.GetSamples
     else if bytes_eq address (codes "/b_getn") then Some buses.GetSampleRuns
-    else if bytes_eq address (codes "/sync") then Some buses.Sync
-    else if bytes_eq address (codes "/d_recv") then Some buses.Receive
-    else if bytes_eq address (codes "/d_free") then Some buses.Free
-    else if bytes_eq address (codes "/status") then Some buses.Status
-    else if bytes_eq address (codes "/clearSched") then Some buses.ClearSched
-    else if bytes_eq address (codes "/quit") then Some buses.Quit
-    else None
+    else server_command_of address
+
+-- the command on control buses, on buffers, on definitions or on the server itself with an address
+abbrev pub bus_command_of : List ℕ → Option BusCommand
+bus_command_of address =
+    if bytes_eq address (codes "/c_set") then Some buses.Set
+    else if bytes_eq address (codes "/c_setn") then Some buses.SetRuns
+    else if bytes_eq address (codes "/c_fill") then Some buses.Fill
+    else if bytes_eq address (codes "/c_get") then Some buses.Get
+    else if bytes_eq address (codes "/c_getn") then Some buses.GetRuns
+    else buffer_command_of address
 
 -- its row
 abbrev pub bus_row : BusCommand → ℕ → List Argument → Turn → Result Turn Reason
@@ -85,6 +95,14 @@ bus_row buses.Free = forget_row
 bus_row buses.Status = status_row
 bus_row buses.ClearSched = clear_row
 bus_row buses.Quit = quit_row
+
+-- ---- arguments
+
+-- the arguments that a message gives to its command, where they are read
+abbrev pub ArgumentsOf : BodyShape → Option (List Argument) → Type 0
+ArgumentsOf bare found = found ≡ Some []
+ArgumentsOf (arguments xs) found = found ≡ Some xs
+ArgumentsOf (foreign tags rest) found = found ≡ None
 
 -- ---- completion messages
 
@@ -154,6 +172,22 @@ abbrev pub next_of : Option BusCommand → BodyShape → Next
 next_of None body = nothing
 next_of (Some command) body = next_with command (completion_in (Some command) body)
 
+-- the command with an address that makes, moves or frees nodes
+abbrev pub tree_command_of : List ℕ → Option NodeCommand
+tree_command_of address =
+    if bytes_eq address (codes "/g_new") then Some nodes.NewGroup
+    else if bytes_eq address (codes "/p_new") then Some nodes.NewParallel
+    else if bytes_eq address (codes "/n_free") then Some nodes.Free
+    else if bytes_eq address (codes "/g_freeAll") then Some nodes.FreeAll
+    else if bytes_eq address (codes "/g_deepFree") then Some nodes.DeepFree
+    else if bytes_eq address (codes "/g_queryTree") then Some nodes.QueryTree
+    else if bytes_eq address (codes "/n_before") then Some (nodes.Move Before)
+    else if bytes_eq address (codes "/n_after") then Some (nodes.Move After)
+    else if bytes_eq address (codes "/g_head") then Some (nodes.Move Head)
+    else if bytes_eq address (codes "/g_tail") then Some (nodes.Move Tail)
+    else if bytes_eq address (codes "/n_order") then Some nodes.Order
+    else None
+
 -- the command on nodes with an address
 abbrev pub node_command_of : List ℕ → Option NodeCommand
 node_command_of address =
@@ -164,20 +198,9 @@ node_command_of address =
     else if bytes_eq address (codes "/n_setn") then Some nodes.SetRuns
     else if bytes_eq address (codes "/n_fill") then Some nodes.FillRuns
     else if bytes_eq address (codes "/n_map") then Some nodes.MapControls
-    else if bytes_eq address (codes "/g_new") then Some nodes.NewGroup
-    else if bytes_eq address (codes "/p_new") then Some nodes.NewParallel
-    else if bytes_eq address (codes "/n_free") then Some nodes.Free
-    else if bytes_eq address (codes "/g_freeAll") then Some nodes.FreeAll
-    else if bytes_eq address (codes "/g_deepFree") then Some nodes.DeepFree
     else if bytes_eq address (codes "/n_query") then Some nodes.Query
-    else if bytes_eq address (codes "/g_queryTree") then Some nodes.QueryTree
     else if bytes_eq address (codes "/s_get") then Some nodes.GetControls
-    else if bytes_eq address (codes "/n_before") then Some (nodes.Move Before)
-    else if bytes_eq address (codes "/n_after") then Some (nodes.Move After)
-    else if bytes_eq address (codes "/g_head") then Some (nodes.Move Head)
-    else if bytes_eq address (codes "/g_tail") then Some (nodes.Move Tail)
-    else if bytes_eq address (codes "/n_order") then Some nodes.Order
-    else None
+    else tree_command_of address
 
 -- its row
 abbrev pub node_row : NodeCommand → ℕ → List Argument → Turn → Result Turn Reason

@@ -1,5 +1,5 @@
 -- `/n_set`, `/n_setn` and `/n_fill`: controls of synths are set.
-use Rattle.std.specs.Prelude.{ℕ, zero, suc, ◌+◌, ℤ, pos, negsuc, Bool, nat_le, if◌then◌else◌, List, [], ◌∷◌, length, take, drop, replicate, Option, Some, None, Result, Ok, Err}
+use Rattle.std.specs.Prelude.{ℕ, zero, suc, ◌+◌, ℤ, pos, negsuc, nat_le, if◌then◌else◌, List, [], ◌∷◌, ◌++◌, length, map, take, drop, replicate, Option, Some, None, Result, Ok, Err}
 use Rattle.sn_osc.specs.Shape.{Argument, int, string, blob}
 use Rattle.sn_def.specs.declared.control.Control.{Control}
 use Rattle.sn_def.specs.Definition.{Definition}
@@ -10,7 +10,8 @@ use Rattle.sn_tree.specs.Faults.{is_missing}
 use Rattle.sn_world.specs.Nodes.{Content, group, synth}
 use Rattle.sn_world.specs.World.{World, Turn}
 use Rattle.sn_world.specs.Rows.{first_of, unless, another, some_of}
-use Rattle.sn_world.specs.NewSynth.{ControlName, control_name, control_of, int_of, with_value}
+use Rattle.sn_world.specs.Runs.{number}
+use Rattle.sn_world.specs.NewSynth.{ControlName, control_name, name_argument, control_of, with_value}
 
 -- a control, and values for it and the controls that follow it
 pub record ControlRun : Type 0 where
@@ -34,7 +35,7 @@ count_of (blob b) = None
 -- arguments that are all numbers
 abbrev pub ints : List Argument → Option (List ℤ)
 ints [] = Some []
-ints (x ∷ xs) = another (int_of x) (ints xs)
+ints (x ∷ xs) = another (number x) (ints xs)
 
 -- one number, the first numbers of some arguments, or one number so often
 abbrev pub one_value : Option ℤ → Option (List ℤ)
@@ -63,7 +64,7 @@ run_with (Some c) (Some vs) rest = Some (record { control = c; values = vs }, re
 
 -- control value
 abbrev pub value_run : List Argument → Option (ControlRun × List Argument)
-value_run (c ∷ v ∷ rest) = run_with (control_name c) (one_value (int_of v)) rest
+value_run (c ∷ v ∷ rest) = run_with (control_name c) (one_value (number v)) rest
 value_run _ = None
 
 -- control count value..
@@ -73,7 +74,7 @@ values_run _ = None
 
 -- control count value
 abbrev pub fill_run : List Argument → Option (ControlRun × List Argument)
-fill_run (c ∷ n ∷ v ∷ rest) = run_with (control_name c) (same_values (count_of n) (int_of v)) rest
+fill_run (c ∷ n ∷ v ∷ rest) = run_with (control_name c) (same_values (count_of n) (number v)) rest
 fill_run _ = None
 
 -- repetitions that are read one after the other, at most so many
@@ -87,6 +88,11 @@ repeated read zero (x ∷ xs) = None
 repeated read (suc n) [] = Some []
 repeated read (suc n) (x ∷ xs) = and_more (read (x ∷ xs)) (λ rest. repeated read n rest)
 
+-- the arguments that say runs: of each its control, how many values it has, and the values
+abbrev pub control_run_arguments : List ControlRun → List Argument
+control_run_arguments [] = []
+control_run_arguments (r ∷ rs) = name_argument r.control ∷ int (pos (length r.values)) ∷ map int r.values ++ control_run_arguments rs
+
 abbrev pub for_node : {R : Type 0} → Option ℤ → Option (List R) → Option (ForNode R)
 for_node None all = None
 for_node (Some id) None = None
@@ -95,7 +101,7 @@ for_node (Some id) (Some all) = Some (record { id = id; all = all })
 -- a node, and at least one repetition
 abbrev pub asked_of : {R : Type 0} → (List Argument → Option (List R)) → List Argument → Option (ForNode R)
 asked_of read [] = None
-asked_of read (x ∷ xs) = for_node (int_of x) (some_of (read xs))
+asked_of read (x ∷ xs) = for_node (number x) (some_of (read xs))
 
 abbrev pub asked_runs : (List Argument → Option (ControlRun × List Argument)) → List Argument → Option (ForNode ControlRun)
 asked_runs read xs = asked_of (λ ys. repeated read (length ys) ys) xs

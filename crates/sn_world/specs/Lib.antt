@@ -6,6 +6,7 @@ pub mod Walk
 pub mod WalkWords
 pub mod Opening
 pub mod Pictures
+pub mod Freed
 pub mod Notices
 pub mod Rows
 pub mod Buses

@@ -1,5 +1,5 @@
 -- `/n_map`: controls of synths follow control buses.
-use Rattle.std.specs.Prelude.{ℕ, ℤ, pos, negsuc, Bool, true, false, not, ◌||◌, nat_lt, nat_eq, if◌then◌else◌, List, [], ◌∷◌, slice_index_or, slice_set, Option, Some, None, Result, Ok, Err}
+use Rattle.std.specs.Prelude.{ℕ, ℤ, pos, negsuc, Bool, false, not, ◌||◌, nat_lt, nat_eq, List, [], ◌∷◌, slice_index_or, slice_set, Option, Some, None, Result, Ok, Err}
 use Rattle.sn_osc.specs.Shape.{Argument}
 use Rattle.sn_def.specs.declared.control.Control.{Control}
 use Rattle.sn_def.specs.Definition.{Definition}
@@ -12,7 +12,8 @@ use Rattle.sn_tree.specs.Reworking.{reworked}
 use Rattle.sn_world.specs.Nodes.{Content, group, synth}
 use Rattle.sn_world.specs.World.{World, Turn}
 use Rattle.sn_world.specs.Rows.{first_of, first_refusal, or_else, unless, pairs}
-use Rattle.sn_world.specs.NewSynth.{ControlName, control_name, control_of, int_of}
+use Rattle.sn_world.specs.Runs.{number}
+use Rattle.sn_world.specs.NewSynth.{ControlName, control_name, control_of}
 use Rattle.sn_world.specs.ControlRuns.{ForNode, asked_of, in_synth, judge_node}
 
 pub record Mapping : Type 0 where
@@ -26,7 +27,7 @@ mapping_of (Some c) (Some bus) = Some (record { control = c; bus = bus })
 
 -- control bus
 abbrev pub mapping : Argument → Argument → Option Mapping
-mapping c bus = mapping_of (control_name c) (int_of bus)
+mapping c bus = mapping_of (control_name c) (number bus)
 
 -- a control bus, or -1 for none
 abbrev pub is_followable : ℤ → Bool

@@ -1,5 +1,5 @@
 -- What commands that make nodes have in common, and those that make groups.
-use Rattle.std.specs.Prelude.{ℕ, ◌+◌, ℤ, pos, negsuc, Bool, true, false, not, ◌&&◌, if◌then◌else◌, nat_lt, List, [], ◌∷◌, Option, Some, None, is_some, unwrap_or, Result}
+use Rattle.std.specs.Prelude.{ℕ, ◌+◌, ℤ, pos, negsuc, Bool, true, false, not, if◌then◌else◌, nat_lt, List, [], ◌∷◌, Option, Some, None, is_some, unwrap_or, Result}
 use Rattle.std.specs.Ordering.{int_eq}
 use Rattle.sn_osc.specs.Shape.{Argument, int, string, blob}
 use Rattle.sn_reply.specs.declared.reason.Reason.{Reason}
@@ -15,7 +15,7 @@ use Rattle.sn_world.specs.declared.notices.NodeEvent.TheVariants.{Went}
 use Rattle.sn_world.specs.declared.repetition.NewGroup.{NewGroup}
 use Rattle.sn_world.specs.declared.repetition.NewNode.{NewNode}
 use Rattle.sn_world.specs.Freeing.{told_ends}
-use Rattle.sn_world.specs.Nodes.{Content, group}
+use Rattle.sn_world.specs.Nodes.{group}
 use Rattle.sn_world.specs.Notices.{told}
 use Rattle.sn_world.specs.World.{World, Turn}
 use Rattle.sn_world.specs.Rows.{first_of, row, triples, some_of}

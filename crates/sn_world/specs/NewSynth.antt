@@ -2,9 +2,8 @@
 use Rattle.std.specs.Prelude.{ℕ, ℤ, pos, negsuc, if◌then◌else◌, nat_lt, nat_eq, List, [], ◌∷◌, map, length, replicate, slice_set, Option, Some, None, Result, Ok, Err}
 use Rattle.std.specs.FinMap as finite
 use Rattle.sn_osc.specs.Shape.{Argument, int, string, blob}
-use Rattle.sn_mem.specs.declared.extents.Extent.{Extent}
 use Rattle.sn_def.specs.declared.control.Control.{Control}
-use Rattle.sn_def.specs.Definition.{Definition, Parameter}
+use Rattle.sn_def.specs.Definition.{Definition}
 use Rattle.sn_def.specs.Asked.{control_named}
 use Rattle.sn_def.specs.StateWords.{state_words}
 use Rattle.sn_pool.specs.Regions.{least_place}
@@ -42,6 +41,11 @@ control_name (int k) = Some (numbered k)
 control_name (string n) = Some (named n)
 control_name (blob b) = None
 
+-- a control as it was named
+abbrev pub name_argument : ControlName → Argument
+name_argument (numbered k) = int k
+name_argument (named n) = string n
+
 abbrev pub value_for : Option ControlName → Argument → Option ControlValue
 value_for (Some c) (int v) = Some (record { control = c; value = v })
 value_for (Some c) (string s) = None
@@ -55,11 +59,6 @@ abbrev pub text_of : Argument → Option (List ℕ)
 text_of (string s) = Some s
 text_of (int n) = None
 text_of (blob b) = None
-
-abbrev pub int_of : Argument → Option ℤ
-int_of (int n) = Some n
-int_of (string s) = None
-int_of (blob b) = None
 
 abbrev pub asked_with : Option (List ℕ) → Option NewNode → Option (List ControlValue) → Option NewSynth
 asked_with (Some name) (Some node) (Some values) = Some (record { name = name; node = node; values = values })

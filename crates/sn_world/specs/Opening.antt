@@ -1,5 +1,5 @@
 -- The world before anything happened.
-use Rattle.std.specs.Prelude.{◌≡◌, ℕ, pos, negsuc, false, List, [], replicate, Some, None}
+use Rattle.std.specs.Prelude.{◌≡◌, ℕ, pos, negsuc, false, [], replicate, Some, None}
 use Rattle.std.specs.FinMap as finite
 use Rattle.sn_mem.specs.Buses.{AudioBus, ControlBus}
 use Rattle.sn_tree.specs.declared.node.NodeKind.TheVariants as kinds

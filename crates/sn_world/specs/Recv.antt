@@ -1,7 +1,7 @@
 -- `/d_recv`: a definition is received as its text.
 use Rattle.std.specs.Prelude.{ℕ, List, [], ◌∷◌, Option, Some, None, Result, Ok, Err, codes}
 use Rattle.std.specs.FinMap as finite
-use Rattle.sn_osc.specs.Shape.{Argument, int, string, blob, arguments, MessageShape}
+use Rattle.sn_osc.specs.Shape.{Argument, string, blob, arguments, MessageShape}
 use Rattle.sn_def.specs.Definition.{Definition}
 use Rattle.sn_def.specs.Reading.{text_at}
 use Rattle.sn_def.specs.declared.fault.DefFault.{DefFault}

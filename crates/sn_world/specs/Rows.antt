@@ -1,6 +1,6 @@
 -- A command as a row of a table: its repetitions, the reasons against one in their order, and what one does.
-use Rattle.std.specs.Prelude.{ℕ, ℤ, Bool, true, false, List, [], ◌∷◌, Option, Some, None, Result, Ok, Err, if◌then◌else◌}
-use Rattle.sn_osc.specs.Shape.{Argument, int, string, blob, MessageShape}
+use Rattle.std.specs.Prelude.{ℕ, Bool, List, [], ◌∷◌, Option, Some, None, Result, Ok, Err, if◌then◌else◌}
+use Rattle.sn_osc.specs.Shape.{Argument, MessageShape}
 use Rattle.sn_reply.specs.declared.reason.Reason.{Reason}
 use Rattle.sn_reply.specs.declared.reason.Reason.TheVariants as Reasons
 use Rattle.sn_world.specs.World.{World, Turn, replied}

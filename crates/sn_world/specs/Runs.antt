@@ -1,5 +1,5 @@
 -- Runs of places, as buses or samples in a row, and of values for them.
-use Rattle.std.specs.Prelude.{ℕ, suc, zero, ◌+◌, ℤ, pos, negsuc, nat_abs, List, [], ◌∷◌, ◌++◌, length, Option, Some, None, Result, if◌then◌else◌, nat_le, codes}
+use Rattle.std.specs.Prelude.{ℕ, suc, zero, ◌+◌, ℤ, pos, negsuc, nat_abs, List, [], ◌∷◌, ◌++◌, length, map, Option, Some, None, Result, if◌then◌else◌, nat_le, codes}
 use Rattle.std.specs.Option.{option_map}
 use Rattle.sn_osc.specs.Shape.{Argument, int, string, blob, arguments, MessageShape}
 use Rattle.sn_mem.specs.Buses.{ControlBus}
@@ -48,6 +48,7 @@ pub record Tail : Type 0 where
   pub values : List ℤ
   pub runs : List ValuesAt
 
+-- the number of an argument that is one
 abbrev pub number : Argument → Option ℤ
 number (int n) = Some n
 number (string s) = None
@@ -82,6 +83,11 @@ runs_of t = t.runs
 
 abbrev pub value_runs : List Argument → Option (List ValuesAt)
 value_runs xs = option_map runs_of (tail_of 0 xs)
+
+-- the arguments that say runs: of each its first place, how many values it has, and the values
+abbrev pub run_arguments : List ValuesAt → List Argument
+run_arguments [] = []
+run_arguments (r ∷ rs) = int r.first ∷ int (pos (length r.values)) ∷ map int r.values ++ run_arguments rs
 
 -- ---- `/c_setn` (bus count value..)..
 

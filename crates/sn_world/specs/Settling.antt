@@ -13,11 +13,11 @@ use Rattle.sn_reply.specs.declared.events.Notice.TheVariants as notice
 use Rattle.sn_reply.specs.Replies.{ReplyShape}
 use Rattle.sn_reply.specs.Events.{notice_message}
 use Rattle.sn_tree.specs.declared.node.NodeView.{NodeView}
-use Rattle.sn_tree.specs.Trees.{Nodes, none, node, Label, with_payload, with_running, changed, without, view_of}
+use Rattle.sn_tree.specs.Trees.{Nodes, none, node, with_payload, with_running, changed, without, view_of}
 use Rattle.sn_world.specs.declared.endings.Ending.{Ending}
 use Rattle.sn_world.specs.Nodes.{Content, group, synth}
 use Rattle.sn_world.specs.Notices.{notices}
-use Rattle.sn_world.specs.World.{World, Turn}
+use Rattle.sn_world.specs.World.{Turn}
 
 -- ---- one unit, whose state words begin at a place among the words of its synth
 

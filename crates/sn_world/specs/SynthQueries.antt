@@ -1,7 +1,7 @@
 -- `/s_get`: the values of a synth's controls.
 use Rattle.std.specs.Prelude.{ℕ, ℤ, List, [], ◌∷◌, ◌++◌, slice_index_or, Option, Some, None, Result, Ok, Err, codes}
 use Rattle.std.specs.Option.{option_map}
-use Rattle.sn_osc.specs.Shape.{Argument, int, string, arguments, MessageShape}
+use Rattle.sn_osc.specs.Shape.{Argument, int, arguments, MessageShape}
 use Rattle.sn_mem.specs.Buses.{ControlBus}
 use Rattle.sn_def.specs.declared.control.Control.{Control}
 use Rattle.sn_def.specs.Definition.{Definition}
@@ -11,15 +11,10 @@ use Rattle.sn_reply.specs.declared.reason.Reason.{Reason}
 use Rattle.sn_reply.specs.declared.reason.Reason.TheVariants as Reasons
 use Rattle.sn_tree.specs.Trees.{Nodes, label_of}
 use Rattle.sn_world.specs.Nodes.{Content, group, synth}
-use Rattle.sn_world.specs.World.{World, Turn, replied}
+use Rattle.sn_world.specs.World.{Turn, replied}
 use Rattle.sn_world.specs.Rows.{singles}
-use Rattle.sn_world.specs.NewSynth.{ControlName, numbered, named, control_name, control_of}
+use Rattle.sn_world.specs.NewSynth.{ControlName, control_name, name_argument, control_of}
 use Rattle.sn_world.specs.ControlRuns.{ForNode, asked_of}
-
--- a control as it was named
-abbrev pub name_argument : ControlName → Argument
-name_argument (numbered k) = int k
-name_argument (named n) = string n
 
 -- A control, and its value: that of the control bus that it follows, or its own. One that is none of the definition's is ignored.
 abbrev pub value_arguments : List ControlBus → List Control → ControlName → Option ℕ → List Argument

@@ -2,14 +2,13 @@
 use Rattle.std.specs.Prelude.{ℕ, zero, suc, ℤ, pos, negsuc, List, [], ◌∷◌, ◌++◌, Option, Some, None, Result, codes}
 use Rattle.sn_osc.specs.Shape.{Argument, int, string, blob, arguments, MessageShape}
 use Rattle.sn_reply.specs.declared.reason.Reason.{Reason}
-use Rattle.sn_reply.specs.declared.reason.Reason.TheVariants as Reasons
-use Rattle.sn_tree.specs.Trees.{Nodes, none, node, label_of, children}
+use Rattle.sn_tree.specs.Trees.{Nodes, none, node, children}
 use Rattle.sn_tree.specs.Members.{tops}
-use Rattle.sn_tree.specs.Faults.{is_missing, labels_synth}
 use Rattle.sn_world.specs.declared.tree_query.TreeQuery.{TreeQuery}
 use Rattle.sn_world.specs.Nodes.{Content, group, synth}
 use Rattle.sn_world.specs.World.{World, Turn, replied}
-use Rattle.sn_world.specs.Rows.{first_of, row, pairs, some_of}
+use Rattle.sn_world.specs.Emptying.{group_refusal}
+use Rattle.sn_world.specs.Rows.{row, pairs, some_of}
 
 -- a group, and the flag 0
 abbrev pub tree_query : Argument → Argument → Option TreeQuery
@@ -21,14 +20,8 @@ tree_query (int id) (blob b) = None
 tree_query (string s) y = None
 tree_query (blob b) y = None
 
-abbrev pub tree_refusal : {P : Type 0} → ℤ → Nodes P → Option Reason
-tree_refusal id nodes = first_of (
-    (is_missing id nodes, Reasons.NoSuchNode)
-    ∷ (labels_synth (label_of id nodes), Reasons.NotGroup)
-    ∷ [])
-
 abbrev pub judge_tree : World → TreeQuery → Option Reason
-judge_tree w r = tree_refusal r.group w.nodes
+judge_tree w r = group_refusal r.group w.nodes
 
 -- a group and the number of its children, or a synth, -1 and the name of its definition
 abbrev pub node_arguments : ℤ → Content → ℕ → List Argument

@@ -1,8 +1,8 @@
 -- One block of the walk over all nodes.
-use Rattle.std.specs.Prelude.{ℕ, ◌+◌, ℤ, Bool, true, false, if◌then◌else◌}
+use Rattle.std.specs.Prelude.{ℕ, ℤ, if◌then◌else◌}
 use Rattle.sn_mem.specs.Buffers.{Resources}
 use Rattle.sn_synth.specs.Synths.{synth_block}
-use Rattle.sn_tree.specs.Trees.{Nodes, none, node, Label, with_payload}
+use Rattle.sn_tree.specs.Trees.{Nodes, none, node, with_payload}
 use Rattle.sn_world.specs.Nodes.{Content, group, synth}
 use Rattle.sn_world.specs.World.{World}
 

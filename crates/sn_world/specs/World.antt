@@ -1,11 +1,8 @@
 -- What the server holds, as a value.
-use Rattle.std.specs.Prelude.{◌≡◌, ◌≤◌, ◌<◌, ℕ, zero, suc, ◌+◌, ℤ, pos, Bool, true, Option, length, take, drop, List, [], ◌∷◌, ◌++◌}
+use Rattle.std.specs.Prelude.{ℕ, ℤ, Bool, Option, List, [], ◌∷◌, ◌++◌}
 use Rattle.sn_osc.specs.Shape.{MessageShape}
 use Rattle.sn_mem.specs.declared.extents.Extent.{Extent}
-use Rattle.sn_mem.specs.declared.extents.Foot.{Foot}
-use Rattle.sn_mem.specs.Words.{writes}
 use Rattle.sn_mem.specs.Buses.{AudioBus, ControlBus, audio_buses, control_buses}
-use Rattle.sn_def.specs.Definition.{Definition}
 use Rattle.sn_reply.specs.declared.replies.To.TheVariants.{Client}
 use Rattle.sn_reply.specs.Replies.{ReplyShape}
 use Rattle.sn_tree.specs.Trees.{Nodes, with_payloads}

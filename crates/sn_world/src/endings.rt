@@ -1,5 +1,5 @@
 //! What is to be done with synths after a block.
-ghost use Rattle.std.specs.Prelude.{◌≡◌, ◌≤◌, ◌<◌, ◌+◌, ◌++◌, ◌∷◌, [], length, OnOk, vec_len, vec_capacity};
+ghost use Rattle.std.specs.Prelude.{◌≡◌, ◌≤◌, ◌<◌, ◌+◌, ◌++◌, ◌∷◌, [], OnOk, vec_len, vec_capacity};
 
 use sn_ports::NoMemory;
 use std::alloc::Global;
@@ -45,10 +45,11 @@ impl Endings {
         self.items.clear();
     }
 
-    /// Makes room for `more` endings past those that are there.
+    /// Makes room for `more` endings past those that are there. No room is lost, also at an `Err`.
     pub fn reserve(&mut self, more: usize) -> Result<(), NoMemory>
         ensures items { self.new.items ≡ self.old.items }
         ensures room { OnOk result (more ≤ self.new.spare) }
+        ensures kept { self.old.spare ≤ self.new.spare }
     {
         self.items.reserve(more)?;
         Ok(())

@@ -1,5 +1,5 @@
 //! Sets of names.
-ghost use Rattle.std.specs.Prelude.{◌≡◌, not, is_some, IfOk, OnOk};
+ghost use Rattle.std.specs.Prelude.{◌≡◌, not, is_some, IfOk, OnOk, OnErr};
 ghost use Rattle.std.specs.FinMap as finite;
 ghost use Rattle.sn_world.specs.Names.{names_in};
 
@@ -25,10 +25,11 @@ impl Names {
         }
     }
 
-    /// Puts a name in, and says whether it is new.
+    /// Puts a name in, and says whether it is new. An `Err` changes nothing.
     pub fn insert(&mut self, name: &[u8]) -> Result<bool, NoMemory>
         ensures new { IfOk result (λ new. new ≡ not (is_some (finite.get (names_in self.old) name.now))) }
         ensures put { OnOk result (names_in self.new ≡ finite.insert (names_in self.old) name.now tt) }
+        ensures err { OnErr result (names_in self.new ≡ names_in self.old) }
     {
         let mut key = Vec::new(self.alloc);
         key.extend_from_slice(name)?;

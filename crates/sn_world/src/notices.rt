@@ -1,5 +1,5 @@
 //! What clients are told of what happens to nodes.
-ghost use Rattle.std.specs.Prelude.{◌≡◌, ◌++◌, ◌∷◌, [], IfOk, OnOk, drop};
+ghost use Rattle.std.specs.Prelude.{◌≡◌, ◌++◌, ◌∷◌, [], IfOk, OnOk};
 ghost use Rattle.sn_osc.specs.Shape.{message_of};
 ghost use Rattle.sn_reply.specs.Answering.{IsAddress};
 ghost use Rattle.sn_reply.specs.Sending.{IsSendable};

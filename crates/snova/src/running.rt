@@ -3,8 +3,7 @@ ghost use Rattle.sn_ports.specs.Causes.{Rose};
 ghost use Rattle.sn_pcm.specs.declared.settings.Settings.{Settings};
 ghost use Rattle.sn_server.specs.Outcomes.{Played, IsAnswer, HasAnswer, IsUntouched, TakesStream};
 ghost use Rattle.sn_server.specs.declared.outcome.Outcome.{Outcome};
-ghost use Rattle.sn_words.specs.Choices.{numbers};
-ghost use Rattle.sn_words.specs.Words.{settings_of, bad_word};
+ghost use Rattle.sn_words.specs.Words.{settings_of};
 ghost use Rattle.snova.specs.Headline.{AreChosen, ByWords};
 
 use sn_ports::{Gate, Sink, Source, Word};

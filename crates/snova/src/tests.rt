@@ -1,10 +1,12 @@
 use crate::running::run;
 use crate::serving::{Served, serve};
+use crate::{Course, as_words, render_files};
 use sn_osc::PacketKind;
 use sn_ports::{
     Calls, Event, Fed, Link, MemorySink, MemorySource, NoMemory, Open, PlayedLink, Text, Word,
 };
 use sn_server::{Ended, Outcome, StreamFault};
+use std::fs;
 use std::test::Fail;
 use std::thread::Threads;
 
@@ -301,6 +303,25 @@ fn a_synth_is_heard(rt: HostRuntime) -> Result<(), Fail> {
     assert_eq!(rt; sound.len(), 172);
     assert!(rt; sound.iter().skip(44).take(4).eq([0, 0, 0x79, 0x07].iter()));
     assert_eq!(rt; ran.replies.taken(), RECEIVED.as_slice());
+    Ok(())
+}
+
+#[test]
+fn sound_and_replies_go_into_the_files_that_are_named(rt: HostRuntime) -> Result<(), Fail> {
+    let mut args = Vec::new(rt.alloc());
+    for word in ["render", "stream", "heard", "told"] {
+        args.push(String::from_str(rt.alloc(), word)?)?;
+    }
+    let words = as_words(&rt, &args)?;
+    assert!(rt; words.len() < 10);
+    fs::write(&rt, "stream", SYNC.as_slice())?;
+    let course = render_files(&rt, &args, &words)?;
+    assert!(rt; matches!(course, Course::Rendered(Outcome::Done { blocks: 0 })));
+    let heard = fs::read(&rt, "heard")?;
+    assert_eq!(rt; heard.len(), 44);
+    assert!(rt; heard.starts_with(b"RIFF\x24\0\0\0WAVE"));
+    let told = fs::read(&rt, "told")?;
+    assert_eq!(rt; told.as_slice(), SYNCED.as_slice());
     Ok(())
 }
 

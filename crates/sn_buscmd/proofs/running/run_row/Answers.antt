@@ -4,7 +4,8 @@ use Rattle.sn_world.specs.declared.command.BusCommand.{BusCommand}
 use Rattle.sn_world.specs.World.{turn_of}
 use Rattle.sn_world.specs.Commands.{bus_row}
 use Rattle.sn_world.specs.Answers.{Follows}
-use Rattle.sn_buscmd.proofs.RunningLemmas.{unless-followed}
+use Rattle.sn_world.specs.declared.stage.Stage.{Stage}
+use Rattle.sn_buscmd.proofs.RunningLemmas.{unless-followed, if-refused}
 use Rattle.sn_buscmd.proofs.running.run_row.Goals as goal
 
 pub returns-in-Set-clause-row : goal.returns-in-Set-clause-row
@@ -50,6 +51,12 @@ returns-in-GetSampleRuns-clause-unchanged g c =
     unless-followed (asked.new.replies ≡ c.args.replies.now) (turn_of stage (g.P.Port.words asked.new.port) asked.new.replies ≡ turn_of stage (g.P.Port.words c.args.port.now) c.args.replies.now)
     asked.result (λ said. ap (λ (ws : List ℕ). turn_of stage ws asked.new.replies) asked.ensures.words ∙ ap (turn_of stage (g.P.Port.words c.args.port.now)) said) asked.ensures.untold
 
+pub returns-in-AllocBuffer-clause-stage : goal.returns-in-AllocBuffer-clause-stage
+returns-in-AllocBuffer-clause-stage g c = if-refused (c.run_buffer_alloc.new.stage ≡ c.args.stage.now) c.run_buffer_alloc.result c.run_buffer_alloc.ensures.unchanged
+
+pub returns-in-FreeBuffer-clause-stage : goal.returns-in-FreeBuffer-clause-stage
+returns-in-FreeBuffer-clause-stage g c = if-refused (c.run_buffer_free.new.stage ≡ c.args.stage.now) c.run_buffer_free.result c.run_buffer_free.ensures.unchanged
+
 pub returns-in-Free-clause-row : goal.returns-in-Free-clause-row
 returns-in-Free-clause-row g c =
     let words = g.P.Port.words c.args.port.now in
@@ -57,7 +64,13 @@ returns-in-Free-clause-row g c =
     (sym c.in-Free.is) (c.run_free.ensures.row c.args.from words c.args.replies.now)
 
 pub returns-in-Free-clause-unchanged : goal.returns-in-Free-clause-unchanged
-returns-in-Free-clause-unchanged g c = c.run_free.ensures.unchanged (g.P.Port.words c.args.port.now) c.args.replies.now
+returns-in-Free-clause-unchanged g c =
+    let freed = c.run_free in
+    unless-followed (freed.new.stage ≡ c.args.stage.now) (turn_of freed.new.stage (g.P.Port.words c.args.port.now) c.args.replies.now ≡ turn_of c.args.stage.now (g.P.Port.words c.args.port.now) c.args.replies.now)
+    freed.result (λ same. ap (λ (s : Stage). turn_of s (g.P.Port.words c.args.port.now) c.args.replies.now) same) freed.ensures.unchanged
+
+pub returns-in-Free-clause-stage : goal.returns-in-Free-clause-stage
+returns-in-Free-clause-stage g c = if-refused (c.run_free.new.stage ≡ c.args.stage.now) c.run_free.result c.run_free.ensures.unchanged
 
 pub returns-in-ClearSched-clause-row : goal.returns-in-ClearSched-clause-row
 returns-in-ClearSched-clause-row g c =

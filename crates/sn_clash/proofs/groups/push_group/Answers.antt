@@ -7,7 +7,7 @@ use Rattle.sn_foot.specs.Walks.{kept}
 use Rattle.sn_foot.proofs.Finding.{all_walked}
 use Rattle.sn_foot.specs.declared.resource.Resource.{Resource}
 use Rattle.sn_clash.specs.declared.clash.Clash.{Clash}
-use Rattle.sn_clash.specs.Clashing.{is_there}
+use Rattle.sn_foot.specs.Footprints.{is_there}
 use Rattle.sn_clash.specs.Passing.{nothing, pass}
 use Rattle.sn_clash.specs.Rows.{row_of}
 use Rattle.sn_clash.proofs.Stacking.{group_passed}

@@ -4,7 +4,8 @@ use Rattle.std.proofs.lemmas.Int.{to_z-of_z}
 use Rattle.std.proofs.lemmas.Result.{IfOk-weaker}
 use Rattle.sn_foot.specs.declared.resource.Resource.{Resource}
 use Rattle.sn_clash.specs.declared.clash.Clash.{Clash}
-use Rattle.sn_clash.specs.Clashing.{clashes_among, clashes_with, is_there}
+use Rattle.sn_foot.specs.Footprints.{is_there}
+use Rattle.sn_clash.specs.Clashing.{clashes_among, clashes_with}
 use Rattle.sn_clash.specs.Using.{listed}
 use Rattle.sn_clash.specs.Passing.{member_of, members_of}
 use Rattle.sn_clash.proofs.Members.{no_pair, some_pair}

@@ -1,6 +1,6 @@
 -- Of the members so far, from the last on, the first that clashes with a later one, and what all of them use.
 use Rattle.std.proofs.Common.{◌≡◌, ◌≤◌, length, take}
-use Rattle.sn_clash.specs.Clashing.{is_there}
+use Rattle.sn_foot.specs.Footprints.{is_there}
 use Rattle.sn_clash.specs.Marking.{marked_in}
 use Rattle.sn_clash.specs.Passing.{from_first, gathered, members_of, no_use}
 use Rattle.sn_clash.proofs.pairs.first_member.Given as goal

@@ -3,11 +3,11 @@ use Rattle.std.specs.Prelude.{FitsSigned}
 use Rattle.std.specs.List.{filter}
 use Rattle.std.proofs.lemmas.Int.{to_z-of_z}
 use Rattle.sn_foot.specs.declared.resource.Resource.{Resource}
-use Rattle.sn_foot.specs.Footprints.{Footprint}
+use Rattle.sn_foot.specs.Footprints.{Footprint, clash_on, is_there}
 use Rattle.sn_clash.specs.declared.clash.Clash.{Clash}
 use Rattle.sn_clash.specs.declared.uses.Use.{Use}
 use Rattle.sn_clash.specs.declared.entry.Entry.{Entry}
-use Rattle.sn_clash.specs.Clashing.{Member, clash_on, clashes_with, is_there, resources}
+use Rattle.sn_clash.specs.Clashing.{Member, clashes_with, resources}
 use Rattle.sn_clash.specs.Using.{footprint_in}
 use Rattle.sn_clash.specs.Marking.{marked_in}
 use Rattle.sn_clash.specs.Passing.{member_of, members_of}

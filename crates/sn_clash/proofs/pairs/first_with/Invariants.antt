@@ -1,6 +1,7 @@
 -- The first clash is one with a member that is left.
 use Rattle.std.proofs.Common.{◌≡◌, ◌-◌, length, take}
-use Rattle.sn_clash.specs.Clashing.{clashes_with, is_there}
+use Rattle.sn_foot.specs.Footprints.{is_there}
+use Rattle.sn_clash.specs.Clashing.{clashes_with}
 use Rattle.sn_clash.specs.Passing.{member_of, members_of}
 use Rattle.sn_clash.proofs.pairs.first_with.Given as goal
 

@@ -1,6 +1,6 @@
 use Rattle.std.proofs.Common.{◌≡◌, ◌∙◌, ◌+◌, ◌-◌, ℕ, Bool, arith, ap, length, map, take}
 use Rattle.sn_foot.specs.declared.resource.Resource.{Resource}
-use Rattle.sn_clash.specs.Clashing.{is_there}
+use Rattle.sn_foot.specs.Footprints.{is_there}
 use Rattle.sn_clash.specs.Passing.{Passed, pass, passed_of}
 use Rattle.sn_clash.specs.Rows.{row_of}
 use Rattle.sn_clash.proofs.Stacking.{pass_next}

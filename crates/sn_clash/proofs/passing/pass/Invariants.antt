@@ -1,6 +1,6 @@
 -- The nodes that are left make of what was passed what all nodes make of nothing.
 use Rattle.std.proofs.Common.{◌≡◌, ◌-◌, length, map, take}
-use Rattle.sn_clash.specs.Clashing.{is_there}
+use Rattle.sn_foot.specs.Footprints.{is_there}
 use Rattle.sn_clash.specs.Passing.{nothing, pass, passed_of}
 use Rattle.sn_clash.specs.Rows.{row_of}
 use Rattle.sn_clash.proofs.passing.pass.Given as goal

@@ -1,7 +1,7 @@
 use Rattle.std.proofs.Common.{◌≡◌, ◌∙◌, ◌-◌, ◌++◌, ◌∷◌, [], ℕ, Bool, List, ap, arith, length, length-drop, take, drop, take_all}
 use Rattle.sn_foot.specs.declared.resource.Resource.{Resource}
 use Rattle.sn_clash.specs.declared.entry.Entry.{Entry}
-use Rattle.sn_clash.specs.Clashing.{is_there}
+use Rattle.sn_foot.specs.Footprints.{is_there}
 use Rattle.sn_clash.specs.Rows.{label_in}
 use Rattle.sn_clash.proofs.Stacking.{one_passed}
 use Rattle.sn_clash.proofs.passing.pass_one.Goals as goal

@@ -1,8 +1,7 @@
 use Rattle.std.proofs.Common.{◌∙◌, Bool, ap, sym}
 use Rattle.std.proofs.lemmas.Bool.{cond-true}
 use Rattle.sn_foot.specs.declared.resource.Resource.{Resource}
-use Rattle.sn_foot.specs.Footprints.{Footprint}
-use Rattle.sn_clash.specs.Clashing.{is_there}
+use Rattle.sn_foot.specs.Footprints.{Footprint, is_there}
 use Rattle.sn_clash.specs.Passing.{gathered, members_of, no_use, used_by}
 use Rattle.sn_clash.proofs.passing.uses_at.Goals as goal
 

@@ -1,6 +1,6 @@
 -- The uses that are left give, with the first resource so far, that of all.
 use Rattle.std.proofs.Common.{◌≡◌, None, drop}
-use Rattle.sn_clash.specs.Clashing.{is_there}
+use Rattle.sn_foot.specs.Footprints.{is_there}
 use Rattle.sn_clash.specs.Marking.{first_hit}
 use Rattle.sn_clash.proofs.sharing.first_hit.Given as goal
 

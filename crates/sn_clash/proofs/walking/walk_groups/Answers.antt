@@ -3,7 +3,7 @@ use Rattle.sn_tree.specs.Trees.{Label, running_labels}
 use Rattle.sn_world.specs.declared.stage.Held.{Held}
 use Rattle.sn_foot.specs.declared.resource.Resource.{Resource}
 use Rattle.sn_clash.specs.declared.clash.Clash.{Clash}
-use Rattle.sn_clash.specs.Clashing.{is_there}
+use Rattle.sn_foot.specs.Footprints.{is_there}
 use Rattle.sn_clash.specs.Groups.{collected}
 use Rattle.sn_clash.proofs.Reaching.{all_collected}
 use Rattle.sn_clash.proofs.walking.walk_groups.Goals as goal

@@ -1,6 +1,7 @@
 -- Those so far, and those of the nodes that are left, are all.
 use Rattle.std.proofs.Common.{◌≡◌, ◌++◌}
-use Rattle.sn_clash.specs.Clashing.{clashes_in, is_there}
+use Rattle.sn_foot.specs.Footprints.{is_there}
+use Rattle.sn_clash.specs.Clashing.{clashes_in}
 use Rattle.sn_clash.specs.Groups.{collected}
 use Rattle.sn_clash.proofs.walking.walk_groups.Given as goal
 

@@ -7,6 +7,7 @@ use Rattle.sn_def.specs.WellFormed.{outputs_of}
 use Rattle.sn_def.proofs.Forming.{formed}
 use Rattle.sn_def.proofs.Sets.{printed_back}
 use Rattle.sn_def.proofs.PrintLoop.{whole_print}
+use Rattle.sn_def.proofs.Whole.{in_grammar}
 use Rattle.sn_def.proofs.printing.print.Goals as goal
 
 pub print_units-requires : goal.print_units-requires
@@ -24,3 +25,6 @@ returns-clause-printed c =
 
 pub returns-clause-read : goal.returns-clause-read
 returns-clause-read c = ap text_at (returns-clause-printed c) ∙ printed_back c.digits_read_back.ensures c.literal_bytes.ensures (definition_of c.args.def.now) c.args.def.now.written
+
+pub returns-clause-text : goal.returns-clause-text
+returns-clause-text c = in_grammar c.append-3.new.self.bytes (definition_of c.args.def.now) (returns-clause-read c)

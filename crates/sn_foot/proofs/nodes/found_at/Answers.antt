@@ -1,7 +1,7 @@
-use Rattle.std.proofs.Common.{◌≡◌, ◌≤◌, ◌+◌, ◌*◌, ◌∙◌, ◌++◌, [], ℕ, ℤ, List, ap, sym, arith, rules, length, map, append-nil, w32}
+use Rattle.std.proofs.Common.{◌≡◌, ◌+◌, ◌∙◌, ◌++◌, [], ℕ, ℤ, List, ap, sym, arith, rules, length, map, append-nil, w32}
 use Rattle.std.specs.Prelude.{FitsSigned}
 use Rattle.std.proofs.lemmas.Int.{to_z-of_z}
-use Rattle.sn_tree.specs.Trees.{Label, running_labels, subtree}
+use Rattle.sn_tree.specs.Trees.{Label, subtree}
 use Rattle.sn_tree.specs.Members.{members}
 use Rattle.sn_world.specs.declared.stage.Held.{Held}
 use Rattle.sn_foot.specs.Walks.{kept}

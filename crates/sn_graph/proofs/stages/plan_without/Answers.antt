@@ -1,4 +1,4 @@
-use Rattle.std.proofs.Common.{◌≡◌, ◌≤◌, [], List, length, sym, ap, subst, arith}
+use Rattle.std.proofs.Common.{◌≡◌, ◌<◌, [], List, length, sym, ap, subst, arith}
 use Rattle.std.specs.Prelude.{pos}
 use Rattle.std.proofs.lemmas.Result.{IfOk-weaker}
 use Rattle.sn_round.specs.declared.jobs.Job.{Job}
@@ -15,7 +15,7 @@ use Rattle.sn_graph.proofs.stages.plan_without.Goals as goal
 
 pub plan_of_nodes-requires-clause-few : goal.plan_of_nodes-requires-clause-few
 plan_of_nodes-requires-clause-few c =
-    let few = few_jobs c.args.stage.now.buffers c.args.clashing.now (pos 0) c.args.stage.now.tree.attached in
+    let few = few_jobs c.args.stage.now.buffers c.args.clashing.now (pos 0) c.args.stage.now.tree.attached c.root_is_a_group.ensures in
     let same = ap (λ (r : Running). size (row_of [] r)) c.in_ok-nodes.ensures in
     omega (arith, few, same, c.len-count.ensures.value, c.len-count.ensures.bound)
 
@@ -29,9 +29,9 @@ plan_of_nodes-requires-clause-once c =
 
 pub returns-clause-few : goal.returns-clause-few
 returns-clause-few c =
-    let few = few_jobs c.args.stage.now.buffers c.args.clashing.now (pos 0) c.args.stage.now.tree.attached in
+    let few = few_jobs c.args.stage.now.buffers c.args.clashing.now (pos 0) c.args.stage.now.tree.attached c.root_is_a_group.ensures in
     let same = ap (λ (r : Running). size (row_of [] r)) c.in_ok-nodes.ensures in
-    IfOk-weaker c.plan_of_nodes.result (λ (plan : List Job). plan ≡ plan_of (nodes_of c.in_ok-nodes.nodes)) (λ plan. length plan ≤ count c.args.stage.now.tree.attached)
+    IfOk-weaker c.plan_of_nodes.result (λ (plan : List Job). plan ≡ plan_of (nodes_of c.in_ok-nodes.nodes)) (λ plan. length plan < count c.args.stage.now.tree.attached)
     (λ plan e. omega (arith, ap length e, length-jobs 0 [] (row_of [] (nodes_of c.in_ok-nodes.nodes)), few, same)) c.plan_of_nodes.ensures.jobs
 
 pub returns-clause-race_free : goal.returns-clause-race_free

@@ -1,12 +1,12 @@
-use Rattle.std.proofs.Common.{◌≡◌, ◌<◌, ℕ, ◌+◌, Bool, true, false, ◌&&◌, List, [], ◌∷◌, ◌++◌, sym, refl, ap, ◌∙◌, arith}
+use Rattle.std.proofs.Common.{◌≡◌, ◌+◌, Bool, true, false, ◌&&◌, List, [], ◌∷◌, ◌++◌, sym, refl, ap, ◌∙◌}
 use Rattle.std.specs.Prelude.{nat_lt}
 use Rattle.std.specs.List.{All, list_all}
 use Rattle.std.proofs.lemmas.Bool.{and_parts, ltb-true}
 use Rattle.std.proofs.lemmas.List.Elements.{All-nil, All-cons, All-append}
 use Rattle.sn_mem.specs.declared.extents.Extent.{Extent}
 use Rattle.sn_tree.specs.Trees as trees
-use Rattle.sn_tree.specs.Trees.{Nodes}
-use Rattle.sn_tree.specs.Tallies.{gathered, payloads}
+use Rattle.sn_tree.specs.Trees.{Nodes, payloads}
+use Rattle.sn_tree.specs.Tallies.{gathered}
 use Rattle.sn_world.specs.declared.stage.Held.{Held}
 use Rattle.sn_world.specs.Pictures.{held_extents, live_held}
 use Rattle.sn_foot.specs.Canonical.{Ends}

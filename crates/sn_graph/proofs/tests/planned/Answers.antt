@@ -1,4 +1,4 @@
-use Rattle.std.proofs.Common.{◌≡◌, List, Option, subst, sym}
+use Rattle.std.proofs.Common.{List, Option, subst, sym}
 use Rattle.std.specs.List.{All}
 use Rattle.sn_mem.specs.declared.buffers.BufferPlace.{BufferPlace}
 use Rattle.sn_mem.specs.Buffers.{live_places}

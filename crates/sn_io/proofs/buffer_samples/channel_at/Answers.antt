@@ -1,4 +1,4 @@
-use Rattle.std.proofs.Common.{ℕ, pos, Option, None, get_or, sym, ap, ◌∙◌}
+use Rattle.std.proofs.Common.{pos, Option, None, get_or, sym, ap, ◌∙◌}
 use Rattle.std.specs.Option.{option_map}
 use Rattle.sn_mem.specs.declared.buffers.BufferPlace.{BufferPlace}
 use Rattle.sn_mem.specs.Blocks.{table}

@@ -1,4 +1,4 @@
-use Rattle.std.proofs.Common.{◌<◌, ◌+◌, ℕ, ℤ, List, Option, Some, None, length, get_or, to_z, of_z, w32, SFits, rules, refl, sym, ap, ◌∙◌, arith}
+use Rattle.std.proofs.Common.{◌<◌, ℕ, ℤ, List, Some, None, length, get_or, to_z, of_z, w32, SFits, rules, refl, sym, ap, ◌∙◌, arith}
 use Rattle.std.proofs.lemmas.Int.{to_z-of_z}
 use Rattle.sn_mem.specs.Buffers.{buffer_of}
 use Rattle.sn_mem.proofs.Steps.{length-set_at}

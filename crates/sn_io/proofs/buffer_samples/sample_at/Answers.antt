@@ -1,4 +1,4 @@
-use Rattle.std.proofs.Common.{◌+◌, ◌*◌, ℕ, Option, Some, get_or, SFits, w32, rules, ap, sym, ◌∙◌}
+use Rattle.std.proofs.Common.{ℕ, Option, Some, SFits, w32, rules, ap, sym, ◌∙◌}
 use Rattle.std.proofs.lemmas.Int.{to_z-of_z}
 use Rattle.sn_mem.specs.Buffers.{buffer_of}
 use Rattle.sn_io.specs.BufferUnits.{sample_at}

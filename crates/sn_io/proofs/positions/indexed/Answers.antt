@@ -1,4 +1,4 @@
-use Rattle.std.proofs.Common.{◌<◌, ℕ, ℤ, Option, length, SFits, w32, rules, refl, sym, ap, ◌∙◌, arith}
+use Rattle.std.proofs.Common.{◌<◌, ℕ, Option, length, SFits, w32, rules, refl, sym, ap, ◌∙◌, arith}
 use Rattle.std.proofs.lemmas.Int.{to_z-of_z}
 use Rattle.sn_mem.specs.Blocks.{sample}
 use Rattle.sn_mem.proofs.Tables.{table_none}

@@ -1,5 +1,5 @@
-use Rattle.std.proofs.Common.{◌<◌, ℕ, Option, length, refl, sym, arith}
-use Rattle.sn_io.proofs.Walking.{walk_none, walk_step, walk_done, long_set}
+use Rattle.std.proofs.Common.{◌<◌, length, refl, sym, arith}
+use Rattle.sn_io.proofs.Walking.{walk_none, walk_step, long_set}
 use Rattle.sn_io.proofs.positions.walk_frames.Goals as goal
 
 pub loop-frame-init : goal.loop-frame-init

@@ -1,4 +1,4 @@
-use Rattle.std.proofs.Common.{◌≡◌, ℕ, List, Option, take, length}
+use Rattle.std.proofs.Common.{◌≡◌, take, length}
 use Rattle.sn_io.specs.Positions.{walk}
 use Rattle.sn_io.proofs.positions.walk_frames.Given as goal
 

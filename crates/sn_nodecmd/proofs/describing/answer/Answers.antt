@@ -1,13 +1,12 @@
-use Rattle.std.proofs.Common.{◌≡◌, ◌∙◌, ◌++◌, ◌∷◌, [], ap, sym, List, ℕ, ℤ, w32, to_z, of_z, rules, true, false}
+use Rattle.std.proofs.Common.{◌≡◌, ◌∙◌, ◌++◌, ◌∷◌, [], ap, sym, List, w32, rules, true, false}
 use Rattle.std.specs.Prelude.{FitsSigned}
 use Rattle.std.proofs.lemmas.Int.{to_z-of_z}
 use Rattle.sn_osc.specs.Shape.{MessageShape}
 use Rattle.sn_reply.specs.declared.replies.To.TheVariants.{Client}
 use Rattle.sn_reply.specs.Replies.{ReplyShape}
-use Rattle.sn_tree.specs.Trees.{Label, subtree}
+use Rattle.sn_tree.specs.Trees.{subtree}
 use Rattle.sn_tree.specs.Members.{members}
 use Rattle.sn_tree.specs.Faults.{is_synth}
-use Rattle.sn_world.specs.declared.stage.Held.{Held}
 use Rattle.sn_world.specs.World.{turn_of}
 use Rattle.sn_nodecmd.specs.Describing.{tree_reply}
 use Rattle.sn_nodecmd.proofs.DescribingLemmas.{missing, refused, accepted, few, answered}
@@ -53,8 +52,8 @@ returns-clause-act c =
     let no_synth : is_synth c.in-Some.group.kind ≡ false = search rules in
     λ words. (
       accepted c.args.stage.now words c.args.query.now _ _ first no_synth,
-      ap (λ (rs : List ReplyShape). turn_of c.args.stage.now words rs)
+      sym (ap (λ (rs : List ReplyShape). turn_of c.args.stage.now words rs)
           (c.in_ok-push.ensures.ok
           ∙ ap (λ (m : MessageShape). let r : ReplyShape = record { to = Client c.args.from; message = m } in c.args.replies.now ++ r ∷ [])
-          (c.in_ok-message.ensures.message ∙ ap (λ n. tree_reply n c.in-Some.group.children c.next.new.self) same ∙ answered c.args.stage.now words c.args.query.now _ _ first)),
+          (c.in_ok-message.ensures.message ∙ ap (λ n. tree_reply n c.in-Some.group.children c.next.new.self) same ∙ answered c.args.stage.now words c.args.query.now _ _ first))),
     )

@@ -2,12 +2,12 @@ use Rattle.std.proofs.Common.{◌∙◌}
 use Rattle.sn_world.specs.World.{turn_of}
 use Rattle.sn_world.specs.TreeQueries.{judge_tree, act_tree}
 use Rattle.sn_nodecmd.proofs.TurningLemmas.{earlier-more}
-use Rattle.sn_nodecmd.proofs.DescribingLemmas.{asked-step}
+use Rattle.sn_nodecmd.proofs.Repeating.{step_asked}
 use Rattle.sn_nodecmd.proofs.describing.answer_all.Goals as goal
 
 pub loop-query-preserved : goal.loop-query-preserved
 loop-query-preserved c = record {
   row = λ words.
-      asked-step judge_tree (act_tree c.args.from) c.args.queries.now c.loop-query.query-index _ c.in_ok-refused.refused (turn_of c.args.stage.now words c.loop-query.replies) (turn_of c.args.stage.now words c.answer.new.replies) c.loop-query-test.true c.in_default.is (c.in_ok-refused.ensures.act words) ∙ c.loop-query.invariant.row words;
+      step_asked judge_tree (act_tree c.args.from) c.args.queries.now c.loop-query.query-index _ c.in_ok-refused.refused (turn_of c.args.stage.now words c.loop-query.replies) (turn_of c.args.stage.now words c.answer.new.replies) c.loop-query-test.true c.in_default.is (c.in_ok-refused.ensures.act words) ∙ c.loop-query.invariant.row words;
   earlier = earlier-more c.args.replies.now c.loop-query.replies c.answer.new.replies c.loop-query.invariant.earlier c.answer.ensures.earlier;
 }

@@ -1,4 +1,4 @@
-use Rattle.std.proofs.Common.{◌≡◌, ◌<◌, true, ap, subst, sym, ◌∙◌, length, List, ℕ}
+use Rattle.std.proofs.Common.{◌<◌, ap, subst, sym, ◌∙◌, length, List, ℕ}
 use Rattle.sn_osc.specs.Bytes.{has_no_null}
 use Rattle.sn_nodecmd.proofs.NameLemmas.{name-clean, name-short}
 use Rattle.sn_nodecmd.proofs.describing.push_synth.Goals as goal

@@ -4,6 +4,7 @@ use Rattle.sn_tree.specs.Trees.{none}
 use Rattle.sn_tree.specs.Model.{NodeTree}
 use Rattle.sn_world.specs.declared.stage.Held.{Held}
 use Rattle.sn_world.specs.Pictures.{live_held, amount}
+use Rattle.sn_world.proofs.FreedLemmas.{room_for}
 use Rattle.sn_nodecmd.proofs.Underway.{underway_live, underway_room, underway_pictures}
 use Rattle.sn_nodecmd.proofs.folding.commit.Goals as goal
 
@@ -13,7 +14,8 @@ end_freed-requires-clause-live c = λ e some.
 
 pub end_freed-requires-clause-room : goal.end_freed-requires-clause-room
 end_freed-requires-clause-room c =
-    omega (arith, underway_room c.requires.0 c.args.mark c.requires.1 c.args.stage.now c.requires.2 c.requires.3, ap (λ (t : NodeTree Held). amount (λ e. 1) (live_held t.detached)) c.commit.ensures)
+    room_for (amount (λ e. 1) (live_held c.commit.new.self.detached)) c.args.stage.now.pool.journal
+    (omega (arith, underway_room c.requires.0 c.args.mark c.requires.1 c.args.stage.now c.requires.2 c.requires.3, ap (λ (t : NodeTree Held). amount (λ e. 1) (live_held t.detached)) c.commit.ensures))
 
 pub returns-clause-pictures : goal.returns-clause-pictures
 returns-clause-pictures c = λ left old words is p.

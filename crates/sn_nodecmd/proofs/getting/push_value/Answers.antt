@@ -1,4 +1,4 @@
-use Rattle.std.proofs.Common.{◌≡◌, ◌<◌, length, is_some, ap, sym, arith}
+use Rattle.std.proofs.Common.{◌<◌, length, is_some, ap, sym, arith}
 use Rattle.sn_def.specs.Defs.{definition_of}
 use Rattle.sn_def.specs.declared.control.Control.{Control}
 use Rattle.sn_synth.specs.Conditions.{IsFollowed, no_control}

@@ -1,4 +1,4 @@
-use Rattle.std.proofs.Common.{◌≡◌, ap, sym, ◌∙◌, map, Some}
+use Rattle.std.proofs.Common.{ap, sym, ◌∙◌, map}
 use Rattle.std.specs.Option.{option_map}
 use Rattle.sn_osc.specs.Shape.{argument_of}
 use Rattle.sn_nodecmd.specs.Getting.{request_of}

@@ -1,5 +1,4 @@
 use Rattle.std.proofs.Common.{◌∙◌, arith}
-use Rattle.sn_world.specs.NewNodes.{add_action}
 use Rattle.sn_nodecmd.specs.Judging.{reason_for}
 use Rattle.sn_nodecmd.proofs.Judged.{judged_node}
 use Rattle.sn_nodecmd.proofs.judging.refusal.Goals as goal

@@ -13,7 +13,8 @@ use Rattle.sn_world.specs.Mappings.{with_buses}
 use Rattle.sn_nodecmd.specs.declared.mappings.Mapping.{Mapping}
 use Rattle.sn_nodecmd.specs.Reworks.{held_with}
 use Rattle.sn_nodecmd.specs.Mapped.{mapping_of, request_of, refusal_in}
-use Rattle.sn_nodecmd.proofs.TurningLemmas.{with_tree, no_node, some_node}
+use Rattle.sn_world.proofs.Turning.{with_tree}
+use Rattle.sn_nodecmd.proofs.TurningLemmas.{no_node, some_node}
 use Rattle.sn_nodecmd.proofs.MappingLemmas.{map-done, map-missing, map-refused, pictures-mapped}
 use Rattle.sn_nodecmd.proofs.mappings.map_all.Goals as goal
 

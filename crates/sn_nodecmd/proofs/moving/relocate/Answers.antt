@@ -1,4 +1,4 @@
-use Rattle.std.proofs.Common.{◌≡◌, ◌∙◌, ap, Some}
+use Rattle.std.proofs.Common.{◌∙◌, ap, Some}
 use Rattle.std.specs.Option.{option_map}
 use Rattle.sn_nodecmd.specs.Relocating.{reason_of}
 use Rattle.sn_nodecmd.proofs.Relocating.{judged_move}

@@ -1,4 +1,4 @@
-use Rattle.std.proofs.Common.{◌≡◌, ◌∙◌, ap, map, arith, Some, length}
+use Rattle.std.proofs.Common.{◌≡◌, ◌∙◌, ap, map, arith, Some}
 use Rattle.sn_osc.specs.Shape.{argument_of}
 use Rattle.sn_world.specs.Rows.{pairs, some_of}
 use Rattle.sn_world.specs.Moving.{move_from, judge_move, act_move}

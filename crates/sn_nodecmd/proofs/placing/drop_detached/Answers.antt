@@ -2,7 +2,7 @@ use Rattle.std.proofs.Common.{ap, arith}
 use Rattle.sn_tree.specs.Trees.{count}
 use Rattle.sn_tree.specs.Model.{NodeTree}
 use Rattle.sn_world.specs.declared.stage.Held.{Held}
-use Rattle.sn_nodecmd.proofs.Ending.{first_count}
+use Rattle.sn_world.proofs.FreedLemmas.{first_count}
 use Rattle.sn_nodecmd.proofs.placing.drop_detached.Goals as goal
 
 pub loop-ended-smaller-in-Some : goal.loop-ended-smaller-in-Some

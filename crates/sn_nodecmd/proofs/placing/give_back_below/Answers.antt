@@ -4,7 +4,8 @@ use Rattle.std.proofs.lemmas.Int.{to_z-of_z}
 use Rattle.sn_pool.specs.Pools.{times}
 use Rattle.sn_tree.specs.Trees.{subtree}
 use Rattle.sn_tree.specs.Members.{members}
-use Rattle.sn_world.specs.Pictures.{live_held, amount}
+use Rattle.sn_world.specs.Pictures.{held_extents, live_held, amount}
+use Rattle.sn_world.proofs.FreedLemmas.{room_for}
 use Rattle.sn_nodecmd.proofs.Replacing.{member_extents, members-live, next-amount, next-times, none-times}
 use Rattle.sn_nodecmd.proofs.placing.give_back_below.Goals as goal
 
@@ -26,7 +27,9 @@ pub give_back-requires-clause-live : goal.give_back-requires-clause-live
 give_back-requires-clause-live c = λ e some. omega (arith, next-times e c.loop-member.member-iterator _ _ c.in-Some.ensures.steps, c.loop-member.invariant.live e some, c.requires.live e some)
 
 pub give_back-requires-clause-room : goal.give_back-requires-clause-room
-give_back-requires-clause-room c = omega (arith, next-amount (λ e. 1) c.loop-member.member-iterator _ _ c.in-Some.ensures.steps, c.loop-member.invariant.room)
+give_back-requires-clause-room c =
+    room_for (amount (λ e. 1) (held_extents c.in-Some.member.payload.now)) c.loop-member.pool.journal
+    (omega (arith, next-amount (λ e. 1) c.loop-member.member-iterator _ _ c.in-Some.ensures.steps, c.loop-member.invariant.room))
 
 pub loop-member-preserved : goal.loop-member-preserved
 loop-member-preserved c = record {

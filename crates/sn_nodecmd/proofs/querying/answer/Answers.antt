@@ -1,4 +1,4 @@
-use Rattle.std.proofs.Common.{◌∙◌, ◌++◌, ◌∷◌, [], ap, List, w32, Some, rules}
+use Rattle.std.proofs.Common.{◌∙◌, ◌++◌, ◌∷◌, [], ap, sym, List, w32, Some, rules}
 use Rattle.std.specs.Prelude.{FitsSigned}
 use Rattle.std.proofs.lemmas.Int.{to_z-of_z}
 use Rattle.sn_osc.specs.Shape.{MessageShape}
@@ -25,7 +25,7 @@ returns-clause-act c =
     let seen = c.in-Some.ensures ∙ ap (λ n. view_of n c.args.stage.now.tree.attached) same in
     λ words. (
       some_node c.args.stage.now words c.args.query.now.id c.in-Some.view seen,
-      ap (λ (rs : List ReplyShape). turn_of c.args.stage.now words rs)
+      sym (ap (λ (rs : List ReplyShape). turn_of c.args.stage.now words rs)
           (c.in_ok-push.ensures.ok ∙ ap (λ (m : MessageShape). let r : ReplyShape = record { to = Client c.args.from; message = m } in c.args.replies.now ++ r ∷ []) (c.in_ok-message.ensures.message ∙ ap (λ n. event_message Asked n c.in-Some.view) same))
-          ∙ informed c.args.stage.now words c.args.replies.now c.args.from c.args.query.now (Some c.in-Some.view) seen,
+          ∙ informed c.args.stage.now words c.args.replies.now c.args.from c.args.query.now (Some c.in-Some.view) seen),
     )

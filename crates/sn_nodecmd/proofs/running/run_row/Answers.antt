@@ -4,7 +4,6 @@ use Rattle.sn_world.specs.declared.command.NodeCommand.{NodeCommand}
 use Rattle.sn_world.specs.World.{turn_of}
 use Rattle.sn_world.specs.Commands.{node_row}
 use Rattle.sn_world.specs.Answers.{Follows}
-use Rattle.sn_nodecmd.proofs.Repeating.{same_turn, same_outcome}
 use Rattle.sn_nodecmd.proofs.Underway.{at_rest}
 use Rattle.sn_nodecmd.proofs.running.run_row.Goals as goal
 
@@ -12,10 +11,6 @@ pub returns-in-New-clause-row : goal.returns-in-New-clause-row
 returns-in-New-clause-row g c =
     subst (λ (v : NodeCommand). Follows c.run_new.result (node_row v c.args.from (map argument_of c.args.arguments.now) (turn_of c.args.stage.now (g.P.Port.words c.args.port.now) c.args.replies.now)) (turn_of c.run_new.new.stage (g.P.Port.words c.run_new.new.port) c.run_new.new.replies))
     (sym c.in-New.is) (c.run_new.ensures.row c.args.from)
-
-pub returns-in-New-clause-unchanged : goal.returns-in-New-clause-unchanged
-returns-in-New-clause-unchanged g c =
-    same_outcome c.run_new.result c.args.stage.now c.run_new.new.stage (g.P.Port.words c.args.port.now) (g.P.Port.words c.run_new.new.port) c.args.replies.now c.run_new.new.replies c.run_new.ensures.unchanged c.run_new.ensures.untouched c.run_new.ensures.untold
 
 pub returns-in-Notify-clause-row : goal.returns-in-Notify-clause-row
 returns-in-Notify-clause-row g c =
@@ -26,6 +21,12 @@ pub returns-in-TurnNodes-clause-row : goal.returns-in-TurnNodes-clause-row
 returns-in-TurnNodes-clause-row g c =
     subst (λ (v : NodeCommand). Follows c.run_flags.result (node_row v c.args.from (map argument_of c.args.arguments.now) (turn_of c.args.stage.now (g.P.Port.words c.args.port.now) c.args.replies.now)) (turn_of c.run_flags.new.stage (g.P.Port.words c.args.port.now) c.run_flags.new.replies))
     (sym c.in-TurnNodes.is) (c.run_flags.ensures.row c.args.from (g.P.Port.words c.args.port.now))
+
+pub returns-in-TurnNodes-clause-pictures : goal.returns-in-TurnNodes-clause-pictures
+returns-in-TurnNodes-clause-pictures g c = c.run_flags.ensures.pictures (g.P.Port.words c.args.port.now) c.requires.pictures
+
+pub run_flags-requires-clause-rest : goal.run_flags-requires-clause-rest
+run_flags-requires-clause-rest g c = at_rest c.args.stage.now (g.P.Port.words c.args.port.now) c.requires.pictures
 
 pub returns-in-SetControls-clause-row : goal.returns-in-SetControls-clause-row
 returns-in-SetControls-clause-row g c =
@@ -52,9 +53,6 @@ returns-in-NewGroup-clause-row g c =
     subst (λ (v : NodeCommand). Follows c.run_new_groups.result (node_row v c.args.from (map argument_of c.args.arguments.now) (turn_of c.args.stage.now (g.P.Port.words c.args.port.now) c.args.replies.now)) (turn_of c.run_new_groups.new.stage (g.P.Port.words c.args.port.now) c.run_new_groups.new.replies))
     (sym c.in-NewGroup.is) (c.run_new_groups.ensures.row c.args.from (g.P.Port.words c.args.port.now))
 
-pub returns-in-NewGroup-clause-unchanged : goal.returns-in-NewGroup-clause-unchanged
-returns-in-NewGroup-clause-unchanged g c = same_turn c.run_new_groups.result c.args.stage.now c.run_new_groups.new.stage (g.P.Port.words c.args.port.now) c.args.replies.now c.run_new_groups.new.replies c.run_new_groups.ensures.unchanged c.run_new_groups.ensures.untold
-
 pub returns-in-NewGroup-clause-pictures : goal.returns-in-NewGroup-clause-pictures
 returns-in-NewGroup-clause-pictures g c = c.run_new_groups.ensures.pictures (g.P.Port.words c.args.port.now) c.requires.pictures
 
@@ -66,9 +64,6 @@ returns-in-NewParallel-clause-row g c =
     subst (λ (v : NodeCommand). Follows c.run_new_groups-in-NewParallel.result (node_row v c.args.from (map argument_of c.args.arguments.now) (turn_of c.args.stage.now (g.P.Port.words c.args.port.now) c.args.replies.now)) (turn_of c.run_new_groups-in-NewParallel.new.stage (g.P.Port.words c.args.port.now) c.run_new_groups-in-NewParallel.new.replies))
     (sym c.in-NewParallel.is) (c.run_new_groups-in-NewParallel.ensures.row c.args.from (g.P.Port.words c.args.port.now))
 
-pub returns-in-NewParallel-clause-unchanged : goal.returns-in-NewParallel-clause-unchanged
-returns-in-NewParallel-clause-unchanged g c = same_turn c.run_new_groups-in-NewParallel.result c.args.stage.now c.run_new_groups-in-NewParallel.new.stage (g.P.Port.words c.args.port.now) c.args.replies.now c.run_new_groups-in-NewParallel.new.replies c.run_new_groups-in-NewParallel.ensures.unchanged c.run_new_groups-in-NewParallel.ensures.untold
-
 pub returns-in-NewParallel-clause-pictures : goal.returns-in-NewParallel-clause-pictures
 returns-in-NewParallel-clause-pictures g c = c.run_new_groups-in-NewParallel.ensures.pictures (g.P.Port.words c.args.port.now) c.requires.pictures
 
@@ -76,9 +71,6 @@ pub returns-in-Free-clause-row : goal.returns-in-Free-clause-row
 returns-in-Free-clause-row g c =
     subst (λ (v : NodeCommand). Follows c.run_free.result (node_row v c.args.from (map argument_of c.args.arguments.now) (turn_of c.args.stage.now (g.P.Port.words c.args.port.now) c.args.replies.now)) (turn_of c.run_free.new.stage (g.P.Port.words c.args.port.now) c.run_free.new.replies))
     (sym c.in-Free.is) (c.run_free.ensures.row c.args.from (g.P.Port.words c.args.port.now))
-
-pub returns-in-Free-clause-unchanged : goal.returns-in-Free-clause-unchanged
-returns-in-Free-clause-unchanged g c = same_turn c.run_free.result c.args.stage.now c.run_free.new.stage (g.P.Port.words c.args.port.now) c.args.replies.now c.run_free.new.replies c.run_free.ensures.unchanged c.run_free.ensures.untold
 
 pub returns-in-Free-clause-pictures : goal.returns-in-Free-clause-pictures
 returns-in-Free-clause-pictures g c = c.run_free.ensures.pictures (g.P.Port.words c.args.port.now) c.requires.pictures
@@ -91,9 +83,6 @@ returns-in-FreeAll-clause-row g c =
     subst (λ (v : NodeCommand). Follows c.run_free_all.result (node_row v c.args.from (map argument_of c.args.arguments.now) (turn_of c.args.stage.now (g.P.Port.words c.args.port.now) c.args.replies.now)) (turn_of c.run_free_all.new.stage (g.P.Port.words c.args.port.now) c.run_free_all.new.replies))
     (sym c.in-FreeAll.is) (c.run_free_all.ensures.row c.args.from (g.P.Port.words c.args.port.now))
 
-pub returns-in-FreeAll-clause-unchanged : goal.returns-in-FreeAll-clause-unchanged
-returns-in-FreeAll-clause-unchanged g c = same_turn c.run_free_all.result c.args.stage.now c.run_free_all.new.stage (g.P.Port.words c.args.port.now) c.args.replies.now c.run_free_all.new.replies c.run_free_all.ensures.unchanged c.run_free_all.ensures.untold
-
 pub returns-in-FreeAll-clause-pictures : goal.returns-in-FreeAll-clause-pictures
 returns-in-FreeAll-clause-pictures g c = c.run_free_all.ensures.pictures (g.P.Port.words c.args.port.now) c.requires.pictures
 
@@ -104,9 +93,6 @@ pub returns-in-DeepFree-clause-row : goal.returns-in-DeepFree-clause-row
 returns-in-DeepFree-clause-row g c =
     subst (λ (v : NodeCommand). Follows c.run_deep_free.result (node_row v c.args.from (map argument_of c.args.arguments.now) (turn_of c.args.stage.now (g.P.Port.words c.args.port.now) c.args.replies.now)) (turn_of c.run_deep_free.new.stage (g.P.Port.words c.args.port.now) c.run_deep_free.new.replies))
     (sym c.in-DeepFree.is) (c.run_deep_free.ensures.row c.args.from (g.P.Port.words c.args.port.now))
-
-pub returns-in-DeepFree-clause-unchanged : goal.returns-in-DeepFree-clause-unchanged
-returns-in-DeepFree-clause-unchanged g c = same_turn c.run_deep_free.result c.args.stage.now c.run_deep_free.new.stage (g.P.Port.words c.args.port.now) c.args.replies.now c.run_deep_free.new.replies c.run_deep_free.ensures.unchanged c.run_deep_free.ensures.untold
 
 pub returns-in-DeepFree-clause-pictures : goal.returns-in-DeepFree-clause-pictures
 returns-in-DeepFree-clause-pictures g c = c.run_deep_free.ensures.pictures (g.P.Port.words c.args.port.now) c.requires.pictures
@@ -133,9 +119,6 @@ pub returns-in-Move-clause-row : goal.returns-in-Move-clause-row
 returns-in-Move-clause-row g c =
     subst (λ (v : NodeCommand). Follows c.run_moves.result (node_row v c.args.from (map argument_of c.args.arguments.now) (turn_of c.args.stage.now (g.P.Port.words c.args.port.now) c.args.replies.now)) (turn_of c.run_moves.new.stage (g.P.Port.words c.args.port.now) c.run_moves.new.replies))
     (sym c.in-Move.is) (c.run_moves.ensures.row c.args.from (g.P.Port.words c.args.port.now))
-
-pub returns-in-Move-clause-unchanged : goal.returns-in-Move-clause-unchanged
-returns-in-Move-clause-unchanged g c = same_turn c.run_moves.result c.args.stage.now c.run_moves.new.stage (g.P.Port.words c.args.port.now) c.args.replies.now c.run_moves.new.replies c.run_moves.ensures.unchanged c.run_moves.ensures.untold
 
 pub returns-in-Move-clause-pictures : goal.returns-in-Move-clause-pictures
 returns-in-Move-clause-pictures g c = c.run_moves.ensures.pictures (g.P.Port.words c.args.port.now) c.requires.pictures

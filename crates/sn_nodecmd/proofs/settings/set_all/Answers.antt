@@ -11,7 +11,8 @@ use Rattle.sn_world.specs.World.{Turn, turn_of}
 use Rattle.sn_world.specs.ControlRuns.{with_runs}
 use Rattle.sn_nodecmd.specs.Runs.{run_of}
 use Rattle.sn_nodecmd.specs.Reworks.{held_with, request_of}
-use Rattle.sn_nodecmd.proofs.TurningLemmas.{with_tree, no_node, some_node}
+use Rattle.sn_world.proofs.Turning.{with_tree}
+use Rattle.sn_nodecmd.proofs.TurningLemmas.{no_node, some_node}
 use Rattle.sn_nodecmd.proofs.ReworkLemmas.{set-done, set-refused, pictures-reworked, good-runs}
 use Rattle.sn_nodecmd.proofs.settings.set_all.Goals as goal
 

@@ -21,7 +21,7 @@ loop-piece-preserved c =
     let pieces = c.args.pieces.now in
     let i = c.loop-piece.piece-index in
     let stream = joined_pieces (take i pieces) in
-    let after = c.in_ok-feed_and_take.ensures stream c.loop-piece.invariant.0 in
+    let after = c.in_ok-feed_and_take.ensures.ok stream c.loop-piece.invariant.0 in
     let more : stream ++ c.as_slice.result.now ≡ joined_pieces (take (i + 1) pieces) =
     ap (λ (t : List ℕ). stream ++ t) c.as_slice.ensures ∙ sym (take_more pieces i c.piece-item.result c.loop-piece-test.true c.piece-item.is) in
     (subst (λ (t : List ℕ). AreFirst t c.feed_and_take.new.frames.items c.feed_and_take.new.self) more after.0, after.1)

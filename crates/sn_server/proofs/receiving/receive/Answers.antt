@@ -11,20 +11,20 @@ pub send_replies-requires : goal.send_replies-requires
 send_replies-requires g c = record { alone = received_alone c.args.engine.now c.take_packets.new.engine (unpacked c.feed.new.self.kept).packets c.in_ok-bad.ensures.engine c.requires.ready.said }
 
 pub returns-in-Some-clause-follows : goal.returns-in-Some-clause-follows
-returns-in-Some-clause-follows g c = λ s v so sn ro live.
+returns-in-Some-clause-follows g c = λ s v sound_old sound_new sent_old live.
     let e2 = c.send_replies.new.engine in
     let f2 = c.take_packets.new.framer in
-    let stands = received s v c.args.piece.now so sn ro (g.L.Link.sent c.args.link.now) (g.L.Link.sent c.send_replies.new.link) c.args.engine.now c.take_packets.new.engine e2 c.args.framer.now c.feed.new.self f2
+    let stands = received s v c.args.piece.now sound_old sound_new sent_old (g.L.Link.sent c.args.link.now) (g.L.Link.sent c.send_replies.new.link) c.args.engine.now c.take_packets.new.engine e2 c.args.framer.now c.feed.new.self f2
     live c.in_ok-feed.ensures.ok c.in_ok-bad.ensures.engine c.in_ok-bad.ensures.framer c.in_ok-send_replies.ensures.sent c.send_replies.ensures.kept in
-    received_bad s v c.args.piece.now so sn ro (g.L.Link.sent c.send_replies.new.link) e2 f2 c.in-Some.how stands (subst (Stops (first_frame f2.kept)) c.in-Some.is c.in_ok-bad.ensures.stops)
+    received_bad s v c.args.piece.now sound_old sound_new sent_old (g.L.Link.sent c.send_replies.new.link) e2 f2 c.in-Some.how stands (subst (Stops (first_frame f2.kept)) c.in-Some.is c.in_ok-bad.ensures.stops)
 
 pub returns-in-None-clause-follows : goal.returns-in-None-clause-follows
-returns-in-None-clause-follows g c = λ s v so sn ro live.
+returns-in-None-clause-follows g c = λ s v sound_old sound_new sent_old live.
     let e2 = c.send_replies.new.engine in
     let f2 = c.take_packets.new.framer in
-    let stands = received s v c.args.piece.now so sn ro (g.L.Link.sent c.args.link.now) (g.L.Link.sent c.send_replies.new.link) c.args.engine.now c.take_packets.new.engine e2 c.args.framer.now c.feed.new.self f2
+    let stands = received s v c.args.piece.now sound_old sound_new sent_old (g.L.Link.sent c.args.link.now) (g.L.Link.sent c.send_replies.new.link) c.args.engine.now c.take_packets.new.engine e2 c.args.framer.now c.feed.new.self f2
     live c.in_ok-feed.ensures.ok c.in_ok-bad.ensures.engine c.in_ok-bad.ensures.framer c.in_ok-send_replies.ensures.sent c.send_replies.ensures.kept in
-    received_whole s v c.args.piece.now so sn ro (g.L.Link.sent c.send_replies.new.link) e2 f2 stands (subst (Stops (first_frame f2.kept)) c.in-None.is c.in_ok-bad.ensures.stops)
+    received_whole s v c.args.piece.now sound_old sound_new sent_old (g.L.Link.sent c.send_replies.new.link) e2 f2 stands (subst (Stops (first_frame f2.kept)) c.in-None.is c.in_ok-bad.ensures.stops)
 
 pub returns-in-None-clause-ready : goal.returns-in-None-clause-ready
 returns-in-None-clause-ready g c =

@@ -2,6 +2,6 @@ use Rattle.sn_server.proofs.EventLemmas.{took_worn}
 use Rattle.sn_server.proofs.serving.serve_event.Goals as goal
 
 pub returns-in_err-check_worn-clause-took : goal.returns-in_err-check_worn-clause-took
-returns-in_err-check_worn-clause-took g c = λ s v so ro live.
-    took_worn s (g.L.Link.left c.args.link.now) so (g.O.Sink.taken c.args.sound.now) ro (g.L.Link.sent c.args.link.now) v c.args.engine.now c.args.framer.now c.from_residual.result c.in_err-check_worn.field-0.0
+returns-in_err-check_worn-clause-took g c = λ s v sound_old sent_old live.
+    took_worn s (g.L.Link.left c.args.link.now) sound_old (g.O.Sink.taken c.args.sound.now) sent_old (g.L.Link.sent c.args.link.now) v c.args.engine.now c.args.framer.now c.from_residual.result c.in_err-check_worn.field-0.0
     c.from_residual.ensures.1 live c.in_err-check_worn.ensures.worn

@@ -1,4 +1,4 @@
-use Rattle.std.proofs.Common.{◌≡◌, None, Some}
+use Rattle.std.proofs.Common.{None, Some}
 use Rattle.sn_world.specs.Settling.{acted_at, acted}
 use Rattle.sn_settle.proofs.Acted.{with_act, no_act, acted_there}
 use Rattle.sn_settle.proofs.acting.act.Goals as goal

@@ -1,4 +1,4 @@
-use Rattle.std.proofs.Common.{◌≡◌, ◌≤◌, ◌<◌, ◌+◌, length, drop, get_or, pos, arith, length-drop}
+use Rattle.std.proofs.Common.{◌≤◌, ◌<◌, ◌+◌, length, drop, get_or, pos, arith, length-drop}
 use Rattle.sn_world.specs.declared.endings.Ending.{Ending}
 use Rattle.sn_settle.proofs.Reading.{drop_first, drop_past}
 use Rattle.sn_settle.proofs.Acted.{acted_none, acted_next, acted_room, acted_all}

@@ -1,4 +1,4 @@
-use Rattle.std.proofs.Common.{◌≡◌, ℤ, pos, true, false, Some, rules}
+use Rattle.std.proofs.Common.{◌≡◌, pos, true, false, Some, rules}
 use Rattle.std.specs.Ordering.{int_eq}
 use Rattle.sn_world.specs.Settling.{acted_at}
 use Rattle.sn_world.specs.World.{turn_of}

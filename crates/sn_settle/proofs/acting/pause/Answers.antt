@@ -1,7 +1,7 @@
 use Rattle.std.proofs.Common.{◌≡◌, true, ap}
-use Rattle.sn_reply.specs.declared.events.Notice.{Notice}
 use Rattle.sn_reply.specs.declared.events.Notice.TheVariants.{Off}
-use Rattle.sn_settle.proofs.Acted.{is_there, paused_acted}
+use Rattle.sn_world.proofs.Turning.{is_there}
+use Rattle.sn_settle.proofs.Acted.{paused_acted}
 use Rattle.sn_settle.proofs.acting.pause.Goals as goal
 
 pub stop-requires-clause-there : goal.stop-requires-clause-there

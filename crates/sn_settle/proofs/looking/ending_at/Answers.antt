@@ -1,4 +1,4 @@
-use Rattle.std.proofs.Common.{◌≡◌, ◌≤◌, ap, sym, ◌∙◌, arith, Some}
+use Rattle.std.proofs.Common.{sym}
 use Rattle.sn_def.specs.StateWords.{unit_words}
 use Rattle.sn_world.proofs.OwnWords.{ender_words}
 use Rattle.sn_settle.proofs.Reading.{read_word}

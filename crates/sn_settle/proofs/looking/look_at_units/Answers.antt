@@ -1,10 +1,10 @@
-use Rattle.std.proofs.Common.{◌≡◌, ◌≤◌, ◌<◌, ◌+◌, ◌∙◌, length, drop, refl, ap, sym, subst, arith, List, ℕ}
+use Rattle.std.proofs.Common.{◌≤◌, ◌<◌, ◌+◌, ◌∙◌, length, drop, refl, ap, sym, subst, arith, List, ℕ}
 use Rattle.sn_def.specs.StateWords.{unit_words}
 use Rattle.sn_def.specs.declared.unit.Unit.{Unit as UnitLine}
 use Rattle.sn_world.specs.Settling.{triggers_at, endings_at, unit_triggers, unit_endings}
 use Rattle.sn_settle.specs.Telling.{CanLook, AreSeen}
 use Rattle.sn_settle.proofs.Sending.{IsUnderway, underway_none, underway_can, underway_next, underway_all}
-use Rattle.sn_settle.proofs.Reading.{drop_next, drop_past, IsAt, next_at, next_fits, part_read, seen_next}
+use Rattle.sn_settle.proofs.Reading.{drop_next, drop_past, next_at, next_fits, part_read, seen_next}
 use Rattle.sn_settle.proofs.looking.look_at_units.Goals as goal
 
 pub loop-unit-init : goal.loop-unit-init

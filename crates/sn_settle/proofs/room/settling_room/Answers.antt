@@ -1,6 +1,4 @@
-use Rattle.std.proofs.Common.{◌≡◌, ◌≤◌, ◌+◌, ◌*◌, [], ap, arith, length}
-use Rattle.sn_tree.specs.Trees.{running_labels}
-use Rattle.sn_world.specs.SettleWords.{walk_room}
+use Rattle.std.proofs.Common.{ap, arith, length}
 use Rattle.sn_settle.proofs.Few.{few_running}
 use Rattle.sn_settle.proofs.room.settling_room.Goals as goal
 

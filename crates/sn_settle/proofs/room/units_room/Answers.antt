@@ -1,4 +1,4 @@
-use Rattle.std.proofs.Common.{◌≡◌, ◌≤◌, ◌<◌, ◌+◌, ap, arith, drop, length, refl}
+use Rattle.std.proofs.Common.{◌≤◌, ◌<◌, ap, arith, length}
 use Rattle.sn_world.specs.SettleWords.{units_room}
 use Rattle.sn_settle.proofs.Reading.{drop_next, drop_past}
 use Rattle.sn_settle.proofs.room.units_room.Goals as goal

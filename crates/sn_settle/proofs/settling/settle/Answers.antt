@@ -1,4 +1,4 @@
-use Rattle.std.proofs.Common.{◌≡◌, ◌≤◌, ◌+◌, ◌*◌, ◌++◌, ◌∙◌, length, ap, sym, subst, arith, List, [], ℕ}
+use Rattle.std.proofs.Common.{◌≡◌, ◌≤◌, ◌*◌, ◌++◌, ◌∙◌, length, get_or, ap, sym, subst, arith, List, [], ℕ}
 use Rattle.std.proofs.lemmas.Bool.{eqb-true}
 use Rattle.sn_tree.specs.Trees.{running_labels}
 use Rattle.sn_world.specs.declared.endings.Ending.{Ending}
@@ -6,10 +6,10 @@ use Rattle.sn_world.specs.Pictures.{Pictures}
 use Rattle.sn_world.specs.Settling.{all_acted}
 use Rattle.sn_world.specs.SettleWords.{walk_endings, settled_walk}
 use Rattle.sn_world.specs.World.{Turn, world_of}
-use Rattle.sn_settle.specs.Telling.{HaveRoom, AreSent}
+use Rattle.sn_settle.specs.Telling.{HaveRoom}
 use Rattle.sn_settle.specs.Acting.{IsActed}
 use Rattle.sn_settle.proofs.Reading.{nothing}
-use Rattle.sn_settle.proofs.Settled.{long, settled_is, all_sent, pictured, none_acted, same_words, can_look, room_to_act}
+use Rattle.sn_settle.proofs.Settled.{long, outside_kept, settled_is, all_sent, pictured, none_acted, same_words, can_look, room_to_act}
 use Rattle.sn_settle.proofs.settling.settle.Goals as goal
 
 pub look_at_all-requires-clause-can : goal.look_at_all-requires-clause-can
@@ -74,3 +74,12 @@ returns-clause-len g c =
     let stage = c.args.stage.now in
     ap (λ (us : List ℕ). length us) (c.settle_words.ensures.words ∙ ap (λ (us : List ℕ). settled_walk stage.rate (running_labels stage.tree.attached) us) c.look_at_all.ensures.words)
     ∙ long stage c.args.block (g.P.Port.words c.args.port.now) c.requires.pictures
+
+pub returns-then-is_empty-clause-others : goal.returns-then-is_empty-clause-others
+returns-then-is_empty-clause-others g c = λ k behind past. ap (λ (us : List ℕ). get_or us k 0) c.look_at_all.ensures.words
+
+pub returns-clause-others : goal.returns-clause-others
+returns-clause-others g c = λ k behind past.
+    let stage = c.args.stage.now in
+    ap (λ (us : List ℕ). get_or us k 0) (c.settle_words.ensures.words ∙ ap (λ (us : List ℕ). settled_walk stage.rate (running_labels stage.tree.attached) us) c.look_at_all.ensures.words)
+    ∙ outside_kept stage c.args.block (g.P.Port.words c.args.port.now) c.requires.pictures k behind past

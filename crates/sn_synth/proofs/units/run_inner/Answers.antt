@@ -1,6 +1,6 @@
 use Rattle.std.proofs.Common.{◌∙◌, sym}
 use Rattle.sn_filt.specs.Rings.{most_frames}
-use Rattle.sn_synth.proofs.BuiltRows.{generator_words}
+use Rattle.sn_synth.proofs.RowLaws.{generator_words}
 use Rattle.sn_synth.proofs.units.run_inner.Goals as goal
 
 -- a generator has a fixed number of words

@@ -1,6 +1,6 @@
 use Rattle.std.proofs.Common.{◌∙◌, sym}
 use Rattle.sn_filt.specs.Rings.{most_frames}
-use Rattle.sn_synth.proofs.BuiltRows.{buffer_unit_words}
+use Rattle.sn_synth.proofs.RowLaws.{buffer_unit_words}
 use Rattle.sn_synth.proofs.units.run_kind.Goals as goal
 
 -- a unit on a buffer has a fixed number of words

@@ -1,6 +1,6 @@
 use Rattle.std.proofs.Common.{◌∙◌, sym}
 use Rattle.sn_filt.specs.Rings.{most_frames}
-use Rattle.sn_synth.proofs.BuiltRows.{bus_unit_words}
+use Rattle.sn_synth.proofs.RowLaws.{bus_unit_words}
 use Rattle.sn_synth.proofs.units.run_plain.Goals as goal
 
 -- a unit on buses or triggers has a fixed number of words

@@ -1,4 +1,4 @@
-use Rattle.std.proofs.Common.{◌+◌, ◌∙◌, arith, sym, ap, w32, get_or}
+use Rattle.std.proofs.Common.{◌∙◌, arith, sym, ap, w32, get_or}
 use mir.Val.{SFits}
 use Rattle.std.proofs.lemmas.Int.{to_z-of_z}
 use Rattle.sn_tree.specs.Order.{tree_of, flat}

@@ -3,10 +3,62 @@ use Rattle.std.specs.Vec.{with_items}
 use Rattle.std.proofs.lemmas.List.{with_items_is, places}
 use Rattle.sn_ports.specs.Octets.{Octets, bytes_of}
 use Rattle.sn_reply.specs.Frames.{with_frames}
+use Rattle.sn_reply.specs.Replies.{ReplyShape}
 use Rattle.sn_world.specs.World.{world_of}
+use Rattle.sn_engine.specs.Boundary.{replies_at}
 use Rattle.sn_engine.specs.Running.{Running, at_boundary}
 use Rattle.sn_engine.proofs.Bounded.{bounded}
+use Rattle.sn_engine.proofs.ClientLemmas.{none_lost, none_sent, front_waits, all_waits}
+use Rattle.sn_engine.proofs.OfferLemmas.{on_err}
 use Rattle.sn_engine.proofs.engine.Engine.boundary.Goals as goal
+
+abbrev told_at : Running → List ReplyShape
+told_at r = replies_at r.block r.waiting r.clashes r.world
+
+pub returns-in_err-reserve-clause-behind : goal.returns-in_err-reserve-clause-behind
+returns-in_err-reserve-clause-behind c = none_lost c.args.self.now.replies (map bytes_of c.self.inside.replies.items) (ap (λ (r : Running). r.replies) c.self.view_is)
+
+pub returns-in_err-reserve-clause-front : goal.returns-in_err-reserve-clause-front
+returns-in_err-reserve-clause-front c =
+    on_err c.from_residual.result (none_sent c.args.self.now.replies (map bytes_of c.self.inside.replies.items) (told_at c.args.self.now) (ap (λ (r : Running). r.replies) c.self.view_is))
+
+pub returns-in_err-reserve-2-clause-behind : goal.returns-in_err-reserve-2-clause-behind
+returns-in_err-reserve-2-clause-behind c = none_lost c.args.self.now.replies (map bytes_of c.self.inside.replies.items) (ap (λ (r : Running). r.replies) c.self.view_is)
+
+pub returns-in_err-reserve-2-clause-front : goal.returns-in_err-reserve-2-clause-front
+returns-in_err-reserve-2-clause-front c =
+    on_err c.from_residual-in_err-reserve-2.result (none_sent c.args.self.now.replies (map bytes_of c.self.inside.replies.items) (told_at c.args.self.now) (ap (λ (r : Running). r.replies) c.self.view_is))
+
+pub returns-in_err-quits-clause-behind : goal.returns-in_err-quits-clause-behind
+returns-in_err-quits-clause-behind c = none_lost c.args.self.now.replies (map bytes_of c.self.inside.replies.items) (ap (λ (r : Running). r.replies) c.self.view_is)
+
+pub returns-in_err-quits-clause-front : goal.returns-in_err-quits-clause-front
+returns-in_err-quits-clause-front c =
+    on_err c.from_residual-in_err-quits.result (none_sent c.args.self.now.replies (map bytes_of c.self.inside.replies.items) (told_at c.args.self.now) (ap (λ (r : Running). r.replies) c.self.view_is))
+
+pub returns-in_err-send-clause-front : goal.returns-in_err-send-clause-front
+returns-in_err-send-clause-front c =
+    let e = c.self.inside in
+    let out = with_items e.replies c.send.new.out in
+    let one : out.items ≡ c.send.new.out = with_items_is e.replies c.send.new.out (search (rules, places)) in
+    let first : c.deref_mut.result.now ≡ e.replies.items = search rules in
+    on_err c.from_residual-in_err-send.result
+    (front_waits (map bytes_of c.deref_mut.result.now) c.args.self.now.replies (map bytes_of out.items) (map bytes_of c.send.new.out) c.act_boundary.new.said (told_at c.args.self.now)
+    (ap (map bytes_of) first ∙ ap (λ (r : Running). r.replies) c.self.view_is) (ap (map bytes_of) one) (c.in_ok-quits.ensures.replies ∙ ap told_at c.self.view_is) c.in_err-send.ensures.front)
+
+pub returns-in_err-self-inside-clause-front : goal.returns-in_err-self-inside-clause-front
+returns-in_err-self-inside-clause-front c =
+    let e = c.self.inside in
+    let out = with_items e.replies c.send.new.out in
+    let one : out.items ≡ c.send.new.out = with_items_is e.replies c.send.new.out (search (rules, places)) in
+    let two : (with_items out c.reserve_settling.new.replies).items ≡ c.reserve_settling.new.replies = with_items_is out c.reserve_settling.new.replies (search (rules, places)) in
+    let framed : map bytes_of c.send.new.out ≡ with_frames 0 c.act_boundary.new.said (map bytes_of c.deref_mut.result.now) = search rules in
+    let first : c.deref_mut.result.now ≡ e.replies.items = search rules in
+    let said : c.act_boundary.new.said ≡ told_at c.args.self.now = c.in_ok-quits.ensures.replies ∙ ap told_at c.self.view_is in
+    let before : map bytes_of c.deref_mut.result.now ≡ c.args.self.now.replies = ap (map bytes_of) first ∙ ap (λ (r : Running). r.replies) c.self.view_is in
+    on_err c.from_residual-in_err-self-inside.result
+    (all_waits (map bytes_of (with_items out c.reserve_settling.new.replies).items) (with_frames 0 (told_at c.args.self.now) c.args.self.now.replies)
+    (ap (map bytes_of) two ∙ c.reserve_settling.ensures.bytes ∙ ap (map bytes_of) (c.deref_mut-2.ensures.value ∙ one) ∙ framed ∙ (λ i. with_frames 0 (said i) (before i))))
 
 pub returns-clause-ok : goal.returns-clause-ok
 returns-clause-ok c =

@@ -1,4 +1,4 @@
-use Rattle.std.proofs.Common.{◌≡◌, ◌≤◌, ◌<◌, ◌+◌, ◌-◌, List, ℕ, [], ◌++◌, length, take, drop, sym, ap, ◌∙◌, arith, subst, take_all, take-append-drop, drop_of_length-le}
+use Rattle.std.proofs.Common.{◌≡◌, ◌≤◌, ◌+◌, ◌-◌, List, ℕ, ◌++◌, length, take, drop, sym, ap, ◌∙◌, arith, subst, take_all, take-append-drop, drop_of_length-le}
 use Rattle.std.proofs.lemmas.List.{take_at, drop-drop, length-drop, length-take, length-append}
 use Rattle.sn_ports.proofs.memory.MemorySourceSource.read.Goals as goal
 

@@ -1,4 +1,4 @@
-use Rattle.std.proofs.Common.{◌≡◌, List, ℕ, map, subst, sym, rules}
+use Rattle.std.proofs.Common.{◌≡◌, map, subst, sym, rules}
 use Rattle.sn_osc.specs.Shape.{MessageShape, arguments, argument_of}
 use Rattle.sn_reply.specs.Sending.{IsSendable}
 use Rattle.sn_reply.proofs.Sending.{sendable_long}

@@ -1,13 +1,13 @@
 use Rattle.std.proofs.Common.{◌∙◌, arith, length, length-take, sym, ap, w32, rules}
 use Rattle.std.proofs.lemmas.Int.{to_z-of_z}
-use Rattle.sn_tree.proofs.Walking.{never, fewer}
+use Rattle.sn_tree.proofs.Walking.{first_payload, rest_left, never, fewer}
 use Rattle.sn_tree.proofs.Viewing.{first_within, first_front}
-use Rattle.sn_tree.proofs.Listing.{member_payload, member_left, member_given}
+use Rattle.sn_tree.proofs.Listing.{member_given}
 use Rattle.sn_tree.proofs.members.MembersIterator.next.Goals as goal
 
 pub returns-in_default-payload_at-clause-steps : goal.returns-in_default-payload_at-clause-steps
 returns-in_default-payload_at-clause-steps g c =
-    never _ _ (member_payload c.self.inside.root.now c.self.inside.payloads.now.slots c.self.inside.entries.now c.in-Some.entry.now c.in-Some.after.now c.self.invariant c.in-Some.ensures.cases) c.in_default-payload_at.ensures
+    never _ _ (first_payload c.self.inside.root.now c.self.inside.payloads.now.slots c.self.inside.entries.now c.in-Some.entry.now c.in-Some.after.now c.self.invariant c.in-Some.ensures.cases) c.in_default-payload_at.ensures
 
 pub front-requires : goal.front-requires
 front-requires g c = record { within = first_within c.self.inside.entries.now c.in-Some.entry.now c.in-Some.after.now c.self.invariant.flat c.in-Some.ensures.cases }
@@ -19,7 +19,7 @@ pub tops-children-requires-clause-few : goal.tops-children-requires-clause-few
 tops-children-requires-clause-few g c = omega (arith, ap length c.front.ensures, length-take c.in-Some.entry.now.below c.in-Some.after.now)
 
 pub invariant_of-self : goal.invariant_of-self
-invariant_of-self g c = member_left c.self.inside.root.now c.self.inside.payloads.now.slots c.self.inside.entries.now c.in-Some.entry.now c.in-Some.after.now c.self.invariant c.in-Some.ensures.cases
+invariant_of-self g c = rest_left c.self.inside.root.now c.self.inside.payloads.now.slots c.self.inside.entries.now c.in-Some.entry.now c.in-Some.after.now c.self.invariant c.in-Some.ensures.cases
 
 pub returns-clause-steps : goal.returns-clause-steps
 returns-clause-steps g c =

@@ -5,7 +5,6 @@ use Rattle.std.proofs.lemmas.List.Elements.{All-cons, All-nil}
 use Rattle.std.specs.List.{insert}
 use Rattle.sn_tree.specs.declared.entry.Entry.{Entry}
 use Rattle.sn_tree.specs.declared.node.Action.TheVariants.{Before}
-use Rattle.sn_tree.specs.Trees.{leaf}
 use Rattle.sn_tree.specs.Faults.{replace_fault, detach_fault}
 use Rattle.sn_tree.specs.Order.{flat, tree_of}
 use Rattle.sn_tree.specs.Places.{IsPlace, IsDetached, lifted}

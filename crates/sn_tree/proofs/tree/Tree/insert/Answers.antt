@@ -2,7 +2,7 @@ use Rattle.std.proofs.Common.{◌∙◌, refl, sym, w32, to_z, of_z}
 use mir.Val.{SFits}
 use Rattle.std.proofs.lemmas.Int.{to_z-of_z}
 use Rattle.sn_tree.proofs.Showing.{insert_fault_shown}
-use Rattle.sn_tree.proofs.Following.{insert_gives, insert_beside, insert_free, same_shown, same_slots, same_kept, forget_noted, room_left}
+use Rattle.sn_tree.proofs.Following.{insert_gives, insert_beside, insert_free, insert_there, same_shown, same_slots, same_kept, forget_noted, room_left}
 use Rattle.sn_tree.proofs.tree.Tree.insert.Goals as goal
 
 pub returns-in-Err-clause-fault : goal.returns-in-Err-clause-fault
@@ -61,11 +61,11 @@ invariant_of-self-2 g c =
     (insert_gives c.self.inside.root c.self.inside.payloads c.reserve.new.self c.insert_reserved.new.self c.self.inside.order c.put_new.new.self c.self.inside.saved c.note.new.saved c.args.self.now c.args.id c.args.kind c.in-Ok.place.spot c.args.spot c.args.payload c.vacant_key-key.result c.insert_reserved.result
     c.self.invariant c.self.view_is c.in-Ok-reserve.ensures.rest_kept c.vacant_key-key.ensures.value c.insert_reserved.ensures.key c.insert_reserved.ensures.was_vacant c.insert_reserved.ensures.updates
     c.in-Ok.ensures.1 (let fit : SFits w32 c.args.id = c.ranges.id in simp to_z-of_z at c.in-Ok-put_new.ensures.ok) c.in-Ok-note.ensures.ok (insert_beside (to_z w32 (of_z w32 c.args.id)) c.args.spot.action c.args.spot.target c.self.inside.order.attached c.in-Ok.ensures.0)
-    (let fit : SFits w32 c.args.id = c.ranges.id in let h = simp to_z-of_z at c.in-Ok.ensures in insert_free c.args.id c.args.spot.action c.args.spot.target c.self.inside.order.attached h.0)).0
+    (let fit : SFits w32 c.args.id = c.ranges.id in let h = simp to_z-of_z at c.in-Ok.ensures in insert_free c.args.id c.args.spot.action c.args.spot.target c.self.inside.order.attached h.0) (insert_there (to_z w32 (of_z w32 c.args.id)) c.args.spot.action c.args.spot.target c.self.inside.order.attached c.in-Ok.ensures.0)).0
 
 pub returns-clause-ok : goal.returns-clause-ok
 returns-clause-ok g c =
     (insert_gives c.self.inside.root c.self.inside.payloads c.reserve.new.self c.insert_reserved.new.self c.self.inside.order c.put_new.new.self c.self.inside.saved c.note.new.saved c.args.self.now c.args.id c.args.kind c.in-Ok.place.spot c.args.spot c.args.payload c.vacant_key-key.result c.insert_reserved.result
     c.self.invariant c.self.view_is c.in-Ok-reserve.ensures.rest_kept c.vacant_key-key.ensures.value c.insert_reserved.ensures.key c.insert_reserved.ensures.was_vacant c.insert_reserved.ensures.updates
     c.in-Ok.ensures.1 (let fit : SFits w32 c.args.id = c.ranges.id in simp to_z-of_z at c.in-Ok-put_new.ensures.ok) c.in-Ok-note.ensures.ok (insert_beside (to_z w32 (of_z w32 c.args.id)) c.args.spot.action c.args.spot.target c.self.inside.order.attached c.in-Ok.ensures.0)
-    (let fit : SFits w32 c.args.id = c.ranges.id in let h = simp to_z-of_z at c.in-Ok.ensures in insert_free c.args.id c.args.spot.action c.args.spot.target c.self.inside.order.attached h.0)).1
+    (let fit : SFits w32 c.args.id = c.ranges.id in let h = simp to_z-of_z at c.in-Ok.ensures in insert_free c.args.id c.args.spot.action c.args.spot.target c.self.inside.order.attached h.0) (insert_there (to_z w32 (of_z w32 c.args.id)) c.args.spot.action c.args.spot.target c.self.inside.order.attached c.in-Ok.ensures.0)).1

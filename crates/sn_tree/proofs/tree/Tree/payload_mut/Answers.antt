@@ -9,7 +9,7 @@ use Rattle.sn_tree.specs.Kept.{payload_of}
 use Rattle.sn_tree.specs.Steps.{written}
 use Rattle.sn_tree.proofs.Keeping.{slot_is}
 use Rattle.sn_tree.proofs.Showing.{payload_shown}
-use Rattle.sn_tree.proofs.Writing.{lent, no_payload, root_written, slot_written}
+use Rattle.sn_tree.proofs.Writing.{lent, no_payload, root_written, slot_written, slot_keeps}
 use Rattle.sn_tree.proofs.tree.Tree.payload_mut.Goals as goal
 
 pub returns-in-None : goal.returns-in-None
@@ -39,3 +39,10 @@ returns-in-Some-Some g c =
             ∙ ap (λ (t : NodeTree g.row.P.Denot). option_map (λ (l : Label g.row.P.Denot). l.payload) (label_of c.args.id t.attached)) c.self.view_is);
       },
     )
+
+pub invariant_of-self-lent-in-Some-Some : goal.invariant_of-self-lent-in-Some-Some
+invariant_of-self-lent-in-Some-Some g c =
+    let fit : SFits w32 c.args.id = c.ranges.id in
+    let e = rw c.in-Some-Some.field-0-is at c.in-Some-Some.ensures in
+    let h = simp to_z-of_z at e in
+    λ r. (λ w. slot_keeps c.self.inside.root c.self.inside.payloads.slots c.self.inside.order c.self.inside.saved c.self.invariant c.args.id w c.in-Some-Some.key (sym h), c.self.invariant)

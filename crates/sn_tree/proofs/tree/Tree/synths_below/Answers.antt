@@ -1,4 +1,4 @@
-use Rattle.std.proofs.Common.{◌≡◌, ◌∙◌, ap, subst, w32}
+use Rattle.std.proofs.Common.{◌≡◌, ◌∙◌, subst, w32}
 use Rattle.std.specs.Prelude.{IfOk}
 use mir.Val.{SFits}
 use Rattle.std.proofs.lemmas.Int.{to_z-of_z}

@@ -1,6 +1,7 @@
 use Rattle.std.proofs.Common.{◌∙◌, ap, arith}
 use Rattle.sn_tree.specs.Model.{NodeTree}
-use Rattle.sn_tree.specs.Tallies.{gathered, payloads}
+use Rattle.sn_tree.specs.Trees.{payloads}
+use Rattle.sn_tree.specs.Tallies.{gathered}
 use Rattle.sn_tree.proofs.Tallying.{held-tree}
 use Rattle.sn_tree.proofs.tree.Tree.tally.Goals as goal
 

@@ -1,4 +1,4 @@
-use Rattle.std.proofs.Common.{sym, ◌∙◌, length}
+use Rattle.std.proofs.Common.{sym, ◌∙◌}
 use Rattle.sn_def.specs.Defs.{definition_of}
 use Rattle.sn_world.proofs.DefsLemmas.{counted}
 use Rattle.sn_world.proofs.defs.Defs.len.Goals as goal

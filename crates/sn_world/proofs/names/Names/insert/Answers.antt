@@ -1,4 +1,4 @@
-use Rattle.std.proofs.Common.{◌≡◌, Option, ap, sym, ◌∙◌, ◌++◌, not, is_some, ℕ, List, map}
+use Rattle.std.proofs.Common.{◌≡◌, ap, sym, ◌∙◌, ◌++◌, is_some, ℕ, List, map}
 use Rattle.std.specs.FinMap as finite
 use Rattle.sn_world.specs.Names.{names_in}
 use Rattle.sn_world.proofs.DefsLemmas.{named_entry, got, inserted, is_some-map, turned_round}

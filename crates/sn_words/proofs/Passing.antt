@@ -1,0 +1,44 @@
+-- Answers that stand behind tests, and words of which none is bad.
+use Rattle.std.proofs.Common.{◌≡◌, ◌≤◌, ℕ, Bool, true, false, not, cond, nat_lt, List, [], length, Option, Some, None, Result, Ok, Err, refl, sym, subst, ◌∙◌}
+use Rattle.std.proofs.lemmas.Bool.{true≢false, le-ltb, ltb-false}
+use Rattle.sn_ports.specs.Octets.{Octets}
+use Rattle.sn_words.specs.Keys.{first_bad}
+use Rattle.sn_words.specs.Laws.{AreGood, Tells}
+use Rattle.sn_words.proofs.FirstBad.{finds_first_bad}
+
+-- the last of the choices, and its test failed
+pub passed : {A : Type 0} (test : Bool) (i : ℕ) (rest : Result A ℕ) (chosen : A) → cond test (Err i) rest ≡ Ok chosen → (test ≡ false) × (rest ≡ Ok chosen)
+passed true i rest chosen e = absurd cc
+passed false i rest chosen e = (refl, e)
+
+pub went_on : {A : Type 0} (test : Bool) (first rest : A) → test ≡ false → cond test first rest ≡ rest
+went_on true first rest e = absurd cc
+went_on false first rest e = refl
+
+pub chosen_where : {A : Type 0} (test : Bool) (first rest : A) → test ≡ true → cond test first rest ≡ first
+chosen_where true first rest e = refl
+chosen_where false first rest e = absurd cc
+
+pub negated : (test : Bool) → not test ≡ false → test ≡ true
+negated true e = refl
+negated false e = absurd cc
+
+pub is_negated : (test : Bool) → test ≡ true → not test ≡ false
+is_negated true e = refl
+is_negated false e = absurd cc
+
+pub not_fewer : (n most : ℕ) → nat_lt n most ≡ false → most ≤ n
+not_fewer n most e = ltb-false n most e
+
+pub not_short : (n most : ℕ) → most ≤ n → nat_lt n most ≡ false
+not_short n most le = le-ltb n most le
+
+pub all_good : (words : List Octets) → first_bad [] words ≡ None → AreGood words (length words)
+all_good words e = let P : Option ℕ → Type 0 = λ index. Tells words index in subst P e (finds_first_bad words)
+
+none_of : (words : List Octets) (index : Option ℕ) → AreGood words (length words) → Tells words index → index ≡ None
+none_of words None good tells = refl
+none_of words (Some i) good tells = absurd (true≢false (sym (good i tells.0) ∙ tells.1))
+
+pub none_is_bad : (words : List Octets) → AreGood words (length words) → first_bad [] words ≡ None
+none_is_bad words good = none_of words (first_bad [] words) good (finds_first_bad words)

@@ -1,5 +1,5 @@
 -- Buffers of a stage by their numbers.
-use Rattle.std.proofs.Common.{◌≡◌, ◌≤◌, ◌<◌, ◌+◌, ◌*◌, ℕ, zero, suc, ℤ, pos, negsuc, nat_abs, List, [], ◌∷◌, ◌++◌, length, get_or, set, Bool, true, false, Option, Some, None, Result, Ok, Err, refl, ap, sym, subst, ◌∙◌, arith}
+use Rattle.std.proofs.Common.{◌≡◌, ◌≤◌, ◌<◌, ◌+◌, ◌*◌, ℕ, zero, suc, ℤ, pos, negsuc, nat_abs, List, [], ◌∷◌, ◌++◌, length, get_or, set, Bool, true, Option, Some, None, Result, Ok, Err, refl, ap, sym, subst, ◌∙◌, arith}
 use Rattle.std.specs.Prelude.{if◌then◌else◌, is_none, codes}
 use Rattle.std.specs.Option.{option_map}
 use Rattle.sn_mem.specs.declared.extents.Extent.{Extent}
@@ -11,7 +11,7 @@ use Rattle.sn_reply.specs.declared.reason.Reason.TheVariants as Reasons
 use Rattle.sn_reply.specs.declared.replies.To.TheVariants.{Client}
 use Rattle.sn_reply.specs.Replies.{ReplyShape}
 use Rattle.sn_world.specs.declared.stage.Stage.{Stage}
-use Rattle.sn_mem.specs.Buffers.{Buffer, buffer_of, buffers_of, place_extents, overlaps}
+use Rattle.sn_mem.specs.Buffers.{Buffer, buffer_of, buffers_of, place_extents}
 use Rattle.sn_world.specs.Buffers.{MayBeBuffer, IsBuffer}
 use Rattle.sn_pool.proofs.Counts.{same_itself}
 use Rattle.sn_buscmd.proofs.PlacingLemmas.{times_one, times_none}

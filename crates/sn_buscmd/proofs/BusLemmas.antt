@@ -1,14 +1,12 @@
 -- What the words of the control buses stand for.
-use Rattle.std.proofs.Common.{◌≡◌, ◌≢◌, ℕ, zero, suc, ℤ, pos, negsuc, nat_abs, ◌+◌, ◌*◌, ◌%◌, ◌^◌, ◌<◌, ◌≤◌, List, [], ◌∷◌, length, get_or, set, refl, ap, sym, ◌∙◌, arith, Bool, true, false, not, ◌||◌, None, length-set, get_or-set_other}
+use Rattle.std.proofs.Common.{◌≡◌, ◌≢◌, ℕ, zero, suc, ℤ, pos, negsuc, nat_abs, ◌+◌, ◌*◌, ◌%◌, ◌^◌, ◌<◌, ◌≤◌, List, [], ◌∷◌, length, get_or, set, refl, ap, sym, ◌∙◌, arith, Bool, true, false, not, None, length-set, get_or-set_other}
 use Rattle.std.specs.Prelude.{FitsSigned, slice_index}
 use Rattle.std.specs.Int.{w32}
 use Rattle.std.proofs.lemmas.List.{get_or-set_same}
-use Rattle.std.proofs.lemmas.Int.{ints}
 use Rattle.std.proofs.lemmas.Bool.{ltb-true, lt-ltb}
 use borrow.Author.Gap.{read_sfits}
 use Rattle.sn_osc.specs.Bytes.{fits_int}
-use Rattle.sn_mem.specs.declared.extents.Foot.{Foot}
-use Rattle.sn_mem.specs.Words.{writes, touches, has}
+use Rattle.sn_osc.proofs.Fields.{test-from_fits}
 use Rattle.sn_mem.specs.Blocks.{word_for, sample_in}
 use Rattle.sn_mem.specs.Buses.{ControlBus, control_bus, control_buses, resting}
 use Rattle.sn_mem.proofs.BusLaws.{sample_in-word_for, control_set, control_at}
@@ -18,19 +16,12 @@ use Rattle.sn_world.specs.Rows.{first_of}
 use Rattle.sn_world.specs.Buses.{is_bus, bus_refusal, with_value, set_bus, value_at, value_of}
 use Rattle.sn_buscmd.specs.Setting.{KeepsOtherWords}
 
-pub touched : (f : Foot) (x : ℕ) → writes f x ≡ true → touches f x ≡ true
-touched f x h = ap (λ b. b || has f.reads x) h
-
 pub allowed : (bus : ℤ) → bus_refusal bus ≡ None → is_bus bus ≡ true
 allowed bus h = at (is_bus bus) h
   where
     at : (b : Bool) → first_of ((not b, Bus) ∷ []) ≡ None → b ≡ true
     at true h = refl
     at false h = absurd cc
-
-pub bus-below : (bus : ℤ) → is_bus bus ≡ true → nat_abs bus < 1024
-bus-below (pos n) h = ltb-true n 1024 h
-bus-below (negsuc n) h = absurd cc
 
 length-control_buses : (words : List ℕ) → length (control_buses words) ≡ 1024
 unfolding control_buses
@@ -99,14 +90,10 @@ value-read words (negsuc n) is_bus = absurd cc
 
 -- ---- values fit 32 bits
 
-fits_int-test : (n : ℤ) → FitsSigned w32 n → fits_int n ≡ true
-fits_int-test (pos n) h = lt-ltb n (2 ^ 31) (omega (arith, ints, h))
-fits_int-test (negsuc n) h = lt-ltb n (2 ^ 31) (omega (arith, ints, h))
-
 pub value_of-fits : (words : List ℕ) (bus : ℤ) → is_bus bus ≡ true → fits_int (value_of (control_buses words) bus) ≡ true
 value_of-fits words bus is_bus =
     ap fits_int (sym (value-read words bus is_bus))
-    ∙ fits_int-test (sample_in (slice_index words (8320 + 2 * nat_abs bus + 1))) (read_sfits w32 (slice_index words (8320 + 2 * nat_abs bus + 1) % 4294967296))
+    ∙ test-from_fits (sample_in (slice_index words (8320 + 2 * nat_abs bus + 1))) (read_sfits w32 (slice_index words (8320 + 2 * nat_abs bus + 1) % 4294967296))
 
 pub bus-fits : (bus : ℤ) → is_bus bus ≡ true → fits_int bus ≡ true
 bus-fits (pos n) h = let below : n < 1024 = ltb-true n 1024 h in lt-ltb n (2 ^ 31) (omega arith)

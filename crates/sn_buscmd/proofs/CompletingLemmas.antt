@@ -1,20 +1,16 @@
 -- Completion messages: which are accepted, and how deep they nest.
-use Rattle.std.proofs.Common.{◌≡◌, ℕ, zero, suc, ◌-◌, ◌<◌, ◌≤◌, Bool, true, false, List, length, map, take, Option, Some, None, Result, Ok, subst, ap, sym, ◌∙◌, arith}
+use Rattle.std.proofs.Common.{◌≡◌, ℕ, zero, suc, ◌-◌, ◌<◌, ◌≤◌, true, false, List, length, map, take, Option, Some, None, Ok, subst, ap, sym, ◌∙◌, arith}
 use Rattle.std.specs.Option.{option_map}
-use Rattle.std.specs.Prelude.{is_none, if◌then◌else◌, IfSome}
+use Rattle.std.specs.Prelude.{is_none, IfSome}
 use Rattle.std.proofs.lemmas.List.{take-map, length-map}
 use Rattle.sn_osc.specs.declared.packet.Arg.{Arg}
 use Rattle.sn_osc.specs.declared.packet.Message.{Message}
-use Rattle.sn_osc.specs.Shape.{Argument, argument_of, MessageShape, message_of, Shape, message, bundle}
+use Rattle.sn_osc.specs.Shape.{argument_of, MessageShape, message_of, Shape, message, bundle}
 use Rattle.sn_osc.specs.Grammar.{Spells}
 use Rattle.sn_osc.proofs.Encoded.{packet_is}
-use Rattle.sn_osc.specs.Reading.{read}
-use Rattle.sn_reply.specs.declared.reason.Reason.{Reason}
 use Rattle.sn_reply.specs.Sending.{IsAnswerable}
-use Rattle.sn_world.specs.World.{Turn}
 use Rattle.sn_world.specs.Completing.{own, one_message}
-use Rattle.sn_world.specs.declared.command.BusCommand.{BusCommand}
-use Rattle.sn_world.specs.Commands.{bus_row, completion_of, each_within, depth_within, acceptable, with_completion, carrying_row}
+use Rattle.sn_world.specs.Commands.{completion_of, each_within, depth_within}
 
 -- ---- a message that was decoded can be answered
 
@@ -49,22 +45,6 @@ at-none m c is = ap is_none is
 
 pub too-deep : (deep : ℕ) (m c : MessageShape) → deep ≡ 0 → completion_of m ≡ Some c → depth_within deep m ≡ false
 too-deep deep m c last is = ap (λ (n : ℕ). depth_within n m) last ∙ at-none m c is
-
--- ---- which are accepted
-
-pub accepted-is : (o : Option MessageShape) (m : MessageShape) → acceptable o ≡ Some m → o ≡ Some m
-accepted-is None m e = absurd cc
-accepted-is (Some x) m e = at (depth_within 7 x) e
-  where
-    at : (b : Bool) → (if b then Some x else None) ≡ Some m → Some x ≡ Some m
-    at true e = e
-    at false e = absurd cc
-
--- the row of a command with one that is accepted is that of its own arguments
-pub accepted-row : (command : BusCommand) (b : List ℕ) (from : ℕ) (xs ys : List Argument) (t : Turn) (m : MessageShape) (r : Result Turn Reason)
-    → acceptable (one_message (read b)) ≡ Some m → ys ≡ own xs → bus_row command from ys t ≡ r → carrying_row command (Some b) from xs t ≡ r
-accepted-row command b from xs ys t m r accepted is row =
-    ap (λ o. with_completion o (bus_row command from (own xs) t)) accepted ∙ ap (λ zs. bus_row command from zs t) (sym is) ∙ row
 
 -- ---- the arguments in front of the last one
 

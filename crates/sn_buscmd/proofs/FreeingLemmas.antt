@@ -1,19 +1,18 @@
 -- `/d_free`: names that are judged one after the other, and forgotten together.
 use Rattle.std.proofs.Common.{◌≡◌, ◌≤◌, ◌<◌, ◌+◌, ℕ, zero, suc, map, drop, get_or, Bool, true, false, cond, not, is_some, ◌&&◌, List, [], ◌∷◌, length, Option, Some, None, Result, Ok, Err, refl, ap, sym, ◌∙◌, arith}
 use Rattle.std.specs.Prelude.{◌==◌}
-use Rattle.sn_ports.specs.Octets.{Octets}
-use Rattle.sn_buscmd.specs.Given.{bytes_of}
+use Rattle.sn_ports.specs.Octets.{Octets, bytes_of}
 use Rattle.std.specs.Ordering.{eq_by_cmp, nat_cmp}
 use Rattle.std.specs.declared.cmp.Ordering.TheVariants.{Equal}
 use Rattle.std.specs.Cmp.Lexicographic.{slice_cmp, nat_list_cmp_total}
-use Rattle.std.specs.FinMap.{FinMap, get, insert, remove, empty, retain_keys, same_map, get-insert, get-remove, get-empty, get-retain_keys, slice_cmp-IsAntisymmetric, nat_cmp-IsAntisymmetric}
+use Rattle.std.specs.FinMap.{get, insert, remove, empty, retain_keys, same_map, get-insert, get-remove, get-empty, get-retain_keys, slice_cmp-IsAntisymmetric, nat_cmp-IsAntisymmetric}
 use Rattle.sn_def.specs.Definition.{Definition}
 use Rattle.sn_osc.specs.Shape.{Argument, int, string, blob}
 use Rattle.sn_reply.specs.declared.reason.Reason.{Reason}
-use Rattle.sn_reply.specs.declared.reason.Reason.TheVariants.{Arguments, NoSuchDefinition}
+use Rattle.sn_reply.specs.declared.reason.Reason.TheVariants.{NoSuchDefinition}
 use Rattle.sn_world.specs.Definitions.{Definitions}
 use Rattle.sn_world.specs.Names.{NameSet}
-use Rattle.sn_world.specs.World.{World, Turn}
+use Rattle.sn_world.specs.World.{Turn}
 use Rattle.sn_world.specs.Rows.{first_of, unless, steps, row, another, singles, some_of}
 use Rattle.sn_world.specs.Free.{name_of, judge_free, act_free, free_row, are_known, without_names}
 
@@ -106,16 +105,6 @@ some-names [] some = absurd (omega arith)
 some-names (x ∷ xs) some = not_empty x xs (singles name_of xs)
 
 module _ (from : ℕ) (xs : List Argument) (t : Turn) where
-  pub no_names : length xs ≡ 0 → free_row from xs t ≡ Err Arguments
-  no_names none = at xs none
-    where
-      at : (ys : List Argument) → length ys ≡ 0 → free_row from ys t ≡ Err Arguments
-      at [] e = refl
-      at (y ∷ ys) e = absurd (omega arith)
-
-  pub bad_names : 1 ≤ length xs → None ≡ singles name_of xs → free_row from xs t ≡ Err Arguments
-  bad_names some read = ap (λ (o : Option (List (List ℕ))). row judge_free act_free o t) (some-names xs some ∙ sym read)
-
   pub names_row : 1 ≤ length xs → (names : List (List ℕ)) → Some names ≡ singles name_of xs → free_row from xs t ≡ freed (are_known names t.world.definitions) (with_definitions (without_names names t.world.definitions) t)
   names_row some names read = ap (λ (o : Option (List (List ℕ))). row judge_free act_free o t) (some-names xs some ∙ sym read) ∙ all-freed names t
 

@@ -1,12 +1,11 @@
 -- A buffer that is made.
-use Rattle.std.proofs.Common.{◌≡◌, ◌≤◌, ◌<◌, ◌+◌, ◌*◌, ℕ, zero, suc, ℤ, pos, negsuc, nat_abs, List, [], ◌∷◌, ◌++◌, length, get_or, set, replicate, Bool, true, false, not, Option, Some, None, Result, Ok, Err, refl, ap, sym, subst, ◌∙◌, arith}
+use Rattle.std.proofs.Common.{◌≡◌, ◌≤◌, ◌<◌, ◌+◌, ◌*◌, ℕ, zero, suc, ℤ, pos, negsuc, nat_abs, List, [], ◌∷◌, ◌++◌, length, get_or, set, replicate, Bool, true, false, not, Option, Some, None, Result, Ok, Err, refl, ap, sym, ◌∙◌, arith}
 use Rattle.std.specs.Prelude.{if◌then◌else◌, nat_lt, nat_le, codes}
-use Rattle.std.specs.Option.{option_map}
 use Rattle.std.proofs.lemmas.Bool.{ltb-true, leb-true, lt-ltb, and_parts}
 use Rattle.sn_mem.specs.declared.extents.Extent.{Extent}
 use Rattle.sn_mem.specs.Words.{covers, has}
 use Rattle.sn_mem.specs.declared.buffers.BufferPlace.{BufferPlace}
-use Rattle.sn_pool.specs.Pools.{PoolState, same_extent, times}
+use Rattle.sn_pool.specs.Pools.{times}
 use Rattle.sn_pool.specs.Regions.{least_place}
 use Rattle.sn_reply.specs.declared.reason.Reason.{Reason}
 use Rattle.sn_reply.specs.declared.reason.Reason.TheVariants as Reasons
@@ -23,15 +22,13 @@ use Rattle.sn_world.specs.Rows.{first_of, unless}
 use Rattle.sn_world.specs.World.{World, Turn, world_of, turn_of, live_of}
 use Rattle.sn_world.proofs.BufferLaws.{live_buffers-of}
 use Rattle.sn_world.proofs.BufferSteps.{IsSet, buffers-set, times-set, set_pictures, set_world}
-use Rattle.sn_world.proofs.Counting.{amount-append, times-amount, has-same}
+use Rattle.sn_world.proofs.Counting.{times-append, has-same}
 use Rattle.sn_world.proofs.Inserting.{has-overlaps, live_in-payloads, least_place-same}
 use Rattle.sn_mem.proofs.BufferWords.{overlaps-append}
 use Rattle.sn_buscmd.specs.Samples.{KeepsAround, IsNew, IsLive, AreLeft, IsPlaced}
-use Rattle.sn_buscmd.proofs.BufferLemmas.{there, put_there, live_there}
-use Rattle.sn_buscmd.proofs.PlacingLemmas.{times_one, times_none}
-
-times-append : (e : Extent) (es fs : List Extent) → times e (es ++ fs) ≡ times e es + times e fs
-times-append e es fs = omega (arith, amount-append (λ y. if same_extent e y then 1 else 0) es fs, times-amount e (es ++ fs), times-amount e es, times-amount e fs)
+use Rattle.sn_buscmd.proofs.BufferLemmas.{put_there, live_there}
+use Rattle.sn_buscmd.proofs.PlacingLemmas.{times_none}
+use Rattle.sn_buscmd.proofs.ResamplingLemmas.{outside}
 
 pub live_if : (stage : Stage) (words : List ℕ) (n : ℤ) (o : Option BufferPlace) → Pictures stage words → o ≡ at_number stage.buffers n → IsLive o stage.pool
 live_if stage words n None pictures found = tt
@@ -115,13 +112,6 @@ module _ (stage : Stage) (words : List ℕ) (r : NewBuffer) (free : number_refus
         at true c some = let q = and_parts (nat_le p.extent.at x) (nat_lt x (p.extent.at + p.extent.len)) c in (leb-true p.extent.at x q.0, ltb-true x (p.extent.at + p.extent.len) q.1)
         at false c some = absurd (omega (arith, some))
 
-    outside : (x : ℕ) → overlaps x (p.extent ∷ []) ≡ 0 → covers p.extent x ≡ false
-    outside x none = at (covers p.extent x) refl none
-      where
-        at : (b : Bool) → covers p.extent x ≡ b → ◌≡◌ {A = ℕ} ((if b then 1 else 0) + 0) 0 → b ≡ false
-        at true c none = absurd (omega (arith, none))
-        at false c none = refl
-
     unused : (x : ℕ) → 0 < overlaps x (p.extent ∷ []) → overlaps x others_live ≡ 0
     unused x some =
         let q = inside x some in
@@ -149,7 +139,7 @@ module _ (stage : Stage) (words : List ℕ) (r : NewBuffer) (free : number_refus
       notify = ap (λ (s : Stage). s.notify) is;
       next = ap (λ (s : Stage). s.next_id) is;
       length = around.len;
-      others = λ x none. around.around x (outside x none);
+      others = λ x none. around.around x (outside p.extent x none);
     }
 
     pub made_pictures : Pictures new us

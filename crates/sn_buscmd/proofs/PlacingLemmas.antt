@@ -1,9 +1,8 @@
 -- Words of the pool for a new buffer.
-use Rattle.std.proofs.Common.{◌≡◌, ◌≤◌, ◌<◌, ◌+◌, ◌-◌, ◌*◌, ℕ, zero, suc, List, [], ◌∷◌, Option, Some, None, refl, ap, sym, subst, ◌∙◌, arith}
+use Rattle.std.proofs.Common.{◌≡◌, ◌<◌, ◌+◌, ◌-◌, ℕ, List, [], ◌∷◌, Option, Some, None, refl, ap, ◌∙◌, arith}
 use Rattle.std.specs.Prelude.{if◌then◌else◌}
 use Rattle.sn_mem.specs.declared.extents.Extent.{Extent}
 use Rattle.sn_mem.specs.declared.buffers.BufferPlace.{BufferPlace}
-use Rattle.sn_pool.specs.declared.pool.Mark.{Mark}
 use Rattle.sn_pool.specs.Pools.{PoolState, Journal, same_extent, times, one_given, mark_of, saved_of, without_extent}
 use Rattle.sn_pool.specs.Regions.{first_free, least_place}
 use Rattle.sn_mem.specs.Buffers.{place_extents}

@@ -1,10 +1,10 @@
 -- `/b_query`: what is told, and that it can be sent.
-use Rattle.std.proofs.Common.{◌≡◌, ◌≤◌, ◌<◌, ◌+◌, ◌*◌, ◌^◌, ℕ, ℤ, pos, negsuc, nat_abs, List, [], ◌∷◌, ◌++◌, length, map, get_or, Option, Some, None, Result, Ok, Err, refl, ap, sym, subst, ◌∙◌, arith, length-append}
+use Rattle.std.proofs.Common.{◌≡◌, ◌<◌, ◌+◌, ◌*◌, ◌^◌, ℕ, ℤ, pos, List, [], ◌∷◌, ◌++◌, length, map, Option, Some, None, Ok, refl, ap, sym, subst, ◌∙◌, arith, length-append}
 use Rattle.std.specs.Option.{option_map}
 use Rattle.std.specs.Prelude.{IfSome, codes}
 use Rattle.std.proofs.lemmas.List.{length-map}
 use Rattle.sn_osc.specs.Shape.{Argument, int, BodyShape, arguments, MessageShape}
-use Rattle.sn_osc.specs.Bytes.{arguments_bytes, int_bytes, string_bytes, tags_bytes, tag_of}
+use Rattle.sn_osc.specs.Bytes.{arguments_bytes, int_bytes, string_bytes, tag_of}
 use Rattle.sn_mem.specs.declared.buffers.BufferPlace.{BufferPlace}
 use Rattle.sn_reply.specs.declared.reason.Reason.{Reason}
 use Rattle.sn_reply.specs.declared.replies.To.TheVariants.{Client}
@@ -13,16 +13,14 @@ use Rattle.sn_reply.specs.Sending.{IsAnswerable}
 use Rattle.sn_reply.proofs.Sending.{length-arguments_bytes-least, length-string_bytes}
 use Rattle.sn_world.specs.declared.buffer_repetition.BufferNumber.{BufferNumber}
 use Rattle.sn_world.specs.declared.stage.Stage.{Stage}
-use Rattle.sn_mem.specs.Buffers.{buffer_of, buffers_of}
-use Rattle.sn_world.specs.Buffers.{MayBeBuffer}
+use Rattle.sn_mem.specs.Buffers.{buffer_of}
 use Rattle.sn_world.specs.BufferNumbers.{at_number, number_refusal}
 use Rattle.sn_world.specs.BufferCommands.{info, infos, buffer_number, judge_query, answer_query, query_row}
 use Rattle.sn_world.specs.Pictures.{Pictures}
 use Rattle.sn_world.specs.Rows.{unless, singles, some_of, first_refusal, question}
 use Rattle.sn_world.specs.World.{Turn, world_of, turn_of, replied}
-use Rattle.sn_world.proofs.BufferSteps.{each-at}
 use Rattle.sn_buscmd.specs.Samples.{place_info, place_infos, place_answer, CanBeSaid}
-use Rattle.sn_buscmd.proofs.BufferLemmas.{buffer_there, there}
+use Rattle.sn_buscmd.proofs.BufferLemmas.{buffer_there}
 use Rattle.sn_buscmd.proofs.ResamplingLemmas.{is_buffer}
 
 -- ---- what is told

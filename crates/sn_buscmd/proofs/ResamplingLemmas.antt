@@ -1,8 +1,7 @@
 -- A buffer whose samples are changed where they are.
-use Rattle.std.proofs.Common.{◌≡◌, ◌≤◌, ◌<◌, ◌+◌, ◌*◌, ℕ, zero, suc, ℤ, pos, nat_abs, List, [], ◌∷◌, ◌++◌, length, get_or, set, replicate, Bool, true, false, Option, Some, None, Result, Ok, Err, refl, ap, sym, subst, ◌∙◌, arith}
-use Rattle.std.specs.Prelude.{if◌then◌else◌, nat_lt, nat_le, codes}
+use Rattle.std.proofs.Common.{◌≡◌, ◌<◌, ◌+◌, ℕ, zero, suc, ℤ, nat_abs, List, [], ◌∷◌, ◌++◌, length, get_or, set, Bool, true, false, Option, Some, None, Result, Ok, Err, refl, ap, sym, subst, ◌∙◌, arith}
+use Rattle.std.specs.Prelude.{if◌then◌else◌, codes}
 use Rattle.std.specs.Option.{option_map}
-use Rattle.std.proofs.lemmas.Bool.{ltb-true, and_parts}
 use Rattle.sn_mem.specs.declared.extents.Extent.{Extent}
 use Rattle.sn_mem.specs.declared.extents.Foot.{Foot}
 use Rattle.sn_mem.specs.Words.{MayWrite, covers}
@@ -16,12 +15,13 @@ use Rattle.sn_reply.specs.Replies.{ReplyShape}
 use Rattle.sn_world.specs.declared.stage.Stage.{Stage}
 use Rattle.sn_mem.specs.Buffers.{Buffer, buffer_of, buffers_of, samples_of, place_extents, overlaps}
 use Rattle.sn_world.specs.Buffers.{MayBeBuffer, IsBuffer}
-use Rattle.sn_world.specs.BufferNumbers.{at_number, put_at, resampled, with_samples, buffer_refusal, done_with}
+use Rattle.sn_world.specs.BufferNumbers.{at_number, resampled, with_samples, done_with}
 use Rattle.sn_world.specs.BufferCommands.{one_number, zeros, zero_outcome, zero_row}
 use Rattle.sn_world.specs.BufferSamples.{size_of, samples_in}
 use Rattle.sn_world.specs.Pictures.{Pictures, WritesWorld, KeepsOutside}
 use Rattle.sn_world.specs.Rows.{unless}
 use Rattle.sn_world.specs.World.{World, Turn, world_of, turn_of}
+use Rattle.sn_mem.proofs.Meetings.{after}
 use Rattle.sn_world.proofs.BufferSteps.{IsSet, each-at, overlaps-set, set_pictures, set_world}
 use Rattle.sn_buscmd.specs.Samples.{KeepsAround}
 use Rattle.sn_buscmd.proofs.BufferLemmas.{IsThere, there, is_there, not_there, below_all, put_there, buffer_there}
@@ -31,19 +31,12 @@ set_back [] n o lt is = absurd (omega arith)
 set_back (p ∷ ps) zero o lt is = ap (λ (q : Option BufferPlace). q ∷ ps) (sym is)
 set_back (p ∷ ps) (suc n) o lt is = ap (λ (qs : List (Option BufferPlace)). p ∷ qs) (set_back ps n o (omega arith) is)
 
-outside : (e : Extent) (x : ℕ) → overlaps x (e ∷ []) ≡ 0 → covers e x ≡ false
+pub outside : (e : Extent) (x : ℕ) → overlaps x (e ∷ []) ≡ 0 → covers e x ≡ false
 outside e x none = at (covers e x) refl none
   where
     at : (b : Bool) → covers e x ≡ b → ◌≡◌ {A = ℕ} ((if b then 1 else 0) + 0) 0 → b ≡ false
     at true c none = absurd (omega (arith, none))
     at false c none = refl
-
-beyond : (e : Extent) (k : ℕ) → e.at + e.len ≤ k → covers e k ≡ false
-beyond e k far = at (covers e k) refl
-  where
-    at : (b : Bool) → covers e k ≡ b → b ≡ false
-    at true c = let q = and_parts (nat_le e.at k) (nat_lt k (e.at + e.len)) c in absurd (omega (arith, far, ltb-true k (e.at + e.len) q.1))
-    at false c = refl
 
 nothing : (x : ℕ) → overlaps x (place_extents None) ≡ 0
 nothing x = refl
@@ -105,7 +98,7 @@ module _ (stage : Stage) (ws : List ℕ) (n : ℤ) (p : BufferPlace) (found : So
         ∙ ap (λ (bs : List (Option Buffer)). let v : World = record w { buffers = bs } in v) (sym (put_there n (resampled f (at_number (buffers_of ws stage.buffers) n)) (buffers_of ws stage.buffers) here.is))
 
     pub kept_outside : KeepsOutside stage.pool.region ws us
-    kept_outside = λ k low out. around.around k (beyond p.extent k (omega (arith, out, is_buffer.within.1)))
+    kept_outside = λ k low out. around.around k (after p.extent k (omega (arith, out, is_buffer.within.1)))
 
   pub zeroed_row : (us : List ℕ) → KeepsAround p.extent ws us → samples_of us p.extent ≡ zeros (samples_of ws p.extent) → (from : ℕ) (xs : List Argument) (replies after : List ReplyShape) → Some n ≡ one_number xs
       → after ≡ replies ++ (record { to = Client from; message = done_with (codes "/b_zero") n }) ∷ [] → zero_row from xs (turn_of stage ws replies) ≡ Ok (turn_of stage us after)

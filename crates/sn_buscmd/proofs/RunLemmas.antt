@@ -1,10 +1,10 @@
 -- Runs of buses: their values, and the reply to `/c_getn`.
-use Rattle.std.proofs.Common.{◌≡◌, ◌≤◌, ◌<◌, ℕ, zero, suc, ℤ, pos, negsuc, nat_abs, ◌+◌, ◌-◌, ◌*◌, ◌^◌, ◌&&◌, true, List, [], ◌∷◌, ◌++◌, length, map, drop, get_or, Option, Some, None, refl, ap, sym, subst, ◌∙◌, arith, length-append}
+use Rattle.std.proofs.Common.{◌≡◌, ◌≤◌, ◌<◌, ℕ, zero, suc, ℤ, pos, negsuc, nat_abs, ◌+◌, ◌-◌, ◌*◌, ◌^◌, ◌&&◌, true, List, [], ◌∷◌, ◌++◌, length, map, None, refl, ap, ◌∙◌, arith, length-append}
 use Rattle.std.specs.Prelude.{codes}
 use Rattle.std.specs.List.{list_all}
 use Rattle.std.proofs.lemmas.Bool.{lt-ltb}
 use Rattle.std.proofs.lemmas.List.Folds.{list_all-append}
-use Rattle.std.proofs.lemmas.List.{length-map, map-append}
+use Rattle.std.proofs.lemmas.List.{length-map}
 use Rattle.sn_osc.specs.declared.packet.Arg.{Arg}
 use Rattle.sn_osc.specs.declared.packet.Arg.TheVariants.{Int}
 use Rattle.sn_osc.specs.Shape.{Argument, int, argument_of}
@@ -14,11 +14,11 @@ use Rattle.sn_reply.proofs.Sending.{both, length-string_bytes}
 use Rattle.sn_world.specs.declared.repetition.Run.{Run}
 use Rattle.sn_mem.specs.Buses.{ControlBus, control_buses}
 use Rattle.sn_world.specs.Rows.{first_refusal}
-use Rattle.sn_world.specs.Buses.{is_bus, bus_refusal, run_refusal, value_at, with_value, with_values}
+use Rattle.sn_world.specs.Buses.{run_refusal, value_at}
 use Rattle.sn_world.specs.Runs.{total_count, most_values, values_from, runs_and_values, answer_getn}
 use Rattle.sn_buscmd.specs.Setting.{place_refusal}
 use Rattle.sn_buscmd.proofs.AskingLemmas.{no-first}
-use Rattle.sn_buscmd.proofs.BusLemmas.{value_of-fits, bus-fits}
+use Rattle.sn_buscmd.proofs.BusLemmas.{value_of-fits}
 use Rattle.sn_buscmd.proofs.FillingLemmas.{LiesInBuses, run-inside}
 
 -- ---- a run that is read
@@ -27,16 +27,6 @@ pub values-more : (bs : List ControlBus) (n end : ℕ) → n < end → values_fr
 values-more bs n end lt =
     let one : end - n ≡ suc (end - (n + 1)) = omega arith in
     ap (values_from bs n) one
-
-pub values-all : (bs : List ControlBus) (n end : ℕ) → end ≤ n → values_from bs n (end - n) ≡ []
-values-all bs n end le =
-    let none : end - n ≡ 0 = omega arith in
-    ap (values_from bs n) none
-
-pub values-whole : (bs : List ControlBus) (first n count : ℕ) → first ≡ n → values_from bs first (first + count - first) ≡ values_from bs n count
-values-whole bs first n count is =
-    let whole : first + count - first ≡ count = omega arith in
-    ap (values_from bs first) whole ∙ ap (λ m. values_from bs m count) is
 
 pub pushed : (found : List Arg) (v : ℤ) (rest : List Argument) → map argument_of (found ++ Int v ∷ []) ++ rest ≡ map argument_of found ++ int v ∷ rest
 pushed [] v rest = refl

@@ -1,15 +1,13 @@
 -- A message that is run by its row.
-use Rattle.std.proofs.Common.{◌≡◌, ℕ, List, [], Option, Some, None, Result, Ok, Err, refl, ap, sym, subst, ◌∙◌}
+use Rattle.std.proofs.Common.{◌≡◌, ℕ, List, [], Option, Some, None, Result, Ok, Err, ap, ◌∙◌}
 use Rattle.sn_ports.specs.declared.failed.NoMemory.{NoMemory}
 use Rattle.sn_osc.specs.Shape.{Argument, BodyShape, bare, arguments, foreign}
 use Rattle.sn_reply.specs.declared.reason.Reason.{Reason}
-use Rattle.sn_world.specs.declared.command.Handled.{Handled}
 use Rattle.sn_world.specs.declared.command.BusCommand.{BusCommand}
 use Rattle.sn_world.specs.World.{Turn}
-use Rattle.sn_world.specs.declared.command.BusCommand.TheVariants.{Set, SetRuns, Fill, Get, GetRuns, AllocBuffer, FreeBuffer, ZeroBuffer, QueryBuffers, SetSamples, SetSampleRuns, FillSamples, GetSamples, GetSampleRuns, Sync, Receive, Free, Status, ClearSched, Quit}
-use Rattle.sn_world.specs.Commands.{ArgumentsOf, with_arguments, carrying_row, whole_row, bus_outcome, completion_in, next_alone, next_with, next_of, done_with}
+use Rattle.sn_world.specs.Commands.{ArgumentsOf, with_arguments, carrying_row, whole_row, bus_outcome, completion_in, next_with, next_of}
 use Rattle.sn_world.specs.Completing.{carried, message_in}
-use Rattle.sn_world.specs.Answers.{Handles, IsNext, UnlessDone, UnlessFollowed}
+use Rattle.sn_world.specs.Answers.{UnlessFollowed}
 use Rattle.sn_buscmd.specs.Refusing.{IfRefused}
 
 with-given : (body : BodyShape) (given : Option (List Argument)) (xs : List Argument) (run : List Argument → Turn → Result Turn Reason) (t : Turn) → ArgumentsOf body given → given ≡ Some xs → with_arguments body run t ≡ run xs t
@@ -41,78 +39,6 @@ next-given asked command body given xs o is_command is_body is_given carries =
     ap (λ c. next_of c body) is_command ∙ ap (next_with command) (completion-given command body given xs is_body is_given ∙ ap message_in carries)
 
 -- ---- how it is told
-
-pub handles-done : (command : BusCommand) (outcome : Option (Result Turn Reason)) (after : Turn) → outcome ≡ Some (Ok after) → Handles (Ok (done_with command)) outcome after
-handles-done Set outcome after is = is
-handles-done SetRuns outcome after is = is
-handles-done Fill outcome after is = is
-handles-done Get outcome after is = is
-handles-done GetRuns outcome after is = is
-handles-done AllocBuffer outcome after is = is
-handles-done FreeBuffer outcome after is = is
-handles-done ZeroBuffer outcome after is = is
-handles-done QueryBuffers outcome after is = is
-handles-done SetSamples outcome after is = is
-handles-done SetSampleRuns outcome after is = is
-handles-done FillSamples outcome after is = is
-handles-done GetSamples outcome after is = is
-handles-done GetSampleRuns outcome after is = is
-handles-done Sync outcome after is = is
-handles-done Receive outcome after is = is
-handles-done Free outcome after is = is
-handles-done Status outcome after is = is
-handles-done ClearSched outcome after is = is
-handles-done Quit outcome after is = is
-
-pub next-done : (command : BusCommand) → IsNext (Ok (done_with command)) (next_alone command)
-next-done Set = refl
-next-done SetRuns = refl
-next-done Fill = refl
-next-done Get = refl
-next-done GetRuns = refl
-next-done AllocBuffer = refl
-next-done FreeBuffer = refl
-next-done ZeroBuffer = refl
-next-done QueryBuffers = refl
-next-done SetSamples = refl
-next-done SetSampleRuns = refl
-next-done FillSamples = refl
-next-done GetSamples = refl
-next-done GetSampleRuns = refl
-next-done Sync = refl
-next-done Receive = refl
-next-done Free = refl
-next-done Status = refl
-next-done ClearSched = refl
-next-done Quit = refl
-
-pub unless-done : (command : BusCommand) (P : Type 0) → UnlessDone (Ok (done_with command)) P
-unless-done Set P = tt
-unless-done SetRuns P = tt
-unless-done Fill P = tt
-unless-done Get P = tt
-unless-done GetRuns P = tt
-unless-done AllocBuffer P = tt
-unless-done FreeBuffer P = tt
-unless-done ZeroBuffer P = tt
-unless-done QueryBuffers P = tt
-unless-done SetSamples P = tt
-unless-done SetSampleRuns P = tt
-unless-done FillSamples P = tt
-unless-done GetSamples P = tt
-unless-done GetSampleRuns P = tt
-unless-done Sync P = tt
-unless-done Receive P = tt
-unless-done Free P = tt
-unless-done Status P = tt
-unless-done ClearSched P = tt
-unless-done Quit P = tt
-
-pub told-done : (told : Handled) (command : BusCommand) (outcome : Option (Result Turn Reason)) (after : Turn) → told ≡ done_with command → outcome ≡ Some (Ok after) → Handles (Ok told) outcome after
-told-done told command outcome after is_told is = subst (λ (h : Handled). Handles (Ok h) outcome after) (sym is_told) (handles-done command outcome after is)
-
-pub told-unless : (told : Handled) (command : BusCommand) (P : Type 0) → told ≡ done_with command → UnlessDone (Ok told) P
-told-unless told command P is_told = subst (λ (h : Handled). UnlessDone (Ok h) P) (sym is_told) (unless-done command P)
 
 -- what holds where a command is refused, and what follows from it
 pub unless-followed : (P Q : Type 0) (r : Result (Option Reason) NoMemory) → (P → Q) → UnlessFollowed r P → UnlessFollowed r Q

@@ -1,5 +1,5 @@
 -- Questions for samples: their values, and that a reply can hold them.
-use Rattle.std.proofs.Common.{◌≡◌, ◌≤◌, ◌<◌, ◌+◌, ◌-◌, ◌*◌, ◌^◌, ℕ, zero, suc, ℤ, pos, nat_abs, Bool, true, false, List, [], ◌∷◌, ◌++◌, length, get_or, Option, Some, None, refl, ap, sym, ◌∙◌, arith, length-append}
+use Rattle.std.proofs.Common.{◌≡◌, ◌≤◌, ◌<◌, ◌+◌, ◌-◌, ◌*◌, ◌^◌, ℕ, zero, suc, ℤ, pos, nat_abs, Bool, true, false, List, [], ◌∷◌, ◌++◌, length, get_or, Option, Some, None, refl, ap, ◌∙◌, arith, length-append}
 use Rattle.std.specs.Prelude.{if◌then◌else◌, nat_le}
 use Rattle.std.proofs.lemmas.Bool.{leb-true}
 use Rattle.sn_osc.specs.Shape.{Argument, int}
@@ -19,16 +19,6 @@ pub values-more : (samples : List ℤ) (i end : ℕ) → i < end → values_from
 values-more samples i end lt =
     let one : end - i ≡ suc (end - (i + 1)) = omega arith in
     ap (values_from samples i) one
-
-pub values-all : (samples : List ℤ) (i end : ℕ) → end ≤ i → values_from samples i (end - i) ≡ []
-values-all samples i end le =
-    let none : end - i ≡ 0 = omega arith in
-    ap (values_from samples i) none
-
-pub values-whole : (samples : List ℤ) (first count : ℕ) → values_from samples first (first + count - first) ≡ values_from samples first count
-values-whole samples first count =
-    let whole : first + count - first ≡ count = omega arith in
-    ap (values_from samples first) whole
 
 pub one-behind : (found : List Argument) (x : Argument) (rest : List Argument) → (found ++ x ∷ []) ++ rest ≡ found ++ x ∷ rest
 one-behind [] x rest = refl

@@ -1,13 +1,14 @@
 -- Samples of a buffer that are set.
-use Rattle.std.proofs.Common.{◌≡◌, ◌≢◌, ◌≤◌, ◌<◌, ◌+◌, ◌-◌, ℕ, zero, suc, ℤ, pos, List, [], ◌∷◌, ◌++◌, map, length, get_or, set, replicate, Bool, true, false, refl, ap, sym, ◌∙◌, arith, length-set, get_or-set_other, ◌||◌}
+use Rattle.std.proofs.Common.{◌≡◌, ◌≢◌, ◌≤◌, ◌<◌, ◌+◌, ◌-◌, ℕ, zero, suc, ℤ, pos, List, [], ◌∷◌, ◌++◌, map, length, get_or, set, replicate, true, false, refl, ap, sym, ◌∙◌, arith, length-set, get_or-set_other}
 use Rattle.std.specs.Prelude.{FitsSigned}
 use Rattle.std.specs.Int.{w32}
 use Rattle.std.proofs.lemmas.List.{map-set, length-map}
 use Rattle.sn_mem.specs.declared.extents.Extent.{Extent}
 use Rattle.sn_mem.specs.declared.extents.Foot.{Foot}
-use Rattle.sn_mem.specs.Words.{MayWrite, covers, writes, touches, has}
+use Rattle.sn_mem.specs.Words.{MayWrite, covers, touches}
 use Rattle.sn_mem.specs.Blocks.{window, put, sample_in, word_for}
 use Rattle.sn_mem.proofs.BusLaws.{sample_in-word_for}
+use Rattle.sn_mem.proofs.Masks.{touched}
 use Rattle.sn_mem.proofs.Meetings.{covered}
 use Rattle.sn_mem.proofs.Steps.{length-window}
 use Rattle.sn_mem.proofs.Windows.{window_at, window_put}
@@ -38,15 +39,6 @@ stored_around old new e i w low is = record {
   around = λ k free. ap (λ (ws : List ℕ). get_or ws k 0) is ∙ get_or-set_other old (e.at + i) k w 0 (apart e i k low free);
 }
 
-pub around_same : (e : Extent) (ws : List ℕ) → KeepsAround e ws ws
-around_same e ws = record { len = refl; around = λ k free. refl }
-
-pub around_again : (e : Extent) (old mid new : List ℕ) → KeepsAround e old mid → KeepsAround e mid new → KeepsAround e old new
-around_again e old mid new p q = record { len = q.len ∙ p.len; around = λ k free. q.around k free ∙ p.around k free }
-
-touched : (f : Foot) (x : ℕ) → writes f x ≡ true → touches f x ≡ true
-touched f x h = ap (λ b. b || has f.reads x) h
-
 -- the last word may be touched
 pub last_touched : (f : Foot) (e : Extent) (i : ℕ) → MayWrite f e.at e.len → i < e.len → touches f (e.at + (e.len - 1)) ≡ true
 last_touched f e i may low = touched f (e.at + (e.len - 1)) (may.each (e.len - 1) (omega arith))
@@ -66,21 +58,6 @@ read_sample ws e i lt =
     ap sample_in (sym (window_at ws e.at e.len i lt)) ∙ in_word (window ws e.at e.len) i (omega (arith, lt, length-window ws e.at e.len))
 
 -- ---- samples in a row
-
-pub filled-more : (xs : List ℤ) (n end : ℕ) (v : ℤ) → n < end → set_from n (replicate (end - n) v) xs ≡ set_from (n + 1) (replicate (end - (n + 1)) v) (set xs n v)
-filled-more xs n end v lt =
-    let one : end - n ≡ suc (end - (n + 1)) = omega arith in
-    ap (λ k. set_from n (replicate k v) xs) one
-
-pub filled-all : (xs : List ℤ) (n end : ℕ) (v : ℤ) → end ≤ n → set_from n (replicate (end - n) v) xs ≡ xs
-filled-all xs n end v le =
-    let none : end - n ≡ 0 = omega arith in
-    ap (λ k. set_from n (replicate k v) xs) none
-
-pub filled-whole : (xs : List ℤ) (first count : ℕ) (v : ℤ) → set_from first (replicate (first + count - first) v) xs ≡ set_from first (replicate count v) xs
-filled-whole xs first count v =
-    let whole : first + count - first ≡ count = omega arith in
-    ap (λ k. set_from first (replicate k v) xs) whole
 
 -- all samples
 set_next : (front : List ℤ) (b : ℤ) (bs : List ℤ) (v : ℤ) → set (front ++ b ∷ bs) (length front) v ≡ (front ++ v ∷ []) ++ bs

@@ -23,15 +23,6 @@ use Rattle.sn_buscmd.proofs.ResamplingLemmas.{size_there, samples_there, resampl
 
 module _ {R : Type 0} (read : List Argument → Option (List R)) where
   module _ (run : ℤ → List R → Turn → Result Turn Reason) where
-    no_number : (o : Option ℤ) (rs : Option (List R)) (t : Turn) → None ≡ asked o rs → with_asked run o rs t ≡ Err Reasons.Arguments
-    no_number None rs t h = refl
-    no_number (Some n) None t h = refl
-    no_number (Some n) (Some rs) t h = absurd cc
-
-    pub unasked : (xs : List Argument) (t : Turn) → None ≡ numbered read xs → of_buffer read run xs t ≡ Err Reasons.Arguments
-    unasked [] t h = refl
-    unasked (x ∷ xs) t h = no_number (number x) (some_of (read xs)) t h
-
     a_number : (o : Option ℤ) (rs : Option (List R)) (n : ℤ) (all : List R) (t : Turn) → Some (n, all) ≡ asked o rs → with_asked run o rs t ≡ run n all t
     a_number None rs n all t h = absurd cc
     a_number (Some m) None n all t h = absurd cc

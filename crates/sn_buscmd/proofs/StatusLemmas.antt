@@ -1,10 +1,9 @@
 -- Nodes that are counted one after the other, and all at once.
 use Rattle.std.proofs.lemmas.Grind.{common_steps}
-use Rattle.std.proofs.Common.{◌≡◌, ◌≤◌, ◌<◌, ◌+◌, ℕ, suc, pos, Bool, true, false, cond, List, [], ◌∷◌, ◌++◌, length, map, Ok, Err, refl, ap, sym, ◌∙◌, arith}
+use Rattle.std.proofs.Common.{◌≡◌, ◌≤◌, ◌<◌, ◌+◌, ℕ, suc, pos, Bool, true, false, List, [], ◌∷◌, ◌++◌, length, Ok, refl, ap, sym, ◌∙◌, arith}
 use Rattle.std.specs.Prelude.{if◌then◌else◌, nat_le, ◌==◌}
 use Rattle.std.proofs.lemmas.Bool.{cond_both, leb-true, leb-false, le-leb}
 use Rattle.sn_osc.specs.Shape.{Argument, int, arguments}
-use Rattle.sn_reply.specs.declared.reason.Reason.TheVariants.{Arguments}
 use Rattle.sn_tree.specs.Trees.{Nodes, none, node, payloads, with_payloads}
 use Rattle.sn_tree.specs.Tallies.{gathered}
 use Rattle.sn_world.specs.declared.stage.Held.{Held}
@@ -89,10 +88,6 @@ all-counted ws t =
 pub status-asked : (from : ℕ) (xs : List Argument) (t : Turn) → (length xs == 0) ≡ true → status_row from xs t ≡ Ok (replied from (status_message t.world) t)
 status-asked from [] t e = refl
 status-asked from (x ∷ xs) t e = let none : (suc (length xs) == 0) ≡ false = grind (arith, common_steps) in absurd cc
-
-pub status-refused : (from : ℕ) (xs : List Argument) (t : Turn) → (length xs == 0) ≡ false → status_row from xs t ≡ Err Arguments
-status-refused from [] t e = absurd cc
-status-refused from (x ∷ xs) t e = refl
 
 pub counts-said : (w : World) (c : Census) (definitions : ℕ) → c ≡ census_of w → definitions ≡ finite.len w.definitions → counts_message c definitions ≡ status_message w
 counts-said w c definitions is known =

@@ -1,5 +1,4 @@
 pub mod Setting
-pub mod Given
 pub mod Refusing
 pub mod Census
 pub mod Samples

@@ -1,5 +1,5 @@
 //! `/b_free`.
-ghost use Rattle.std.specs.Prelude.{◌≡◌, ◌≤◌, ◌<◌, ◌+◌, List, ℕ, None, map, if◌then◌else◌, OnOk, OnErr};
+ghost use Rattle.std.specs.Prelude.{◌≡◌, ◌<◌, ◌+◌, List, ℕ, None, map, if◌then◌else◌, OnOk, OnErr};
 ghost use Rattle.sn_mem.specs.declared.extents.Extent.{Extent};
 ghost use Rattle.sn_osc.specs.Shape.{argument_of};
 ghost use Rattle.sn_pool.specs.Pools.{times, same_extent, without_extent};

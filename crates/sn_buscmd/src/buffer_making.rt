@@ -10,7 +10,8 @@ ghost use Rattle.sn_world.specs.BufferCommands.{frame_count, channel_count, aske
 ghost use Rattle.sn_world.specs.Answers.{Follows, UnlessFollowed};
 ghost use Rattle.sn_buscmd.specs.Samples.{IsNew, Places, MayGo, IsGone, IsLive};
 
-use crate::buffers::{find, is_number, tell_done};
+use crate::buffers::{find, tell_done};
+use crate::judging::is_number;
 use crate::samples::fill_samples;
 use sn_mem::{BufferPlace, Extent, Port};
 use sn_osc::Arg;

@@ -9,8 +9,8 @@ ghost use Rattle.sn_world.specs.BufferCommands.{query_row};
 ghost use Rattle.sn_world.specs.Answers.{Follows, UnlessFollowed};
 ghost use Rattle.sn_buscmd.specs.Samples.{place_info, place_infos, place_answer, CanBeSaid};
 
-use crate::buffers::{find, is_number};
-use crate::judging::{Judged, first_refusal};
+use crate::buffers::find;
+use crate::judging::{Judged, first_refusal, is_number};
 use sn_mem::BufferPlace;
 use sn_osc::{Arg, Message};
 use sn_ports::NoMemory;

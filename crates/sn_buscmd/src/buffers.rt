@@ -1,9 +1,9 @@
 //! Buffers by the numbers that commands name.
-ghost use Rattle.std.specs.Prelude.{◌≡◌, ◌<◌, ◌∷◌, ◌++◌, [], true, map, length, OnOk, OnErr, IfOk};
+ghost use Rattle.std.specs.Prelude.{◌≡◌, ◌<◌, ◌∷◌, ◌++◌, [], true, map, length, OnOk, OnErr};
 ghost use Rattle.sn_osc.specs.Bytes.{has_no_null};
 ghost use Rattle.sn_osc.specs.Shape.{argument_of};
 ghost use Rattle.sn_reply.specs.declared.replies.To.TheVariants.{Client};
-ghost use Rattle.sn_world.specs.BufferNumbers.{is_number, at_number, done_with};
+ghost use Rattle.sn_world.specs.BufferNumbers.{at_number, done_with};
 ghost use Rattle.sn_world.specs.BufferCommands.{one_number};
 
 use sn_mem::{BufferPlace, Buffers};
@@ -11,13 +11,6 @@ use sn_osc::Arg;
 use sn_ports::NoMemory;
 use sn_reply::{Answer, Replies, To};
 use std::alloc::Global;
-
-/// Whether a buffer may have the number.
-pub fn is_number(number: i32) -> bool
-    ensures { result ≡ is_number number }
-{
-    0 <= number && number < 1024
-}
 
 /// Where the buffer with a number is, where one is allocated.
 pub fn find(buffers: &Buffers, number: i32) -> Option<BufferPlace>

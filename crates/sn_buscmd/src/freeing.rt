@@ -1,6 +1,7 @@
 //! `/d_free`.
 ghost use Rattle.std.specs.Prelude.{◌≡◌, ℕ, List, map, IfOk};
 ghost use Rattle.std.specs.Option.{option_map};
+ghost use Rattle.sn_ports.specs.Octets.{bytes_of};
 ghost use Rattle.sn_osc.specs.Shape.{argument_of};
 ghost use Rattle.sn_reply.specs.Replies.{ReplyShape};
 ghost use Rattle.sn_world.specs.Definitions.{definitions_of};
@@ -8,7 +9,6 @@ ghost use Rattle.sn_world.specs.World.{turn_of};
 ghost use Rattle.sn_world.specs.Rows.{singles};
 ghost use Rattle.sn_world.specs.Free.{name_of, are_known, without_names, free_row};
 ghost use Rattle.sn_world.specs.Answers.{Follows, UnlessFollowed};
-ghost use Rattle.sn_buscmd.specs.Given.{bytes_of};
 
 use sn_osc::Arg;
 use sn_ports::{NoMemory, Text};

@@ -2,6 +2,7 @@
 ghost use Rattle.std.specs.Prelude.{◌≡◌, ◌+◌, ◌*◌, ◌<◌, nat_abs, None};
 ghost use Rattle.sn_world.specs.Rows.{first_refusal};
 ghost use Rattle.sn_world.specs.Buses.{is_bus, is_run, bus_refusal, run_refusal};
+ghost use Rattle.sn_world.specs.BufferNumbers.{is_number};
 
 use sn_mem::Places;
 use sn_reply::Reason;
@@ -20,16 +21,18 @@ pub trait Judged<By> {
         ensures { result ≡ judge by self.now };
 }
 
-fn is_bus(bus: i32) -> bool
-    ensures { result ≡ is_bus bus }
+/// Whether a control bus has the number, and a buffer may have it: there are 1,024 of each.
+pub fn is_number(number: i32) -> bool
+    ensures bus { result ≡ is_bus number }
+    ensures buffer { result ≡ is_number number }
 {
-    0 <= bus && bus < 1024
+    0 <= number && number < 1024
 }
 
 fn bus_refusal(bus: i32) -> Option<Reason>
     ensures { result ≡ bus_refusal bus }
 {
-    if !is_bus(bus) {
+    if !is_number(bus) {
         return Some(Reason::Bus);
     }
     None

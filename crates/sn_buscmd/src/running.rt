@@ -266,8 +266,9 @@ fn run_carrying<P: Port>(
 
 /// Runs a message from a client, where it is a command on control buses, on buffers, on definitions or on the server itself.
 ///
-/// `Done` comes where the command was carried out, `Completion` where one was that carries a completion message, `Quit` and `ClearSched` where it was the command of that name, `Failed` with the first reason against it, and `NotMine` where the address is that of
-/// another command or of none. `Failed` and `NotMine` leave the stage, the words and the replies as they were.
+/// `Done` comes where the command was carried out, `Completion` where one was that carries a completion message, `Quit` and `ClearSched`
+/// where it was the command of that name, `Failed` with the first reason against it, and `NotMine` where the address is that of another
+/// command or of none. `Failed` and `NotMine` leave the stage, the words and the replies as they were.
 pub fn run_bus_command<P: Port>(
     alloc: Global,
     stage: &mut Stage,

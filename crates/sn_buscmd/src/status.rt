@@ -1,5 +1,5 @@
 //! `/status`.
-ghost use Rattle.std.specs.Prelude.{◌≡◌, ◌+◌, pos, List, ℕ, map, length, IfOk};
+ghost use Rattle.std.specs.Prelude.{◌≡◌, ◌+◌, pos, List, ℕ, map, IfOk};
 ghost use Rattle.std.specs.FinMap as finite;
 ghost use Rattle.sn_osc.specs.Shape.{argument_of, message_of};
 ghost use Rattle.sn_reply.specs.Sending.{IsSendable};

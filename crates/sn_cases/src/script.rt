@@ -1,8 +1,8 @@
 //! Scripts as text: one line for each step.
 //!
 //! `case NAME` begins a case, `with KEY=VALUE` gives a setting, `at TAG` begins a bundle, `/address argument ..` is a message,
-//! `raw HEX ..` the bytes of a packet, `> /address argument ..` a reply, `= HEX ..` the first bytes of the sound, `blocks N` its length. `blob NAME /address ..` names
-//! the bytes of a message, and `text NAME` those of the lines up to a line `.`; `@NAME` is such a blob as an argument. An argument
+//! `raw HEX ..` the bytes of a packet, `> /address argument ..` a reply, `= HEX ..` the first bytes of the sound, `blocks N` its length.
+//! `blob NAME /address ..` names the bytes of a message, and `text NAME` those of the lines up to a line `.`; `@NAME` is such a blob as an argument. An argument
 //! that is a whole number is an int, any other is a string, and so is what stands between two `"`. `many N LINE` is a line N times.
 //!
 //! `over TAG` makes a case a connection whose block 0 begins at a time: `ticks N` lets come what stands above it, and then N blocks

@@ -4,6 +4,7 @@ use Rattle.std.specs.List.{filter}
 use Rattle.std.proofs.lemmas.Bool.{cond-true, cond-false}
 use Rattle.std.proofs.lemmas.List.Elements.{filter-append}
 use Rattle.sn_mem.specs.Blocks.{table}
+use Rattle.sn_mem.proofs.Tables.{table_more}
 use Rattle.sn_foot.specs.declared.resource.Resource.{Resource}
 use Rattle.sn_foot.specs.declared.resource.Resource.TheVariants.{Audio, Control, Buffer}
 use Rattle.sn_clash.specs.Clashing.{resources}
@@ -14,10 +15,6 @@ pub first_none : {A : Type 0} (p : A → Bool) (f : ℕ → A) → filter p (tab
 unfolding table
 first_none p f = refl
 
-table_next : {A : Type 0} (f : ℕ → A) (n : ℕ) → table f (n + 1) ≡ table f n ++ f n ∷ []
-unfolding table
-table_next f n = let e : n + 1 ≡ suc n = omega arith in ap (λ k. table f k) e
-
 past_one : {A : Type 0} (p : A → Bool) (x : A) → p x ≡ false → filter p (x ∷ []) ≡ []
 past_one p x fails = cond-false (p x) (x ∷ []) [] fails
 
@@ -26,7 +23,7 @@ at_one p x holds = cond-true (p x) (x ∷ []) [] holds
 
 pub first_past : {A : Type 0} (p : A → Bool) (f : ℕ → A) (n : ℕ) → filter p (table f n) ≡ [] → p (f n) ≡ false → filter p (table f (n + 1)) ≡ []
 first_past p f n none fails =
-    ap (λ xs. filter p xs) (table_next f n) ∙ filter-append p (table f n) (f n ∷ []) ∙ ap (λ xs. xs ++ filter p (f n ∷ [])) none ∙ past_one p (f n) fails
+    ap (λ xs. filter p xs) (table_more f n) ∙ filter-append p (table f n) (f n ∷ []) ∙ ap (λ xs. xs ++ filter p (f n ∷ [])) none ∙ past_one p (f n) fails
 
 -- what comes first stays first
 pub first_kept : {A : Type 0} (x : A) (xs ys : List A) → x ∷ [] ≡ take 1 xs → x ∷ [] ≡ take 1 (xs ++ ys)
@@ -43,14 +40,14 @@ longer p f x n (suc more) e =
     let same : n + more + 1 ≡ n + suc more = omega arith in
     subst (λ k. x ∷ [] ≡ take 1 (filter p (table f k))) same
     (first_kept x (filter p (table f (n + more))) (filter p (f (n + more) ∷ [])) (longer p f x n more e)
-    ∙ sym (ap (λ xs. take 1 xs) (ap (λ xs. filter p xs) (table_next f (n + more)) ∙ filter-append p (table f (n + more)) (f (n + more) ∷ []))))
+    ∙ sym (ap (λ xs. take 1 xs) (ap (λ xs. filter p xs) (table_more f (n + more)) ∙ filter-append p (table f (n + more)) (f (n + more) ∷ []))))
 
 pub first_found : {A : Type 0} (p : A → Bool) (f : ℕ → A) (n count : ℕ) → n < count → filter p (table f n) ≡ [] → p (f n) ≡ true → f n ∷ [] ≡ take 1 (filter p (table f count))
 first_found p f n count lt none holds =
     let same : n + 1 + (count - (n + 1)) ≡ count = omega arith in
     subst (λ k. f n ∷ [] ≡ take 1 (filter p (table f k))) same
     (longer p f (f n) (n + 1) (count - (n + 1))
-    (sym (ap (λ xs. take 1 xs) (ap (λ xs. filter p xs) (table_next f n) ∙ filter-append p (table f n) (f n ∷ []) ∙ ap (λ xs. xs ++ filter p (f n ∷ [])) none ∙ at_one p (f n) holds))))
+    (sym (ap (λ xs. take 1 xs) (ap (λ xs. filter p xs) (table_more f n) ∙ filter-append p (table f n) (f n ∷ []) ∙ ap (λ xs. xs ++ filter p (f n ∷ [])) none ∙ at_one p (f n) holds))))
 
 pub none_table : {A : Type 0} (p : A → Bool) (f : ℕ → A) (n : ℕ) → ((k : ℕ) → k < n → p (f k) ≡ false) → filter p (table f n) ≡ []
 none_table p f zero fails = first_none p f

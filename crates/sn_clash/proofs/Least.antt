@@ -2,7 +2,8 @@
 use Rattle.std.proofs.Common.{◌≡◌, ◌≤◌, ◌<◌, ℕ, ◌==◌, Bool, true, false, ◌&&◌, ◌||◌, ◌⊎◌, List, [], ◌∷◌, Option, Some, None, inl, inr, sym, refl, ap, ◌∙◌, ⊎_elim, arith, take, if◌then◌else◌}
 use Rattle.std.specs.Prelude.{nat_lt}
 use Rattle.std.specs.List.{filter, list_any}
-use Rattle.std.proofs.lemmas.Bool.{and_parts, cases_eq, cases_lt, eq-eqb, eqb-true, ne_eqb, lt-ltb, ltb-true, ltb-false}
+use Rattle.std.proofs.lemmas.Bool.{and_parts, cases_eq, cases_lt, eq-eqb, eqb-true, ne_eqb, lt-ltb, ltb-true, ltb-false, and_from, or_cases, or_from, or_left, or_parts, or_right}
+use Rattle.std.proofs.Math.Bool.{or_assoc, or-false, and-false}
 use Rattle.sn_mem.specs.declared.buffers.BufferPlace.{BufferPlace}
 use Rattle.sn_foot.specs.declared.resource.Access.{Access}
 use Rattle.sn_foot.specs.declared.resource.Access.TheVariants.{Read, Write}
@@ -19,45 +20,9 @@ use Rattle.sn_clash.proofs.Marking.{low_number}
 
 -- ---- tests
 
-or_nothing : (a : Bool) → a ≡ (a || false)
-or_nothing true = refl
-or_nothing false = refl
-
-or_assoc : (a b c : Bool) → ((a || b) || c) ≡ (a || (b || c))
-or_assoc true b c = refl
-or_assoc false b c = refl
-
-and_nothing : (a : Bool) → (a && false) ≡ false
-and_nothing true = refl
-and_nothing false = refl
-
-or_left : (a b : Bool) → a ≡ true → (a || b) ≡ true
-or_left true b h = refl
-or_left false b h = absurd (cc)
-
-or_right : (a b : Bool) → b ≡ true → (a || b) ≡ true
-or_right true b h = refl
-or_right false b h = h
-
-neither : (a b : Bool) → a ≡ false → b ≡ false → (a || b) ≡ false
-neither true b x y = x
-neither false b x y = y
-
-or_neither : (a b : Bool) → (a || b) ≡ false → (a ≡ false) × (b ≡ false)
-or_neither true b h = absurd (cc)
-or_neither false b h = (refl, h)
-
-or_cases : (a b : Bool) → (a || b) ≡ true → (a ≡ true) ⊎ (b ≡ true)
-or_cases true b h = inl refl
-or_cases false b h = inr h
-
 and_second : (a b : Bool) → a ≡ true → (a && b) ≡ false → b ≡ false
 and_second true b x y = y
 and_second false b x y = absurd (cc)
-
-and_both : (a b : Bool) → a ≡ true → b ≡ true → (a && b) ≡ true
-and_both true b x y = y
-and_both false b x y = x
 
 -- ---- the order of resources
 
@@ -79,7 +44,7 @@ by_rank a b h = or_left (nat_lt (rank a) (rank b)) ((rank a == rank b) && nat_lt
 by_number : (a b : Resource) → rank a ≡ rank b → number_of a < number_of b → comes_before a b ≡ true
 by_number a b e h =
     or_right (nat_lt (rank a) (rank b)) ((rank a == rank b) && nat_lt (number_of a) (number_of b))
-    (and_both (rank a == rank b) (nat_lt (number_of a) (number_of b)) (eq-eqb (rank a) (rank b) e) (lt-ltb (number_of a) (number_of b) h))
+    (and_from (rank a == rank b) (nat_lt (number_of a) (number_of b)) (eq-eqb (rank a) (rank b) e) (lt-ltb (number_of a) (number_of b) h))
 
 passes : (r y x : Resource) → comes_before r y ≡ true → comes_before y x ≡ true → comes_before r x ≡ true
 passes r y x h k =
@@ -99,7 +64,7 @@ passes r y x h k =
 -- what comes before one comes before another that doesn't
 precedes : (r x y : Resource) → comes_before r x ≡ true → comes_before y x ≡ false → comes_before r y ≡ true
 precedes r x y h k =
-    let parts = or_neither (nat_lt (rank y) (rank x)) ((rank y == rank x) && nat_lt (number_of y) (number_of x)) k in
+    let parts = or_parts (nat_lt (rank y) (rank x)) ((rank y == rank x) && nat_lt (number_of y) (number_of x)) k in
     let ranks : rank x ≤ rank y = ltb-false (rank y) (rank x) parts.0 in
     ⊎_elim
     (λ (a : rank r < rank x). by_rank r y (omega (arith, a, ranks)))
@@ -139,14 +104,14 @@ abbrev or_one : (Resource → Bool) → Bool → Resource → Resource → Bool
 or_one p hit x r = p r || (hit && is_same x r)
 
 is_next : (p : Resource → Bool) (x y : Resource) (before : Bool) → comes_before y x ≡ before → IsFirst p (Some y) → IsFirst (or_one p true x) (Some (if before then y else x))
-is_next p x y true e f = (or_left (p y) (is_same x y) f.0, λ r h. neither (p r) (is_same x r) (f.1 r h) (apart x r (passes r y x h e)))
-is_next p x y false e f = (or_right (p x) (is_same x x) (itself x), λ r h. neither (p r) (is_same x r) (f.1 r (precedes r x y h e)) (apart x r h))
+is_next p x y true e f = (or_left (p y) (is_same x y) f.0, λ r h. or_from (p r) (is_same x r) (f.1 r h) (apart x r (passes r y x h e)))
+is_next p x y false e f = (or_right (p x) (is_same x x) (itself x), λ r h. or_from (p r) (is_same x r) (f.1 r (precedes r x y h e)) (apart x r h))
 
 with_one : (p : Resource → Bool) (least : Option Resource) (hit : Bool) (x : Resource) → IsFirst p least → IsFirst (or_one p hit x) (if hit then Some (first_of least x) else least)
-with_one p None true x f = (or_right (p x) (is_same x x) (itself x), λ r h. neither (p r) (is_same x r) (f r) (apart x r h))
+with_one p None true x f = (or_right (p x) (is_same x x) (itself x), λ r h. or_from (p r) (is_same x r) (f r) (apart x r h))
 with_one p (Some y) true x f = is_next p x y (comes_before y x) refl f
-with_one p None false x f = λ r. neither (p r) false (f r) refl
-with_one p (Some y) false x f = (or_left (p y) false f.0, λ r h. neither (p r) false (f.1 r h) refl)
+with_one p None false x f = λ r. or_from (p r) false (f r) refl
+with_one p (Some y) false x f = (or_left (p y) false f.0, λ r h. or_from (p r) false (f.1 r h) refl)
 
 retold : (p q : Resource → Bool) (least : Option Resource) → ((r : Resource) → p r ≡ q r) → IsFirst p least → IsFirst q least
 retold p q None e f = λ r. sym (e r) ∙ f r
@@ -157,7 +122,7 @@ hit_on there marks us r = list_any (λ (u : Use). hits there marks u && is_same 
 
 first_is : (there : Resource → Bool) (marks : List Mark) (us : List Use) (p : Resource → Bool) (least : Option Resource) → IsFirst p least →
     IsFirst (λ r. p r || hit_on there marks us r) (first_hit there marks us least)
-first_is there marks [] p least f = retold p (λ r. p r || false) least (λ r. or_nothing (p r)) f
+first_is there marks [] p least f = retold p (λ r. p r || false) least (λ r. sym (or-false (p r))) f
 first_is there marks (u ∷ us) p least f =
     let hit : Bool = hits there marks u in
     let next : Option Resource = if hit then Some (first_of least u.resource) else least in
@@ -171,11 +136,11 @@ moved_number : (g : ℕ → Bool) (m n : ℕ) → (g m && (m == n)) ≡ (g n && 
 moved_number g m n =
     ⊎_elim
     (λ (e : m ≡ n). ap (λ k. g k && (m == n)) e)
-    (λ (d : m ≡ n → ⊥). ap (λ b. g m && b) (ne_eqb m n d) ∙ and_nothing (g m) ∙ sym (ap (λ b. g n && b) (ne_eqb m n d) ∙ and_nothing (g n)))
+    (λ (d : m ≡ n → ⊥). ap (λ b. g m && b) (ne_eqb m n d) ∙ and-false (g m) ∙ sym (ap (λ b. g n && b) (ne_eqb m n d) ∙ and-false (g n)))
     (cases_eq m n)
 
 moved_not : (a b : Bool) → (a && false) ≡ (b && false)
-moved_not a b = and_nothing a ∙ sym (and_nothing b)
+moved_not a b = and-false a ∙ sym (and-false b)
 
 moved : (f : Resource → Bool) (q r : Resource) → (f q && is_same q r) ≡ (f r && is_same q r)
 moved f (Audio m) (Audio n) = moved_number (λ k. f (Audio k)) m n

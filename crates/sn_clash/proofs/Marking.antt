@@ -2,6 +2,7 @@
 use Rattle.std.proofs.Common.{◌≡◌, ◌<◌, ℕ, ◌+◌, ◌*◌, ◌==◌, Bool, true, false, ◌&&◌, ◌||◌, List, [], ◌∷◌, Option, None, sym, refl, ap, subst, ◌∙◌, ⊎_elim, arith, length}
 use Rattle.std.specs.Prelude.{slice_set, slice_index_or, nat_lt, is_some}
 use Rattle.std.proofs.lemmas.Bool.{and_parts, cases_eq, eq-eqb, ne_eqb, ltb-true}
+use Rattle.std.proofs.Math.Bool.{or_assoc, or-false, or-true, and-false, and-or_distrib_left}
 use Rattle.std.proofs.lemmas.List.{length-set, get_or-set_same, get_or-set_other}
 use Rattle.sn_mem.specs.declared.buffers.BufferPlace.{BufferPlace}
 use Rattle.sn_foot.specs.declared.resource.Access.{Access}
@@ -15,26 +16,6 @@ use Rattle.sn_clash.specs.Clashing.{number_of}
 use Rattle.sn_clash.specs.Using.{footprint_in, is_access, is_same, uses_in}
 use Rattle.sn_clash.specs.Marking.{mark_of, mark_use, mark_uses, marked_in, more, place, unmarked}
 use Rattle.sn_clash.specs.Passing.{either, no_use}
-
-or_nothing : (a : Bool) → a ≡ (a || false)
-or_nothing true = refl
-or_nothing false = refl
-
-or_all : (a : Bool) → true ≡ (a || true)
-or_all true = refl
-or_all false = refl
-
-or_assoc : (a b c : Bool) → ((a || b) || c) ≡ (a || (b || c))
-or_assoc true b c = refl
-or_assoc false b c = refl
-
-and_nothing : (a : Bool) → false ≡ (a && false)
-and_nothing true = refl
-and_nothing false = refl
-
-masked_or : (t a b : Bool) → (t && (a || b)) ≡ ((t && a) || (t && b))
-masked_or true a b = refl
-masked_or false a b = refl
 
 pub guarded : (t a b : Bool) → (t ≡ true → a ≡ b) → (t && a) ≡ (t && b)
 guarded true a b f = f refl
@@ -77,10 +58,10 @@ bit Read m = m.read
 bit Write m = m.written
 
 more_bit : (a b : Access) (m : Mark) → bit a (more b m) ≡ (bit a m || (is_access a b && true))
-more_bit Read Read m = or_all m.read
-more_bit Read Write m = or_nothing m.read
-more_bit Write Read m = or_nothing m.written
-more_bit Write Write m = or_all m.written
+more_bit Read Read m = sym (or-true m.read)
+more_bit Read Write m = sym (or-false m.read)
+more_bit Write Read m = sym (or-false m.written)
+more_bit Write Write m = sym (or-true m.written)
 
 one_marked : (a : Access) (u : Use) (marks : List Mark) (r : Resource) → place r < length marks →
     bit a (mark_of (mark_use u marks) r) ≡ (bit a (mark_of marks r) || (is_access a u.access && is_same u.resource r))
@@ -95,8 +76,8 @@ one_marked a u marks r lt =
     ∙ ap (λ b. old || (is_access a u.access && b)) (sym (sym (same_place u.resource r) ∙ eq-eqb (place u.resource) (place r) e)))
     (λ (d : place u.resource ≡ place r → ⊥).
     ap (λ (m : Mark). bit a m) (get_or-set_other marks (place u.resource) (place r) (more u.access (mark_of marks u.resource)) unmarked (λ e. d (sym e)))
-    ∙ or_nothing old
-    ∙ ap (λ b. old || b) (and_nothing (is_access a u.access) ∙ ap (λ b. is_access a u.access && b) (sym (sym (same_place u.resource r) ∙ ne_eqb (place u.resource) (place r) d))))
+    ∙ sym (or-false old)
+    ∙ ap (λ b. old || b) (sym (and-false (is_access a u.access)) ∙ ap (λ b. is_access a u.access && b) (sym (sym (same_place u.resource r) ∙ ne_eqb (place u.resource) (place r) d))))
     (cases_eq (place u.resource) (place r))
 
 long_use : (u : Use) (marks : List Mark) → length (mark_use u marks) ≡ length marks
@@ -107,7 +88,7 @@ long_uses [] marks = refl
 long_uses (u ∷ us) marks = long_uses us (mark_use u marks) ∙ long_use u marks
 
 all_marked : (a : Access) (us : List Use) (marks : List Mark) (r : Resource) → place r < length marks → bit a (mark_of (mark_uses us marks) r) ≡ (bit a (mark_of marks r) || uses_in a us r)
-all_marked a [] marks r lt = or_nothing (bit a (mark_of marks r))
+all_marked a [] marks r lt = sym (or-false (bit a (mark_of marks r)))
 all_marked a (u ∷ us) marks r lt =
     all_marked a us (mark_use u marks) r (subst (λ k. place r < k) (sym (long_use u marks)) lt)
     ∙ ap (λ b. b || uses_in a us r) (one_marked a u marks r lt)
@@ -121,7 +102,7 @@ module _ (buffers : List (Option BufferPlace)) where
   marked_bit a us marks r long =
       guarded (is_there buffers r) (bit a (mark_of (mark_uses us marks) r)) (bit a (mark_of marks r) || uses_in a us r)
       (λ h. all_marked a us marks r (subst (λ k. place r < k) (sym long) (low_place r (low_number buffers r h))))
-      ∙ masked_or (is_there buffers r) (bit a (mark_of marks r)) (uses_in a us r)
+      ∙ and-or_distrib_left (is_there buffers r) (bit a (mark_of marks r)) (uses_in a us r)
 
   pub together : (us : List Use) (marks : List Mark) → length marks ≡ 3072 →
       marked_in (is_there buffers) (mark_uses us marks) ≡ either (marked_in (is_there buffers) marks) (footprint_in (is_there buffers) us)
@@ -129,8 +110,8 @@ module _ (buffers : List (Option BufferPlace)) where
 
   pub nothing_marked : (marks : List Mark) → ((n : ℕ) → slice_index_or marks n unmarked ≡ unmarked) → marked_in (is_there buffers) marks ≡ no_use
   nothing_marked marks none = λ i. record {
-    reads = λ r. (ap (λ (m : Mark). is_there buffers r && m.read) (none (place r)) ∙ sym (and_nothing (is_there buffers r))) i;
-    writes = λ r. (ap (λ (m : Mark). is_there buffers r && m.written) (none (place r)) ∙ sym (and_nothing (is_there buffers r))) i;
+    reads = λ r. (ap (λ (m : Mark). is_there buffers r && m.read) (none (place r)) ∙ and-false (is_there buffers r)) i;
+    writes = λ r. (ap (λ (m : Mark). is_there buffers r && m.written) (none (place r)) ∙ and-false (is_there buffers r)) i;
   }
 
   -- uses are marked where nothing was

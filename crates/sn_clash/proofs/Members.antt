@@ -2,6 +2,7 @@
 use Rattle.std.proofs.Common.{◌≡◌, ◌≤◌, ◌<◌, ℕ, ◌+◌, ℤ, Bool, true, false, ◌&&◌, ◌||◌, List, [], ◌∷◌, ◌++◌, Option, Some, None, sym, refl, ap, ◌∙◌, arith, length, take, map, reverse, if◌then◌else◌, true≢false}
 use Rattle.std.specs.Prelude.{slice_index_or, is_some}
 use Rattle.std.specs.List.{filter, list_any}
+use Rattle.std.proofs.Math.Bool.{or_comm}
 use Rattle.std.proofs.lemmas.List.{take_more, take_all, map-append, reverse-append}
 use Rattle.sn_foot.specs.declared.resource.Resource.{Resource}
 use Rattle.sn_foot.specs.Footprints.{Footprint, clash_on}
@@ -51,21 +52,12 @@ one_more there es n d lt =
 pub one_at : (there : Resource → Bool) (es : List Entry) (n : ℕ) (x : Entry) → n < length es → x ≡ slice_index_or es n x → members_of there (take (n + 1) es) ≡ member_of there x ∷ members_of there (take n es)
 one_at there es n x lt is = one_more there es n x lt ∙ ap (λ e. member_of there e ∷ members_of there (take n es)) (sym is)
 
-pub all_of : (there : Resource → Bool) (es : List Entry) (n : ℕ) → length es ≤ n → members_of there (take n es) ≡ members_of there es
-all_of there es n le = ap (λ xs. members_of there xs) (take_all n es le)
-
 choose : (b : Bool) (m n : ℕ) (f : ℕ → List Member) (xs ys : List Member) → f m ≡ xs → f n ≡ ys → f (if b then m else n) ≡ (if b then xs else ys)
 choose true m n f xs ys x y = x
 choose false m n f xs ys x y = y
 
-or_swapped : (a b : Bool) → (a || b) ≡ (b || a)
-or_swapped true true = refl
-or_swapped true false = refl
-or_swapped false true = refl
-or_swapped false false = refl
-
 clash_swapped : (a b : Footprint) → clash_on a b ≡ clash_on b a
-clash_swapped a b = λ i r. or_swapped (a.writes r && (b.reads r || b.writes r)) (b.writes r && (a.reads r || a.writes r)) i
+clash_swapped a b = λ i r. or_comm (a.writes r && (b.reads r || b.writes r)) (b.writes r && (a.reads r || a.writes r)) i
 
 -- the first that clashes is sought
 pub next_first : (there : Resource → Bool) (es : List Entry) (n : ℕ) (x : Entry) (first : ℕ) (clashes : Bool) (later : List Mark) → n < length es → x ≡ slice_index_or es n x →
@@ -105,7 +97,7 @@ next_uses there es n x old new f lt at is e = next_gathered there es n x (footpr
 
 -- ---- the second member
 
-abbrev clash_at : ℤ → Member → Member → Resource → Clash
+abbrev pub clash_at : ℤ → Member → Member → Resource → Clash
 clash_at id a b r = record { group = id; first = a.id; second = b.id; resource = r }
 
 first_mapped : {A B : Type 0} (f : A → B) (x : A) (xs : List A) → x ∷ [] ≡ take 1 xs → f x ∷ [] ≡ take 1 (map f xs)
@@ -218,7 +210,7 @@ later_some id a (b ∷ bs) =
     some_append (map (clash_at id a b) (shared_by a b)) (clashes_with id a bs)
     ∙ ap (λ c. c || has_some (clashes_with id a bs)) (some_map (clash_at id a b) (shared_by a b) ∙ some_filter (clash_on a.uses b.uses) resources)
     ∙ ap (λ c. list_any (clash_on a.uses b.uses) resources || c) (later_some id a bs)
-    ∙ or_swapped (list_any (clash_on a.uses b.uses) resources) (list_any (clash_on a.uses f) resources)
+    ∙ or_comm (list_any (clash_on a.uses b.uses) resources) (list_any (clash_on a.uses f) resources)
     ∙ sym (any_or (clash_on a.uses f) (clash_on a.uses b.uses) resources)
     ∙ sym (ap (λ p. list_any p resources) (λ i r. split (a.uses.reads r) (a.uses.writes r) (f.reads r) (f.writes r) (b.uses.reads r) (b.uses.writes r) i))
 

@@ -16,10 +16,10 @@ use Rattle.sn_clash.specs.Groups.{collected}
 
 -- ---- a node's subtree is below one of its ancestors alone
 
-abbrev Distinct : Nodes Held → Type 0
+abbrev pub Distinct : Nodes Held → Type 0
 Distinct t = (x : ℤ) → occurrences int_eq x (ids t) ≤ 1
 
-held_some : (x : ℤ) (t : Nodes Held) → holds x t ≡ true → 1 ≤ occurrences int_eq x (ids t)
+pub held_some : (x : ℤ) (t : Nodes Held) → holds x t ≡ true → 1 ≤ occurrences int_eq x (ids t)
 held_some x none h = absurd (cc)
 held_some x (node label below after) h =
     ⊎_elim
@@ -30,30 +30,30 @@ held_some x (node label below after) h =
     (or_cases (holds x below) (holds x after) b))
     (or_cases (int_eq label.id x) (holds x below || holds x after) h)
 
-not_here : (label : Label Held) (below after : Nodes Held) (x : ℤ) → Distinct (node label below after) → 1 ≤ occurrences int_eq x (ids below) + occurrences int_eq x (ids after) → int_eq label.id x ≡ false
+pub not_here : (label : Label Held) (below after : Nodes Held) (x : ℤ) → Distinct (node label below after) → 1 ≤ occurrences int_eq x (ids below) + occurrences int_eq x (ids after) → int_eq label.id x ≡ false
 not_here label below after x one some =
     ⊎_elim
     (λ (a : int_eq label.id x ≡ true). let here : ◌≡◌ {A = ℕ} (if int_eq label.id x then 1 else 0) 1 = rw a refl in absurd (omega (arith, occurs-node x label below after, one x)))
     (λ (a : int_eq label.id x ≡ false). a)
     (cases_Bool (int_eq label.id x))
 
-not_below : (label : Label Held) (below after : Nodes Held) (x : ℤ) → Distinct (node label below after) → holds x after ≡ true → holds x below ≡ false
+pub not_below : (label : Label Held) (below after : Nodes Held) (x : ℤ) → Distinct (node label below after) → holds x after ≡ true → holds x below ≡ false
 not_below label below after x one h =
     ⊎_elim
     (λ (a : holds x below ≡ true). absurd (omega (arith, occurs-node x label below after, one x, held_some x below a, held_some x after h)))
     (λ (a : holds x below ≡ false). a)
     (cases_Bool (holds x below))
 
+pub distinct_below : (label : Label Held) (below after : Nodes Held) → Distinct (node label below after) → Distinct below
+distinct_below label below after one = λ x. omega (arith, occurs-node x label below after, one x)
+
+pub distinct_after : (label : Label Held) (below after : Nodes Held) → Distinct (node label below after) → Distinct after
+distinct_after label below after one = λ x. omega (arith, occurs-node x label below after, one x)
+
 module _ (t : Nodes Held) where
   -- nodes of a tree, each with all that the tree has below it
   abbrev Whole : Nodes Held → Type 0
   Whole s = (x : ℤ) → holds x s ≡ true → subtree x t ≡ subtree x s
-
-  distinct_below : (label : Label Held) (below after : Nodes Held) → Distinct (node label below after) → Distinct below
-  distinct_below label below after one = λ x. omega (arith, occurs-node x label below after, one x)
-
-  distinct_after : (label : Label Held) (below after : Nodes Held) → Distinct (node label below after) → Distinct after
-  distinct_after label below after one = λ x. omega (arith, occurs-node x label below after, one x)
 
   whole_below : (label : Label Held) (below after : Nodes Held) → Distinct (node label below after) → Whole (node label below after) → Whole below
   whole_below label below after one whole = λ x h.
@@ -94,18 +94,6 @@ module _ (there : Resource → Bool) (t : Nodes Held) where
   past_one skip l ls some =
       sym (cond-false (skip == 0) (if is_parallel l.kind then found_in (subtree l.id t) ++ left (length (running_labels (subtree l.id t)) - 1) ls else left 0 ls) (left (skip - 1) ls) (ne_eqb skip 0 (λ e. omega arith)))
 
-  pub past_other : (skip : ℕ) (l : Label Held) (ls : List (Label Held)) → skip ≡ 0 → is_parallel l.kind ≡ false → left 0 ls ≡ left skip (l ∷ ls)
-  past_other skip l ls at other =
-      sym (cond-false (is_parallel l.kind) (found_in (subtree l.id t) ++ left (length (running_labels (subtree l.id t)) - 1) ls) (left 0 ls) other) ∙ ap (λ k. left k (l ∷ ls)) (sym at)
-
-  pub past_group : (skip : ℕ) (l : Label Held) (ls : List (Label Held)) (n : ℕ) (old new : List Clash) → skip ≡ 0 → is_parallel l.kind ≡ true → n ≡ length (running_labels (subtree l.id t)) - 1 → new ≡ old ++ found_in (subtree l.id t) →
-      new ++ left n ls ≡ old ++ left skip (l ∷ ls)
-  past_group skip l ls n old new at group size is =
-      ap (λ xs. xs ++ left n ls) is ∙ append_assoc old (found_in (subtree l.id t)) (left n ls)
-      ∙ ap (λ xs. old ++ xs)
-      (ap (λ k. found_in (subtree l.id t) ++ left k ls) size
-      ∙ sym (cond-true (is_parallel l.kind) (found_in (subtree l.id t) ++ left (length (running_labels (subtree l.id t)) - 1) ls) (left 0 ls) group) ∙ ap (λ k. left k (l ∷ ls)) (sym at))
-
   past_all : (xs ls : List (Label Held)) → left (length xs) (xs ++ ls) ≡ left 0 ls
   past_all [] ls = refl
   past_all (x ∷ xs) ls =
@@ -121,10 +109,10 @@ module _ (there : Resource → Bool) (t : Nodes Held) where
   walked : (s : Nodes Held) (ls : List (Label Held)) → Distinct s → Whole t s → left 0 (running_labels s ++ ls) ≡ found_in s ++ left 0 ls
   walked none ls one whole = refl
   walked (node label below after) ls one whole =
-      let a : left 0 (running_labels after ++ ls) ≡ found_in after ++ left 0 ls = walked after ls (distinct_after t label below after one) (whole_after t label below after one whole) in
+      let a : left 0 (running_labels after ++ ls) ≡ found_in after ++ left 0 ls = walked after ls (distinct_after label below after one) (whole_after t label below after one whole) in
       let split : (running_labels below ++ running_labels after) ++ ls ≡ running_labels below ++ (running_labels after ++ ls) = append_assoc (running_labels below) (running_labels after) ls in
       let b : left 0 ((running_labels below ++ running_labels after) ++ ls) ≡ (found_in below ++ found_in after) ++ left 0 ls =
-      ap (λ xs. left 0 xs) split ∙ walked below (running_labels after ++ ls) (distinct_below t label below after one) (whole_below t label below after one whole)
+      ap (λ xs. left 0 xs) split ∙ walked below (running_labels after ++ ls) (distinct_below label below after one) (whole_below t label below after one whole)
       ∙ ap (λ xs. found_in below ++ xs) a ∙ sym (append_assoc (found_in below) (found_in after) (left 0 ls)) in
       let own : List Clash = if is_parallel label.kind then one_of label below else [] in
       both label.running (λ xs. left 0 (xs ++ ls)) (label ∷ (running_labels below ++ running_labels after)) (running_labels after) (own ++ (found_in below ++ found_in after)) (found_in after) (left 0 ls)

@@ -2,6 +2,8 @@
 use Rattle.std.proofs.Common.{◌≡◌, ◌<◌, ℕ, ◌+◌, ◌-◌, ℤ, Bool, true, false, ◌&&◌, ◌||◌, List, [], ◌∷◌, ◌++◌, sym, refl, ap, ◌∙◌, arith, length, take, drop, map, reverse, append_assoc, length-append, if◌then◌else◌}
 use Rattle.std.specs.Prelude.{slice_index_or}
 use Rattle.std.specs.List.{list_any}
+use Rattle.std.proofs.Math.Bool.{and-false, and-or_distrib_left, or_assoc}
+use Rattle.std.proofs.Math.Seq.{drop-append_seam}
 use Rattle.std.proofs.lemmas.List.{append-nil, map-append, reverse-append, reverse-reverse, length-reverse, length-map, take-map, drop-map, take_more}
 use Rattle.std.proofs.lemmas.List.Folds.{list_any-append}
 use Rattle.sn_tree.specs.Order.{take_seam}
@@ -37,10 +39,6 @@ pass_next there ms n m x old new is lt at e =
     ∙ ap (λ y. map row_of (take m ms) ++ row_of y ∷ []) (sym at))
     ∙ pass_append there (map row_of (take m ms)) (row_of x ∷ []) old)
 
-drop_seam : {A : Type 0} (xs ys : List A) → drop (length xs) (xs ++ ys) ≡ ys
-drop_seam [] ys = refl
-drop_seam (x ∷ xs) ys = drop_seam xs ys
-
 module _ (there : Resource → Bool) where
   abbrev slot : Label Held → List Slot → ℕ → Slot
   slot label kids base = record { member = record { id = label.id; uses = uses_at there label (slot_members kids) }; base = base }
@@ -61,7 +59,7 @@ module _ (there : Resource → Bool) where
       let here : length (left ++ kids) - k ≡ length left = omega (arith, length-append left kids) in
       step_at label (left ++ kids) (old ++ more) (length (left ++ kids) - k) left kids (length old)
       (ap (λ n. take n (left ++ kids)) here ∙ take_seam left kids)
-      (ap (λ n. drop n (left ++ kids)) here ∙ drop_seam left kids)
+      (ap (λ n. drop n (left ++ kids)) here ∙ drop-append_seam left kids)
       base
 
 -- ---- a node is passed
@@ -102,15 +100,11 @@ one_passed there label k old es new found more kept base size uses same kept_is 
 abbrev used : (Held → Resource → Bool) → List (Label Held) → Resource → Bool
 used test labels r = list_any (λ (l : Label Held). test l.payload r) labels
 
-or_assoc : (a b c : Bool) → (a || (b || c)) ≡ ((a || b) || c)
-or_assoc true b c = refl
-or_assoc false b c = refl
-
 either_labels : (running : Bool) (label : Label Held) (bs cs : List (Label Held)) (test : Held → Resource → Bool) (r : Resource) →
     used test (if running then label ∷ (bs ++ cs) else cs) r ≡ (used test (if running then label ∷ (bs ++ []) else []) r || used test cs r)
 either_labels true label bs cs test r =
     ap (λ b. test label.payload r || b) (list_any-append (λ (l : Label Held). test l.payload r) bs cs)
-    ∙ or_assoc (test label.payload r) (used test bs r) (used test cs r)
+    ∙ sym (or_assoc (test label.payload r) (used test bs r) (used test cs r))
     ∙ ap (λ b. (test label.payload r || b) || used test cs r) (sym (ap (λ (ls : List (Label Held)). used test ls r) (append-nil bs)))
 either_labels false label bs cs test r = refl
 
@@ -118,14 +112,6 @@ no_more : (f t : Bool) → f ≡ (f || (t && false))
 no_more true t = refl
 no_more false true = refl
 no_more false false = refl
-
-masked_no : (t : Bool) → false ≡ (t && false)
-masked_no true = refl
-masked_no false = refl
-
-masked_both : (t a b : Bool) → ((t && a) || (t && b)) ≡ (t && (a || b))
-masked_both true a b = refl
-masked_both false a b = refl
 
 gather_bool : (f t m a : Bool) → ((f || (t && a)) || (t && m)) ≡ (f || (t && (m || a)))
 gather_bool true t m a = refl
@@ -165,10 +151,10 @@ module _ (there : Resource → Bool) where
   uses_top true label below =
       gathered_all (used_by there label.payload) below
       ∙ (λ i. record {
-        reads = λ r. (masked_both (there r) (held_reads label.payload r) (used held_reads (running_labels below) r) ∙ ap (λ (ls : List (Label Held)). there r && (held_reads label.payload r || used held_reads ls r)) (sym (append-nil (running_labels below)))) i;
-        writes = λ r. (masked_both (there r) (held_writes label.payload r) (used held_writes (running_labels below) r) ∙ ap (λ (ls : List (Label Held)). there r && (held_writes label.payload r || used held_writes ls r)) (sym (append-nil (running_labels below)))) i;
+        reads = λ r. (sym (and-or_distrib_left (there r) (held_reads label.payload r) (used held_reads (running_labels below) r)) ∙ ap (λ (ls : List (Label Held)). there r && (held_reads label.payload r || used held_reads ls r)) (sym (append-nil (running_labels below)))) i;
+        writes = λ r. (sym (and-or_distrib_left (there r) (held_writes label.payload r) (used held_writes (running_labels below) r)) ∙ ap (λ (ls : List (Label Held)). there r && (held_writes label.payload r || used held_writes ls r)) (sym (append-nil (running_labels below)))) i;
       })
-  uses_top false label below = λ i. record { reads = λ r. masked_no (there r) i; writes = λ r. masked_no (there r) i }
+  uses_top false label below = λ i. record { reads = λ r. sym (and-false (there r)) i; writes = λ r. sym (and-false (there r)) i }
 
   -- ---- the slots of nodes
 

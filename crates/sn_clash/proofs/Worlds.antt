@@ -12,6 +12,7 @@ use Rattle.sn_world.specs.declared.stage.Held.TheVariants as held
 use Rattle.sn_world.specs.declared.stage.Stage.{Stage}
 use Rattle.sn_world.specs.Nodes.{content_of}
 use Rattle.sn_world.specs.World.{world_of}
+use Rattle.sn_world.proofs.DefsLemmas.{is_some-map}
 use Rattle.sn_foot.specs.declared.resource.Resource.{Resource}
 use Rattle.sn_foot.specs.declared.resource.Resource.TheVariants.{Audio, Control, Buffer}
 use Rattle.sn_foot.specs.Footprints.{Footprint, held_reads, held_writes, is_there}
@@ -19,13 +20,9 @@ use Rattle.sn_clash.specs.Clashing.{Member, clashes, clashes_among, clashes_in, 
 
 -- ---- buffers
 
-some_mapped : {A B : Type 0} (f : A → B) (o : Option A) → is_some (option_map f o) ≡ is_some o
-some_mapped f None = refl
-some_mapped f (Some x) = refl
-
 some_at : {A B : Type 0} (f : A → B) (os : List (Option A)) (n : ℕ) → is_some (slice_index_or (map (option_map f) os) n None) ≡ is_some (slice_index_or os n None)
 some_at f [] n = refl
-some_at f (o ∷ os) zero = some_mapped f o
+some_at f (o ∷ os) zero = is_some-map f o
 some_at f (o ∷ os) (suc n) = some_at f os n
 
 same_there : (words : List ℕ) (buffers : List (Option BufferPlace)) (r : Resource) → is_there (buffers_of words buffers) r ≡ is_there buffers r

@@ -5,7 +5,7 @@ use std::marker::Model;
 /// What a unit's run is told of its surroundings.
 #[derive(Clone, Copy, Debug)]
 pub struct Now {
-    /// Frames a second: 44,100, 48,000 or 96,000.
+    /// The sample rate, in frames a second.
     pub rate: u32,
     /// The block's number, from 0.
     pub block: u64,
@@ -18,7 +18,9 @@ pub struct Now {
 /// A control of a synth: its own value, and the control bus that it follows, if any.
 #[derive(Clone, Copy, Debug)]
 pub struct Control {
+    /// Its own value: a raw sample, in units of 2^-24.
     pub value: i32,
+    /// The number of the control bus that it follows, if any.
     pub bus: Option<u32>,
 }
 
@@ -38,12 +40,14 @@ impl Model for Controls {
 }
 
 impl Controls {
+    /// The controls in this order.
     pub fn from_vec(items: Vec<Control>) -> Self
         ensures { result ≡ items.items }
     {
         Controls { items }
     }
 
+    /// The controls, by their numbers.
     pub fn as_slice(&self) -> &[Control]
         ensures { result.now ≡ self.now }
     {

@@ -10,7 +10,9 @@ use std::marker::Model;
 /// A control of a definition: its name, and the value that it has at first.
 #[derive(Debug, Drop)]
 pub struct Param {
+    /// The control's name.
     pub name: Text,
+    /// The value at first: a raw sample, in units of 2^-24.
     pub default: i32,
 }
 
@@ -31,12 +33,14 @@ impl Model for Params {
 }
 
 impl Params {
+    /// The controls in this order.
     pub fn from_vec(items: Vec<Param>) -> Self
         ensures { result ≡ map parameter_of items.items }
     {
         Params { items }
     }
 
+    /// The controls, by their numbers.
     pub fn as_slice(&self) -> &[Param]
         ensures { map parameter_of result.now ≡ self.now }
     {
@@ -60,12 +64,14 @@ impl Model for Names {
 }
 
 impl Names {
+    /// The names in this order.
     pub fn from_vec(items: Vec<Text>) -> Self
         ensures { result ≡ map (λ n. n.bytes) items.items }
     {
         Names { items }
     }
 
+    /// The names, in their order.
     pub fn as_slice(&self) -> &[Text]
         ensures { map (λ n. n.bytes) result.now ≡ self.now }
     {
@@ -76,9 +82,13 @@ impl Names {
 /// A definition of an instrument. It always is the definition of some text.
 #[derive(Debug, Drop)]
 pub struct Def {
+    /// The definition's name.
     pub name: Text,
+    /// At most 128 controls, in the order of the text.
     pub controls: Params,
+    /// At most 256 units, in the order of the text.
     pub units: Units,
+    /// The names of the wires, at most 512, in the order of the text.
     pub wires: Names,
     pub ghost controls_bound: { length controls ≤ 128 },
     pub ghost units_bound: { length units ≤ 256 },

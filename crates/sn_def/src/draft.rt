@@ -33,6 +33,7 @@ impl<'a> Model for Draft<'a> {
 }
 
 impl<'a> Draft<'a> {
+    /// A draft of this name, without controls, units and wires.
     pub fn new(alloc: Global, name: Text) -> Self
         ensures { result ≡ named_only name.bytes }
     {
@@ -52,18 +53,21 @@ impl<'a> Draft<'a> {
         self.known.find(name)
     }
 
+    /// How many controls there are.
     pub fn controls(&self) -> usize
         ensures { result ≡ length self.now.controls }
     {
         self.controls.len()
     }
 
+    /// How many units there are.
     pub fn units(&self) -> usize
         ensures { result ≡ length self.now.units }
     {
         self.units.len()
     }
 
+    /// How many wires there are.
     pub fn wires(&self) -> usize
         ensures { result ≡ length self.now.wires }
     {
@@ -77,6 +81,7 @@ impl<'a> Draft<'a> {
         3 + self.controls.len() as u32 + self.units.len() as u32
     }
 
+    /// One control more, under a name that stands for nothing yet.
     pub fn with_control(self, alloc: Global, name: &'a [u8], default: i32) -> Result<Self, NoMemory>
         requires fresh { named self name.now ≡ None }
         requires room { length self.controls < 128 }
@@ -92,6 +97,7 @@ impl<'a> Draft<'a> {
         Ok(draft)
     }
 
+    /// One wire more, under a name that stands for nothing yet.
     pub fn with_wire(self, alloc: Global, name: &'a [u8]) -> Result<Self, NoMemory>
         requires fresh { named self name.now ≡ None }
         requires room { length self.wires < 512 }
@@ -104,6 +110,7 @@ impl<'a> Draft<'a> {
         Ok(draft)
     }
 
+    /// One unit more.
     pub fn with_unit(self, kind: Kind, inputs: Inputs, outputs: u32) -> Result<Self, NoMemory>
         requires { length self.units < 256 }
         ensures { IfOk result (λ d. d ≡ with_unit self.entry kind inputs outputs) }
@@ -117,6 +124,7 @@ impl<'a> Draft<'a> {
         Ok(draft)
     }
 
+    /// The definition, once it has a unit and all its wires.
     pub fn into_def(self) -> Def
         requires { IsWritten self }
         ensures { definition_of result ≡ self.entry }

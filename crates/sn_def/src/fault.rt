@@ -32,21 +32,27 @@ pub enum DefKind {
 /// The first line, counted from 1, at which no valid text continues, and what is wrong with it.
 #[derive(Clone, Copy, Debug, PartialEq, Eq)]
 pub struct DefFault {
+    /// The line's number, from 1.
     pub line: u32,
+    /// What is wrong with the line.
     pub kind: DefKind,
 }
 
 /// Why a text was not read.
 #[derive(Clone, Copy, Debug, PartialEq, Eq)]
 pub enum Unread {
+    /// Memory ran out.
     NoMemory,
+    /// The text is no definition.
     Bad(DefFault),
 }
 
 /// Why a line was not read.
 #[derive(Clone, Copy, Debug, PartialEq, Eq)]
 pub(crate) enum Refused {
+    /// Memory ran out.
     NoMemory,
+    /// This is wrong with the line.
     Because(DefKind),
 }
 

@@ -10,10 +10,12 @@ use std::collections::BTreeMap;
 /// The names given so far, each with what it stands for.
 #[derive(Drop)]
 pub struct Known<'a> {
+    /// What each name stands for.
     pub map: BTreeMap<&'a [u8], Input>,
 }
 
 impl<'a> Known<'a> {
+    /// No names.
     pub fn new(alloc: Global) -> Self
         ensures { (q : List ℕ) → value_at result.map q ≡ None }
     {
@@ -22,12 +24,14 @@ impl<'a> Known<'a> {
         }
     }
 
+    /// What a name stands for, if it is known.
     pub fn find(&self, name: &'a [u8]) -> Option<Input>
         ensures { result ≡ value_at self.now.map name.now }
     {
         self.map.get(&name).copied()
     }
 
+    /// Makes a name known. An `Err` changes nothing.
     pub fn add(&mut self, name: &'a [u8], input: Input) -> Result<(), NoMemory>
         ensures { OnOk result ((q : List ℕ) → value_at self.new.map q ≡ (if bytes_eq name.now q then Some input else value_at self.old.map q)) }
     {

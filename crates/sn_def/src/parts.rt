@@ -11,8 +11,11 @@ use crate::table::Row;
 /// The parts of a unit line: the names of its outputs, the unit's name, and its inputs.
 #[derive(Clone, Copy)]
 pub(crate) struct Parts<'f, 'a> {
+    /// The names of its outputs.
     pub outputs: &'f [&'a [u8]],
+    /// The unit's name.
     pub unit: &'a [u8],
+    /// The inputs, as they are written.
     pub inputs: &'f [&'a [u8]],
 }
 

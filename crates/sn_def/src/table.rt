@@ -41,6 +41,7 @@ pub struct Row {
     pub least: u32,
     /// The most outputs.
     pub most: u32,
+    /// The number of words of state.
     pub words: Words,
 }
 

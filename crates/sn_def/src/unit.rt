@@ -8,7 +8,9 @@ use std::marker::Model;
 pub enum Input {
     /// A raw value.
     Literal(i32),
+    /// The number of a control.
     Control(u32),
+    /// The number of a wire.
     Wire(u32),
 }
 
@@ -28,12 +30,14 @@ impl Model for Inputs {
 }
 
 impl Inputs {
+    /// The inputs in this order.
     pub fn from_vec(items: Vec<Input>) -> Self
         ensures { result ≡ items.items }
     {
         Inputs { items }
     }
 
+    /// The inputs, in their order.
     pub fn as_slice(&self) -> &[Input]
         ensures { result.now ≡ self.now }
     {
@@ -44,8 +48,11 @@ impl Inputs {
 /// A unit line. Its outputs are the next `outputs` wires, in the order of the text.
 #[derive(Debug, Drop)]
 pub struct Unit {
+    /// Its kind.
     pub kind: Kind,
+    /// Its inputs, in the order of the line.
     pub inputs: Inputs,
+    /// The number of its outputs.
     pub outputs: u32,
 }
 
@@ -65,12 +72,14 @@ impl Model for Units {
 }
 
 impl Units {
+    /// The units in this order.
     pub fn from_vec(items: Vec<Unit>) -> Self
         ensures { result ≡ items.items }
     {
         Units { items }
     }
 
+    /// The units, in their order.
     pub fn as_slice(&self) -> &[Unit]
         ensures { result.now ≡ self.now }
     {

@@ -1,16 +1,14 @@
 -- Entries that act while they are taken from the queue.
-use Rattle.std.proofs.Common.{◌≡◌, ◌⊎◌, inl, inr, ℕ, ◌<◌, suc, Bool, true, false, cond, ◌||◌, List, [], ◌∷◌, length, map, filter, Option, Some, None, refl, sym, ap, subst, ◌∙◌, arith}
-use Rattle.std.specs.Prelude.{not, if◌then◌else◌, Result, Ok, Err}
+use Rattle.std.proofs.Common.{◌≡◌, ◌⊎◌, inl, inr, ℕ, ◌<◌, Bool, true, false, cond, List, [], ◌∷◌, length, filter, Option, Some, None, refl, sym, ap, subst, ◌∙◌}
+use Rattle.std.specs.Prelude.{not, if◌then◌else◌, Result, Ok}
+use Rattle.std.proofs.Math.Bool.{or_assoc, or-false}
 use Rattle.sn_ports.specs.declared.failed.NoMemory.{NoMemory}
 use Rattle.sn_reply.specs.declared.reason.Reason.{Reason}
 use Rattle.sn_world.specs.declared.command.Handled.{Handled}
-use Rattle.sn_world.specs.declared.command.Handled.TheVariants.{Done, Completion, Quit, ClearSched, Failed, NotMine}
-use Rattle.sn_world.specs.Ending.{Next, nothing}
-use Rattle.sn_world.specs.Answers.{Handles, IsNext, TellsNext}
-use Rattle.sn_world.specs.Commands.{next_in, either as first_there}
-use Rattle.std.specs.Option.{option_map}
+use Rattle.sn_world.specs.declared.command.Handled.TheVariants.{Done, Quit, ClearSched}
+use Rattle.sn_world.specs.Answers.{Handles}
+use Rattle.sn_world.specs.Commands.{either as first_there}
 use Rattle.std.specs.List.{AllByRecursion}
-use Rattle.sn_osc.specs.Shape.{MessageShape, message_of}
 use Rattle.sn_queue.specs.declared.entry.Entry.{Entry}
 use Rattle.sn_queue.specs.Waiting.{Waiting, WaitingList}
 use Rattle.sn_queue.specs.Meaning.{waiting_of}
@@ -62,43 +60,28 @@ done_first now q e = record {
 pub done : (now : ℕ) (old new : WaitingList) → None ≡ first_due old now → new ≡ without_first_due old now → IsDone now old new
 done now old new none is = subst (IsDone now old) (sym is) (done_first now old (sym none))
 
--- what was said of each message holds of those behind the first
-pub each_answerable : (m : MessageShape) (ms : List MessageShape) → AllByRecursion IsAnswerable (m ∷ ms) → IsAnswerable m
-each_answerable m ms all = all.0
+-- ---- nothing but which entries wait changes
+
+pub kept_then : (a b c : WaitingList) → b ≡ record a { waiting = b.waiting } → c ≡ record b { waiting = c.waiting } → c ≡ record a { waiting = c.waiting }
+kept_then a b c one two = two ∙ ap (λ (q : WaitingList). record q { waiting = c.waiting }) one
+
+replaced : (a c : WaitingList) (ws : List Waiting) → c ≡ record a { waiting = ws } → c ≡ record a { waiting = c.waiting }
+replaced a c ws is = is ∙ ap (λ (q : WaitingList). record a { waiting = q.waiting }) (sym is)
+
+-- behind what changed so before, where an entry is taken, and where those that are due later are dropped
+pub taken_kept : (now : ℕ) (a b c : WaitingList) → b ≡ record a { waiting = b.waiting } → c ≡ without_first_due b now → c ≡ record a { waiting = c.waiting }
+taken_kept now a b c so_far is = kept_then a b c so_far (replaced b c (without_first_due b now).waiting is)
+
+pub cleared_kept : (now : ℕ) (a b c : WaitingList) → b ≡ record a { waiting = b.waiting } → c ≡ clear_after b now → c ≡ record a { waiting = c.waiting }
+cleared_kept now a b c so_far is = kept_then a b c so_far (replaced b c (clear_after b now).waiting is)
 
 -- ---- what is asked besides
 
-or-assoc : (a b c : Bool) → ((a || b) || c) ≡ (a || (b || c))
-or-assoc true b c = refl
-or-assoc false b c = refl
-
-or-false : (a : Bool) → (a || false) ≡ a
-or-false true = refl
-or-false false = refl
-
 pub both-assoc : (a b c : Asked) → both (both a b) c ≡ both a (both b c)
-both-assoc a b c = λ i. record { clear = or-assoc a.clear b.clear c.clear i; quit = or-assoc a.quit b.quit c.quit i }
+both-assoc a b c = λ i. record { clear = or_assoc a.clear b.clear c.clear i; quit = or_assoc a.quit b.quit c.quit i }
 
 pub both-nothing : (a b : Asked) → b ≡ nothing_asked → both a b ≡ a
 both-nothing a b none = ap (both a) none ∙ (λ i. record { clear = or-false a.clear i; quit = or-false a.quit i })
-
--- what the commands on buses and definitions, and on the server, say of it
-pub next-after : (result : Result Handled NoMemory) (by_node by_bus : Option (Result Turn Reason)) (after : Turn) (n : Next)
-    → by_node ≡ None → Handles result by_bus after → IsNext result n → TellsNext result (next_in by_node by_bus n)
-next-after (Ok Done) by_node by_bus after n none is next = λ i. next_in (none i) (is i) (next i)
-next-after (Ok (Completion m)) by_node by_bus after n none is next = λ i. next_in (none i) (is i) (next i)
-next-after (Ok Quit) by_node by_bus after n none is next = λ i. next_in (none i) (is i) (next i)
-next-after (Ok ClearSched) by_node by_bus after n none is next = λ i. next_in (none i) (is i) (next i)
-next-after (Ok (Failed reason)) by_node by_bus after n none is next = λ i. next_in (none i) (is i) n
-next-after (Ok NotMine) by_node by_bus after n none is next = λ i. next_in (none i) (is i) n
-next-after (Err e) by_node by_bus after n none is next = tt
-
-pub next-not : (by_node by_bus : Option (Result Turn Reason)) (r : Result Turn Reason) (n : Next) → by_node ≡ Some r → next_in by_node by_bus n ≡ nothing
-next-not by_node by_bus r n is = ap (λ o. next_in o by_bus n) is
-
-pub was-true : (b : Bool) → not b ≡ false → b ≡ true
-was-true true h = refl
-was-true false h = absurd cc
 
 -- none of those that are not due is due
 none_due : {X : Type 0} (test : X → Bool) (xs : List X) → filter test (filter (λ x. not (test x)) xs) ≡ []
@@ -113,9 +96,6 @@ pub cleared-left : (now : ℕ) (q mid new : WaitingList) (t : Turn) → mid ≡ 
 cleared-left now q mid new t is after clears =
     after ∙ ap (λ m. clear_after m now) is
     ∙ ap (λ ws. record q { waiting = ws }) (none_due (is_due q now) q.waiting ∙ sym (ap (λ b. if b then [] else later_than now q) clears))
-
-pub kept-left : (now : ℕ) (q new : WaitingList) (t : Turn) → new ≡ record q { waiting = later_than now q } → (entries_ask (due_at now q) t).clear ≡ false → new ≡ record q { waiting = left_at now q t }
-kept-left now q new t is clears = is ∙ ap (λ ws. record q { waiting = ws }) (sym (ap (λ b. if b then [] else later_than now q) clears))
 
 pub cleared-answerable : (now : ℕ) (mid new : WaitingList) → new ≡ clear_after mid now → AllAnswerable mid.waiting → AllAnswerable new.waiting
 cleared-answerable now mid new is all = subst (λ (q : WaitingList). AllAnswerable q.waiting) (sym is) (kept (is_due mid now) mid.waiting all)

@@ -1,5 +1,5 @@
 -- What acted at a boundary, and the clashes that were told after it.
-use Rattle.std.proofs.Common.{◌≡◌, ℕ, List, [], ◌++◌, ap, sym, subst, ◌∙◌}
+use Rattle.std.proofs.Common.{◌≡◌, ℕ, List, [], ◌++◌, ap, ◌∙◌}
 use Rattle.sn_queue.specs.Waiting.{WaitingList}
 use Rattle.sn_reply.specs.Frames.{with_frames}
 use Rattle.sn_reply.specs.Replies.{ReplyShape}
@@ -8,7 +8,8 @@ use Rattle.sn_clash.specs.declared.clash.Clash.{Clash}
 use Rattle.sn_clash.specs.Clashing.{clashes_of}
 use Rattle.sn_engine.specs.Clashing.{told_clashes}
 use Rattle.sn_engine.specs.Boundary.{act_entries, due_at, turn_at, waiting_at, clashes_at, replies_at}
-use Rattle.sn_engine.specs.Running.{Running, at_boundary}
+use Rattle.sn_engine.specs.Running.{Running, at_boundary, KeepsRest}
+use Rattle.sn_engine.specs.declared.standing.Standing.{Standing}
 use Rattle.sn_engine.specs.declared.standing.Standing.TheVariants.{Bounded}
 
 abbrev pub a_turn : World → List ReplyShape → Turn
@@ -32,3 +33,17 @@ pub bounded : (r : Running) (w : World) (q : WaitingList) (clashes : List Clash)
 bounded r w q clashes sound said sent acted left found same told framed =
     let replied : sent ≡ with_frames 0 (replies_at r.block r.waiting r.clashes r.world) r.replies = framed ∙ ap (λ (rs : List ReplyShape). with_frames 0 rs r.replies) told in
     λ i. at r (acted i) (left i) (found i) (same i) (replied i)
+
+-- what is not changed, of what was at first
+pub rest_kept : (r first : Running) (w : World) (q : WaitingList) (clashes : List Clash) (standing : Standing) (sound : List ℕ) (sent : List (List ℕ)) → r ≡ first → q ≡ record r.waiting { waiting = q.waiting } → sound ≡ r.sound
+    → KeepsRest first (record r { world = w; waiting = q; clashes = clashes; standing = standing; sound = sound; replies = sent })
+rest_kept r first w q clashes standing sound sent is kept same = λ i. record {
+  settings = (is i).settings;
+  world = w;
+  waiting = (kept ∙ ap (λ (x : Running). record x.waiting { waiting = q.waiting }) is) i;
+  clashes = clashes;
+  block = (is i).block;
+  standing = standing;
+  sound = (same ∙ ap (λ (x : Running). x.sound) is) i;
+  replies = sent;
+}

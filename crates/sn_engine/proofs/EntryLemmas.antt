@@ -5,7 +5,7 @@ use Rattle.sn_osc.specs.declared.packet.Bundle.{Bundle}
 use Rattle.sn_osc.specs.declared.packet.Message.{Message}
 use Rattle.sn_osc.specs.declared.packet.Packet.{Packet}
 use Rattle.sn_osc.specs.declared.packet.Packet as packets
-use Rattle.sn_osc.specs.Shape.{MessageShape, Shape, Shapes, message, bundle, none, more, shape, shapes, shapes_from, message_of}
+use Rattle.sn_osc.specs.Shape.{MessageShape, Shape, message, bundle, shape, shapes, shapes_from, message_of}
 use Rattle.sn_osc.specs.Bytes.{counts_as}
 use Rattle.sn_osc.proofs.ShapeLemmas.{shape-Bundle}
 use Rattle.sn_engine.specs.declared.entry.Enclosed.{Enclosed}

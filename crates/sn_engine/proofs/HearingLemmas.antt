@@ -1,7 +1,7 @@
 -- The samples that are heard of audio buses.
-use Rattle.std.proofs.Common.{◌≡◌, ◌≢◌, ◌<◌, ◌≤◌, ◌+◌, ◌*◌, ℕ, zero, suc, ℤ, pos, Bool, true, false, cond, List, [], ◌∷◌, ◌++◌, get_or, refl, ap, sym, ◌∙◌, arith, eqb, append_assoc, append-nil, add-one, length, length-append, mul-suc}
+use Rattle.std.proofs.Common.{◌≡◌, ◌<◌, ◌≤◌, ◌+◌, ◌*◌, ℕ, zero, suc, ℤ, pos, Bool, true, cond, List, [], ◌∷◌, ◌++◌, ap, sym, ◌∙◌, arith, append_assoc, append-nil, add-one, length, length-append, mul-suc}
 use Rattle.std.specs.Prelude.{◌==◌, slice_index, slice_index_or}
-use Rattle.std.proofs.lemmas.Bool.{eqb-true, eq-eqb}
+use Rattle.std.proofs.lemmas.Bool.{eq-eqb}
 use Rattle.std.proofs.Math.Nat.{mul-le-mul_left, mul_comm}
 use Rattle.sn_mem.specs.Blocks.{table, sample_in}
 use Rattle.sn_mem.specs.Buses.{AudioBus, audio_bus, audio_buses, heard, silent}
@@ -14,23 +14,10 @@ use Rattle.sn_engine.specs.Outputs.{frame_of, frames_of}
 chosen : (b : Bool) (x y : ℤ) → b ≡ true → cond b x y ≡ x
 chosen b x y e = ap (λ c. cond c x y) e
 
-other : (b : Bool) (x y : ℤ) → b ≡ false → cond b x y ≡ y
-other b x y e = ap (λ c. cond c x y) e
-
-unequal : (m n : ℕ) → m ≢ n → (m == n) ≡ false
-unequal m n h = at (m == n) refl
-  where
-    at : (b : Bool) → (m == n) ≡ b → (m == n) ≡ false
-    at true e = absurd (h (eqb-true m n e))
-    at false e = e
-
 pub heard_written : (ws : List ℕ) (bus b frame : ℕ) → frame < 64 → slice_index ws (65 * bus) ≡ b + 1 → heard b (audio_bus ws bus) frame ≡ sample_in (slice_index ws (65 * bus + 1 + frame))
 heard_written ws bus b frame low is =
     chosen (slice_index ws (65 * bus) == b + 1) _ _ (eq-eqb (slice_index ws (65 * bus)) (b + 1) is)
     ∙ table_at (λ k. sample_in (slice_index ws (65 * bus + 1 + k))) 64 frame (pos 0) low
-
-pub heard_silent : (ws : List ℕ) (bus b frame : ℕ) → slice_index ws (65 * bus) ≢ b + 1 → heard b (audio_bus ws bus) frame ≡ pos 0
-heard_silent ws bus b frame is = other (slice_index ws (65 * bus) == b + 1) _ _ (unequal (slice_index ws (65 * bus)) (b + 1) is)
 
 -- the bus of a number
 pub of_bus : (b frame : ℕ) (ws : List ℕ) (c : ℕ) → c < 128 → heard b (slice_index_or (audio_buses ws) c silent) frame ≡ heard b (audio_bus ws c) frame

@@ -1,5 +1,5 @@
 -- Entries that are put into a waiting list.
-use Rattle.std.proofs.Common.{◌≡◌, ℕ, zero, ◌+◌, ◌≤◌, ◌<◌, suc, Bool, true, false, cond, leb, List, [], ◌∷◌, ◌++◌, length, map, refl, ap, ◌∙◌, arith, subst, sym}
+use Rattle.std.proofs.Common.{◌≡◌, ℕ, zero, ◌+◌, ◌≤◌, ◌<◌, suc, Bool, true, false, cond, leb, List, [], ◌∷◌, ◌++◌, length, ap, arith}
 use Rattle.std.specs.List.{AllByRecursion}
 use Rattle.std.specs.Int.{w32, w64, to_be_bytes}
 use Rattle.std.proofs.lemmas.List.{length-append}
@@ -13,7 +13,7 @@ use Rattle.sn_queue.specs.Steps.{insert, entry_of, put}
 use Rattle.sn_reply.specs.Sending.{IsAnswerable}
 use Rattle.sn_engine.specs.Answerable.{AllAnswerable, AreAnswerable}
 use Rattle.sn_engine.specs.Arriving.{IsSpelled}
-use Rattle.sn_engine.specs.Entries.{Timed, messages_in, bundle_entries, enclosed_entries, entries_of}
+use Rattle.sn_engine.specs.Entries.{messages_in, bundle_entries, enclosed_entries, entries_of}
 
 insert_all : (P : Waiting → Type 0) (w : Waiting) (ws : List Waiting) → P w → AllByRecursion P ws → AllByRecursion P (insert w ws)
 insert_all P w [] here all = (here, tt)
@@ -29,10 +29,6 @@ put_answerable q tag b from ms here all = insert_all (λ w. AllByRecursion IsAns
 pub all_of_both : {X : Type 0} (P : X → Type 0) (xs ys : List X) → AllByRecursion P xs → AllByRecursion P ys → AllByRecursion P (xs ++ ys)
 all_of_both P [] ys a b = b
 all_of_both P (x ∷ xs) ys a b = (a.0, all_of_both P xs ys a.1 b)
-
-pub all_of_second : {X : Type 0} (P : X → Type 0) (xs ys : List X) → AllByRecursion P (xs ++ ys) → AllByRecursion P ys
-all_of_second P [] ys all = all
-all_of_second P (x ∷ xs) ys all = all_of_second P xs ys all.1
 
 -- ---- the entries of a packet that was decoded
 

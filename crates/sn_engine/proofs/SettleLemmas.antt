@@ -1,5 +1,5 @@
 -- What each client is sent of a settling.
-use Rattle.std.proofs.Common.{◌≡◌, ◌≤◌, ◌<◌, ◌+◌, ℕ, zero, suc, List, [], ◌∷◌, ◌++◌, map, length, refl, sym, ap, ◌∙◌, arith}
+use Rattle.std.proofs.Common.{◌≡◌, ◌<◌, ◌+◌, ℕ, zero, suc, List, [], ◌∷◌, ◌++◌, map, length, sym, ap, ◌∙◌, arith}
 use Rattle.sn_ports.specs.Octets.{Octets, bytes_of}
 use Rattle.sn_reply.specs.Replies.{ReplyShape}
 use Rattle.sn_reply.specs.Frames.{frames_to, with_frames, EachHasRoom}

@@ -1,5 +1,5 @@
 -- Bytes that are no packet are answered.
-use Rattle.std.specs.Prelude.{ℕ, List, [], ◌∷◌, codes}
+use Rattle.std.specs.Prelude.{ℕ, [], ◌∷◌, codes}
 use Rattle.sn_reply.specs.Failing.{fail_message}
 use Rattle.sn_reply.specs.Frames.{with_frames}
 use Rattle.sn_reply.specs.Replies.{ReplyShape}

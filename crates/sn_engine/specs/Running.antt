@@ -1,5 +1,5 @@
 -- What an engine holds, as a value, and its steps.
-use Rattle.std.specs.Prelude.{◌≡◌, ℕ, ◌+◌, ◌-◌, List, [], ◌∷◌, ◌++◌, replicate, Option, Bool, if◌then◌else◌}
+use Rattle.std.specs.Prelude.{◌≡◌, ℕ, ◌+◌, ◌-◌, List, [], ◌++◌, replicate, Option, Bool, if◌then◌else◌}
 use Rattle.sn_pcm.specs.declared.settings.Settings.{Settings}
 use Rattle.sn_pcm.specs.Pcm.{pcm}
 use Rattle.sn_queue.specs.Waiting.{WaitingList}
@@ -9,7 +9,7 @@ use Rattle.sn_world.specs.Settling.{settled}
 use Rattle.sn_world.specs.Walk.{walk}
 use Rattle.sn_world.specs.Opening.{opening}
 use Rattle.sn_engine.specs.declared.standing.Standing.{Standing}
-use Rattle.sn_engine.specs.declared.standing.Standing.TheVariants.{Settled, Bounded, Rendered, Spent}
+use Rattle.sn_engine.specs.declared.standing.Standing.TheVariants.{Settled, Bounded, Rendered}
 use Rattle.sn_engine.specs.declared.standing.Flow.{Flow}
 use Rattle.sn_engine.specs.declared.standing.Flow.TheVariants.{On, Quit}
 use Rattle.sn_clash.specs.declared.clash.Clash.{Clash}
@@ -50,6 +50,10 @@ at_boundary r = record r {
   standing = Bounded;
   replies = with_frames 0 (replies_at r.block r.waiting r.clashes r.world) r.replies;
 }
+
+-- nothing but the world, which entries wait, the clashes, how far it is and what is to be sent has changed
+abbrev pub KeepsRest : Running → Running → Type 0
+KeepsRest old new = new ≡ record old { world = new.world; waiting = record old.waiting { waiting = new.waiting.waiting }; clashes = new.clashes; standing = new.standing; replies = new.replies }
 
 abbrev pub flow_of : Bool → Flow
 flow_of quits = if quits then Quit else On

@@ -2,10 +2,10 @@
 use Rattle.std.specs.Prelude.{ℕ, ◌+◌, List, [], ◌∷◌, ◌++◌, map}
 use Rattle.sn_osc.specs.declared.packet.Bundle.{Bundle}
 use Rattle.sn_osc.specs.declared.packet.Packet as packets
-use Rattle.sn_osc.specs.Shape.{MessageShape, Shape, Shapes, message, bundle, none, more, shape, message_of}
+use Rattle.sn_osc.specs.Shape.{Shape, Shapes, message, bundle, none, more, shape, message_of}
 use Rattle.sn_engine.specs.declared.entry.Enclosed.{Enclosed}
 use Rattle.sn_engine.specs.declared.entry.Entry.{Entry}
-use Rattle.sn_engine.specs.Entries.{Timed, bundle_entries, enclosed_entries}
+use Rattle.sn_engine.specs.Entries.{Timed, bundle_entries}
 
 abbrev pub timed_of : Entry → Timed
 timed_of e = record { tag = e.tag; messages = map message_of e.messages.items }

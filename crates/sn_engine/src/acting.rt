@@ -226,6 +226,7 @@ fn act_taken<P: Port>(
     ensures acts { OnOk result (turn_of stage.new (P.words port.new) replies.new ≡ act_entries (due_at now queue.old) (turn_of stage.old (P.words port.old) replies.old)) }
     ensures asked { IfOk result (λ a. a ≡ entries_ask (due_at now queue.old) (turn_of stage.old (P.words port.old) replies.old)) }
     ensures left { OnOk result (queue.new ≡ record queue.old { waiting = later_than now queue.old }) }
+    ensures kept { queue.new ≡ record queue.old { waiting = queue.new.waiting } }
     ensures waiting { AllAnswerable queue.new.waiting }
     ensures pictures { Pictures stage.new (P.words port.new) }
     ensures region { stage.new.pool.region ≡ stage.old.pool.region }
@@ -264,6 +265,7 @@ pub fn act_due<P: Port>(
     ensures acts { OnOk result (turn_of stage.new (P.words port.new) replies.new ≡ act_entries (due_at now queue.old) (turn_of stage.old (P.words port.old) replies.old)) }
     ensures quit { IfOk result (λ q. q ≡ (entries_ask (due_at now queue.old) (turn_of stage.old (P.words port.old) replies.old)).quit) }
     ensures left { OnOk result (queue.new ≡ record queue.old { waiting = left_at now queue.old (turn_of stage.old (P.words port.old) replies.old) }) }
+    ensures kept { queue.new ≡ record queue.old { waiting = queue.new.waiting } }
     ensures waiting { AllAnswerable queue.new.waiting }
     ensures pictures { Pictures stage.new (P.words port.new) }
     ensures region { stage.new.pool.region ≡ stage.old.pool.region }

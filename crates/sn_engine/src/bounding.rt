@@ -37,6 +37,7 @@ pub fn act_boundary<P: Port>(
     ensures world { OnOk result (world_of stage.new (P.words port.new) ≡ (turn_at now queue.old (world_of stage.old (P.words port.old))).world) }
     ensures quit { IfOk result (λ q. q ≡ quits_at now queue.old (world_of stage.old (P.words port.old))) }
     ensures left { OnOk result (queue.new ≡ waiting_at now queue.old (world_of stage.old (P.words port.old))) }
+    ensures kept { queue.new ≡ record queue.old { waiting = queue.new.waiting } }
     ensures clashes { OnOk result (held.new ≡ clashes_at now queue.old (world_of stage.old (P.words port.old))) }
     ensures hold { OnOk result (StillHold true stage.new held.new) }
     ensures replies { OnOk result (said.new ≡ replies_at now queue.old held.old (world_of stage.old (P.words port.old))) }

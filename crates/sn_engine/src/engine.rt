@@ -9,7 +9,7 @@ ghost use Rattle.sn_reply.specs.Frames.{EachBegins};
 ghost use Rattle.sn_engine.specs.Arriving.{IsSpelled, next_boundary, offered, with_offered, IsPartlyOffered, KeepsOthers};
 ghost use Rattle.sn_engine.specs.Entries.{entries_of};
 ghost use Rattle.sn_engine.specs.Refusing.{with_bad_packet};
-ghost use Rattle.sn_engine.specs.Running.{Running, IsQuiet, opened, at_boundary, flow_at, with_block, with_settled};
+ghost use Rattle.sn_engine.specs.Running.{Running, IsQuiet, opened, at_boundary, flow_at, KeepsRest, with_block, with_settled};
 ghost use Rattle.sn_engine.specs.declared.standing.Standing.TheVariants.{Settled, Bounded, Rendered, Spent};
 
 use crate::bounding::act_boundary;
@@ -107,6 +107,7 @@ fn send_text<L: Link>(text: &mut Text, link: &mut L) -> Result<(), Failed>
     ensures taken { TakesAll (L.sent link.old) (L.sent link.new) result text.old.bytes }
     ensures events { KeepsEvents (L.left link.old) (L.left link.new) }
     ensures cause { HasCause (L.faults link.old) (L.faults link.new) result }
+    ensures unfailed { OnOk result (L.faults link.new ≡ L.faults link.old) }
     ensures bytes { text.new.bytes ≡ [] }
     ensures room { text.old.spare ≤ text.new.spare }
 {
@@ -119,6 +120,7 @@ fn send_text<L: Link>(text: &mut Text, link: &mut L) -> Result<(), Failed>
 fn drain<S: Sink>(text: &mut Text, sink: &mut S) -> Result<(), Failed>
     ensures taken { TakesAll (S.taken sink.old) (S.taken sink.new) result text.old.bytes }
     ensures cause { HasCause (S.faults sink.old) (S.faults sink.new) result }
+    ensures unfailed { OnOk result (S.faults sink.new ≡ S.faults sink.old) }
     ensures bytes { text.new.bytes ≡ [] }
     ensures room { text.old.spare ≤ text.new.spare }
 {
@@ -235,13 +237,14 @@ impl Engine {
     }
 
     /// The boundary before the next block: the entries that are due act in their order, and the memory of the block is reserved. After
-    /// `NoMemory` the engine is spent: what acted before has acted, and clients are still to be sent what they were, with a front of what
-    /// this answers.
+    /// `NoMemory` the engine is spent: clients are still to be sent what they were, with a front of what this answers, and the sound that
+    /// waits stays.
     pub fn boundary(&mut self, alloc: Global) -> Result<Flow, NoMemory>
         requires settled { self.old.standing ≡ Settled }
         ensures ok { OnOk result (self.new ≡ at_boundary self.old) }
         ensures flow { IfOk result (λ flow. flow ≡ flow_at self.old) }
         ensures spent { OnErr result (self.new.standing ≡ Spent) }
+        ensures others { KeepsRest self.old self.new }
         ensures clients { length self.new.replies ≡ length self.old.replies }
         ensures behind { EachBegins self.old.replies self.new.replies }
         ensures front { OnErr result (EachBegins self.new.replies (at_boundary self.old).replies) }
@@ -321,6 +324,7 @@ impl Engine {
     pub fn drain_sound<O: Sink>(&mut self, sink: &mut O) -> Result<(), Failed>
         ensures taken { TakesAll (O.taken sink.old) (O.taken sink.new) result self.old.sound }
         ensures cause { HasCause (O.faults sink.old) (O.faults sink.new) result }
+        ensures unfailed { OnOk result (O.faults sink.new ≡ O.faults sink.old) }
         ensures kept { self.new ≡ record self.old { sound = [] } }
     {
         drain(&mut self.sound, sink)
@@ -331,6 +335,7 @@ impl Engine {
         requires client { client < length self.old.replies }
         ensures taken { TakesAll (R.taken sink.old) (R.taken sink.new) result (slice_index_or self.old.replies client []) }
         ensures cause { HasCause (R.faults sink.old) (R.faults sink.new) result }
+        ensures unfailed { OnOk result (R.faults sink.new ≡ R.faults sink.old) }
         ensures kept { self.new ≡ record self.old { replies = slice_set self.old.replies client [] } }
     {
         drain(&mut self.replies[client as usize], sink)
@@ -343,6 +348,7 @@ impl Engine {
         ensures sent { TakesAll (L.sent link.old) (L.sent link.new) result (slice_index_or self.old.replies client []) }
         ensures events { KeepsEvents (L.left link.old) (L.left link.new) }
         ensures cause { HasCause (L.faults link.old) (L.faults link.new) result }
+        ensures unfailed { OnOk result (L.faults link.new ≡ L.faults link.old) }
         ensures kept { self.new ≡ record self.old { replies = slice_set self.old.replies client [] } }
     {
         send_text(&mut self.replies[client as usize], link)

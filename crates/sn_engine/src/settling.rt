@@ -4,7 +4,7 @@ ghost use Rattle.sn_ports.specs.Octets.{bytes_of};
 ghost use Rattle.sn_reply.specs.Frames.{with_frames};
 ghost use Rattle.sn_tree.specs.Trees.{running_labels};
 ghost use Rattle.sn_world.specs.Pictures.{Pictures, WritesWorld};
-ghost use Rattle.sn_world.specs.Settling.{settled};
+ghost use Rattle.sn_world.specs.Settling.{endings_in, settled};
 ghost use Rattle.sn_world.specs.SettleWords.{walk_room};
 ghost use Rattle.sn_world.specs.World.{world_of, turn_of};
 ghost use Rattle.sn_engine.specs.Keeping.{CanSettle};
@@ -14,8 +14,8 @@ use sn_ports::Text;
 use sn_settle::settle;
 use sn_world::{Endings, Stage};
 
-/// Settles the block before block `next`: clients are sent what they are told of it. Tells whether a unit ended in it: where none did,
-/// the stage stays as it is. It takes no memory.
+/// Settles the block before block `next`: clients are sent what they are told of it. Answers `false` only where the stage stays
+/// as it is, and always where no unit ended. It takes no memory.
 pub fn settle_before<P: Port>(
     stage: &mut Stage,
     port: &mut P,
@@ -30,6 +30,7 @@ pub fn settle_before<P: Port>(
     requires room { CanSettle (walk_room (running_labels stage.old.tree.attached)) endings.old.spare replies.old }
     ensures world { world_of stage.new (P.words port.new) ≡ (settled (next - 1) (turn_of stage.old (P.words port.old) [])).world }
     ensures same { result ≡ false → stage.new ≡ stage.old }
+    ensures idle { endings_in stage.old.rate (world_of stage.old (P.words port.old)).nodes ≡ [] → result ≡ false }
     ensures sent { map bytes_of replies.new ≡ with_frames 0 (settled (next - 1) (turn_of stage.old (P.words port.old) [])).replies (map bytes_of replies.old) }
     ensures clients { length replies.new ≡ length replies.old }
     ensures pictures { Pictures stage.new (P.words port.new) }

@@ -14,6 +14,7 @@ pub enum Standing {
 /// Whether the server goes on after a boundary.
 #[derive(Clone, Copy, Debug, PartialEq, Eq)]
 pub enum Flow {
+    /// It goes on.
     On,
     /// `/quit` was accepted.
     Quit,

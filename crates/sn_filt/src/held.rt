@@ -8,7 +8,9 @@ use sn_mem::{Blocks, Recurrence, Stored, sample_of, word_of};
 /// A value, and the last sample of the trigger.
 #[derive(Clone, Copy)]
 pub(crate) struct Latched {
+    /// The sample that is held.
     pub value: i32,
+    /// The last sample of the trigger.
     pub trigger: i32,
 }
 
@@ -87,8 +89,11 @@ impl Recurrence for Gate {
 /// A count, and the last samples of the trigger and of the reset.
 #[derive(Clone, Copy)]
 pub(crate) struct Count {
+    /// The count, at most 2^31 - 1.
     pub count: i32,
+    /// The last sample of the trigger.
     pub trigger: i32,
+    /// The last sample of the reset.
     pub reset: i32,
 }
 
@@ -163,9 +168,13 @@ impl Recurrence for PulseCount {
 /// The value of a stepper, and the last samples of its trigger and of its reset.
 #[derive(Clone, Copy)]
 pub(crate) struct Steps {
+    /// Whether the first frame has passed.
     pub begun: bool,
+    /// The last output.
     pub value: i32,
+    /// The last sample of the trigger.
     pub trigger: i32,
+    /// The last sample of the reset.
     pub reset: i32,
 }
 

@@ -55,6 +55,7 @@ pub(crate) fn equal(value: i32) -> Lanes
     }
 }
 
+/// The sums, lane by lane.
 pub(crate) fn sums(a: Lanes, b: Lanes) -> Lanes
     requires a { Small a.numbers }
     requires b { Small b.numbers }
@@ -66,6 +67,7 @@ pub(crate) fn sums(a: Lanes, b: Lanes) -> Lanes
     }
 }
 
+/// The differences, lane by lane.
 pub(crate) fn differences(a: Lanes, b: Lanes) -> Lanes
     requires a { Small a.numbers }
     requires b { Small b.numbers }
@@ -77,6 +79,7 @@ pub(crate) fn differences(a: Lanes, b: Lanes) -> Lanes
     }
 }
 
+/// The products, lane by lane.
 pub(crate) fn products(a: Lanes, b: Lanes) -> Lanes
     requires a { Samples a.numbers }
     requires b { Samples b.numbers }
@@ -109,6 +112,7 @@ fn halves(a: Lanes) -> Lanes
     }
 }
 
+/// The lesser of two numbers, lane by lane.
 pub(crate) fn least(a: Lanes, b: Lanes) -> Lanes
     requires a { Wide a.numbers }
     requires b { Wide b.numbers }
@@ -121,6 +125,7 @@ pub(crate) fn least(a: Lanes, b: Lanes) -> Lanes
     }
 }
 
+/// The greater of two numbers, lane by lane.
 pub(crate) fn greatest(a: Lanes, b: Lanes) -> Lanes
     requires a { Wide a.numbers }
     requires b { Wide b.numbers }

@@ -89,7 +89,9 @@ impl Recurrence for Delay1 {
 /// The state of a lag: whether it has begun, and the last output.
 #[derive(Clone, Copy)]
 pub(crate) struct Lagged {
+    /// Whether the first frame has passed.
     pub begun: bool,
+    /// The last output.
     pub last: i32,
 }
 
@@ -139,6 +141,7 @@ fn lag_sample(rate: u32, state: Lagged, x: i32, time: i32) -> i32
 /// Lag x time
 #[derive(Clone, Copy)]
 pub(crate) struct Lag {
+    /// Frames a second.
     pub rate: u32,
 }
 

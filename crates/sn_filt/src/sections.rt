@@ -8,9 +8,13 @@ use sn_mem::{Blocks, Recurrence, Stored, sample_of, word_of};
 /// The last two inputs and the last two outputs.
 #[derive(Clone, Copy)]
 pub(crate) struct Section {
+    /// The last input.
     pub x1: i32,
+    /// The input before that.
     pub x2: i32,
+    /// The last output.
     pub y1: i32,
+    /// The output before that.
     pub y2: i32,
 }
 

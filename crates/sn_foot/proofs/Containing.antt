@@ -1,7 +1,8 @@
 -- Which words a foot has.
 use Rattle.std.proofs.Common.{◌≡◌, ◌≤◌, ◌<◌, ◌⊎◌, inl, inr, ⊎_elim, ℕ, zero, suc, ◌+◌, Bool, true, false, ◌||◌, List, ◌++◌, Option, Some, None, sym, refl, ap, ◌∙◌, arith, true≢false, if◌then◌else◌}
 use Rattle.std.specs.Prelude.{slice_index_or, nat_lt}
-use Rattle.std.proofs.lemmas.Bool.{cond-false, or_cases, or_left, or_right, le-ltb, cases_lt}
+use Rattle.std.proofs.lemmas.Bool.{cond-false, or_cases, or_left, or_right, le-ltb, cases_lt, cond-true, lt-ltb}
+use Rattle.std.proofs.Math.Bool.{or-false}
 use Rattle.sn_mem.specs.declared.extents.Extent.{Extent}
 use Rattle.sn_mem.specs.Layout.{audio_place, control_place}
 use Rattle.sn_mem.specs.Words.{covers, has}
@@ -35,25 +36,21 @@ is_listed f (suc k) x n lt h =
     (λ (last : k ≤ n). let e : n ≡ k = omega arith in or_right (has (listed f k) x) (has (f k) x) (sym (ap (λ m. has (f m) x) e) ∙ h))
     (cases_lt n k)
 
-or_none : (a : Bool) → (a || false) ≡ a
-or_none true = refl
-or_none false = refl
-
 used_is : (used : Bool) (place : Option Extent) (x : ℕ) → has (where_used used place) x ≡ true → (used ≡ true) × (lies_in x place ≡ true)
 used_is used None x h = absurd (true≢false (sym h))
-used_is true (Some e) x h = (refl, sym (or_none (covers e x)) ∙ h)
+used_is true (Some e) x h = (refl, sym (or-false (covers e x)) ∙ h)
 used_is false (Some e) x h = absurd (true≢false (sym h))
 
 is_used : (used : Bool) (place : Option Extent) (x : ℕ) → used ≡ true → lies_in x place ≡ true → has (where_used used place) x ≡ true
 is_used used None x u h = absurd (true≢false (sym h))
-is_used true (Some e) x u h = or_none (covers e x) ∙ h
+is_used true (Some e) x u h = or-false (covers e x) ∙ h
 is_used false (Some e) x u h = absurd (true≢false (sym u))
 
 -- a resource with a word has a number below the count of its sort
-in_range : (n count : ℕ) (place : Option Extent) (x : ℕ) → lies_in x (if nat_lt n count then place else None) ≡ true → n < count
+pub in_range : (n count : ℕ) (place : Option Extent) (x : ℕ) → lies_in x (if nat_lt n count then place else None) ≡ true → (n < count) × (lies_in x place ≡ true)
 in_range n count place x h =
     ⊎_elim
-    (λ (lt : n < count). lt)
+    (λ (lt : n < count). (lt, sym (ap (λ p. lies_in x p) (cond-true (nat_lt n count) place None (lt-ltb n count lt))) ∙ h))
     (λ (ge : count ≤ n). absurd (true≢false (sym h ∙ ap (λ p. lies_in x p) (cond-false (nat_lt n count) place None (le-ltb n count ge)))))
     (cases_lt n count)
 
@@ -86,15 +83,15 @@ module _ (buffers : List (Option BufferPlace)) (used : Resource → Bool) where
   unfolding audio control buffer
   are_places x (Audio n) u l =
       sorts x ∙ or_left (has (listed audio 128) x) (has (listed control 1024) x || has (listed buffer 1024) x)
-      (is_listed audio 128 x n (in_range n 128 (Some (audio_place n)) x l) (is_used (used (Audio n)) (place_of buffers (Audio n)) x u l))
+      (is_listed audio 128 x n (in_range n 128 (Some (audio_place n)) x l).0 (is_used (used (Audio n)) (place_of buffers (Audio n)) x u l))
   are_places x (Control n) u l =
       sorts x ∙ or_right (has (listed audio 128) x) (has (listed control 1024) x || has (listed buffer 1024) x)
       (or_left (has (listed control 1024) x) (has (listed buffer 1024) x)
-      (is_listed control 1024 x n (in_range n 1024 (Some (control_place n)) x l) (is_used (used (Control n)) (place_of buffers (Control n)) x u l)))
+      (is_listed control 1024 x n (in_range n 1024 (Some (control_place n)) x l).0 (is_used (used (Control n)) (place_of buffers (Control n)) x u l)))
   are_places x (Buffer n) u l =
       sorts x ∙ or_right (has (listed audio 128) x) (has (listed control 1024) x || has (listed buffer 1024) x)
       (or_right (has (listed control 1024) x) (has (listed buffer 1024) x)
-      (is_listed buffer 1024 x n (in_range n 1024 (buffer_words (slice_index_or buffers n None)) x l) (is_used (used (Buffer n)) (place_of buffers (Buffer n)) x u l)))
+      (is_listed buffer 1024 x n (in_range n 1024 (buffer_words (slice_index_or buffers n None)) x l).0 (is_used (used (Buffer n)) (place_of buffers (Buffer n)) x u l)))
 
 pub its_words : (buffers : List (Option BufferPlace)) (hs : List Held) → AreItsWords buffers hs (foot_of buffers hs)
 its_words buffers hs =

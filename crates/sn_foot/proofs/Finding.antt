@@ -1,6 +1,6 @@
 -- What the walk finds below a node.
-use Rattle.std.proofs.Common.{◌≡◌, ◌≤◌, ◌<◌, ℕ, ℤ, negsuc, ◌+◌, ◌-◌, ◌==◌, Bool, true, false, ◌&&◌, ◌||◌, Some, List, [], ◌∷◌, ◌++◌, sym, refl, ap, ◌∙◌, subst, append_assoc, length-append, arith, length, if◌then◌else◌}
-use Rattle.std.specs.Prelude.{map, is_some}
+use Rattle.std.proofs.Common.{◌≡◌, ◌≤◌, ◌<◌, ℕ, ℤ, ◌+◌, ◌-◌, ◌==◌, Bool, true, false, ◌&&◌, ◌||◌, List, [], ◌∷◌, ◌++◌, sym, refl, ap, ◌∙◌, subst, append_assoc, length-append, arith, length, if◌then◌else◌}
+use Rattle.std.specs.Prelude.{map}
 use Rattle.std.specs.List.{All}
 use Rattle.std.specs.Ordering.{int_eq}
 use Rattle.std.proofs.lemmas.Bool.{and_parts, cond-false, cond-true, cond_both, eqb-true, ne_eqb}
@@ -8,7 +8,7 @@ use Rattle.std.proofs.lemmas.List.{append-nil, map-append}
 use Rattle.std.proofs.lemmas.List.Elements.{All-nil, All-cons, All-head, All-tail, All-append}
 use Rattle.sn_mem.specs.declared.extents.Extent.{Extent}
 use Rattle.sn_tree.specs.declared.node.NodeKind.{NodeKind}
-use Rattle.sn_tree.specs.Trees.{Label, Nodes, none, node, count, first_id, holds, last_id, running_labels, subtree, view_from, view_of}
+use Rattle.sn_tree.specs.Trees.{Label, Nodes, none, node, count, holds, running_labels, subtree}
 use Rattle.sn_tree.specs.Members.{tops, members}
 use Rattle.sn_world.specs.declared.stage.Held.{Held}
 use Rattle.sn_world.specs.Pictures.{held_extents, live_held}
@@ -78,18 +78,9 @@ pub count_members : {P : Type 0} (t : Nodes P) → length (members t) ≡ count 
 count_members none = refl
 count_members (node label below after) = omega (arith, length-append (members below) (members after), count_members below, count_members after)
 
-pub count_below : {P : Type 0} (id : ℤ) (t : Nodes P) → count (subtree id t) ≤ count t
-count_below id none = omega arith
-count_below id (node label below after) =
-    cond_both (int_eq label.id id) (node label below none) (if holds id below then subtree id below else subtree id after) (λ u. count u ≤ 1 + count below + count after)
-    (λ b. omega arith)
-    (λ b. cond_both (holds id below) (subtree id below) (subtree id after) (λ u. count u ≤ 1 + count below + count after)
-    (λ h. omega (arith, count_below id below))
-    (λ h. omega (arith, count_below id after)))
-
 -- ---- their states have numbers
 
-all_parts : {A : Type 0} (P : A → Type 0) (xs ys : List A) → All P (xs ++ ys) → All P xs × All P ys
+pub all_parts : {A : Type 0} (P : A → Type 0) (xs ys : List A) → All P (xs ++ ys) → All P xs × All P ys
 all_parts P [] ys all = (All-nil P, all)
 all_parts P (x ∷ xs) ys all =
     let rest = all_parts P xs ys (All-tail P x (xs ++ ys) all) in
@@ -98,10 +89,6 @@ all_parts P (x ∷ xs) ys all =
 states_append : (hs gs : List Held) → states_of (hs ++ gs) ≡ states_of hs ++ states_of gs
 states_append [] gs = refl
 states_append (h ∷ hs) gs = ap (λ es. held_extents h ++ es) (states_append hs gs) ∙ sym (append_assoc (held_extents h) (states_of hs) (states_of gs))
-
-payloads_append : (xs ys : List (Label Held)) → map (λ (l : Label Held). l.payload) (xs ++ ys) ≡ map (λ (l : Label Held). l.payload) xs ++ map (λ (l : Label Held). l.payload) ys
-payloads_append [] ys = refl
-payloads_append (x ∷ xs) ys = ap (λ ps. x.payload ∷ ps) (payloads_append xs ys)
 
 abbrev states : List (Label Held) → List Extent
 states ls = states_of (map (λ (l : Label Held). l.payload) ls)
@@ -115,11 +102,11 @@ all_running P (node label below after) all =
     let b = all_running P after rest.1 in
     cond_both label.running (label ∷ (running_labels below ++ running_labels after)) (running_labels after) (λ ls. All P (states ls))
     (λ r. All-append P (held_extents label.payload) (states (running_labels below ++ running_labels after)) parts.0
-    (subst (All P) (sym (ap states_of (payloads_append (running_labels below) (running_labels after)) ∙ states_append (map (λ (l : Label Held). l.payload) (running_labels below)) (map (λ (l : Label Held). l.payload) (running_labels after))))
+    (subst (All P) (sym (ap states_of (map-append (λ (l : Label Held). l.payload) (running_labels below) (running_labels after)) ∙ states_append (map (λ (l : Label Held). l.payload) (running_labels below)) (map (λ (l : Label Held). l.payload) (running_labels after))))
     (All-append P (states (running_labels below)) (states (running_labels after)) a b)))
     (λ r. b)
 
-all_below : (P : Extent → Type 0) (id : ℤ) (t : Nodes Held) → All P (live_held t) → All P (live_held (subtree id t))
+pub all_below : (P : Extent → Type 0) (id : ℤ) (t : Nodes Held) → All P (live_held t) → All P (live_held (subtree id t))
 all_below P id none all = All-nil P
 all_below P id (node label below after) all =
     let parts = all_parts P (held_extents label.payload) (live_held below ++ live_held after) all in
@@ -133,18 +120,3 @@ found_ends id t all =
     cond_both (is_reached id t) (map (λ (l : Label Held). l.payload) (running_labels (subtree id t))) [] (λ hs. All Ends (states_of hs))
     (λ b. all_running Ends (subtree id t) (all_below Ends id t all))
     (λ b. All-nil Ends)
-
--- ---- whether a node is there
-
-seen_from : (parent previous id : ℤ) (t : Nodes Held) → is_some (view_from parent previous id t) ≡ holds id t
-seen_from parent previous id none = refl
-seen_from parent previous id (node l below after) = at (int_eq l.id id) (holds id below) (seen_from l.id (negsuc 0) id below) (seen_from parent l.id id after)
-  where
-    at : (here inner : Bool) → is_some (view_from l.id (negsuc 0) id below) ≡ inner → is_some (view_from parent l.id id after) ≡ holds id after
-        → is_some (if here then Some (record { kind = l.kind; running = l.running; parent = parent; previous = previous; next = first_id after; head = first_id below; tail = last_id (negsuc 0) below }) else if inner then view_from l.id (negsuc 0) id below else view_from parent l.id id after) ≡ (here || (inner || holds id after))
-    at true inner b a = refl
-    at false true b a = b
-    at false false b a = a
-
-pub is_seen : (id : ℤ) (t : Nodes Held) → is_some (view_of id t) ≡ holds id t
-is_seen id t = seen_from (negsuc 0) (negsuc 0) id t

@@ -3,6 +3,7 @@ use Rattle.std.proofs.Common.{◌≡◌, ◌<◌, ℕ, zero, suc, ◌+◌, ◌==
 use Rattle.std.specs.Prelude.{slice_set, slice_index_or}
 use Rattle.std.specs.List.{list_any}
 use Rattle.std.proofs.lemmas.Bool.{cases_eq, eq-eqb, ne_eqb}
+use Rattle.std.proofs.Math.Bool.{or_assoc, or-false, or-true}
 use Rattle.std.proofs.lemmas.List.{drop_all, take_all, append-nil, length-set, get_or-set_same, get_or-set_other}
 use Rattle.sn_def.specs.declared.control.Control.{Control as SynthControl}
 use Rattle.sn_def.specs.declared.unit.Unit.{Unit as UnitLine}
@@ -21,31 +22,19 @@ use Rattle.sn_foot.specs.Marks.{resource, held_uses, unit_uses, touches, span, u
 abbrev at : List Bool → ℕ → Bool
 at marks n = slice_index_or marks n false
 
-or_nothing : (a : Bool) → a ≡ (a || false)
-or_nothing true = refl
-or_nothing false = refl
-
-or_all : (a : Bool) → true ≡ (a || true)
-or_all true = refl
-or_all false = refl
-
-or_assoc : (a b c : Bool) → ((a || b) || c) ≡ (a || (b || c))
-or_assoc true b c = refl
-or_assoc false b c = refl
-
 -- ---- a span
 
 at_set : (marks : List Bool) (m n : ℕ) → n < length marks → at (slice_set marks m true) n ≡ (at marks n || m == n)
 at_set marks m n lt =
     ⊎_elim
     (λ (e : m ≡ n). subst (λ k. at (slice_set marks k true) n ≡ (at marks n || k == n)) (sym e)
-    (get_or-set_same marks n true false lt ∙ or_all (at marks n) ∙ ap (λ b. at marks n || b) (sym (eq-eqb n n refl))))
-    (λ (d : m ≡ n → ⊥). get_or-set_other marks m n true false (λ e. d (sym e)) ∙ or_nothing (at marks n) ∙ ap (λ b. at marks n || b) (sym (ne_eqb m n d)))
+    (get_or-set_same marks n true false lt ∙ sym (or-true (at marks n)) ∙ ap (λ b. at marks n || b) (sym (eq-eqb n n refl))))
+    (λ (d : m ≡ n → ⊥). get_or-set_other marks m n true false (λ e. d (sym e)) ∙ sym (or-false (at marks n)) ∙ ap (λ b. at marks n || b) (sym (ne_eqb m n d)))
     (cases_eq m n)
 
 at_number : (marks : List Bool) (k : ℤ) (n : ℕ) → n < length marks → at (set_at k marks) n ≡ (at marks n || is_number k n)
 at_number marks (pos m) n lt = at_set marks m n lt
-at_number marks (negsuc m) n lt = or_nothing (at marks n)
+at_number marks (negsuc m) n lt = sym (or-false (at marks n))
 
 long_number : (marks : List Bool) (k : ℤ) → length (set_at k marks) ≡ length marks
 long_number marks (pos m) = length-set marks m true
@@ -58,7 +47,7 @@ long_marked first (suc i) marks = long_number (marked first i marks) (first +ℤ
 
 at_marked : (first : ℤ) (count : ℕ) (marks : List Bool) (n : ℕ) → n < length marks → at (marked first count marks) n ≡ (at marks n || is_among first count n)
 unfolding marked is_among
-at_marked first zero marks n lt = or_nothing (at marks n)
+at_marked first zero marks n lt = sym (or-false (at marks n))
 at_marked first (suc i) marks n lt =
     at_number (marked first i marks) (first +ℤ pos i) n (subst (λ k. n < k) (sym (long_marked first i marks)) lt)
     ∙ ap (λ b. b || is_number (first +ℤ pos i) n) (at_marked first i marks n lt)
@@ -66,7 +55,7 @@ at_marked first (suc i) marks n lt =
 
 -- ---- units
 
-gated : (b : Bool) (first : ℤ) (count n : ℕ) → is_among first (if b then count else 0) n ≡ (b && is_among first count n)
+pub gated : (b : Bool) (first : ℤ) (count n : ℕ) → is_among first (if b then count else 0) n ≡ (b && is_among first count n)
 unfolding is_among
 gated true first count n = refl
 gated false first count n = refl
@@ -87,7 +76,7 @@ long_units access bank controls (u ∷ us) marks =
 
 at_units : (access : Access) (bank : Bank) (controls : List SynthControl) (us : List UnitLine) (marks : List Bool) (n : ℕ) → n < length marks →
     at (by_units access bank controls us marks) n ≡ (at marks n || list_any (λ u. unit_uses access controls u (resource bank n)) us)
-at_units access bank controls [] marks n lt = or_nothing (at marks n)
+at_units access bank controls [] marks n lt = sym (or-false (at marks n))
 at_units access bank controls (u ∷ us) marks n lt =
     let first = index_of controls u in
     let count = used_span access bank u in
@@ -97,7 +86,7 @@ at_units access bank controls (u ∷ us) marks n lt =
 
 -- ---- controls
 
-abbrev control_uses : Access → SynthControl → Resource → Bool
+abbrev pub control_uses : Access → SynthControl → Resource → Bool
 control_uses Read control r = follows control r
 control_uses Write control r = false
 
@@ -106,7 +95,7 @@ long_bus None marks = refl
 long_bus (Some m) marks = length-set marks m true
 
 at_bus : (bus : Option ℕ) (marks : List Bool) (n : ℕ) → n < length marks → at (set_bus bus marks) n ≡ (at marks n || is_bus bus n)
-at_bus None marks n lt = or_nothing (at marks n)
+at_bus None marks n lt = sym (or-false (at marks n))
 at_bus (Some m) marks n lt = at_set marks m n lt
 
 long_buses : (controls : List SynthControl) (marks : List Bool) → length (by_buses controls marks) ≡ length marks
@@ -114,13 +103,13 @@ long_buses [] marks = refl
 long_buses (c ∷ cs) marks = long_buses cs (set_bus c.bus marks) ∙ long_bus c.bus marks
 
 at_buses : (controls : List SynthControl) (marks : List Bool) (n : ℕ) → n < length marks → at (by_buses controls marks) n ≡ (at marks n || list_any (λ c. is_bus c.bus n) controls)
-at_buses [] marks n lt = or_nothing (at marks n)
+at_buses [] marks n lt = sym (or-false (at marks n))
 at_buses (c ∷ cs) marks n lt =
     at_buses cs (set_bus c.bus marks) n (subst (λ k. n < k) (sym (long_bus c.bus marks)) lt)
     ∙ ap (λ b. b || list_any (λ d. is_bus d.bus n) cs) (at_bus c.bus marks n lt)
     ∙ or_assoc (at marks n) (is_bus c.bus n) (list_any (λ d. is_bus d.bus n) cs)
 
-none_of : (cs : List SynthControl) → false ≡ list_any (λ (c : SynthControl). false) cs
+pub none_of : (cs : List SynthControl) → false ≡ list_any (λ (c : SynthControl). false) cs
 none_of [] = refl
 none_of (c ∷ cs) = none_of cs
 
@@ -133,7 +122,7 @@ long_controls Write Control controls marks = refl
 long_controls Write Buffer controls marks = refl
 
 unchanged : (marks : List Bool) (n : ℕ) (cs : List SynthControl) → at marks n ≡ (at marks n || list_any (λ (c : SynthControl). false) cs)
-unchanged marks n cs = or_nothing (at marks n) ∙ ap (λ b. at marks n || b) (none_of cs)
+unchanged marks n cs = sym (or-false (at marks n)) ∙ ap (λ b. at marks n || b) (none_of cs)
 
 at_controls : (access : Access) (bank : Bank) (controls : List SynthControl) (marks : List Bool) (n : ℕ) → n < length marks →
     at (by_controls access bank controls marks) n ≡ (at marks n || list_any (λ c. control_uses access c (resource bank n)) controls)
@@ -146,7 +135,7 @@ at_controls Write Buffer controls marks n lt = unchanged marks n controls
 
 -- ---- nodes
 
-pub long_held : (access : Access) (bank : Bank) (h : Held) (marks : List Bool) → length (by_held access bank h marks) ≡ length marks
+long_held : (access : Access) (bank : Bank) (h : Held) (marks : List Bool) → length (by_held access bank h marks) ≡ length marks
 long_held access bank held.Group marks = refl
 long_held access bank (held.Synth def controls state) marks =
     long_units access bank controls (definition_of def.value).units (by_controls access bank controls marks) ∙ long_controls access bank controls marks
@@ -159,9 +148,9 @@ at_synth access bank controls us marks n lt =
     ∙ ap (λ b. b || list_any (λ u. unit_uses access controls u (resource bank n)) us) (at_controls access bank controls marks n lt)
     ∙ or_assoc (at marks n) (list_any (λ c. control_uses access c (resource bank n)) controls) (list_any (λ u. unit_uses access controls u (resource bank n)) us)
 
-pub at_held : (access : Access) (bank : Bank) (h : Held) (marks : List Bool) (n : ℕ) → n < length marks → at (by_held access bank h marks) n ≡ (at marks n || held_uses access h (resource bank n))
-at_held Read bank held.Group marks n lt = or_nothing (at marks n)
-at_held Write bank held.Group marks n lt = or_nothing (at marks n)
+at_held : (access : Access) (bank : Bank) (h : Held) (marks : List Bool) (n : ℕ) → n < length marks → at (by_held access bank h marks) n ≡ (at marks n || held_uses access h (resource bank n))
+at_held Read bank held.Group marks n lt = sym (or-false (at marks n))
+at_held Write bank held.Group marks n lt = sym (or-false (at marks n))
 at_held Read bank (held.Synth def controls state) marks n lt = at_synth Read bank controls (definition_of def.value).units marks n lt
 at_held Write bank (held.Synth def controls state) marks n lt =
     let us = (definition_of def.value).units in
@@ -172,7 +161,7 @@ long_nodes access bank [] marks = refl
 long_nodes access bank (h ∷ hs) marks = long_nodes access bank hs (by_held access bank h marks) ∙ long_held access bank h marks
 
 at_nodes : (access : Access) (bank : Bank) (hs : List Held) (marks : List Bool) (n : ℕ) → n < length marks → at (by_nodes access bank hs marks) n ≡ (at marks n || list_any (λ h. held_uses access h (resource bank n)) hs)
-at_nodes access bank [] marks n lt = or_nothing (at marks n)
+at_nodes access bank [] marks n lt = sym (or-false (at marks n))
 at_nodes access bank (h ∷ hs) marks n lt =
     at_nodes access bank hs (by_held access bank h marks) n (subst (λ k. n < k) (sym (long_held access bank h marks)) lt)
     ∙ ap (λ b. b || list_any (λ g. held_uses access g (resource bank n)) hs) (at_held access bank h marks n lt)

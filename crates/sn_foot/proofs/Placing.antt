@@ -16,6 +16,7 @@ use Rattle.sn_foot.specs.declared.resource.Bank.TheVariants.{Audio, Control, Buf
 use Rattle.sn_foot.specs.Canonical.{Ends}
 use Rattle.sn_foot.specs.Footprints.{buffer_words, is_there, place_of, listed, where_used, used_places}
 use Rattle.sn_foot.specs.Marks.{numbers, resource, AreMarks, bank_places}
+use Rattle.sn_foot.proofs.Finding.{all_parts}
 
 -- ---- lists of what numbers give
 
@@ -86,12 +87,6 @@ pub all_banks : (a b c now : List Extent) → now ≡ (([] ++ a) ++ b) ++ c → 
 all_banks a b c now is = is ∙ append_assoc a b c
 
 -- ---- what their words have numbers
-
-all_parts : {A : Type 0} (P : A → Type 0) (xs ys : List A) → All P (xs ++ ys) → All P xs × All P ys
-all_parts P [] ys all = (All-nil P, all)
-all_parts P (x ∷ xs) ys all =
-    let rest = all_parts P xs ys (All-tail P x (xs ++ ys) all) in
-    (All-cons P x xs (All-head P x (xs ++ ys) all) rest.0, rest.1)
 
 where_all : (P : Extent → Type 0) (used : Bool) (e : Extent) → P e → All P (if used then e ∷ [] else [])
 where_all P true e p = All-cons P e [] p (All-nil P)

@@ -1,25 +1,17 @@
 -- Runs of words that do not touch.
-use Rattle.std.proofs.Common.{◌≡◌, ◌≤◌, ◌<◌, ◌+◌, ◌-◌, ℕ, suc, Bool, true, false, ◌||◌, List, [], ◌∷◌, ◌++◌, sym, refl, ap, ◌∙◌, subst, ⊎_elim, true≢false, arith, leb, ltb, length, drop}
+use Rattle.std.proofs.Common.{◌≡◌, ◌≤◌, ◌<◌, ◌+◌, ℕ, suc, Bool, true, false, ◌||◌, List, [], ◌∷◌, ◌++◌, sym, refl, ap, ◌∙◌, subst, ⊎_elim, true≢false, arith, leb, ltb, length, drop}
 use Rattle.std.specs.Prelude.{slice_index_or}
 use Rattle.std.specs.List.{All, list_any}
 use Rattle.std.specs.List.Sorted.{IsNonDecreasingBy, IsPermutation}
-use Rattle.std.proofs.lemmas.Bool.{and_from, and_left, and_right, or_from, cases_lt, leb-true, leb-false, ltb-true, ltb-false, lt-ltb, le-ltb, le-leb, lt-leb, cond-true, cond-false, cond_both}
+use Rattle.std.proofs.lemmas.Bool.{or_from, cases_lt, leb-true, leb-false, ltb-true, ltb-false, lt-ltb, le-ltb, le-leb, lt-leb, cond-true, cond-false, cond_both}
+use Rattle.std.proofs.Math.Bool.{or_assoc, or-false}
 use Rattle.std.proofs.lemmas.List.{drop_more}
+use Rattle.std.proofs.lemmas.List.Elements.{All-head, All-tail}
 use Rattle.std.proofs.lemmas.List.Sorted.{list_any-IsPermutation}
 use Rattle.sn_mem.specs.declared.extents.Extent.{Extent}
 use Rattle.sn_mem.specs.Words.{covers, has}
+use Rattle.sn_mem.proofs.Meetings.{covered, before, after}
 use Rattle.sn_foot.specs.Canonical.{AreApart, AreRising, IsCanonical, Ends, with_extent, in_order, where_some, both, merged, nothing, canonical}
-
--- ---- words in extents
-
-covered : (e : Extent) (x : ℕ) → e.at ≤ x → x < e.at + e.len → covers e x ≡ true
-covered e x h k = and_from (leb e.at x) (ltb x (e.at + e.len)) (le-leb e.at x h) (lt-ltb x (e.at + e.len) k)
-
-before : (e : Extent) (x : ℕ) → x < e.at → covers e x ≡ false
-before e x h = and_left (leb e.at x) (ltb x (e.at + e.len)) (lt-leb e.at x h)
-
-after : (e : Extent) (x : ℕ) → e.at + e.len ≤ x → covers e x ≡ false
-after e x h = and_right (leb e.at x) (ltb x (e.at + e.len)) (le-ltb x (e.at + e.len) h)
 
 -- ---- one list for a set of words
 
@@ -118,12 +110,8 @@ has_in_order (e ∷ es) x = has_with e (in_order es) x ∙ ap (λ c. covers e x 
 empty : (e : Extent) (x : ℕ) → e.len ≤ 0 → covers e x ≡ false
 empty e x h = ⊎_elim (λ (lt : x < e.at). before e x lt) (λ (ge : e.at ≤ x). after e x (omega arith)) (cases_lt x e.at)
 
-or_nothing : (a : Bool) → (a || false) ≡ a
-or_nothing true = refl
-or_nothing false = refl
-
 has_some : (e : Extent) (x : ℕ) → has (where_some e) x ≡ covers e x
-has_some e x = cond_both (ltb 0 e.len) (e ∷ []) [] (λ ys. has ys x ≡ covers e x) (λ b. or_nothing (covers e x)) (λ b. sym (empty e x (ltb-false 0 e.len b)))
+has_some e x = cond_both (ltb 0 e.len) (e ∷ []) [] (λ ys. has ys x ≡ covers e x) (λ b. or-false (covers e x)) (λ b. sym (empty e x (ltb-false 0 e.len b)))
 
 covers_both : (a b : Extent) (x : ℕ) → a.at ≤ b.at → b.at ≤ a.at + a.len → covers (both a b) x ≡ (covers a x || covers b x)
 covers_both a b x low high =
@@ -138,17 +126,13 @@ covers_both a b x low high =
     (cases_lt x (a.at + a.len)))
     (cases_lt x a.at)
 
-or_assoc : (a b c : Bool) → ((a || b) || c) ≡ (a || (b || c))
-or_assoc true b c = refl
-or_assoc false b c = refl
-
 pub has_append : (es fs : List Extent) (x : ℕ) → has (es ++ fs) x ≡ (has es x || has fs x)
 has_append [] fs x = refl
 has_append (e ∷ es) fs x = ap (λ c. covers e x || c) (has_append es fs x) ∙ sym (or_assoc (covers e x) (has es x) (has fs x))
 
 pub has_merged : (a : Extent) (es : List Extent) (x : ℕ) → AreRising a.at es → has (merged a es) x ≡ (covers a x || has es x)
 unfolding merged
-has_merged a [] x r = has_some a x ∙ sym (or_nothing (covers a x))
+has_merged a [] x r = has_some a x ∙ sym (or-false (covers a x))
 has_merged a (e ∷ es) x r =
     cond_both (leb e.at (a.at + a.len)) (merged (both a e) es) (where_some a ++ merged e es) (λ ys. has ys x ≡ (covers a x || (covers e x || has es x)))
     (λ b. has_merged (both a e) es x (rising_lower a.at e.at es r.0 r.1)
@@ -220,15 +204,9 @@ pub record IsNext (from : ℕ) (es : List Extent) (i : ℕ) (e : Extent) : Type 
   pub order : AreRising e.at (drop (i + 1) es)
   pub all : All Ends (drop (i + 1) es)
 
-all_head : (e : Extent) (es : List Extent) → All Ends (e ∷ es) → Ends e
-all_head e es all = all 0 e (omega arith)
-
-all_tail : (e : Extent) (es : List Extent) → All Ends (e ∷ es) → All Ends es
-all_tail e es all = λ k d lt. all (suc k) d (omega arith)
-
 pub next_one : (from : ℕ) (es : List Extent) (i : ℕ) (d : Extent) → i < length es → AreRising from (drop i es) → All Ends (drop i es) → IsNext from es i (slice_index_or es i d)
 next_one from es i d lt rising all =
     let is : drop i es ≡ slice_index_or es i d ∷ drop (i + 1) es = drop_more es i d lt in
     let up = subst (AreRising from) is rising in
     let ends = subst (All Ends) is all in
-    record { is = is; low = up.0; ends = all_head (slice_index_or es i d) (drop (i + 1) es) ends; order = up.1; all = all_tail (slice_index_or es i d) (drop (i + 1) es) ends }
+    record { is = is; low = up.0; ends = All-head Ends (slice_index_or es i d) (drop (i + 1) es) ends; order = up.1; all = All-tail Ends (slice_index_or es i d) (drop (i + 1) es) ends }

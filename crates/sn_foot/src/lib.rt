@@ -12,10 +12,8 @@ mod units;
 
 pub use feet::{Unfooted, foot_of, foot_of_nodes};
 pub use laws::{foot_has_its_words, one_canonical};
-pub use marks::mark_uses;
 pub use merging::canonical;
-pub use nodes::{found_at, is_kept};
-pub use places::place_of;
+pub use nodes::is_kept;
 pub use resource::{Access, Bank, Resource};
 pub use units::{index_of, used_span};
 

@@ -1,5 +1,5 @@
 //! Which resources nodes use.
-ghost use Rattle.std.specs.Prelude.{◌≡◌, ◌<◌, ◌+ℤ◌, ◌^◌, ◌||◌, pos, false, length, map, slice_index_or, ℕ, IfOk};
+ghost use Rattle.std.specs.Prelude.{◌≡◌, ◌<◌, ◌+ℤ◌, ◌^◌, pos, false, length, map, slice_index_or, ℕ, IfOk};
 ghost use Rattle.std.specs.List.{list_any};
 ghost use Rattle.sn_foot.specs.Marks.{AreMarks, by_buses, by_controls, by_held, by_nodes, by_units, held_uses, marked, numbers, resource, set_at, set_bus};
 
@@ -95,15 +95,6 @@ fn mark_held(marks: &mut [bool], access: Access, bank: Bank, held: &Held)
             );
         }
     }
-}
-
-/// Marks, in a list by the numbers of resources of a sort, those that a node uses by itself. What was marked stays marked.
-#[tactic(auto, using(crate::proofs::Marking::long_held, crate::proofs::Marking::at_held))]
-pub fn mark_uses(marks: &mut [bool], access: Access, bank: Bank, held: &Held)
-    ensures long { length marks.new ≡ length marks.old }
-    ensures each { (n : ℕ) → n < length marks.old → slice_index_or marks.new n false ≡ (slice_index_or marks.old n false || held_uses access held.now (resource bank n)) }
-{
-    mark_held(marks, access, bank, held);
 }
 
 /// Marks what nodes use.

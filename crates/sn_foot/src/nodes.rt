@@ -11,7 +11,7 @@ use sn_world::{Held, NodeId};
 use std::alloc::Global;
 
 /// Whether a node is in the tree.
-#[tactic(auto, using(crate::proofs::Finding::is_seen))]
+#[tactic(auto, using(sn_world::proofs::Turning::is_seen))]
 pub fn is_attached(tree: &Tree<Held>, node: &NodeId) -> bool
     ensures { result ≡ holds node.now.id tree.now.attached }
 {

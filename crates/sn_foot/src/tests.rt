@@ -5,7 +5,7 @@ ghost use Rattle.sn_world.specs.Pictures.{live_held};
 ghost use Rattle.sn_foot.specs.Canonical.{Ends};
 
 use crate::feet::{Unfooted, foot_of, foot_of_nodes, put_states};
-use crate::marks::mark_uses;
+use crate::marks::marks;
 use crate::merging::canonical;
 use crate::nodes::found_at;
 use crate::places::place_of;
@@ -311,19 +311,38 @@ fn resources_have_their_places(rt: HostRuntime) -> Result<(), Fail> {
     Ok(())
 }
 
+/// Whether these numbers are marked, and no others.
+fn are_marked(marks: &[bool], wanted: &[usize]) -> bool {
+    let mut same = true;
+    for number in 0..marks.len() {
+        same = same && marks[number] == wanted.contains(&number);
+    }
+    same
+}
+
+/// Whether a node uses these resources of a sort, and no others.
+fn uses(
+    alloc: Global,
+    access: Access,
+    bank: Bank,
+    held: &Held,
+    wanted: &[usize],
+) -> Result<bool, NoMemory> {
+    let marks = marks(alloc, access, bank, &[held])?;
+    Ok(are_marked(&marks, wanted))
+}
+
 #[test]
 fn what_a_synth_uses_is_marked(rt: HostRuntime) -> Result<(), Fail> {
     let Some(held) = synth(rt.alloc(), WIDE, own(2), following(6), 20_000)? else {
         assert!(rt; false);
         return Ok(());
     };
-    let mut marks = [true, false, false, false, false, false, false, false];
-    mark_uses(&mut marks, Access::Write, Bank::Audio, &held);
-    assert!(rt; marks == [true, false, true, true, true, true, false, false]);
-    mark_uses(&mut marks, Access::Read, Bank::Control, &held);
-    assert!(rt; marks == [true, false, true, true, true, true, true, false]);
-    mark_uses(&mut marks, Access::Write, Bank::Buffer, &held);
-    assert!(rt; marks == [true, false, true, true, true, true, true, false]);
+    let alloc = rt.alloc();
+    assert!(rt; uses(alloc, Access::Write, Bank::Audio, &held, &[2, 3, 4, 5])?);
+    assert!(rt; uses(alloc, Access::Read, Bank::Audio, &held, &[3, 4])?);
+    assert!(rt; uses(alloc, Access::Read, Bank::Control, &held, &[6])?);
+    assert!(rt; uses(alloc, Access::Write, Bank::Buffer, &held, &[])?);
     Ok(())
 }
 

@@ -8,7 +8,9 @@ use sn_mem::{Blocks, Recurrence, Stored};
 /// The phase of an impulse generator, and whether an impulse is due.
 #[derive(Clone, Copy)]
 pub(crate) struct Beat {
+    /// The phase, in units of 2^-32 of a period.
     pub phase: u32,
+    /// Whether an impulse is due at the next frame.
     pub due: bool,
 }
 
@@ -49,6 +51,7 @@ fn growth(rate: u32, phase: u32, freq: i32) -> u64
 /// Impulse freq
 #[derive(Clone, Copy)]
 pub(crate) struct Impulse {
+    /// Frames a second, at least 1.
     pub rate: u32,
     ghost some: { 0 < rate },
 }

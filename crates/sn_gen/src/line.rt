@@ -8,11 +8,15 @@ use sn_mem::{Blocks, Recurrence, Stored, ended, sample_of, word_of};
 /// How far a line is.
 #[derive(Clone, Copy)]
 pub(crate) struct Sweep {
+    /// The done word, 0 until the end.
     pub done: u64,
     /// The next frame, up to the number of frames. It is 0 only before the first one.
     pub frame: u32,
+    /// The first sample.
     pub start: i32,
+    /// The last sample.
     pub end: i32,
+    /// How many frames it takes from start to end.
     pub frames: u32,
 }
 
@@ -92,6 +96,7 @@ fn swept(sweep: Sweep) -> (Sweep, i32)
 /// Line start end dur done!
 #[derive(Clone, Copy)]
 pub(crate) struct Line {
+    /// Frames a second.
     pub rate: u32,
 }
 

@@ -8,8 +8,11 @@ use sn_mem::{Blocks, Recurrence, Stored, ended, sample_of, word_of};
 /// Where an envelope is.
 #[derive(Clone, Copy)]
 pub(crate) enum Stage {
+    /// The gate was not open yet.
     Waiting,
+    /// The gate is open: the attack, and then the level.
     Open,
+    /// The gate has closed: the release, and then 0.
     Released,
 }
 
@@ -38,11 +41,15 @@ fn stage_word(stage: Stage) -> u64
 /// How far an envelope is.
 #[derive(Clone, Copy)]
 pub(crate) struct Envelope {
+    /// The done word, 0 until the end.
     pub done: u64,
+    /// Where it is.
     pub stage: Stage,
     /// The stage's next frame, up to the number of its frames.
     pub frame: u32,
+    /// How many frames the attack or the release takes.
     pub frames: u32,
+    /// The sample that the attack goes to.
     pub level: i32,
     /// The output that the release falls from.
     pub top: i32,
@@ -157,6 +164,7 @@ fn passed(envelope: Envelope, sample: i32) -> Envelope
 /// Linen gate attack level release done!
 #[derive(Clone, Copy)]
 pub(crate) struct Linen {
+    /// Frames a second.
     pub rate: u32,
 }
 

@@ -10,6 +10,7 @@ use sn_mem::{Blocks, Recurrence, Stored};
 /// A row of pseudo-random numbers, by its last one, if there was one.
 #[derive(Clone, Copy)]
 pub(crate) struct Draws {
+    /// The last number, once one was drawn.
     pub last: Option<u32>,
 }
 
@@ -77,6 +78,7 @@ fn drawn(last: u32) -> u32
 /// WhiteNoise
 #[derive(Clone, Copy)]
 pub(crate) struct WhiteNoise {
+    /// The seed: the number after it is drawn first.
     pub first: u32,
 }
 

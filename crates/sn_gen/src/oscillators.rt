@@ -48,6 +48,7 @@ fn triangle(phase: u32) -> i32
 /// SinOsc freq phase
 #[derive(Clone, Copy)]
 pub(crate) struct SinOsc {
+    /// Frames a second, at least 1.
     pub rate: u32,
     ghost some: { 0 < rate },
 }
@@ -70,6 +71,7 @@ impl Recurrence for SinOsc {
 /// LFSaw freq phase
 #[derive(Clone, Copy)]
 pub(crate) struct LFSaw {
+    /// Frames a second, at least 1.
     pub rate: u32,
     ghost some: { 0 < rate },
 }
@@ -92,6 +94,7 @@ impl Recurrence for LFSaw {
 /// LFPulse freq phase width
 #[derive(Clone, Copy)]
 pub(crate) struct LFPulse {
+    /// Frames a second, at least 1.
     pub rate: u32,
     ghost some: { 0 < rate },
 }
@@ -117,6 +120,7 @@ impl Recurrence for LFPulse {
 /// LFTri freq phase
 #[derive(Clone, Copy)]
 pub(crate) struct LFTri {
+    /// Frames a second, at least 1.
     pub rate: u32,
     ghost some: { 0 < rate },
 }

@@ -8,8 +8,11 @@ use sn_mem::{Blocks, Recurrence, Stored, sample_of, word_of};
 /// How far a ramp is: whether it has begun, the last sample of its trigger, and its place.
 #[derive(Clone, Copy)]
 pub(crate) struct Ramp {
+    /// Whether the first frame has passed.
     pub begun: bool,
+    /// The last sample of the trigger.
     pub trigger: i32,
+    /// The next sample, before it is brought into the range.
     pub place: i32,
 }
 

@@ -1,29 +1,31 @@
 -- Where no two members of a split group clash, their synths are clear of each other.
-use Rattle.std.proofs.Common.{◌≡◌, ◌≤◌, ◌⊎◌, inl, inr, ⊎_elim, ℕ, ◌+◌, ℤ, Bool, true, false, ◌||◌, ◌&&◌, not, if◌then◌else◌, List, [], ◌∷◌, ◌++◌, map, Option, sym, refl, ap, ◌∙◌, subst, arith, true≢false}
+use Rattle.std.proofs.Common.{◌≡◌, ◌≤◌, ◌⊎◌, inl, inr, ⊎_elim, ℕ, ◌+◌, ℤ, Bool, true, false, ◌||◌, ◌&&◌, if◌then◌else◌, List, [], ◌∷◌, ◌++◌, map, Option, sym, refl, ap, ◌∙◌, subst, arith, true≢false}
 use Rattle.std.specs.List.{list_any}
 use Rattle.std.specs.Ordering.{int_eq}
-use Rattle.std.proofs.lemmas.Bool.{cond_both, or_cases, or_left, or_right, and_parts, and_from, cases_Bool}
+use Rattle.std.proofs.lemmas.Bool.{cond_both, or_cases, or_left, or_right, and_parts, and_from, lt-ltb, not-true}
 use Rattle.std.proofs.lemmas.List.{append-nil}
 use Rattle.sn_mem.specs.declared.extents.Extent.{Extent}
 use Rattle.sn_mem.specs.declared.buffers.BufferPlace.{BufferPlace}
-use Rattle.sn_mem.specs.Words.{covers, has, Clash}
+use Rattle.sn_mem.specs.Words.{has, Clash}
 use Rattle.sn_mem.specs.Buffers.{overlaps}
+use Rattle.sn_mem.proofs.BufferWords.{overlaps-append}
 use Rattle.sn_tree.specs.declared.node.NodeKind.{NodeKind}
 use Rattle.sn_tree.specs.declared.node.NodeKind.TheVariants as kinds
 use Rattle.sn_tree.specs.Trees as trees
 use Rattle.sn_tree.specs.Trees.{Label, Nodes, holds, running_labels, subtree}
 use Rattle.sn_world.specs.declared.stage.Held.{Held}
 use Rattle.sn_world.specs.Pictures.{held_extents, live_held}
+use Rattle.sn_world.proofs.Inserting.{has-overlaps}
 use Rattle.sn_foot.specs.declared.resource.Resource.{Resource}
 use Rattle.sn_foot.specs.Footprints.{footprint_of, foot_of, held_reads, held_writes, is_there, states_of}
 use Rattle.sn_foot.specs.Footprints.{Clash as FootprintsClash}
 use Rattle.sn_graph.specs.declared.nodes.Voice.{Voice}
 use Rattle.sn_graph.specs.Voices.{Running, none, voices}
-use Rattle.sn_graph.specs.Plans.{IsClearOf, AreClear, MembersAreClear, SplitsAreClear}
-use Rattle.sn_graph.specs.Stages.{is_listed, with_node, running_of}
+use Rattle.sn_graph.specs.Plans.{IsClearOf, AreClear, MembersAreClear, SplitsAreClear, is_listed}
+use Rattle.sn_graph.specs.Stages.{with_node, running_of}
 use Rattle.sn_graph.specs.Disjoint.{AreDisjoint}
 use Rattle.sn_graph.specs.Clear.{held_of, ClashesWithNone, NoneClash, AreListed}
-use Rattle.sn_graph.proofs.Resources.{Meets, first_meets, one_meets, overlaps_has, overlaps_append, clash_agrees, second_meets}
+use Rattle.sn_graph.proofs.Resources.{Meets, first_meets, one_meets, overlaps_has, clash_agrees, second_meets}
 
 -- ---- nodes among others
 
@@ -45,7 +47,7 @@ among_right h (x ∷ xs) ys m = inr (among_right h xs ys m)
 states_among : (x : ℕ) (h : Held) (hs : List Held) → AmongHeld h hs → overlaps x (held_extents h) ≤ overlaps x (states_of hs)
 states_among x h [] m = absurd m
 states_among x h (k ∷ ks) m =
-    let all = overlaps_append x (held_extents k) (states_of ks) in
+    let all = overlaps-append x (held_extents k) (states_of ks) in
     ⊎_elim
     (λ (e : h ≡ k). omega (arith, all, ap (λ g. overlaps x (held_extents g)) e))
     (λ (n : AmongHeld h ks). omega (arith, all, states_among x h ks n))
@@ -68,16 +70,8 @@ more_used there p h hs m t =
 
 -- ---- places that are apart
 
-covered_none : (b : Bool) → b ≡ false → ◌≡◌ {A = ℕ} (if b then 1 else 0) 0
-covered_none true h = absurd (true≢false h)
-covered_none false h = refl
-
 has_overlaps : (x : ℕ) (es : List Extent) → 1 ≤ overlaps x es → has es x ≡ true
-has_overlaps x [] l = absurd (omega arith)
-has_overlaps x (e ∷ es) l = ⊎_elim
-    (λ (c : covers e x ≡ true). or_left (covers e x) (has es x) c)
-    (λ (c : covers e x ≡ false). or_right (covers e x) (has es x) (has_overlaps x es (let none_here = covered_none (covers e x) c in omega (arith, l, none_here))))
-    (cases_Bool (covers e x))
+has_overlaps x es l = has-overlaps es x ∙ lt-ltb 0 (overlaps x es) (omega (arith, l))
 
 module _ (buffers : List (Option BufferPlace)) where
   fewer : (es fs : List Extent) → AreDisjoint buffers es → ((x : ℕ) → overlaps x fs ≤ overlaps x es) → AreDisjoint buffers fs
@@ -127,7 +121,7 @@ module _ (buffers : List (Option BufferPlace)) where
     clear_pair : (h k : Held) → AmongHeld h hs → AmongHeld k ks → Clash (foot_of buffers (h ∷ [])) (foot_of buffers (k ∷ [])) → ⊥
     clear_pair h k m n c =
         let less : (x : ℕ) → overlaps x (states_of (h ∷ []) ++ states_of (k ∷ [])) ≤ overlaps x (states_of hs ++ states_of ks) =
-        λ x. omega (arith, overlaps_append x (states_of (h ∷ [])) (states_of (k ∷ [])), overlaps_append x (held_extents h) [], overlaps_append x (held_extents k) [], overlaps_append x (states_of hs) (states_of ks), states_among x h hs m, states_among x k ks n) in
+        λ x. omega (arith, overlaps-append x (states_of (h ∷ [])) (states_of (k ∷ [])), overlaps-append x (held_extents h) [], overlaps-append x (held_extents k) [], overlaps-append x (states_of hs) (states_of ks), states_among x h hs m, states_among x k ks n) in
         apart (more_clash h k hs ks m n ((clash_agrees buffers (h ∷ []) (k ∷ []) (fewer (states_of hs ++ states_of ks) (states_of (h ∷ []) ++ states_of (k ∷ [])) is less)).0 c))
 
     clear_one : (v : Voice) (h : Held) (ws : List Voice) → v.foot ≡ foot_of buffers (h ∷ []) → AmongHeld h hs → AreOf ws ks → IsClearOf v ws
@@ -155,16 +149,16 @@ clear_nothing (v ∷ vs) = (tt, clear_nothing vs)
 
 states_both : (x : ℕ) (ls ms : List (Label Held)) → overlaps x (states_of (payloads (ls ++ ms))) ≡ overlaps x (states_of (payloads ls)) + overlaps x (states_of (payloads ms))
 states_both x [] ms = omega arith
-states_both x (l ∷ ls) ms = omega (arith, overlaps_append x (held_extents l.payload) (states_of (payloads (ls ++ ms))), overlaps_append x (held_extents l.payload) (states_of (payloads ls)), states_both x ls ms)
+states_both x (l ∷ ls) ms = omega (arith, overlaps-append x (held_extents l.payload) (states_of (payloads (ls ++ ms))), overlaps-append x (held_extents l.payload) (states_of (payloads ls)), states_both x ls ms)
 
 live_parts : (x : ℕ) (label : Label Held) (below after : Nodes Held) → overlaps x (live_held (trees.node label below after)) ≡ overlaps x (held_extents label.payload) + (overlaps x (live_held below) + overlaps x (live_held after))
-live_parts x label below after = omega (arith, overlaps_append x (held_extents label.payload) (live_held below ++ live_held after), overlaps_append x (live_held below) (live_held after))
+live_parts x label below after = omega (arith, overlaps-append x (held_extents label.payload) (live_held below ++ live_held after), overlaps-append x (live_held below) (live_held after))
 
 few_states : (x : ℕ) (t : Nodes Held) → overlaps x (states_of (held_of t)) ≤ overlaps x (live_held t)
 few_states x trees.none = omega arith
 few_states x (trees.node label below after) =
     cond_both label.running (label ∷ (running_labels below ++ running_labels after)) (running_labels after) (λ ls. overlaps x (states_of (payloads ls)) ≤ overlaps x (live_held (trees.node label below after)))
-    (λ b. omega (arith, live_parts x label below after, overlaps_append x (held_extents label.payload) (states_of (payloads (running_labels below ++ running_labels after))), states_both x (running_labels below) (running_labels after), few_states x below, few_states x after))
+    (λ b. omega (arith, live_parts x label below after, overlaps-append x (held_extents label.payload) (states_of (payloads (running_labels below ++ running_labels after))), states_both x (running_labels below) (running_labels after), few_states x below, few_states x after))
     (λ b. omega (arith, live_parts x label below after, few_states x after))
 
 live_below : (x : ℕ) (id : ℤ) (t : Nodes Held) → overlaps x (live_held (subtree id t)) ≤ overlaps x (live_held t)
@@ -213,9 +207,9 @@ module _ (buffers : List (Option BufferPlace)) (clashing : List ℤ) where
       let here : Nodes Held = trees.node label below trees.none in
       let whole : Nodes Held = trees.node label below after in
       let first : AreDisjoint buffers (states_of hs ++ states_of (held_of here)) = fewer buffers (states_of hs ++ live_held whole) (states_of hs ++ states_of (held_of here)) is
-      (λ x. omega (arith, overlaps_append x (states_of hs) (states_of (held_of here)), overlaps_append x (states_of hs) (live_held whole), few_states x here, live_parts x label below trees.none, live_parts x label below after)) in
+      (λ x. omega (arith, overlaps-append x (states_of hs) (states_of (held_of here)), overlaps-append x (states_of hs) (live_held whole), few_states x here, live_parts x label below trees.none, live_parts x label below after)) in
       let rest : AreDisjoint buffers (states_of hs ++ live_held after) = fewer buffers (states_of hs ++ live_held whole) (states_of hs ++ live_held after) is
-      (λ x. omega (arith, overlaps_append x (states_of hs) (live_held after), overlaps_append x (states_of hs) (live_held whole), live_parts x label below after)) in
+      (λ x. omega (arith, overlaps-append x (states_of hs) (live_held after), overlaps-append x (states_of hs) (live_held whole), live_parts x label below after)) in
       subst (AreClear vs) (voices_node label.running label.kind label (running_of buffers clashing below) (running_of buffers clashing after))
       (clear_append vs (voices (running_of buffers clashing here)) (voices (running_of buffers clashing after))
       (clear_all buffers hs (held_of here) first n.0 vs (voices (running_of buffers clashing here)) o (are_of here))
@@ -233,20 +227,16 @@ module _ (buffers : List (Option BufferPlace)) (clashing : List ℤ) where
       let here : Nodes Held = trees.node label below trees.none in
       let whole : Nodes Held = trees.node label below after in
       let first : AreDisjoint buffers (states_of (held_of here) ++ live_held after) = fewer buffers (live_held whole) (states_of (held_of here) ++ live_held after) is
-      (λ x. omega (arith, overlaps_append x (states_of (held_of here)) (live_held after), few_states x here, live_parts x label below trees.none, live_parts x label below after)) in
+      (λ x. omega (arith, overlaps-append x (states_of (held_of here)) (live_held after), few_states x here, live_parts x label below trees.none, live_parts x label below after)) in
       let rest : AreDisjoint buffers (live_held after) = fewer buffers (live_held whole) (live_held after) is (λ x. omega (arith, live_parts x label below after)) in
       members_node label.running label.kind label (running_of buffers clashing below) (running_of buffers clashing after)
       (clear_after (voices (running_of buffers clashing here)) (held_of here) after (are_of here) first n.0)
       (members_clear after rest n.1)
 
-  not_true : (b : Bool) → not b ≡ true → b ≡ false
-  not_true true h = absurd (true≢false (sym h))
-  not_true false h = refl
-
   splits_node : (run : Bool) (kind : NodeKind) (label : Label Held) (b a : Running) → (run ≡ true → (kind ≡ kinds.Parallel → is_listed clashing label.id ≡ false → MembersAreClear b) × SplitsAreClear b) → SplitsAreClear a → SplitsAreClear (if run then with_node buffers clashing kind label b a else a)
   splits_node true kinds.Synth label b a c s = s
   splits_node true kinds.Group label b a c s = (λ h. absurd (true≢false (sym h)), ((c refl).1, s))
-  splits_node true kinds.Parallel label b a c s = (λ h. (c refl).0 refl (not_true (is_listed clashing label.id) h), ((c refl).1, s))
+  splits_node true kinds.Parallel label b a c s = (λ h. (c refl).0 refl (not-true (is_listed clashing label.id) h), ((c refl).1, s))
   splits_node false kind label b a c s = s
 
   splits_clear : (t : Nodes Held) → AreDisjoint buffers (live_held t) → AreListed buffers clashing t → SplitsAreClear (running_of buffers clashing t)

@@ -7,9 +7,9 @@ use Rattle.sn_round.specs.Jobs.{job_at, Ordered}
 use Rattle.sn_graph.specs.declared.nodes.Voice.{Voice}
 use Rattle.sn_graph.specs.Voices.{Running, voices, has, Once}
 use Rattle.sn_graph.specs.Rows.{Row, Members, done, job, split, one, more, size, size_all}
-use Rattle.sn_graph.specs.Plans.{has_id, row_of, plan_of, Plays, lowest_is_split, IsPlanned}
+use Rattle.sn_graph.specs.Plans.{is_listed, row_of, plan_of, Plays, lowest_is_split, IsPlanned}
 use Rattle.sn_graph.proofs.Shapes.{IsPlan, Stands, StandsAll, heard, heard_all, comes}
-use Rattle.sn_graph.proofs.Numbers.{has_id-ids, has-left, has-right, plays_in, plays_all}
+use Rattle.sn_graph.proofs.Numbers.{listed-ids, has-left, has-right, plays_in, plays_all}
 use Rattle.sn_graph.proofs.Parting.{heard-row}
 use Rattle.sn_graph.proofs.Planning.{is_plan, whole, played}
 use Rattle.sn_graph.proofs.Lowest.{parted_is_lowest}
@@ -37,7 +37,7 @@ comes_right (s ∷ ss) ys a b h = or_right (int_eq s.id a && has (ss ++ ys) b) (
 
 module _ (at : ℕ → Job) where
   abbrev Plays_at : ℕ → ℤ → Type 0
-  Plays_at k a = has_id ((at k).synths) a ≡ true
+  Plays_at k a = is_listed ((at k).synths) a ≡ true
 
   mutual
     pub comes_in : (n : ℕ) (e : List ℕ) (r : Row) (i j : ℕ) (a b : ℤ) → Stands at n e r → n ≤ i → i < j → j < n + size r → Plays_at i a → Plays_at j b → comes (heard r) a b ≡ true
@@ -46,10 +46,10 @@ module _ (at : ℕ → Job) where
         ⊎_elim
         (λ (g : n < i). comes_right ss (heard rest) a b (comes_in (n + 1) (n ∷ []) rest i j a b s.1 (omega arith) m (omega arith) p q))
         (λ (g : i ≤ n). let k : i ≡ n = omega arith in
-        comes_across ss (heard rest) a b (sym (has_id-ids ss a) ∙ (sym (ap (λ (x : Job). has_id x.synths a) (ap at k ∙ s.0)) ∙ p)) (plays_in at (n + 1) (n ∷ []) rest j b s.1 (omega arith) (omega arith) q))
+        comes_across ss (heard rest) a b (sym (listed-ids ss a) ∙ (sym (ap (λ (x : Job). is_listed x.synths a) (ap at k ∙ s.0)) ∙ p)) (plays_in at (n + 1) (n ∷ []) rest j b s.1 (omega arith) (omega arith) q))
         (cases_lt n i)
     comes_in n e (split ms rest) i j a b s l m h p q =
-        let mute : (k : ℕ) (c : ℤ) → k ≡ n + size_all ms → Plays_at k c → ⊥ = λ k c u t. true≢false (sym t ∙ ap (λ (x : Job). has_id x.synths c) (ap at u ∙ s.1)) in
+        let mute : (k : ℕ) (c : ℤ) → k ≡ n + size_all ms → Plays_at k c → ⊥ = λ k c u t. true≢false (sym t ∙ ap (λ (x : Job). is_listed x.synths c) (ap at u ∙ s.1)) in
         ⊎_elim
         (λ (g : j < n + size_all ms). comes_left (heard_all ms) (heard rest) a b (comes_all n e ms i j a b s.0 l m g p q))
         (λ (g : n + size_all ms ≤ j). ⊎_elim

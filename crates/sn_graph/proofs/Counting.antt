@@ -18,6 +18,7 @@ use Rattle.sn_graph.specs.Plans.{close, followed, members, joined, keep, part, r
 use Rattle.sn_graph.specs.Stages.{with_node, running_of}
 use Rattle.sn_graph.proofs.Labels.{kind_at, kind_after, kind_below, kind_here, not_some, some_is, subtree_after, subtree_below, subtree_here}
 use Rattle.sn_graph.proofs.Shapes.{weight}
+use Rattle.sn_graph.proofs.Drafting.{size-followed}
 
 -- ---- jobs
 
@@ -30,18 +31,9 @@ abbrev runs : List Voice → ℕ
 runs [] = 0
 runs (v ∷ vs) = 1
 
-few_runs : (run : List Voice) → runs run ≤ 1
-few_runs [] = omega arith
-few_runs (v ∷ vs) = omega arith
-
 some_run : (run : List Voice) (v : Voice) → runs (run ++ v ∷ []) ≡ 1
 some_run [] v = refl
 some_run (u ∷ us) v = refl
-
-size-followed : (r s : Row) → size (followed r s) ≡ size r + size s
-size-followed done s = omega arith
-size-followed (job vs a) s = omega (arith, size-followed a s)
-size-followed (split ms a) s = omega (arith, size-followed a s)
 
 size-members : (r : Row) (rs : List Row) → size_all (members r rs) ≡ size r + sizes rs
 size-members r [] = omega arith

@@ -1,60 +1,23 @@
 -- Where ids are distinct, what the walk reaches by an id is one node.
-use Rattle.std.proofs.Common.{◌≡◌, ◌≤◌, ◌⊎◌, inl, inr, ⊎_elim, ℕ, ℤ, true, false, ◌||◌, List, ◌∷◌, ◌++◌, Option, Some, sym, ap, ◌∙◌, subst, arith, if◌then◌else◌, true≢false}
+use Rattle.std.proofs.Common.{◌≡◌, ◌⊎◌, inl, inr, ⊎_elim, ℤ, true, false, ◌||◌, List, ◌∷◌, ◌++◌, Option, Some, sym, ap, ◌∙◌, subst, arith, true≢false}
 use Rattle.std.specs.Prelude.{◌↔◌, map}
 use Rattle.std.specs.List.{list_any}
 use Rattle.std.specs.Ordering.{int_eq}
-use Rattle.std.proofs.lemmas.Bool.{cases_Bool, cond-true, cond-false, false_from_ne_true, or_cases, or_left, or_right}
+use Rattle.std.proofs.lemmas.Bool.{cases_Bool, cond-true, cond-false, or_cases, or_left, or_right}
 use Rattle.std.proofs.lemmas.Bool.Decides.{Decides-int_eq}
 use Rattle.std.proofs.lemmas.List.Folds.{list_any-append}
 use Rattle.sn_mem.specs.declared.buffers.BufferPlace.{BufferPlace}
 use Rattle.sn_tree.specs.declared.node.NodeKind.TheVariants as kinds
-use Rattle.sn_tree.specs.Steps.{AllDistinct, occurrences}
+use Rattle.sn_tree.specs.Steps.{AllDistinct}
 use Rattle.sn_tree.specs.Trees.{Label, Nodes, none, node, holds, ids, running_labels}
-use Rattle.sn_tree.proofs.Distinct.{occurs-node}
 use Rattle.sn_world.specs.declared.stage.Held.{Held}
 use Rattle.sn_foot.specs.Footprints.{held_reads, held_writes, is_reached, is_there}
 use Rattle.sn_clash.specs.Clashing.{clashes}
-use Rattle.sn_graph.specs.Stages.{is_listed}
+use Rattle.sn_clash.proofs.Reaching.{Distinct, held_some, not_here, not_below, distinct_below, distinct_after}
+use Rattle.sn_graph.specs.Plans.{is_listed}
 use Rattle.sn_graph.specs.Clear.{IsClashing, TwoClash}
 use Rattle.sn_graph.proofs.Labels.{children_after, children_below, children_here, kind_after, kind_below, kind_here, some_is}
 use Rattle.sn_graph.proofs.Naming.{Named, found_named, named_found}
-
-abbrev Distinct : Nodes Held → Type 0
-Distinct t = (x : ℤ) → occurrences int_eq x (ids t) ≤ 1
-
-one_here : (a b : ℤ) → a ≡ b → ◌≡◌ {A = ℕ} (if int_eq a b then 1 else 0) 1
-one_here a b e = cond-true (int_eq a b) 1 0 ((Decides-int_eq a b).1 e)
-
-held_occurs : (id : ℤ) (t : Nodes Held) → holds id t ≡ true → 1 ≤ occurrences int_eq id (ids t)
-held_occurs id none h = absurd (true≢false (sym h))
-held_occurs id (node label below after) h =
-    let all = occurs-node id label below after in
-    ⊎_elim
-    (λ (a : int_eq label.id id ≡ true). let one = one_here label.id id ((Decides-int_eq label.id id).0 a) in omega (arith, all, one))
-    (λ (b : (holds id below || holds id after) ≡ true). ⊎_elim
-    (λ (a : holds id below ≡ true). omega (arith, all, held_occurs id below a))
-    (λ (a : holds id after ≡ true). omega (arith, all, held_occurs id after a))
-    (or_cases (holds id below) (holds id after) b))
-    (or_cases (int_eq label.id id) (holds id below || holds id after) h)
-
-below_distinct : (label : Label Held) (below after : Nodes Held) → Distinct (node label below after) → Distinct below
-below_distinct label below after one x = omega (arith, occurs-node x label below after, one x)
-
-after_distinct : (label : Label Held) (below after : Nodes Held) → Distinct (node label below after) → Distinct after
-after_distinct label below after one x = omega (arith, occurs-node x label below after, one x)
-
--- an id below a node is not its own, nor one after it
-module _ (label : Label Held) (below after : Nodes Held) (one : Distinct (node label below after)) (id : ℤ) where
-  not_own : (holds id below ≡ true) ⊎ (holds id after ≡ true) → int_eq label.id id ≡ false
-  not_own h = false_from_ne_true (int_eq label.id id) (λ a.
-      let here = one_here label.id id ((Decides-int_eq label.id id).0 a) in
-      ⊎_elim
-      (λ (b : holds id below ≡ true). absurd (omega (arith, here, one id, occurs-node id label below after, held_occurs id below b)))
-      (λ (b : holds id after ≡ true). absurd (omega (arith, here, one id, occurs-node id label below after, held_occurs id after b)))
-      h)
-
-  not_below : holds id after ≡ true → holds id below ≡ false
-  not_below h = false_from_ne_true (holds id below) (λ b. absurd (omega (arith, one id, occurs-node id label below after, held_occurs id below b, held_occurs id after h)))
 
 -- ---- what is reached
 
@@ -114,9 +77,9 @@ module _ (buffers : List (Option BufferPlace)) where
         two = subst (TwoClash buffers) (sym (children_here id label below after same)) k.1.1;
       })
       (λ (k : Named buffers id below).
-      let inner = named_clashing id below (below_distinct label below after one) k in
+      let inner = named_clashing id below (distinct_below label below after one) k in
       let held = reached_held id below inner.reached in
-      let other = not_own label below after one id (inl held) in
+      let other = not_here label below after id one (let s = held_some id below held in omega arith) in
       record {
         reached = reached_running id label below after m.0 ∙ or_right (int_eq label.id id) (is_reached id below || is_reached id after) (or_left (is_reached id below) (is_reached id after) inner.reached);
         parallel = kind_below id label below after other held ∙ inner.parallel;
@@ -124,10 +87,10 @@ module _ (buffers : List (Option BufferPlace)) where
       })
       m.1)
       (λ (m : Named buffers id after).
-      let later = named_clashing id after (after_distinct label below after one) m in
+      let later = named_clashing id after (distinct_after label below after one) m in
       let held = reached_held id after later.reached in
-      let other = not_own label below after one id (inr held) in
-      let apart = not_below label below after one id held in
+      let other = not_here label below after id one (let s = held_some id after held in omega arith) in
+      let apart = not_below label below after id one held in
       record {
         reached = reached_after id label below after later.reached;
         parallel = kind_after id label below after other apart ∙ later.parallel;
@@ -143,10 +106,10 @@ module _ (buffers : List (Option BufferPlace)) where
       inl (r.0, inl ((Decides-int_eq label.id id).0 same, (some_is label.kind kinds.Parallel (sym (kind_here id label below after same) ∙ c.parallel), subst (TwoClash buffers) (children_here id label below after same) c.two))))
       (λ (a : is_reached id below ≡ true).
       let held = reached_held id below a in
-      let other = not_own label below after one id (inl held) in
+      let other = not_here label below after id one (let s = held_some id below held in omega arith) in
       inl (
         r.0,
-        inr (clashing_named id below (below_distinct label below after one) (record {
+        inr (clashing_named id below (distinct_below label below after one) (record {
           reached = a;
           parallel = sym (kind_below id label below after other held) ∙ c.parallel;
           two = subst (TwoClash buffers) (children_below id label below after other held) c.two;
@@ -155,9 +118,9 @@ module _ (buffers : List (Option BufferPlace)) where
       r.1)
       (λ (a : is_reached id after ≡ true).
       let held = reached_held id after a in
-      let other = not_own label below after one id (inr held) in
-      let apart = not_below label below after one id held in
-      inr (clashing_named id after (after_distinct label below after one) (record {
+      let other = not_here label below after id one (let s = held_some id after held in omega arith) in
+      let apart = not_below label below after id one held in
+      inr (clashing_named id after (distinct_after label below after one) (record {
         reached = a;
         parallel = sym (kind_after id label below after other apart) ∙ c.parallel;
         two = subst (TwoClash buffers) (children_after id label below after other apart) c.two;

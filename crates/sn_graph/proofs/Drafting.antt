@@ -1,6 +1,6 @@
 -- Runs and rows as the planner puts them.
-use Rattle.std.proofs.Common.{◌≡◌, ◌⊎◌, ℕ, suc, ◌+◌, ◌^◌, ◌<◌, ◌≤◌, Bool, true, false, if◌then◌else◌, Bor, List, [], ◌∷◌, ◌++◌, length, map, take, get_or, sym, refl, ap, ◌∙◌, subst, ⊎_elim, arith, append_assoc, length-append, true≢false}
-use Rattle.std.proofs.lemmas.List.{take_more, map-append, append-nil}
+use Rattle.std.proofs.Common.{◌≡◌, ◌⊎◌, ℕ, suc, ◌+◌, ◌^◌, ◌<◌, ◌≤◌, Bool, true, false, if◌then◌else◌, Bor, List, [], ◌∷◌, ◌++◌, length, map, sym, refl, ap, ◌∙◌, subst, ⊎_elim, arith, append_assoc, length-append, true≢false}
+use Rattle.std.proofs.lemmas.List.{append-nil}
 use Rattle.std.specs.List.{All}
 use Rattle.std.proofs.lemmas.List.Elements.{All-append}
 use Rattle.sn_foot.specs.Canonical.{Ends}
@@ -37,9 +37,6 @@ pub record LeavesAll (before now : List Job) (lasts : List ℕ) (e : Option ℕ)
 
 abbrev pub behind : List (Bor Voice) → List Voice
 behind run = map (λ (s : Bor Voice). s.now) run
-
-pub behind_more : (run : List (Bor Voice)) (i : ℕ) (r : Bor Voice) → r ≡ get_or run i r → i < length run → behind (take (i + 1) run) ≡ behind (take i run) ++ r.now ∷ []
-behind_more run i r e l = ap behind (take_more run i r l) ∙ (map-append (λ (s : Bor Voice). s.now) (take i run) (get_or run i r ∷ []) ∙ ap (λ (t : Bor Voice). behind (take i run) ++ t.now ∷ []) (sym e))
 
 -- a row after another
 pub size-followed : (x y : Row) → size (followed x y) ≡ size x + size y
@@ -97,20 +94,6 @@ pub silent_inner : (g : Bool) (inner : Running) → has_voice inner ≡ false �
 silent_inner true inner h = rw (silent_rows inner h) refl
 silent_inner false inner h = silent_row [] inner h
 
--- nodes with a synth have one
-pub size-close : (run : List Voice) (r : Row) → size r ≤ size (close run r)
-size-close [] r = omega arith
-size-close (s ∷ ss) r = omega arith
-
-pub size-close-run : (s : Voice) (run : List Voice) (r : Row) → 1 ≤ size (close (run ++ s ∷ []) r)
-size-close-run s [] r = omega arith
-size-close-run s (x ∷ xs) r = omega arith
-
-pub size-part : (run : List Voice) (r through rest : Row) → (1 ≤ size r) ⊎ (1 ≤ size through) → 1 ≤ size (part run r through rest)
-size-part run done through rest h = ⊎_elim (λ (l : 1 ≤ 0). absurd (omega arith)) (λ (l : 1 ≤ size through). l) h
-size-part run (job ss a) through rest h = omega (arith, size-close run (followed (job ss a) rest))
-size-part run (split ms a) through rest h = omega (arith, size-close run (followed (split ms a) rest))
-
 pub puts-length : (before after : List Job) (e f : Option ℕ) (r : Row) → Puts before after e f r → length after ≡ length before + size r
 puts-length before after e f r p =
     omega (arith, ap length p.jobs_put, length-append before (jobs (length before) (listed e) r), length-jobs (length before) (listed e) r)
@@ -119,10 +102,6 @@ puts-length before after e f r p =
 pub put_run : (before after : List Job) (e f : Option ℕ) (ss : List Voice) → 1 ≤ length ss → after ≡ before ++ job_of ss (listed e) ∷ [] → f ≡ Some (length before) → Puts before after e f (close ss done)
 put_run before after e f [] l h k = absurd (omega arith)
 put_run before after e f (s ∷ ss) l h k = record { jobs_put = h; last_is = ap listed k }
-
-pub put_none : (before : List Job) (e : Option ℕ) (ss : List Voice) → length ss ≡ 0 → Puts before before e e (close ss done)
-put_none before e [] l = record { jobs_put = sym (append-nil before); last_is = refl }
-put_none before e (s ∷ ss) l = absurd (omega arith)
 
 -- a first part was put
 pub leaves_more : (before now after : List Job) (e f g : Option ℕ) (x y w : Row) → Leaves before now e f (followed x y) w → Puts now after f g x → Leaves before after e g y w
@@ -310,9 +289,6 @@ is_joint before after (x ∷ y ∷ ls) e f l h k = (h, k)
 pub length-behind : (run : List (Bor Voice)) → length (behind run) ≡ length run
 length-behind [] = refl
 length-behind (x ∷ xs) = ap suc (length-behind xs)
-
-pub behind-push : (run : List (Bor Voice)) (r : Bor Voice) → behind (run ++ r ∷ []) ≡ behind run ++ r.now ∷ []
-behind-push run r = map-append (λ (s : Bor Voice). s.now) run (r ∷ [])
 
 -- the same as the planner meets them
 module _ {before now : List Job} {e f : Option ℕ} {w : Row} where

@@ -1,7 +1,7 @@
 -- The walk's nodes, put together from its end on, are the nodes that run.
-use Rattle.std.proofs.Common.{◌≡◌, ◌≤◌, ℕ, zero, suc, ◌+◌, ℤ, Bool, true, false, not, if◌then◌else◌, List, [], ◌∷◌, ◌++◌, map, reverse, take, drop, length, Option, sym, refl, ap, ◌∙◌, append_assoc, arith}
+use Rattle.std.proofs.Common.{◌≡◌, ◌≤◌, ℕ, zero, suc, ◌+◌, ℤ, Bool, true, false, not, if◌then◌else◌, List, [], ◌∷◌, ◌++◌, map, take, drop, length, Option, sym, refl, ap, ◌∙◌, append_assoc, arith}
 use Rattle.std.proofs.lemmas.Bool.{cond-true, cond-false}
-use Rattle.std.proofs.lemmas.List.{append-nil, map-append, reverse-append, length-reverse, length-map, take_all}
+use Rattle.std.proofs.lemmas.List.{append-nil, length-reverse, length-map, take_all}
 use Rattle.std.proofs.Math.Seq.{take-append_seam, drop-append_seam}
 use Rattle.sn_mem.specs.declared.buffers.BufferPlace.{BufferPlace}
 use Rattle.sn_tree.specs.declared.node.NodeKind.{NodeKind}
@@ -13,13 +13,11 @@ use Rattle.sn_world.specs.declared.stage.Held.{Held}
 use Rattle.sn_graph.specs.declared.nodes.Voice.{Voice}
 use Rattle.sn_graph.specs.declared.parts.Part.{Part}
 use Rattle.sn_graph.specs.Voices.{Running, none}
-use Rattle.sn_graph.specs.Stages.{is_listed, voice_of, with_node, running_of}
+use Rattle.sn_graph.specs.Plans.{is_listed}
+use Rattle.sn_graph.specs.Stages.{voice_of, with_node, running_of}
 use Rattle.sn_graph.specs.Pieces.{Piece, paused, voice, below, piece_of, pieces, before, linked, running_piece, piece, with_member, built}
 
 -- ---- the list of the kept ones
-
-pub pieces-snoc : (ps : List Part) (p : Part) → pieces (ps ++ p ∷ []) ≡ piece_of p ∷ pieces ps
-pieces-snoc ps p = ap reverse (map-append piece_of ps (p ∷ [])) ∙ reverse-append (map piece_of ps) (piece_of p ∷ [])
 
 pub linked-snoc : (ps : List Piece) (p : Piece) (rest : Running) → linked (ps ++ p ∷ []) rest ≡ linked ps (before p rest)
 linked-snoc [] p rest = refl
@@ -108,10 +106,6 @@ module _ (buffers : List (Option BufferPlace)) (clashing : List ℤ) where
 
   pub linked_whole : (t : Nodes Held) (ps : List Piece) (count : ℕ) → length ps ≤ count → ps ≡ built buffers clashing (members t) [] → linked (take count ps) none ≡ running_of buffers clashing t
   linked_whole t ps count l is = ap (λ qs. linked qs none) (take_all count ps l ∙ is ∙ built_tree t) ∙ linked_tops t
-
-pub none_left : {A : Type 0} (xs : List A) → length xs ≡ 0 → xs ≡ []
-none_left [] e = refl
-none_left (x ∷ xs) e = absurd (omega arith)
 
 pub length-pieces : (ps : List Part) → length (pieces ps) ≡ length ps
 length-pieces ps = length-reverse (map piece_of ps) ∙ length-map ps piece_of

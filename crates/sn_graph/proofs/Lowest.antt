@@ -2,12 +2,13 @@
 use Rattle.std.proofs.Common.{◌≡◌, ◌⊎◌, ℤ, Bool, true, false, ◌&&◌, List, [], ◌∷◌, ◌++◌, sym, refl, ◌∙◌, ⊎_elim, inl, inr, true≢false}
 use Rattle.std.proofs.lemmas.Bool.{or_cases, or_parts, and_parts, and_from, or_left, or_right, false_from_ne_true}
 use Rattle.std.specs.Ordering.{int_eq}
+use Rattle.std.proofs.Math.Bool.{and-false, and-true, or-false}
 use Rattle.sn_graph.specs.declared.nodes.Voice.{Voice}
 use Rattle.sn_graph.specs.Voices.{Running, none, synth, group, voices, has, Once}
 use Rattle.sn_graph.specs.Plans.{lowest_is_split}
 use Rattle.sn_graph.proofs.Shapes.{is_parted, comes}
 use Rattle.sn_graph.proofs.Numbers.{once-left, once-right, once-both}
-use Rattle.sn_graph.proofs.Parting.{has-append, or-false, and-false}
+use Rattle.sn_graph.proofs.Parting.{has-append}
 use Rattle.sn_graph.proofs.Freeing.{parted_has}
 
 pub comes_has : (xs : List Voice) (a b : ℤ) → comes xs a b ≡ true → (has xs a ≡ true) × (has xs b ≡ true)
@@ -54,10 +55,6 @@ lowest_here g (synth s rest) a b h = lowest_here g rest a b (or_parts (int_eq s.
 lowest_here g (group f inner rest) a b h =
     let d = or_parts (has (voices inner) a) (has (voices rest) a) (sym (has-append (voices inner) (voices rest) a) ∙ h) in
     rw d.0 (lowest_here g rest a b d.1)
-
-and-true : (g : Bool) → (g && true) ≡ g
-and-true true = refl
-and-true false = refl
 
 pub parted_is_lowest : (g : Bool) (nodes : Running) (a b : ℤ) → Once (voices nodes) → comes (voices nodes) a b ≡ true → is_parted g nodes a b ≡ lowest_is_split g nodes a b
 parted_is_lowest g none a b o h = absurd (true≢false (sym h))

@@ -1,5 +1,5 @@
 -- The clashes of nodes name the parallel groups of which two members clash.
-use Rattle.std.proofs.Common.{◌≡◌, ◌<◌, ◌≤◌, ◌⊎◌, inl, inr, ⊎_elim, ℕ, zero, suc, ℤ, Bool, true, false, ◌&&◌, ◌||◌, List, [], ◌∷◌, ◌++◌, map, take, Option, sym, refl, ap, ◌∙◌, subst, arith, if◌then◌else◌, true≢false}
+use Rattle.std.proofs.Common.{◌≡◌, ◌<◌, ◌≤◌, ◌⊎◌, inl, inr, ⊎_elim, ℕ, zero, suc, ℤ, Bool, true, false, ◌&&◌, ◌||◌, List, [], ◌∷◌, ◌++◌, map, take, Option, sym, refl, ap, ◌∙◌, subst, arith, if◌then◌else◌, true≢false, None}
 use Rattle.std.specs.Prelude.{nat_lt}
 use Rattle.std.specs.List.{filter, list_any}
 use Rattle.std.specs.Ordering.{int_eq}
@@ -19,7 +19,8 @@ use Rattle.sn_foot.specs.Footprints.{Footprint, footprint_of, held_reads, held_w
 use Rattle.sn_foot.specs.Footprints.{Clash as FootprintsClash}
 use Rattle.sn_clash.specs.declared.clash.Clash.{Clash}
 use Rattle.sn_clash.specs.Clashing.{Member, clashes, clashes_among, clashes_with, footprint, is_parallel, members, resources}
-use Rattle.sn_graph.specs.Stages.{is_listed}
+use Rattle.sn_clash.proofs.Members.{any_first, clash_at}
+use Rattle.sn_graph.specs.Plans.{is_listed}
 use Rattle.sn_graph.specs.Clear.{held_of, ClashesWithNone, ClashesWithOne, NoneClash, TwoClash, AreListed}
 
 -- ---- lists
@@ -40,14 +41,9 @@ first_map : {A B : Type 0} (f : A → B) (y : B) (ys : List B) (xs : List A) →
 first_map f y ys [] e = absurd (cc)
 first_map f y ys (x ∷ xs) e = (x, xs, refl)
 
-none_if : {A : Type 0} (b : Bool) (x : A) (xs : List A) (any : Bool) → (if b then x ∷ xs else xs) ≡ [] → (xs ≡ [] → any ≡ false) → (b || any) ≡ false
-none_if true x xs any e f = absurd (cc)
-none_if false x xs any e f = f e
-
 -- none passes a test
 none_passes : {A : Type 0} (p : A → Bool) (xs : List A) → filter p xs ≡ [] → list_any p xs ≡ false
-none_passes p [] e = refl
-none_passes p (x ∷ xs) e = none_if (p x) x (filter p xs) (list_any p xs) e (none_passes p xs)
+none_passes p xs e = sym (any_first p xs None (sym (ap (λ ys. take 1 ys) e)))
 
 first_if : {A : Type 0} (p : A → Bool) (b : Bool) (x y : A) (xs ys : List A) → p x ≡ b → (if b then x ∷ xs else xs) ≡ y ∷ ys → (xs ≡ y ∷ ys → p y ≡ true) → p y ≡ true
 first_if p true x y xs ys is e f = let same : x ≡ y = cc in sym (ap p same) ∙ is
@@ -138,9 +134,6 @@ module _ (buffers : List (Option BufferPlace)) where
       subst (λ (x : Footprint). FootprintsClash x (footprint_of buffers (map (λ l. l.payload) ms))) (same_footprint ls) (subst (λ (y : Footprint). FootprintsClash (used ls) y) (same_footprint ms) d)
 
   -- ---- members of a group
-
-  abbrev clash_at : ℤ → Member → Member → Resource → Clash
-  clash_at id a b r = record { group = id; first = a.id; second = b.id; resource = r }
 
   abbrev member_at : ℤ → List (Label Held) → Member
   member_at x ls = record { id = x; uses = used ls }

@@ -7,7 +7,7 @@ use Rattle.sn_round.specs.declared.jobs.Job.{Job}
 use Rattle.sn_graph.specs.declared.nodes.Voice.{Voice}
 use Rattle.sn_graph.specs.Voices.{ids_of, has, Once}
 use Rattle.sn_graph.specs.Rows.{Row, Members, done, job, split, one, more, size, size_all}
-use Rattle.sn_graph.specs.Plans.{has_id}
+use Rattle.sn_graph.specs.Plans.{is_listed}
 use Rattle.sn_graph.proofs.Shapes.{Fits, FitsAll, Apart, ApartAll, Stands, StandsAll, heard, heard_all, parts, parts_all}
 use Rattle.sn_graph.proofs.Parting.{has-append}
 
@@ -15,9 +15,9 @@ use Rattle.sn_graph.proofs.Parting.{has-append}
 pub same : (x y : ℤ) → int_eq x y ≡ true → x ≡ y
 same x y h = (Decides-int_eq x y).0 h
 
-pub has_id-ids : (ss : List Voice) (a : ℤ) → has_id (ids_of ss) a ≡ has ss a
-has_id-ids [] a = refl
-has_id-ids (s ∷ ss) a = ap (λ (t : Bool). int_eq s.id a || t) (has_id-ids ss a)
+pub listed-ids : (ss : List Voice) (a : ℤ) → is_listed (ids_of ss) a ≡ has ss a
+listed-ids [] a = refl
+listed-ids (s ∷ ss) a = ap (λ (t : Bool). int_eq s.id a || t) (listed-ids ss a)
 
 pub has-left : (xs ys : List Voice) (a : ℤ) → has xs a ≡ true → has (xs ++ ys) a ≡ true
 has-left xs ys a h = has-append xs ys a ∙ or_left (has xs a) (has ys a) h
@@ -46,7 +46,7 @@ module _ (at : ℕ → Job) where
   before k = (at k).before
 
   abbrev pub Plays : ℕ → ℤ → Type 0
-  Plays k a = has_id ((at k).synths) a ≡ true
+  Plays k a = is_listed ((at k).synths) a ≡ true
 
   mutual
     pub fits : (n : ℕ) (e : List ℕ) (r : Row) → Stands at n e r → Fits before n e r
@@ -65,14 +65,14 @@ module _ (at : ℕ → Job) where
     plays_in n e (job ss rest) k a s l m p =
         ⊎_elim
         (λ (g : n < k). has-right ss (heard rest) a (plays_in (n + 1) (n ∷ []) rest k a s.1 (omega arith) (omega arith) p))
-        (λ (g : k ≤ n). let q : k ≡ n = omega arith in has-left ss (heard rest) a (sym (has_id-ids ss a) ∙ (sym (ap (λ (j : Job). has_id j.synths a) (ap at q ∙ s.0)) ∙ p)))
+        (λ (g : k ≤ n). let q : k ≡ n = omega arith in has-left ss (heard rest) a (sym (listed-ids ss a) ∙ (sym (ap (λ (j : Job). is_listed j.synths a) (ap at q ∙ s.0)) ∙ p)))
         (cases_lt n k)
     plays_in n e (split ms rest) k a s l m p =
         ⊎_elim
         (λ (g : k < n + size_all ms). has-left (heard_all ms) (heard rest) a (plays_all n e ms k a s.0 l g p))
         (λ (g : n + size_all ms ≤ k). ⊎_elim
         (λ (d : n + size_all ms < k). has-right (heard_all ms) (heard rest) a (plays_in (n + size_all ms + 1) ((n + size_all ms) ∷ []) rest k a s.2 (omega arith) (omega arith) p))
-        (λ (d : k ≤ n + size_all ms). let q : k ≡ n + size_all ms = omega arith in absurd (true≢false (sym p ∙ ap (λ (j : Job). has_id j.synths a) (ap at q ∙ s.1))))
+        (λ (d : k ≤ n + size_all ms). let q : k ≡ n + size_all ms = omega arith in absurd (true≢false (sym p ∙ ap (λ (j : Job). is_listed j.synths a) (ap at q ∙ s.1))))
         (cases_lt (n + size_all ms) k))
         (cases_lt k (n + size_all ms))
 
@@ -139,7 +139,7 @@ module _ (at : ℕ → Job) where
       (λ (g : k < n + size_all ms). g)
       (λ (g : n + size_all ms ≤ k). ⊎_elim
       (λ (d : n + size_all ms < k). absurd (once-both (heard_all ms) (heard rest) a o h (plays_in at (n + size_all ms + 1) ((n + size_all ms) ∷ []) rest k a s.2 (omega arith) (omega arith) p)))
-      (λ (d : k ≤ n + size_all ms). let q : k ≡ n + size_all ms = omega arith in absurd (true≢false (sym p ∙ ap (λ (j : Job). has_id j.synths a) (ap at q ∙ s.1))))
+      (λ (d : k ≤ n + size_all ms). let q : k ≡ n + size_all ms = omega arith in absurd (true≢false (sym p ∙ ap (λ (j : Job). is_listed j.synths a) (ap at q ∙ s.1))))
       (cases_lt (n + size_all ms) k))
       (cases_lt k (n + size_all ms))
 
@@ -150,7 +150,7 @@ module _ (at : ℕ → Job) where
       (λ (g : k < n + size_all ms). absurd (once-both (heard_all ms) (heard rest) a o (plays_all at n e ms k a s.0 l g p) h))
       (λ (g : n + size_all ms ≤ k). ⊎_elim
       (λ (d : n + size_all ms < k). omega arith)
-      (λ (d : k ≤ n + size_all ms). let q : k ≡ n + size_all ms = omega arith in absurd (true≢false (sym p ∙ ap (λ (j : Job). has_id j.synths a) (ap at q ∙ s.1))))
+      (λ (d : k ≤ n + size_all ms). let q : k ≡ n + size_all ms = omega arith in absurd (true≢false (sym p ∙ ap (λ (j : Job). is_listed j.synths a) (ap at q ∙ s.1))))
       (cases_lt (n + size_all ms) k))
       (cases_lt k (n + size_all ms))
 
@@ -158,7 +158,7 @@ module _ (at : ℕ → Job) where
   past_first n e ss rest k a s o l p h =
       ⊎_elim
       (λ (g : n < k). omega arith)
-      (λ (g : k ≤ n). let q : k ≡ n = omega arith in absurd (once-both ss (heard rest) a o (sym (has_id-ids ss a) ∙ (sym (ap (λ (j : Job). has_id j.synths a) (ap at q ∙ s.0)) ∙ p)) h))
+      (λ (g : k ≤ n). let q : k ≡ n = omega arith in absurd (once-both ss (heard rest) a o (sym (listed-ids ss a) ∙ (sym (ap (λ (j : Job). is_listed j.synths a) (ap at q ∙ s.0)) ∙ p)) h))
       (cases_lt n k)
 
   pub in_member : (n : ℕ) (e : List ℕ) (r : Row) (ms : Members) (k : ℕ) (a : ℤ) → StandsAll at n e (more r ms) → Once (heard r ++ heard_all ms) → n ≤ k → k < n + size_all (more r ms)

@@ -1,6 +1,6 @@
 -- A row keeps the synths of its nodes, and which of them are parted.
-use Rattle.std.proofs.Common.{◌≡◌, ℤ, Bool, true, false, ◌&&◌, ◌||◌, List, [], ◌∷◌, ◌++◌, sym, refl, ap, ◌∙◌, append_assoc}
-use Rattle.std.proofs.Math.Bool.{or_assoc}
+use Rattle.std.proofs.Common.{◌≡◌, ℤ, true, false, ◌||◌, List, [], ◌∷◌, ◌++◌, sym, refl, ap, ◌∙◌, append_assoc}
+use Rattle.std.proofs.Math.Bool.{or_assoc, or-false, and-false}
 use Rattle.std.proofs.lemmas.List.{append-nil}
 use Rattle.std.specs.Ordering.{int_eq}
 use Rattle.sn_graph.specs.declared.nodes.Voice.{Voice}
@@ -8,14 +8,6 @@ use Rattle.sn_graph.specs.Voices.{Running, none, synth, group, voices, has}
 use Rattle.sn_graph.specs.Rows.{Row, done, job, split, more}
 use Rattle.sn_graph.specs.Plans.{close, followed, members, joined, keep, part, row_of, rows_of}
 use Rattle.sn_graph.proofs.Shapes.{is_parted, heard, heard_all, heard_list, parts, parts_all, parts_list}
-
-pub or-false : (x : Bool) → (x || false) ≡ x
-or-false true = refl
-or-false false = refl
-
-pub and-false : (x : Bool) → (x && false) ≡ false
-and-false true = refl
-and-false false = refl
 
 pub has-append : (xs ys : List Voice) (a : ℤ) → has (xs ++ ys) a ≡ (has xs a || has ys a)
 has-append [] ys a = refl

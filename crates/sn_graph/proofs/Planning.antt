@@ -1,16 +1,17 @@
 -- The jobs of a row as a list, and the plan of nodes.
-use Rattle.std.proofs.Common.{◌≡◌, ◌⊎◌, ℕ, zero, suc, ◌+◌, ◌*◌, ◌^◌, ◌<◌, ◌≤◌, ℤ, true, false, List, [], ◌∷◌, ◌++◌, length, sym, refl, ap, ◌∙◌, subst, ⊎_elim, inl, inr, arith, true≢false, length-append, append_assoc}
+use Rattle.std.proofs.Common.{◌≡◌, ◌⊎◌, ℕ, suc, ◌+◌, ◌*◌, ◌^◌, ◌<◌, ◌≤◌, ℤ, true, false, List, [], ◌∷◌, ◌++◌, length, sym, refl, ap, ◌∙◌, subst, ⊎_elim, inl, inr, arith, true≢false, length-append, append_assoc}
 use Rattle.std.specs.Prelude.{Contains}
 use Rattle.std.proofs.lemmas.Bool.{cases_lt, cases_order, or_cases, or_left, or_right, false_from_ne_true}
 use Rattle.std.proofs.Math.ListN.{get_or-append}
 use Rattle.std.proofs.lemmas.List.{get_or-append-add}
 use Rattle.sn_round.specs.declared.jobs.Job.{Job}
 use Rattle.sn_round.specs.Jobs.{no_job, job_at, foot_at, predecessors, AreJobs, Ordered, direct, through, IsRaceFree}
+use Rattle.sn_round.proofs.Orders.{past_end, nothing_in}
 use Rattle.sn_foot.proofs.Runs.{has_append, has_canonical}
 use Rattle.sn_graph.specs.declared.nodes.Voice.{Voice}
 use Rattle.sn_graph.specs.Voices.{all_reads, all_writes, ids_of, foot_of, Running, voices, has, Once}
 use Rattle.sn_graph.specs.Rows.{Row, Members, done, job, split, one, more, job_of, size, size_all, lasts, jobs, jobs_all}
-use Rattle.sn_graph.specs.Plans.{has_id, row_of, joined_synths, plan_of, Plays, edges}
+use Rattle.sn_graph.specs.Plans.{is_listed, row_of, joined_synths, plan_of, Plays, edges}
 use Rattle.sn_graph.proofs.Shapes.{IsPlan, Apart, is_parted, Stands, StandsAll, heard, heard_all, Among, IsFree}
 use Rattle.sn_graph.proofs.Ordering.{Path, step, next, order, apart, IsLower, stays, path_lower}
 use Rattle.sn_graph.proofs.Parting.{heard-row, parts-row}
@@ -76,19 +77,11 @@ pub to_path : (js : List Job) {i j : ℕ} → Ordered js i j → Path (predecess
 to_path js (direct c) = step c
 to_path js (through p c) = next (to_path js p) c
 
-pub past_end : (js : List Job) (k : ℕ) → length js ≤ k → job_at js k ≡ no_job
-past_end [] k l = refl
-past_end (x ∷ xs) zero l = absurd (omega arith)
-past_end (x ∷ xs) (suc k) l = past_end xs k (omega arith)
-
-pub no_element : (x : ℕ) → Contains {X = ℕ} [] x → ⊥
-no_element x (k, l, e) = omega arith
-
 pub lower : (r : Row) → IsLower (predecessors (jobs 0 [] r))
 lower r k m c =
     ⊎_elim
-    (λ (g : k < size r). ⊎_elim (λ (d : (0 ≤ m) × (m < k)). d.1) (λ (d : Contains [] m). absurd (no_element m d)) (stays (predecessors (jobs 0 [] r)) 0 [] r k m (numbers.fits (job_at (jobs 0 [] r)) 0 [] r (whole r)) (omega arith) (omega arith) c))
-    (λ (g : size r ≤ k). absurd (no_element m (subst (λ (j : Job). Contains j.before m) (past_end (jobs 0 [] r) k (omega (arith, length-jobs 0 [] r))) c)))
+    (λ (g : k < size r). ⊎_elim (λ (d : (0 ≤ m) × (m < k)). d.1) (λ (d : Contains [] m). absurd (nothing_in m d)) (stays (predecessors (jobs 0 [] r)) 0 [] r k m (numbers.fits (job_at (jobs 0 [] r)) 0 [] r (whole r)) (omega arith) (omega arith) c))
+    (λ (g : size r ≤ k). absurd (nothing_in m (subst (λ (j : Job). Contains j.before m) (past_end (jobs 0 [] r) k (omega (arith, length-jobs 0 [] r))) c)))
     (cases_lt k (size r))
 
 pub ids-append : (xs ys : List Voice) → ids_of (xs ++ ys) ≡ ids_of xs ++ ids_of ys
@@ -131,7 +124,7 @@ module _ (nodes : Running) (only_once : Once (voices nodes)) where
   played k a p =
       ⊎_elim
       (λ (h : k < size row). omega arith)
-      (λ (h : size row ≤ k). absurd (true≢false (sym p ∙ ap (λ (j : Job). has_id j.synths a) (past_end js k (omega (arith, few_jobs))))))
+      (λ (h : size row ≤ k). absurd (true≢false (sym p ∙ ap (λ (j : Job). is_listed j.synths a) (past_end js k (omega (arith, few_jobs))))))
       (cases_lt k (size row))
 
   pub ordered_is : (i j : ℕ) (a b : ℤ) → Plays js i a → Plays js j b → Ordered js i j → (i < j) × (is_parted false nodes a b ≡ false)
@@ -139,7 +132,7 @@ module _ (nodes : Running) (only_once : Once (voices nodes)) where
       let path : Path (predecessors js) i j = to_path js o in (
         path_lower (predecessors js) (lower row) path,
         false_from_ne_true (is_parted false nodes a b) (λ h.
-            apart (predecessors js) 0 [] row i j (lower row) (numbers.fits (job_at js) 0 [] row (whole row)) (λ x c. absurd (no_element x c))
+            apart (predecessors js) 0 [] row i j (lower row) (numbers.fits (job_at js) 0 [] row (whole row)) (λ x c. absurd (nothing_in x c))
             (numbers.parts_apart (job_at js) 0 [] row i j a b (whole row) heard_once (omega arith) (played i a p) (omega arith) (played j b q) p q (parts-row [] nodes a b ∙ h))
             path),
       )
@@ -239,7 +232,7 @@ mutual
 -- the whole law of the plan
 module _ (nodes : Running) (only_once : Once (voices nodes)) where
   pub plays_made : (k : ℕ) (ss : List Voice) (f : List ℕ) (s : Voice) → job_at (plan_of nodes) k ≡ job_of ss f → Among ss s → Plays (plan_of nodes) k s.id
-  plays_made k ss f s e a = ap (λ (j : Job). has_id j.synths s.id) e ∙ (numbers.has_id-ids ss s.id ∙ among_has ss s a)
+  plays_made k ss f s e a = ap (λ (j : Job). is_listed j.synths s.id) e ∙ (numbers.listed-ids ss s.id ∙ among_has ss s a)
 
   rising : IsFree nodes → (i j : ℕ) → i < j → j < length (plan_of nodes) → Clash (foot_at (plan_of nodes) i) (foot_at (plan_of nodes) j) → Ordered (plan_of nodes) i j
   rising free i j l m clash =

@@ -2,38 +2,33 @@
 use Rattle.std.proofs.Common.{◌≡◌, ◌≤◌, ◌<◌, ◌⊎◌, inl, inr, ⊎_elim, ℕ, zero, suc, ◌+◌, ◌*◌, Bool, true, false, ◌&&◌, ◌||◌, List, [], ◌∷◌, ◌++◌, Option, Some, None, sym, refl, ap, ◌∙◌, subst, arith, true≢false, if◌then◌else◌}
 use Rattle.std.specs.Prelude.{◌↔◌, slice_index_or, nat_lt, nat_le, is_some}
 use Rattle.std.specs.List.{All, list_any}
-use Rattle.std.proofs.lemmas.Bool.{cond-true, cond-false, or_cases, or_left, or_right, and_parts, and_from, lt-ltb, le-ltb, ltb-true, leb-true, le-leb, cases_lt, cases_order}
+use Rattle.std.proofs.lemmas.Bool.{or_cases, or_left, or_right, and_parts, and_from, lt-ltb, ltb-true, leb-true, le-leb, cases_order}
+use Rattle.std.proofs.Math.Bool.{or_comm}
 use Rattle.sn_mem.specs.declared.extents.Extent.{Extent}
 use Rattle.sn_mem.specs.declared.buffers.BufferPlace.{BufferPlace}
 use Rattle.sn_mem.specs.Layout.{audio_place, control_place}
 use Rattle.sn_mem.specs.Words.{covers, has, writes, touches, Clash}
 use Rattle.sn_mem.specs.Buffers.{MayBePlace, overlaps, live_places, place_extents}
+use Rattle.sn_mem.proofs.BufferWords.{overlaps-append}
 use Rattle.sn_world.specs.declared.stage.Held.{Held}
+use Rattle.sn_world.proofs.Inserting.{has-overlaps}
 use Rattle.sn_foot.specs.declared.resource.Resource.{Resource}
 use Rattle.sn_foot.specs.declared.resource.Resource.TheVariants.{Audio, Control, Buffer}
 use Rattle.sn_foot.specs.Footprints.{Footprint, buffer_words, clash_on, is_there, place_of, lies_in, states_of, IsOfUsed, held_writes, footprint_of, foot_of}
 use Rattle.sn_foot.specs.Footprints.{Clash as FootprintsClash}
 use Rattle.sn_foot.proofs.Runs.{has_append}
-use Rattle.sn_foot.proofs.Containing.{its_words}
+use Rattle.sn_foot.proofs.Containing.{its_words, in_range}
 use Rattle.sn_foot.proofs.Placing.{has_place}
 use Rattle.sn_graph.specs.Disjoint.{AreDisjoint}
 
 -- ---- how often a word is covered
 
-pub covered_one : (b : Bool) → b ≡ true → ◌≡◌ {A = ℕ} (if b then 1 else 0) 1
+covered_one : (b : Bool) → b ≡ true → ◌≡◌ {A = ℕ} (if b then 1 else 0) 1
 covered_one true h = refl
 covered_one false h = absurd (true≢false (sym h))
 
 pub overlaps_has : (x : ℕ) (es : List Extent) → has es x ≡ true → 1 ≤ overlaps x es
-overlaps_has x [] h = absurd (true≢false (sym h))
-overlaps_has x (e ∷ es) h = ⊎_elim
-    (λ (c : covers e x ≡ true). let one = covered_one (covers e x) c in omega (arith, one))
-    (λ (c : has es x ≡ true). omega (arith, overlaps_has x es c))
-    (or_cases (covers e x) (has es x) h)
-
-pub overlaps_append : (x : ℕ) (es fs : List Extent) → overlaps x (es ++ fs) ≡ overlaps x es + overlaps x fs
-overlaps_append x [] fs = omega arith
-overlaps_append x (e ∷ es) fs = omega (arith, overlaps_append x es fs)
+overlaps_has x es h = let more = ltb-true 0 (overlaps x es) (sym (has-overlaps es x) ∙ h) in omega arith
 
 -- a word of a buffer is one of a place
 buffer_overlaps : (x n : ℕ) (ps : List (Option BufferPlace)) → lies_in x (buffer_words (slice_index_or ps n None)) ≡ true → 1 ≤ overlaps x (live_places ps)
@@ -41,7 +36,7 @@ unfolding live_places
 buffer_overlaps x n [] h = absurd (true≢false (sym h))
 buffer_overlaps x zero (None ∷ ps) h = absurd (true≢false (sym h))
 buffer_overlaps x zero (Some p ∷ ps) h = let one = covered_one (covers p.extent x) h in omega (arith, one)
-buffer_overlaps x (suc n) (p ∷ ps) h = omega (arith, buffer_overlaps x n ps h, overlaps_append x (place_extents p) (live_places ps))
+buffer_overlaps x (suc n) (p ∷ ps) h = omega (arith, buffer_overlaps x n ps h, overlaps-append x (place_extents p) (live_places ps))
 
 -- and one of two buffers is one of two places
 two_buffers : (x n m : ℕ) (ps : List (Option BufferPlace)) → n < m → lies_in x (buffer_words (slice_index_or ps n None)) ≡ true → lies_in x (buffer_words (slice_index_or ps m None)) ≡ true → 2 ≤ overlaps x (live_places ps)
@@ -50,7 +45,7 @@ two_buffers x n m [] l h k = absurd (true≢false (sym h))
 two_buffers x n zero (p ∷ ps) l h k = absurd (omega arith)
 two_buffers x zero (suc m) (None ∷ ps) l h k = absurd (true≢false (sym h))
 two_buffers x zero (suc m) (Some p ∷ ps) l h k = let one = covered_one (covers p.extent x) h in omega (arith, one, buffer_overlaps x m ps k)
-two_buffers x (suc n) (suc m) (p ∷ ps) l h k = omega (arith, two_buffers x n m ps (omega arith) h k, overlaps_append x (place_extents p) (live_places ps))
+two_buffers x (suc n) (suc m) (p ∷ ps) l h k = omega (arith, two_buffers x n m ps (omega arith) h k, overlaps-append x (place_extents p) (live_places ps))
 
 -- ---- what a word of a resource says
 
@@ -59,14 +54,6 @@ covers_from e x h = let p = and_parts (nat_le e.at x) (nat_lt x (e.at + e.len)) 
 
 covers_first : (e : Extent) → 1 ≤ e.len → covers e e.at ≡ true
 covers_first e l = and_from (nat_le e.at e.at) (nat_lt e.at (e.at + e.len)) (le-leb e.at e.at (omega arith)) (lt-ltb e.at (e.at + e.len) (omega arith))
-
--- a resource with a word has a number below the count of its sort
-in_range : (n count : ℕ) (place : Option Extent) (x : ℕ) → lies_in x (if nat_lt n count then place else None) ≡ true → (n < count) × (lies_in x place ≡ true)
-in_range n count place x h =
-    ⊎_elim
-    (λ (lt : n < count). (lt, sym (ap (λ p. lies_in x p) (cond-true (nat_lt n count) place None (lt-ltb n count lt))) ∙ h))
-    (λ (ge : count ≤ n). absurd (true≢false (sym h ∙ ap (λ p. lies_in x p) (cond-false (nat_lt n count) place None (le-ltb n count ge)))))
-    (cases_lt n count)
 
 may_be : (n : ℕ) (ps : List (Option BufferPlace)) → All MayBePlace ps → MayBePlace (slice_index_or ps n None)
 may_be n [] all = tt
@@ -148,7 +135,7 @@ module _ (buffers : List (Option BufferPlace)) where
 -- ---- clashes
 
 both_states : (x : ℕ) (es fs : List Extent) → has es x ≡ true → has fs x ≡ true → 2 ≤ overlaps x (es ++ fs)
-both_states x es fs h k = omega (arith, overlaps_append x es fs, overlaps_has x es h, overlaps_has x fs k)
+both_states x es fs h k = omega (arith, overlaps-append x es fs, overlaps_has x es h, overlaps_has x fs k)
 
 state_left : (x : ℕ) (es fs : List Extent) → has es x ≡ true → has (es ++ fs) x ≡ true
 state_left x es fs h = has_append es fs x ∙ or_left (has es x) (has fs x) h
@@ -160,27 +147,23 @@ state_right x es fs h = has_append es fs x ∙ or_right (has es x) (has fs x) h
 abbrev pub Meets : Footprint → Footprint → Resource → Type 0
 Meets a b r = (a.writes r ≡ true) × ((b.writes r || b.reads r) ≡ true)
 
-changed : (x y : Bool) → (x || y) ≡ true → (y || x) ≡ true
-changed true y h = or_right y true refl
-changed false y h = or_left y false h
-
 module _ (a b : Footprint) (r : Resource) where
   -- two footprints clash on what one of them writes and the other uses
   pub one_meets : clash_on a b r ≡ true → Meets a b r ⊎ Meets b a r
   one_meets t = ⊎_elim
-      (λ (h : (a.writes r && (b.reads r || b.writes r)) ≡ true). let p = and_parts (a.writes r) (b.reads r || b.writes r) h in inl (p.0, changed (b.reads r) (b.writes r) p.1))
-      (λ (h : (b.writes r && (a.reads r || a.writes r)) ≡ true). let p = and_parts (b.writes r) (a.reads r || a.writes r) h in inr (p.0, changed (a.reads r) (a.writes r) p.1))
+      (λ (h : (a.writes r && (b.reads r || b.writes r)) ≡ true). let p = and_parts (a.writes r) (b.reads r || b.writes r) h in inl (p.0, or_comm (b.writes r) (b.reads r) ∙ p.1))
+      (λ (h : (b.writes r && (a.reads r || a.writes r)) ≡ true). let p = and_parts (b.writes r) (a.reads r || a.writes r) h in inr (p.0, or_comm (a.writes r) (a.reads r) ∙ p.1))
       (or_cases (a.writes r && (b.reads r || b.writes r)) (b.writes r && (a.reads r || a.writes r)) t)
 
   pub first_meets : Meets a b r → clash_on a b r ≡ true
   first_meets m =
       or_left (a.writes r && (b.reads r || b.writes r)) (b.writes r && (a.reads r || a.writes r))
-      (and_from (a.writes r) (b.reads r || b.writes r) m.0 (changed (b.writes r) (b.reads r) m.1))
+      (and_from (a.writes r) (b.reads r || b.writes r) m.0 (or_comm (b.reads r) (b.writes r) ∙ m.1))
 
   pub second_meets : Meets b a r → clash_on a b r ≡ true
   second_meets m =
       or_right (a.writes r && (b.reads r || b.writes r)) (b.writes r && (a.reads r || a.writes r))
-      (and_from (b.writes r) (a.reads r || a.writes r) m.0 (changed (a.writes r) (a.reads r) m.1))
+      (and_from (b.writes r) (a.reads r || a.writes r) m.0 (or_comm (a.reads r) (a.writes r) ∙ m.1))
 
 module _ (buffers : List (Option BufferPlace)) (hs ks : List Held) (is : AreDisjoint buffers (states_of hs ++ states_of ks)) where
   touched : (x : ℕ) → touches (foot_of buffers ks) x ≡ true → ((r : Resource) × (((footprint_of buffers ks).writes r || (footprint_of buffers ks).reads r) ≡ true) × (lies_in x (place_of buffers r) ≡ true)) ⊎ (has (states_of ks) x ≡ true)
@@ -233,7 +216,7 @@ turned : (buffers : List (Option BufferPlace)) (es fs : List Extent) → AreDisj
 turned buffers es fs is = record {
   places = is.places;
   behind = λ x h. is.behind x (⊎_elim (λ (a : has fs x ≡ true). state_right x es fs a) (λ (a : has es x ≡ true). state_left x es fs a) (or_cases (has fs x) (has es x) (sym (has_append fs es x) ∙ h)));
-  apart = λ x. omega (arith, is.apart x, overlaps_append x es fs, overlaps_append x fs es);
+  apart = λ x. omega (arith, is.apart x, overlaps-append x es fs, overlaps-append x fs es);
 }
 
 pub clash_agrees : (buffers : List (Option BufferPlace)) (hs ks : List Held) → AreDisjoint buffers (states_of hs ++ states_of ks) → Clash (foot_of buffers hs) (foot_of buffers ks) ↔ FootprintsClash (footprint_of buffers hs) (footprint_of buffers ks)

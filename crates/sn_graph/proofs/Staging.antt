@@ -1,8 +1,7 @@
 -- What the planner asks of the nodes of a stage.
-use Rattle.std.proofs.Common.{◌≡◌, ℕ, ◌+◌, ℤ, if◌then◌else◌, List, [], ◌∷◌, ◌++◌, map, Option, sym, refl, ap, ◌∙◌, subst, append_assoc, arith}
+use Rattle.std.proofs.Common.{◌≡◌, ℕ, ◌+◌, ℤ, List, [], ◌∷◌, ◌++◌, map, Option, sym, refl, ap, ◌∙◌, subst, append_assoc, arith}
 use Rattle.std.specs.Prelude.{nat_le, nat_lt}
 use Rattle.std.specs.List.{All}
-use Rattle.std.specs.Ordering.{int_eq}
 use Rattle.std.proofs.lemmas.Bool.{cond_both}
 use Rattle.std.proofs.lemmas.List.Elements.{All-nil, All-cons, All-head, All-tail, All-append}
 use Rattle.sn_mem.specs.declared.extents.Extent.{Extent}
@@ -11,24 +10,19 @@ use Rattle.sn_mem.specs.Buffers.{live_places}
 use Rattle.sn_tree.specs.declared.node.NodeKind.{NodeKind}
 use Rattle.sn_tree.specs.declared.node.NodeKind.TheVariants as kinds
 use Rattle.sn_tree.specs.Trees as trees
-use Rattle.sn_tree.specs.Trees.{Label, Nodes, holds, subtree}
+use Rattle.sn_tree.specs.Trees.{Label, Nodes, subtree}
 use Rattle.sn_tree.specs.Members.{members}
 use Rattle.sn_world.specs.declared.stage.Held.{Held}
 use Rattle.sn_world.specs.Pictures.{held_extents, live_held}
 use Rattle.sn_foot.specs.Canonical.{Ends, both, canonical, in_order, merged, nothing, where_some, with_extent}
 use Rattle.sn_foot.specs.Footprints.{footprint_of, states_of, used_places}
+use Rattle.sn_foot.proofs.Finding.{all_parts, all_below}
 use Rattle.sn_foot.proofs.Placing.{used_ends}
-use Rattle.sn_graph.specs.declared.nodes.Voice.{Voice}
 use Rattle.sn_graph.specs.Voices.{Running, voices, AreWithin}
 use Rattle.sn_graph.specs.Stages.{voice_of, with_node, running_of}
+use Rattle.sn_graph.proofs.Drafting.{within_both}
 
 -- ---- the places of states have numbers
-
-all_parts : {A : Type 0} (P : A → Type 0) (xs ys : List A) → All P (xs ++ ys) → All P xs × All P ys
-all_parts P [] ys all = (All-nil P, all)
-all_parts P (x ∷ xs) ys all =
-    let rest = all_parts P xs ys (All-tail P x (xs ++ ys) all) in
-    (All-cons P x xs (All-head P x (xs ++ ys) all) rest.0, rest.1)
 
 abbrev pub states_at : List (Label Held × ℕ) → List Extent
 states_at ms = states_of (map (λ m. m.0.payload) ms)
@@ -44,15 +38,6 @@ all_states : (t : Nodes Held) → states_at (members t) ≡ live_held t
 all_states trees.none = refl
 all_states (trees.node label below after) =
     ap (λ es. held_extents label.payload ++ es) (states_at-append (members below) (members after) ∙ ap (λ es. es ++ states_at (members after)) (all_states below) ∙ ap (λ es. live_held below ++ es) (all_states after))
-
-all_below : (P : Extent → Type 0) (id : ℤ) (t : Nodes Held) → All P (live_held t) → All P (live_held (subtree id t))
-all_below P id trees.none all = All-nil P
-all_below P id (trees.node label below after) all =
-    let parts = all_parts P (held_extents label.payload) (live_held below ++ live_held after) all in
-    let rest = all_parts P (live_held below) (live_held after) parts.1 in
-    cond_both (int_eq label.id id) (trees.node label below trees.none) (if holds id below then subtree id below else subtree id after) (λ u. All P (live_held u))
-    (λ b. All-append P (held_extents label.payload) (live_held below ++ []) parts.0 (All-append P (live_held below) [] rest.0 (All-nil P)))
-    (λ b. cond_both (holds id below) (subtree id below) (subtree id after) (λ u. All P (live_held u)) (λ h. all_below P id below rest.0) (λ h. all_below P id after rest.1))
 
 pub members_end : (id : ℤ) (t : Nodes Held) → All Ends (live_held t) → All Ends (states_at (members (subtree id t)))
 members_end id t all = subst (All Ends) (sym (all_states (subtree id t))) (all_below Ends id t all)
@@ -98,15 +83,11 @@ module _ (buffers : List (Option BufferPlace)) (clashing : List ℤ) where
         tt,
       )
 
-within_append : (vs ws : List Voice) → AreWithin vs → AreWithin ws → AreWithin (vs ++ ws)
-within_append [] ws a b = b
-within_append (v ∷ vs) ws a b = (a.0, within_append vs ws a.1 b)
-
 module _ (buffers : List (Option BufferPlace)) (clashing : List ℤ) where
   within_node : (kind : NodeKind) (label : Label Held) (below after : Running) → AreWithin (voice_of buffers label.id label.payload ∷ []) → AreWithin (voices below) → AreWithin (voices after) → AreWithin (voices (with_node buffers clashing kind label below after))
   within_node kinds.Synth label below after v b a = (v.0, a)
-  within_node kinds.Group label below after v b a = within_append (voices below) (voices after) b a
-  within_node kinds.Parallel label below after v b a = within_append (voices below) (voices after) b a
+  within_node kinds.Group label below after v b a = within_both (voices below) (voices after) b a
+  within_node kinds.Parallel label below after v b a = within_both (voices below) (voices after) b a
 
   within_all : (t : Nodes Held) → All Ends (live_places buffers) → All Ends (live_held t) → AreWithin (voices (running_of buffers clashing t))
   within_all trees.none places all = tt

@@ -6,7 +6,7 @@ use Rattle.sn_tree.specs.declared.node.NodeKind.TheVariants.{Parallel}
 use Rattle.sn_tree.specs.Trees.{Nodes, none, node, children, label_of, running_labels}
 use Rattle.sn_world.specs.declared.stage.Held.{Held}
 use Rattle.sn_foot.specs.Footprints.{Clash, footprint_of, is_reached}
-use Rattle.sn_graph.specs.Stages.{is_listed}
+use Rattle.sn_graph.specs.Plans.{is_listed}
 
 -- what the walk finds there
 abbrev pub held_of : Nodes Held → List Held

@@ -4,15 +4,14 @@ use Rattle.sn_mem.specs.declared.buffers.BufferPlace.{BufferPlace}
 use Rattle.sn_tree.specs.declared.node.NodeKind.{NodeKind}
 use Rattle.sn_tree.specs.declared.node.NodeKind.TheVariants as kinds
 use Rattle.sn_tree.specs.Trees.{Label}
-use Rattle.sn_tree.specs.declared.members.Member.{Member}
 use Rattle.sn_world.specs.declared.stage.Held.{Held}
-use Rattle.sn_foot.specs.Walks.{member}
 use Rattle.sn_graph.specs.declared.nodes.Voice.{Voice}
 use Rattle.sn_graph.specs.declared.parts.Part.TheVariants as given
 use Rattle.sn_graph.specs.declared.parts.Part.{Part}
 use Rattle.sn_graph.specs.Voices.{Running, none, synth, group}
 use Rattle.sn_graph.specs.Inputs.{nodes_of}
-use Rattle.sn_graph.specs.Stages.{is_listed, voice_of}
+use Rattle.sn_graph.specs.Plans.{is_listed}
+use Rattle.sn_graph.specs.Stages.{voice_of}
 
 -- a node by itself, with what runs below it
 pub data Piece : Type 0 where
@@ -38,10 +37,6 @@ before (below flag inner) rest = group flag inner rest
 abbrev pub linked : List Piece → Running → Running
 linked [] rest = rest
 linked (p ∷ ps) rest = before p (linked ps rest)
-
--- a node of the walk, with the number of those just below it
-abbrev pub seen : Member Held → Label Held × ℕ
-seen m = member m.id m.kind m.running m.payload.now m.children
 
 module _ (buffers : List (Option BufferPlace)) (clashing : List ℤ) where
   abbrev pub running_piece : NodeKind → Label Held → Running → Piece

@@ -1,6 +1,6 @@
 -- The plan of running synths.
 use Rattle.std.specs.Prelude.{◌≡◌, ◌↔◌, ℕ, ◌+◌, ◌*◌, ◌<◌, ◌≤◌, ℤ, Bool, true, false, ◌&&◌, ◌||◌, if◌then◌else◌, List, [], ◌∷◌, ◌++◌, length}
-use Rattle.std.specs.List.{filter}
+use Rattle.std.specs.List.{filter, list_any}
 use Rattle.std.specs.Ordering.{int_eq}
 use Rattle.sn_mem.specs.Words.{Clash}
 use Rattle.sn_round.specs.declared.jobs.Job.{Job}
@@ -69,6 +69,10 @@ plan_of nodes = jobs 0 [] (row_of [] nodes)
 
 -- ---- what a plan promises
 
+-- the id is one of these
+abbrev pub is_listed : List ℤ → ℤ → Bool
+is_listed ids id = list_any (λ x. int_eq x id) ids
+
 abbrev pub joined_synths : List Job → List ℤ
 joined_synths [] = []
 joined_synths (j ∷ js) = j.synths ++ joined_synths js
@@ -78,17 +82,13 @@ abbrev pub edges : List Job → ℕ
 edges [] = 0
 edges (j ∷ js) = length j.before + edges js
 
-abbrev pub has_id : List ℤ → ℤ → Bool
-has_id [] a = false
-has_id (x ∷ xs) a = int_eq x a || has_id xs a
-
 -- the synths that have one of these ids
 abbrev pub synths_with : List ℤ → List Voice → List Voice
-synths_with ids vs = filter (λ v. has_id ids v.id) vs
+synths_with ids vs = filter (λ v. is_listed ids v.id) vs
 
 -- the synth is among those of the job
 abbrev pub Plays : List Job → ℕ → ℤ → Type 0
-Plays js i a = has_id ((job_at js i).synths) a ≡ true
+Plays js i a = is_listed ((job_at js i).synths) a ≡ true
 
 -- The lowest group that holds both synths is split. The nodes are the children of a group that is split or not.
 abbrev pub lowest_is_split : Bool → Running → ℤ → ℤ → Bool

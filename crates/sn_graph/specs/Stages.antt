@@ -1,7 +1,5 @@
 -- The running nodes of a stage.
-use Rattle.std.specs.Prelude.{ℤ, pos, Bool, false, not, if◌then◌else◌, List, [], ◌∷◌, map, Option}
-use Rattle.std.specs.List.{list_any}
-use Rattle.std.specs.Ordering.{int_eq}
+use Rattle.std.specs.Prelude.{ℤ, pos, false, not, if◌then◌else◌, List, [], ◌∷◌, map, Option}
 use Rattle.sn_mem.specs.declared.buffers.BufferPlace.{BufferPlace}
 use Rattle.sn_tree.specs.declared.node.NodeKind.{NodeKind}
 use Rattle.sn_tree.specs.declared.node.NodeKind.TheVariants as kinds
@@ -13,10 +11,7 @@ use Rattle.sn_foot.specs.Footprints.{foot_of}
 use Rattle.sn_clash.specs.Clashing.{clashes_in}
 use Rattle.sn_graph.specs.declared.nodes.Voice.{Voice}
 use Rattle.sn_graph.specs.Voices.{Running, none, synth, group}
-
--- the id is one of these
-abbrev pub is_listed : List ℤ → ℤ → Bool
-is_listed ids id = list_any (λ x. int_eq x id) ids
+use Rattle.sn_graph.specs.Plans.{is_listed}
 
 -- a synth that runs, and the words that it may touch
 abbrev pub voice_of : List (Option BufferPlace) → ℤ → Held → Voice

@@ -10,7 +10,8 @@ ghost use Rattle.sn_foot.specs.Canonical.{Ends};
 ghost use Rattle.sn_foot.specs.Footprints.{Clash as FootprintsClash, foot_of, footprint_of, states_of};
 ghost use Rattle.sn_graph.specs.Clear.{IsClashing};
 ghost use Rattle.sn_graph.specs.Disjoint.{AreDisjoint};
-ghost use Rattle.sn_graph.specs.Stages.{clashing_in, is_listed};
+ghost use Rattle.sn_graph.specs.Plans.{is_listed};
+ghost use Rattle.sn_graph.specs.Stages.{clashing_in};
 
 use sn_world::Stage;
 

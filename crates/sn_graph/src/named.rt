@@ -1,7 +1,7 @@
 //! The groups that clashes name.
 ghost use Rattle.std.specs.Prelude.{◌≡◌, IfOk, IsPermutation, IsSorted, map};
 ghost use Rattle.std.specs.Ordering.{int_cmp};
-ghost use Rattle.sn_graph.specs.Stages.{is_listed};
+ghost use Rattle.sn_graph.specs.Plans.{is_listed};
 
 use sn_clash::Clash;
 use sn_ports::NoMemory;

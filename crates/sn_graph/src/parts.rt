@@ -7,7 +7,8 @@ ghost use Rattle.sn_foot.specs.Footprints.{states_of};
 ghost use Rattle.sn_graph.specs.Voices.{none};
 ghost use Rattle.sn_graph.specs.Inputs.{nodes_of};
 ghost use Rattle.sn_graph.specs.Stages.{voice_of};
-ghost use Rattle.sn_graph.specs.Pieces.{before, linked, piece, piece_of, pieces, seen, with_member};
+ghost use Rattle.sn_clash.specs.Rows.{row_of};
+ghost use Rattle.sn_graph.specs.Pieces.{before, linked, piece, piece_of, pieces, with_member};
 
 use crate::named::NamedGroups;
 use crate::nodes::{Running, Voice};
@@ -105,7 +106,7 @@ fn part_of(
 ) -> Result<Part, NoMemory>
     requires buffers { All Ends (live_places buffers.now) }
     requires state { All Ends (states_of (member.now.payload.now ∷ [])) }
-    ensures { IfOk result (λ part. piece_of part ≡ piece buffers.now clashing.now (seen member.now).0 (nodes_of inner)) }
+    ensures { IfOk result (λ part. piece_of part ≡ piece buffers.now clashing.now (row_of member.now).0 (nodes_of inner)) }
 {
     if !member.running {
         return Ok(Part::Paused);
@@ -127,7 +128,7 @@ pub fn put_part(
 ) -> Result<(), NoMemory>
     requires buffers { All Ends (live_places buffers.now) }
     requires state { All Ends (states_of (member.now.payload.now ∷ [])) }
-    ensures { OnOk result (pieces parts.new.items ≡ with_member buffers.now clashing.now (seen member.now) (pieces parts.old.items)) }
+    ensures { OnOk result (pieces parts.new.items ≡ with_member buffers.now clashing.now (row_of member.now) (pieces parts.old.items)) }
 {
     let inner = take_nodes(alloc, parts, member.children as usize)?;
     let part = part_of(alloc, buffers, clashing, member, inner)?;

@@ -9,7 +9,7 @@ ghost use Rattle.sn_foot.specs.Canonical.{Ends};
 ghost use Rattle.sn_clash.specs.Clashing.{clashes_in};
 ghost use Rattle.sn_round.specs.Jobs.{IsRaceFree};
 ghost use Rattle.sn_graph.specs.Inputs.{nodes_of};
-ghost use Rattle.sn_graph.specs.Pieces.{seen};
+ghost use Rattle.sn_clash.specs.Rows.{row_of};
 ghost use Rattle.sn_graph.specs.Plans.{IsPlanned, plan_of};
 ghost use Rattle.sn_graph.specs.Clear.{AreListed};
 ghost use Rattle.sn_graph.specs.Disjoint.{AreDisjoint};
@@ -28,7 +28,7 @@ use std::alloc::Global;
 
 /// All nodes of a tree, in the order of the walk.
 fn members_of<'a>(alloc: Global, tree: &'a Tree<Held>) -> Result<Vec<Member<'a, Held>>, NoMemory>
-    ensures { IfOk result (λ found. map seen found.items ≡ members (subtree (pos 0) tree.now.attached)) }
+    ensures { IfOk result (λ found. map row_of found.items ≡ members (subtree (pos 0) tree.now.attached)) }
 {
     let mut found = Vec::new(alloc);
     for member in tree.members(0) {

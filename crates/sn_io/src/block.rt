@@ -57,7 +57,7 @@ fn run_kind<P: Port>(
     }
 }
 
-/// Runs a unit on buses or triggers for a block of 64 frames, with its state in the words of
+/// Runs a unit on buses, a trigger or one that ends its synth for a block of 64 frames, with its state in the words of
 /// `state`.
 ///
 /// The inputs are those of its row in their order. `outputs` comes with as many blocks as the unit

@@ -9,11 +9,13 @@ use sn_mem::{Blocks, Stored, ended, sample_of, word_of};
 /// How far a buffer is played.
 #[derive(Clone, Copy)]
 pub(crate) struct Playing {
+    /// The done word, 0 until the end.
     pub done: u64,
     /// The last sample of the trigger.
     pub trigger: i32,
     /// A frame, or a number outside.
     pub position: i32,
+    /// Whether the first frame has passed.
     pub begun: bool,
 }
 
@@ -110,6 +112,7 @@ fn played(
 /// be used.
 #[derive(Clone, Copy)]
 pub(crate) struct PlayBuf {
+    /// The number of frames of a buffer that can be used, 1 to 2^31 - 1.
     pub frames: Option<u32>,
     ghost some: { (n : ℕ) → frames ≡ Some n → 1 ≤ n },
     ghost few: { (n : ℕ) → frames ≡ Some n → n < 2147483648 },

@@ -8,6 +8,7 @@ use sn_mem::{Blocks, Stored, ended};
 /// How far a buffer is written.
 #[derive(Clone, Copy)]
 pub(crate) struct Recording {
+    /// The done word, 0 until the end.
     pub done: u64,
     /// The next frame.
     pub position: u32,
@@ -68,6 +69,7 @@ fn recorded(frames: u32, looping: i32, recording: Recording) -> Recording
 /// used.
 #[derive(Clone, Copy)]
 pub(crate) struct RecordBuf {
+    /// The number of frames of a buffer that can be used.
     pub frames: Option<u32>,
 }
 

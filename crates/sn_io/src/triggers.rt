@@ -15,8 +15,9 @@ use sn_mem::{Blocks, Extent, Port, Recurrence, Stored, ended, run_recurrence, sa
 pub(crate) struct Sent {
     /// The number of the last block in which the trigger rose plus 1, or 0.
     pub rose: u64,
-    /// The id and the value at the frame of the first rise in that block.
+    /// The id at the frame of the first rise in that block.
     pub id: i32,
+    /// The value at that frame.
     pub value: i32,
     /// The last sample of the trigger.
     pub trigger: i32,
@@ -57,6 +58,7 @@ impl Stored for Sent {
 /// SendTrig trig id value
 #[derive(Clone, Copy)]
 pub(crate) struct SendTrig {
+    /// The block's number, from 0 and below 2^63.
     pub block: u64,
     ghost low: { block < 2 ^ 63 },
 }
@@ -90,6 +92,7 @@ impl Recurrence for SendTrig {
 /// How long a signal has been quiet.
 #[derive(Clone, Copy)]
 pub(crate) struct Quiet {
+    /// The done word, 0 until the end.
     pub done: u64,
     /// How many frames were quiet since the last one that was not, once there was one.
     pub count: Option<u32>,
@@ -189,6 +192,7 @@ fn quieter(rate: u32, state: Quiet, inputs: &Blocks, frame: usize) -> Quiet
 /// DetectSilence x amp time done!
 #[derive(Clone, Copy)]
 pub(crate) struct DetectSilence {
+    /// Frames a second.
     pub rate: u32,
 }
 
@@ -210,6 +214,7 @@ impl Recurrence for DetectSilence {
 /// Whether a unit has ended.
 #[derive(Clone, Copy)]
 pub(crate) struct Ending {
+    /// The done word, 0 until the end.
     pub done: u64,
 }
 

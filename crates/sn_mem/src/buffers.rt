@@ -6,10 +6,11 @@ use sn_ports::NoMemory;
 use std::alloc::Global;
 use std::marker::Model;
 
-/// Where a buffer's samples stand, frame by frame.
+/// Where a buffer's samples stand, frame by frame. Its users ask for 1 to 8 channels, at least one
+/// frame, and a word for each sample.
 #[derive(Clone, Copy)]
 pub struct BufferPlace {
-    /// Its words, one for each sample.
+    /// The words of its samples.
     pub extent: Extent,
     /// The number of its frames.
     pub frames: u32,

@@ -10,6 +10,7 @@ use crate::port::Port;
 pub trait Change {
     ghost change: { Self → ℕ → ℤ → ℕ };
 
+    /// The word that stands in place of `word`, for a sample.
     fn change(&self, word: u64, x: i32) -> u64
         ensures { result ≡ change self.now word x };
 }

@@ -8,7 +8,9 @@ use std::marker::Model;
 /// The `len` words from word `at` on.
 #[derive(Clone, Copy)]
 pub struct Extent {
+    /// The number of its first word, from 0.
     pub at: u32,
+    /// How many words it has.
     pub len: u32,
 }
 

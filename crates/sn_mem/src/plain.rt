@@ -1,7 +1,6 @@
 //! A port over a vector, which may touch everything.
 ghost use Rattle.std.specs.Prelude.{◌≡◌, ◌<◌, replicate, IfOk};
 
-use crate::extents::Foot;
 use crate::port::Port;
 use sn_ports::NoMemory;
 use std::alloc::Global;

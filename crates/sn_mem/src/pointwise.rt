@@ -12,6 +12,7 @@ pub trait Pointwise {
     /// The sample of a frame.
     ghost value: { Self → List (List ℤ) → ℕ → ℤ };
 
+    /// The sample of a frame, from those of the inputs.
     fn value(&self, inputs: &Blocks, frame: usize) -> i32
         requires inputs { arity self.now ≤ length inputs.now }
         requires frame { frame < 64 }

@@ -19,10 +19,12 @@ pub trait Stored {
         ensures value { result ≡ size }
         ensures bound { result ≤ 8 };
 
+    /// The value that these words hold.
     fn load(words: &[u64]) -> Self
         requires { length words.now ≡ size }
         ensures { result ≡ loaded words.now };
 
+    /// Writes the value into these words.
     fn store(self, words: &mut [u64])
         requires { length words.old ≡ size }
         ensures { words.new ≡ stored self };

@@ -1,18 +1,14 @@
 -- Words that are set to 0, and extents that are taken.
 use Rattle.std.proofs.Common.{◌≡◌, ◌≢◌, ◌≤◌, ◌<◌, ◌+◌, ◌⊎◌, inl, inr, ⊎_elim, ℕ, zero, suc, Bool, true, false, List, [], ◌∷◌, length, get_or, set, replicate, refl, ap, sym, ◌∙◌, arith, length-set, get_or-set_same, get_or-set_other}
-use Rattle.std.specs.Prelude.{if◌then◌else◌, nat_eq, nat_le, nat_lt}
-use Rattle.std.proofs.lemmas.Bool.{cases_eq, cond_both, and_parts, leb-true, ltb-true, eqb-true}
-use Rattle.std.proofs.lemmas.Bool.Decides.{leb_tells}
+use Rattle.std.specs.Prelude.{if◌then◌else◌, nat_eq}
+use Rattle.std.proofs.lemmas.Bool.{cases_eq, cond_both, eqb-true}
 use Rattle.std.proofs.lemmas.List.{ext_get_or, get_or-replicate, length-replicate}
 use Rattle.sn_mem.specs.declared.extents.Extent.{Extent}
-use Rattle.sn_mem.specs.Words.{covers}
 use Rattle.sn_mem.specs.Blocks.{window}
 use Rattle.sn_mem.proofs.Steps.{length-window}
 use Rattle.sn_mem.proofs.Windows.{window_at}
-use Rattle.sn_mem.proofs.Meetings.{covered}
 use Rattle.sn_pool.specs.Pools.{PoolState, with_extent, same_extent, times}
 use Rattle.sn_pool.proofs.Counts.{same_is, times_with}
-use Rattle.sn_mem.specs.Buffers.{overlaps}
 use Rattle.sn_nodecmd.specs.Placing.{taken, cleared}
 
 -- ---- words that are set to 0
@@ -53,27 +49,6 @@ window-cleared ws at n inside =
     ext_get_or 0 (window (cleared ws at n) at n) (replicate n 0) (length-window (cleared ws at n) at n ∙ sym (length-replicate n 0))
     (λ k lt. let low : k < n = omega (arith, lt, length-window (cleared ws at n) at n) in
     window_at (cleared ws at n) at n k low ∙ cleared_in ws at n k low inside ∙ sym (get_or-replicate n k 0 0 low))
-
--- ---- one extent
-
-counted : (b : Bool) → b ≡ true → ◌≡◌ {A = ℕ} (if b then 1 else 0) 1
-counted b e = ap (λ (c : Bool). let n : ℕ = if c then 1 else 0 in n) e
-
-pub within_one : (e : Extent) (x : ℕ) → 0 < overlaps x (e ∷ []) → (e.at ≤ x) × (x < e.at + e.len)
-within_one e x some = at (covers e x) refl some
-  where
-    at : (b : Bool) → covers e x ≡ b → 0 < (if b then 1 else 0) + 0 → (e.at ≤ x) × (x < e.at + e.len)
-    at true is some = let p = and_parts (nat_le e.at x) (nat_lt x (e.at + e.len)) is in (leb-true e.at x p.0, ltb-true x (e.at + e.len) p.1)
-    at false is some = absurd (omega (arith, some))
-
-pub outside_one : (e : Extent) (x : ℕ) → overlaps x (e ∷ []) ≡ 0 → (x < e.at) ⊎ (e.at + e.len ≤ x)
-outside_one e x free = elim (leb_tells e.at x) [
-  | inl p ↦ (elim (leb_tells (e.at + e.len) x) [
-    | inl q ↦ inr q.1
-    | inr q ↦ absurd (omega (arith, free, counted (covers e x) (covered e x p.1 q.1)))
-  ])
-  | inr p ↦ inl p.1
-]
 
 -- ---- a pool after words were taken
 

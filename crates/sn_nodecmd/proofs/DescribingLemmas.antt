@@ -1,5 +1,5 @@
 -- `/g_queryTree`: the walk over a node and all nodes below it, and what is told of each.
-use Rattle.std.proofs.Common.{◌≡◌, ◌≤◌, ◌<◌, ◌+◌, ◌*◌, ◌||◌, ℕ, ℤ, pos, Bool, true, false, not, List, [], ◌∷◌, ◌++◌, length, drop, get_or, Option, Some, None, is_some, refl, ap, sym, subst, ◌∙◌, arith, append_assoc, append-nil, length-append}
+use Rattle.std.proofs.Common.{◌≡◌, ◌≤◌, ◌<◌, ◌+◌, ◌*◌, ℕ, ℤ, pos, Bool, true, false, not, List, [], ◌∷◌, ◌++◌, length, drop, get_or, Option, Some, None, is_some, refl, ap, sym, subst, ◌∙◌, arith, append_assoc, append-nil, length-append}
 use Rattle.std.specs.Prelude.{if◌then◌else◌, codes}
 use Rattle.std.specs.Ordering.{int_eq}
 use Rattle.sn_osc.specs.Shape.{Argument, int, arguments, MessageShape}
@@ -18,6 +18,7 @@ use Rattle.sn_world.specs.World.{world_of}
 use Rattle.sn_world.specs.Rows.{first_of}
 use Rattle.sn_world.specs.TreeQueries.{node_arguments, listed, tree_message, judge_tree}
 use Rattle.sn_nodecmd.specs.Describing.{held_arguments, described, HaveFew, tree_reply}
+use Rattle.sn_nodecmd.proofs.OrderLemmas.{label_there}
 
 -- ---- the walk tells of each node what the world says of it
 
@@ -127,15 +128,6 @@ refusal_of : Option (Label Held) → Option Reason
 refusal_of None = Some Reasons.NoSuchNode
 refusal_of (Some l) = if is_synth l.kind then Some Reasons.NotGroup else None
 
-there-by : (a b : Bool) (l : Label Held) (p q : Option (Label Held)) (inner later : Bool) → b ≡ inner → is_some p ≡ inner → is_some q ≡ later → is_some (if a then Some l else if b then p else q) ≡ (a || (inner || later))
-there-by true b l p q inner later e f g = refl
-there-by false true l p q inner later e f g = f ∙ sym e ∙ ap (λ c. c || later) e
-there-by false false l p q inner later e f g = g ∙ ap (λ c. c || later) e
-
-there : (id : ℤ) (t : Nodes Held) → is_some (label_of id t) ≡ holds id t
-there id none = refl
-there id (node l below after) = there-by (int_eq l.id id) (holds id below) l (label_of id below) (label_of id after) (holds id below) (holds id after) refl (there id below) (there id after)
-
 judged : (o : Option (Label Held)) → first_of ((not (is_some o), Reasons.NoSuchNode) ∷ (labels_synth o, Reasons.NotGroup) ∷ []) ≡ refusal_of o
 unfolding refusal_of
 judged None = refl
@@ -164,7 +156,7 @@ module _ (stage : Stage) (words : List ℕ) (r : TreeQuery) where
   judge-is : judge_tree (world_of stage words) r ≡ refusal_of (label_of r.group nodes)
   judge-is =
       (λ i. first_of ((not (holds-payloads (content_of words) r.group nodes i), Reasons.NoSuchNode) ∷ (synth-payloads (content_of words) r.group nodes i, Reasons.NotGroup) ∷ []))
-      ∙ ap (λ b. first_of ((not b, Reasons.NoSuchNode) ∷ (labels_synth (label_of r.group nodes), Reasons.NotGroup) ∷ [])) (sym (there r.group nodes))
+      ∙ ap (λ b. first_of ((not b, Reasons.NoSuchNode) ∷ (labels_synth (label_of r.group nodes), Reasons.NotGroup) ∷ [])) (sym (label_there r.group nodes))
       ∙ judged (label_of r.group nodes)
 
   -- what is told of the nodes below

@@ -1,5 +1,5 @@
 -- What lies below groups is freed.
-use Rattle.std.proofs.Common.{◌≡◌, ◌≤◌, ◌<◌, ◌+◌, ◌||◌, ℕ, zero, suc, ℤ, pos, negsuc, Bool, true, false, not, List, [], ◌∷◌, length, drop, get_or, Option, Some, None, is_some, refl, ap, sym, subst, ◌∙◌, arith}
+use Rattle.std.proofs.Common.{◌≡◌, ◌<◌, ◌+◌, ◌||◌, ℕ, suc, ℤ, pos, negsuc, Bool, true, false, not, List, [], ◌∷◌, length, drop, get_or, drop-cons, Option, Some, None, is_some, refl, ap, sym, subst, ◌∙◌, arith}
 use Rattle.std.specs.Prelude.{if◌then◌else◌, IfOk, Result, Ok, Err}
 use Rattle.std.specs.List.{All}
 use Rattle.std.specs.Option.{option_map}
@@ -10,14 +10,15 @@ use Rattle.sn_reply.specs.Replies.{ReplyShape}
 use Rattle.sn_reply.specs.declared.reason.Reason.TheVariants as Reasons
 use Rattle.sn_tree.specs.declared.node.NodeKind.{NodeKind}
 use Rattle.sn_tree.specs.declared.node.NodeView.{NodeView}
-use Rattle.sn_tree.specs.Trees.{Label, Nodes, none, node, holds, count, children, label_of, without, view_of, view_from, first_id, last_id}
+use Rattle.sn_tree.specs.Trees.{Label, Nodes, none, node, holds, children, label_of, without, view_of}
 use Rattle.sn_tree.specs.Below.{top_ids, synth_ids}
 use Rattle.sn_tree.specs.Faults.{is_synth, labels_synth}
 use Rattle.sn_tree.specs.Model.{NodeTree}
 use Rattle.sn_tree.specs.Steps.{detached, detaching}
-use Rattle.sn_tree.specs.Views.{seen, views_at}
+use Rattle.sn_tree.specs.Views.{seen}
 use Rattle.sn_tree.proofs.PayloadLaws.{holds-payloads, synth-payloads, children-payloads}
 use Rattle.sn_tree.proofs.Gathering.{top_ids-payloads, synth_ids-payloads}
+use Rattle.sn_tree.proofs.Viewing.{no_views}
 use Rattle.sn_world.specs.declared.stage.Held.{Held}
 use Rattle.sn_world.specs.declared.stage.Stage.{Stage}
 use Rattle.sn_world.specs.Nodes.{Content, content_of}
@@ -27,7 +28,9 @@ use Rattle.sn_world.specs.Rows.{first_of}
 use Rattle.sn_world.specs.World.{World, Turn, world_of, turn_of}
 use Rattle.sn_nodecmd.specs.Folding.{CanStep, Keeps}
 use Rattle.sn_nodecmd.specs.Sparing.{SparesRoom}
+use Rattle.sn_world.proofs.Replacing.{fewer}
 use Rattle.sn_world.proofs.Turning.{is_seen}
+use Rattle.sn_nodecmd.proofs.OrderLemmas.{kind_seen}
 use Rattle.sn_nodecmd.proofs.Stepping.{room_followed}
 
 -- ---- reasons
@@ -37,17 +40,6 @@ kind_in_view o = option_map (λ (v : NodeView). v.kind) o
 
 abbrev kind_in_label : Option (Label Held) → Option NodeKind
 kind_in_label o = option_map (λ (l : Label Held). l.kind) o
-
-kind_from : (parent previous id : ℤ) (t : Nodes Held) → kind_in_view (view_from parent previous id t) ≡ kind_in_label (label_of id t)
-kind_from parent previous id none = refl
-kind_from parent previous id (node l below after) = at (int_eq l.id id) (holds id below) (kind_from l.id (negsuc 0) id below) (kind_from parent l.id id after)
-  where
-    at : (here inner : Bool) → kind_in_view (view_from l.id (negsuc 0) id below) ≡ kind_in_label (label_of id below) → kind_in_view (view_from parent l.id id after) ≡ kind_in_label (label_of id after)
-        → kind_in_view (if here then Some (record { kind = l.kind; running = l.running; parent = parent; previous = previous; next = first_id after; head = first_id below; tail = last_id (negsuc 0) below }) else if inner then view_from l.id (negsuc 0) id below else view_from parent l.id id after)
-        ≡ kind_in_label (if here then Some l else if inner then label_of id below else label_of id after)
-    at true inner b a = refl
-    at false true b a = b
-    at false false b a = a
 
 abbrev synth_kind : Option NodeKind → Bool
 synth_kind None = false
@@ -67,7 +59,7 @@ missing_group id t h = at (holds id t) (labels_synth (label_of id t)) (sym (is_s
 pub seen_group : (id : ℤ) (t : Nodes Held) (v : NodeView) (synth : Bool) → Some v ≡ view_of id t → synth ≡ is_synth v.kind → (if synth then Some Reasons.NotGroup else None) ≡ group_refusal id t
 seen_group id t v synth h k =
     at (holds id t) synth (labels_synth (label_of id t)) (sym (is_seen id t) ∙ sym (ap (λ (o : Option NodeView). is_some o) h))
-    (k ∙ ap (λ (o : Option NodeView). synth_kind (kind_in_view o)) h ∙ ap synth_kind (kind_from (negsuc 0) (negsuc 0) id t) ∙ sym (labelled (label_of id t)))
+    (k ∙ ap (λ (o : Option NodeView). synth_kind (kind_in_view o)) h ∙ ap synth_kind (kind_seen id t) ∙ sym (labelled (label_of id t)))
   where
     at : (there seen labels : Bool) → there ≡ true → seen ≡ labels → (if seen then Some Reasons.NotGroup else None) ≡ first_of ((not there, Reasons.NoSuchNode) ∷ (labels, Reasons.NotGroup) ∷ [])
     at true true true e same = refl
@@ -91,19 +83,12 @@ nothing_taken id (node label below after) h =
     let b = or_parts (holds id below) (holds id after) d.1 in
     rw (d.0, b.0) (ap (λ t. node label below t) (nothing_taken id after b.1))
 
-nothing_seen : {P : Type 0} (parent previous id : ℤ) (t : Nodes P) → holds id t ≡ false → views_at parent previous id t ≡ []
-nothing_seen parent previous id none h = refl
-nothing_seen parent previous id (node label below after) h =
-    let d = or_parts (int_eq label.id id) (holds id below || holds id after) h in
-    let b = or_parts (holds id below) (holds id after) d.1 in
-    rw (d.0, b.0) (nothing_seen parent label.id id after b.1)
-
 pub nothing_freed : (stage : Stage) (id : ℤ) (replies : List ReplyShape) (words : List ℕ) → holds id stage.tree.attached ≡ false → freed id (turn_of stage words replies) ≡ turn_of stage words replies
 nothing_freed stage id replies words h =
     let w : World = world_of stage words in
     let t : Turn = turn_of stage words replies in
     let gone : holds id w.nodes ≡ false = holds-payloads (content_of words) id stage.tree.attached ∙ h in
-    ap (λ (vs : List (ℤ × NodeView)). let u : Turn = told_ends vs t in let r : Turn = record u { world = record w { nodes = without id w.nodes } } in r) (nothing_seen (negsuc 0) (negsuc 0) id w.nodes gone)
+    ap (λ (vs : List (ℤ × NodeView)). let u : Turn = told_ends vs t in let r : Turn = record u { world = record w { nodes = without id w.nodes } } in r) (no_views (negsuc 0) (negsuc 0) id w.nodes gone)
     ∙ ap (λ (n : Nodes Content). let r : Turn = record t { world = record w { nodes = n } } in r) (nothing_taken id w.nodes gone)
 
 pub there_allowed : (id : ℤ) (t : Nodes Held) → holds id t ≡ true → int_eq id (pos 0) ≡ false → free_refusal id t ≡ None
@@ -116,17 +101,6 @@ there_allowed id t there apart = at (holds id t) (int_eq id (pos 0)) there apart
 
 -- ---- room
 
-count-less : (id : ℤ) (t : Nodes Held) → holds id t ≡ true → 1 + count (without id t) ≤ count t
-count-less id none h = absurd cc
-count-less id (node l below after) h = at (int_eq l.id id) (holds id below) (holds id after) h (count-less id below) (count-less id after)
-  where
-    at : (here inner later : Bool) → (here || (inner || later)) ≡ true → (inner ≡ true → 1 + count (without id below) ≤ count below) → (later ≡ true → 1 + count (without id after) ≤ count after)
-        → 1 + count (if here then after else if inner then node l (without id below) after else node l below (without id after)) ≤ count (node l below after)
-    at true inner later h b a = omega arith
-    at false true later h b a = omega (arith, b refl)
-    at false false true h b a = omega (arith, a refl)
-    at false false false h b a = absurd cc
-
 there : (id : ℤ) (t : Nodes Held) → free_refusal id t ≡ None → holds id t ≡ true
 there id t = at (holds id t) (int_eq id (pos 0))
   where
@@ -135,7 +109,7 @@ there id t = at (holds id t) (int_eq id (pos 0))
     at false root h = absurd cc
 
 pub spares_detached : (id : ℤ) (tree : NodeTree Held) → free_refusal id tree.attached ≡ None → SparesRoom tree (detached id tree)
-spares_detached id tree allowed = omega (arith, room_followed 1 (detaching id) tree.journal, count-less id tree.attached (there id tree.attached allowed))
+spares_detached id tree allowed = omega (arith, room_followed 1 (detaching id) tree.journal, fewer id tree.attached (there id tree.attached allowed))
 
 pub spares_tree : (old new tree : NodeTree Held) → new ≡ tree → SparesRoom old tree → SparesRoom old new
 spares_tree old new tree is spares = subst (SparesRoom old) (sym is) spares
@@ -163,16 +137,11 @@ spares_more old now new s s2 = omega (arith, s, s2)
 pub can_still : (old now : Stage) → CanStep old.tree → Keeps old now → SparesRoom old.tree now.tree → CanStep now.tree
 can_still old now can k s = record { is_open = ap (λ o. is_some o) k.tree.saved ∙ can.is_open; room = omega (arith, can.room, s) }
 
-next_each : (ids : List ℤ) (i : ℕ) (d : ℤ) → i < length ids → drop i ids ≡ get_or ids i d ∷ drop (i + 1) ids
-next_each [] i d lt = absurd (omega arith)
-next_each (y ∷ ys) zero d lt = refl
-next_each (y ∷ ys) (suc i) d lt = next_each ys i d (omega arith) ∙ ap (λ n. get_or ys i d ∷ drop n (y ∷ ys)) (let e : suc (i + 1) ≡ suc i + 1 = omega arith in e)
-
 pub freed_one : (ids : List ℤ) (i : ℕ) (d id : ℤ) (t after all : Turn) → i < length ids → id ≡ get_or ids i d → freed id t ≡ after → freed_each (drop i ids) t ≡ all → freed_each (drop (i + 1) ids) after ≡ all
 freed_one ids i d id t after all lt is one so_far =
     sym (ap (freed_each (drop (i + 1) ids)) one)
     ∙ (ap (λ n. freed_each (drop (i + 1) ids) (freed n t)) is
-    ∙ (sym (ap (λ (l : List ℤ). freed_each l t) (next_each ids i d lt)) ∙ so_far))
+    ∙ (sym (ap (λ (l : List ℤ). freed_each l t) (drop-cons ids i d lt ∙ ap (λ n. get_or ids i d ∷ drop n ids) (let one_more : suc i ≡ i + 1 = omega arith in one_more))) ∙ so_far))
 
 -- ---- what is below a group
 

@@ -12,11 +12,11 @@ use Rattle.sn_world.specs.declared.stage.Stage.{Stage}
 use Rattle.sn_world.specs.Rows.{first_of}
 use Rattle.sn_world.specs.NewNodes.{add_action, action_for, replaces, left_by, node_refusal}
 use Rattle.sn_world.proofs.Replacing.{is_four, fewer}
-use Rattle.sn_nodecmd.specs.Judging.{reason_for, fault_by}
+use Rattle.sn_nodecmd.specs.Judging.{reason_against_new, fault_by}
 
 -- a node is not both inside a synth and beside the root
 by_tests : (known used missing inside synth root many : Bool)
-    → reason_for known (first_fault ((used, faults.InUse) ∷ (missing, faults.NoNode) ∷ (not inside && root, faults.IsRoot) ∷ (inside && synth, faults.NotGroup) ∷ (many, faults.TooMany) ∷ []))
+    → reason_against_new known (first_fault ((used, faults.InUse) ∷ (missing, faults.NoNode) ∷ (not inside && root, faults.IsRoot) ∷ (inside && synth, faults.NotGroup) ∷ (many, faults.TooMany) ∷ []))
     ≡ first_of ((used, Reasons.IdInUse) ∷ (not known, Reasons.AddAction) ∷ (missing, Reasons.NoSuchNode) ∷ (inside && synth, Reasons.NotGroup) ∷ (not inside && root, Reasons.Root) ∷ (many, Reasons.TooManyNodes) ∷ [])
 by_tests known true missing inside synth root many = refl
 by_tests true false true inside synth root many = refl
@@ -57,27 +57,27 @@ placeable id r stage h = at (holds id stage.tree.attached) (is_some (add_action 
     at false true true inside root many a b h = record { there = b; other = apart (int_eq id r.target) refl a b }
 
 replace_tests : (used there root many : Bool) → (there ≡ true → many ≡ false)
-    → reason_for true (first_fault ((used, faults.InUse) ∷ (not there, faults.NoNode) ∷ (root, faults.IsRoot) ∷ []))
+    → reason_against_new true (first_fault ((used, faults.InUse) ∷ (not there, faults.NoNode) ∷ (root, faults.IsRoot) ∷ []))
     ≡ first_of ((used, Reasons.IdInUse) ∷ (false, Reasons.AddAction) ∷ (not there, Reasons.NoSuchNode) ∷ (false, Reasons.NotGroup) ∷ (root, Reasons.Root) ∷ (many, Reasons.TooManyNodes) ∷ [])
 replace_tests true there root many few = refl
 replace_tests false false root many few = refl
 replace_tests false true true many few = refl
 replace_tests false true false many few = let no : many ≡ false = few refl in rw no refl
 
-judged_replace : {P : Type 0} (id target : ℤ) (t : Nodes P) → count t ≤ 4096 → reason_for true (replace_fault id target t) ≡ node_refusal (Some id) (pos 4) target t
+judged_replace : {P : Type 0} (id target : ℤ) (t : Nodes P) → count t ≤ 4096 → reason_against_new true (replace_fault id target t) ≡ node_refusal (Some id) (pos 4) target t
 judged_replace id target t few = replace_tests (holds id t) (holds target t) (int_eq target (pos 0)) (nat_lt 4096 (count (without target t) + 1)) (λ there. le-ltb 4096 (count (without target t) + 1) (omega (arith, few, fewer target t there)))
 
-judged_insert : {P : Type 0} (id action target : ℤ) (t : Nodes P) → replaces action ≡ false → reason_for (is_some (add_action action)) (fault_by (replaces action) id (action_for action) target t) ≡ node_refusal (Some id) action target t
+judged_insert : {P : Type 0} (id action target : ℤ) (t : Nodes P) → replaces action ≡ false → reason_against_new (is_some (add_action action)) (fault_by (replaces action) id (action_for action) target t) ≡ node_refusal (Some id) action target t
 judged_insert id action target t stays =
     subst
-    (λ (b : Bool). reason_for (is_some (add_action action)) (fault_by b id (action_for action) target t)
+    (λ (b : Bool). reason_against_new (is_some (add_action action)) (fault_by b id (action_for action) target t)
     ≡ first_of ((holds id t, Reasons.IdInUse) ∷ (not (is_some (add_action action)), Reasons.AddAction) ∷ (is_missing target t, Reasons.NoSuchNode) ∷ (is_in_synth (action_for action) target t, Reasons.NotGroup) ∷ (is_beside_root (action_for action) target, Reasons.Root) ∷ (nat_lt 4096 (count (left_by b target t) + 1), Reasons.TooManyNodes) ∷ []))
     (sym stays)
     (by_tests (is_some (add_action action)) (holds id t) (is_missing target t) (is_inside (action_for action)) (labels_synth (label_of target t)) (int_eq target (pos 0)) (nat_lt 4096 (count t + 1)))
 
-pub judged_node : {P : Type 0} (id action target : ℤ) (t : Nodes P) → count t ≤ 4096 → reason_for (is_some (add_action action)) (fault_by (replaces action) id (action_for action) target t) ≡ node_refusal (Some id) action target t
+pub judged_node : {P : Type 0} (id action target : ℤ) (t : Nodes P) → count t ≤ 4096 → reason_against_new (is_some (add_action action)) (fault_by (replaces action) id (action_for action) target t) ≡ node_refusal (Some id) action target t
 judged_node id action target t few =
     ⊎_elim
-    (λ (n : replaces action ≡ true). subst (λ a. reason_for (is_some (add_action a)) (fault_by (replaces a) id (action_for a) target t) ≡ node_refusal (Some id) a target t) (sym (is_four action n)) (judged_replace id target t few))
+    (λ (n : replaces action ≡ true). subst (λ a. reason_against_new (is_some (add_action a)) (fault_by (replaces a) id (action_for a) target t) ≡ node_refusal (Some id) a target t) (sym (is_four action n)) (judged_replace id target t few))
     (λ (n : replaces action ≡ false). judged_insert id action target t n)
     (cases_Bool (replaces action))

@@ -41,7 +41,8 @@ use Rattle.sn_nodecmd.proofs.Judged.{IsPlaceable, placeable}
 use Rattle.sn_nodecmd.proofs.Stepping.{node_refusal_in}
 use Rattle.sn_nodecmd.specs.Telling.{Tells}
 use Rattle.sn_nodecmd.proofs.ToldLemmas.{told_by}
-use Rattle.sn_nodecmd.proofs.Clearing.{length-cleared, cleared_other, window-cleared, within_one, outside_one, times-taken, region-taken, journal-taken}
+use Rattle.sn_mem.proofs.BufferWords.{outside, covered_from, covered_to}
+use Rattle.sn_nodecmd.proofs.Clearing.{length-cleared, cleared_other, window-cleared, times-taken, region-taken, journal-taken}
 
 -- what a synth holds
 pub record IsHeldSynth (h : Held) (d : Definition) (controls : List Control) (e : Extent) : Type 0 where
@@ -85,15 +86,15 @@ module _ (id : ℤ) (r : NewNode) (d : Definition) (controls : List Control) (he
   in_own x = ap (overlaps x) is.what.own
 
   other_words : (x : ℕ) → overlaps x (held_extents (held e)) ≡ 0 → get_or us x 0 ≡ get_or ws x 0
-  other_words x free = ap (λ (vs : List ℕ). get_or vs x 0) is.words ∙ cleared_other ws e.at e.len x (outside_one e x (sym (in_own x) ∙ free))
+  other_words x free = ap (λ (vs : List ℕ). get_or vs x 0) is.words ∙ cleared_other ws e.at e.len x (outside e x (sym (in_own x) ∙ free))
 
   pool_is : new.pool ≡ taken e is.added.pool
   pool_is = ap (λ (s : Stage). s.pool) is.added.stage
 
   unused : (x : ℕ) → 0 < overlaps x (held_extents (held e)) → overlaps x (left_live (replaces r.action) r.target old) ≡ 0
   unused x some =
-      let w = within_one e x (omega (arith, in_own x, some)) in
-      let free : has is.added.pool.live x ≡ false = is.added.place.free.unused x w.0 (omega (arith, is.added.place.size, w.1)) in
+      let own : 0 < overlaps x (e ∷ []) = omega (arith, in_own x, some) in
+      let free : has is.added.pool.live x ≡ false = is.added.place.free.unused x (covered_from e x own) (omega (arith, is.added.place.size, covered_to e x own)) in
       let left = left_live (replaces r.action) r.target old in
       at (overlaps x left) (sym (has-overlaps left x) ∙ sym (has-same is.added.pool.live left (freed_live r old ws is.added.pool is.added.freed before) x) ∙ free)
     where

@@ -1,6 +1,6 @@
 -- `/n_order`: its arguments, its place, and the moves.
 use Rattle.std.proofs.Common.{◌≡◌, ◌≤◌, ◌<◌, ◌-◌, ◌+◌, ◌||◌, ◌&&◌, ℕ, suc, ℤ, negsuc, Bool, true, false, not, is_some, List, [], ◌∷◌, ◌++◌, length, map, take, drop, get_or, drop-cons, Option, Some, None, Result, Err, refl, ap, sym, subst, ◌∙◌, arith, append_assoc, append-nil}
-use Rattle.std.specs.Prelude.{if◌then◌else◌}
+use Rattle.std.specs.Prelude.{if◌then◌else◌, IfSome}
 use Rattle.std.specs.List.{filter, dedup}
 use Rattle.std.specs.Option.{option_map}
 use Rattle.std.specs.Ordering.{int_eq}
@@ -31,7 +31,7 @@ use Rattle.sn_world.specs.Rows.{first_of, singles, steps, unless}
 use Rattle.sn_world.specs.World.{Turn, world_of, turn_of}
 use Rattle.sn_world.specs.Moving.{judge_move, act_move}
 use Rattle.sn_world.specs.Answers.{Follows}
-use Rattle.sn_nodecmd.proofs.Repeating.{few_each}
+use Rattle.sn_world.proofs.Parsing.{singles-length}
 
 -- ---- arguments
 
@@ -55,7 +55,8 @@ no_place (Some nodes) = refl
 -- no more nodes than arguments
 pub order-short : (args : List Arg) (n : ℕ) (o : Option (List NodeId)) (ids : List NodeId) → o ≡ singles node_id (map argument_of (take n (drop 2 args))) → o ≡ Some ids → length ids ≤ length args
 order-short args n o ids read is =
-    omega (arith, few_each node_id (map argument_of (take n (drop 2 args))) ids (sym is ∙ read), length-map (take n (drop 2 args)) argument_of, length-take n (drop 2 args), length-drop 2 args)
+    let few : length ids ≤ length (map argument_of (take n (drop 2 args))) = subst (λ (q : Option (List NodeId)). IfSome q (λ rs. length rs ≤ length (map argument_of (take n (drop 2 args))))) (sym read ∙ is) (singles-length node_id (map argument_of (take n (drop 2 args)))) in
+    omega (arith, few, length-map (take n (drop 2 args)) argument_of, length-take n (drop 2 args), length-drop 2 args)
 
 -- ---- the kind of a node
 
@@ -73,7 +74,7 @@ kind_from parent previous id (node l below after) = at (int_eq l.id id) (holds i
 pub kind_seen : (id : ℤ) (t : Nodes Held) → option_map (λ v. v.kind) (view_of id t) ≡ option_map (λ l. l.kind) (label_of id t)
 kind_seen id t = kind_from (negsuc 0) (negsuc 0) id t
 
-label_there : (id : ℤ) (t : Nodes Held) → is_some (label_of id t) ≡ holds id t
+pub label_there : (id : ℤ) (t : Nodes Held) → is_some (label_of id t) ≡ holds id t
 label_there id none = refl
 label_there id (node l below after) = at (int_eq l.id id) (holds id below) (label_there id below) (label_there id after)
   where

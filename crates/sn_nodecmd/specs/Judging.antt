@@ -13,14 +13,14 @@ if_known true reason = reason
 if_known false reason = Some Reasons.AddAction
 
 -- An add action that is none comes after an id that is in use, and before all others.
-abbrev pub reason_for : Bool → Option TreeFault → Option Reason
-reason_for known None = if_known known None
-reason_for known (Some faults.InUse) = Some Reasons.IdInUse
-reason_for known (Some faults.NoNode) = if_known known (Some Reasons.NoSuchNode)
-reason_for known (Some faults.NotGroup) = if_known known (Some Reasons.NotGroup)
-reason_for known (Some faults.IsRoot) = if_known known (Some Reasons.Root)
-reason_for known (Some faults.Inside) = if_known known (Some Reasons.InsideItself)
-reason_for known (Some faults.TooMany) = if_known known (Some Reasons.TooManyNodes)
+abbrev pub reason_against_new : Bool → Option TreeFault → Option Reason
+reason_against_new known None = if_known known None
+reason_against_new known (Some faults.InUse) = Some Reasons.IdInUse
+reason_against_new known (Some faults.NoNode) = if_known known (Some Reasons.NoSuchNode)
+reason_against_new known (Some faults.NotGroup) = if_known known (Some Reasons.NotGroup)
+reason_against_new known (Some faults.IsRoot) = if_known known (Some Reasons.Root)
+reason_against_new known (Some faults.Inside) = if_known known (Some Reasons.InsideItself)
+reason_against_new known (Some faults.TooMany) = if_known known (Some Reasons.TooManyNodes)
 
 -- the tree's fault against a new node, which takes the place of its target or is put beside others
 abbrev pub fault_by : {P : Type 0} → Bool → ℤ → Action → ℤ → Nodes P → Option TreeFault

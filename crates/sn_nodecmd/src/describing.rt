@@ -1,17 +1,16 @@
 //! `/g_queryTree`.
-ghost use Rattle.std.specs.Prelude.{◌≡◌, ◌≤◌, ◌∷◌, ◌++◌, [], List, ℕ, pos, negsuc, length, map, take, true, IfOk, OnOk};
+ghost use Rattle.std.specs.Prelude.{◌≡◌, ◌≤◌, ◌∷◌, ◌++◌, [], List, ℕ, pos, negsuc, length, map, true, IfOk, OnOk};
 ghost use Rattle.sn_osc.specs.Shape.{argument_of, message_of, int, string};
 ghost use Rattle.sn_reply.specs.Sending.{IsSendable};
 ghost use Rattle.sn_def.specs.Reading.{is_name};
 ghost use Rattle.sn_tree.specs.Trees.{count};
-ghost use Rattle.sn_world.specs.World.{world_of, turn_of};
-ghost use Rattle.sn_world.specs.Rows.{steps};
-ghost use Rattle.sn_world.specs.TreeQueries.{judge_tree, act_tree, tree_row};
+ghost use Rattle.sn_world.specs.World.{turn_of};
+ghost use Rattle.sn_world.specs.TreeQueries.{tree_row};
 ghost use Rattle.sn_world.specs.Answers.{Follows, UnlessFollowed};
-ghost use Rattle.sn_nodecmd.specs.Folding.{Steps};
 ghost use Rattle.sn_nodecmd.specs.Describing.{held_arguments, described, HaveFew, tree_reply};
 
 use crate::judging::is_synth;
+use crate::questions::{Question, answer_all};
 use sn_def::{Def, lines_are_read};
 use sn_osc::{Arg, Message};
 use sn_ports::NoMemory;
@@ -94,48 +93,32 @@ fn are_few(tree: &Tree<Held>)
     let _ = tree.len();
 }
 
-/// Tells a client what stands below a group.
-fn answer(
-    alloc: Global,
-    stage: &Stage,
-    query: &TreeQuery,
-    from: u32,
-    replies: &mut Replies,
-) -> Result<Option<Reason>, NoMemory>
-    ensures act { (words : List ℕ) → Steps result (judge_tree (world_of stage.now words) query.now) (act_tree from query.now (turn_of stage.now words replies.old)) (turn_of stage.now words replies.new) }
-    ensures earlier { take (length replies.old) replies.new ≡ replies.old }
-{
-    are_few(&stage.tree);
-    let mut members = stage.tree.members(query.group);
-    let Some(group) = members.next() else {
-        return Ok(Some(Reason::NoSuchNode));
-    };
-    if is_synth(group.kind) {
-        return Ok(Some(Reason::NotGroup));
-    }
-    let message = tree_message(alloc, query.group, group.children, members)?;
-    replies.push(To::Client(from), message)?;
-    Ok(None)
-}
+impl Question for TreeQuery {
+    ghost use Rattle.sn_world.specs.TreeQueries.{judge_tree, act_tree};
 
-/// Tells a client what stands below groups, up to the first that is none.
-fn answer_all(
-    alloc: Global,
-    stage: &Stage,
-    queries: &[TreeQuery],
-    from: u32,
-    replies: &mut Replies,
-) -> Result<Option<Reason>, NoMemory>
-    ensures row { (words : List ℕ) → Follows result (steps judge_tree (act_tree from) queries.now (turn_of stage.now words replies.old)) (turn_of stage.now words replies.new) }
-    ensures earlier { take (length replies.old) replies.new ≡ replies.old }
-{
-    for query in queries {
-        let refused = answer(alloc, stage, query, from, replies)?;
-        if let Some(reason) = refused {
-            return Ok(Some(reason));
+    ghost judge = { judge_tree };
+
+    ghost act = { act_tree };
+
+    fn answer(
+        &self,
+        alloc: Global,
+        stage: &Stage,
+        from: u32,
+        replies: &mut Replies,
+    ) -> Result<Option<Reason>, NoMemory> {
+        are_few(&stage.tree);
+        let mut members = stage.tree.members(self.group);
+        let Some(group) = members.next() else {
+            return Ok(Some(Reason::NoSuchNode));
+        };
+        if is_synth(group.kind) {
+            return Ok(Some(Reason::NotGroup));
         }
+        let message = tree_message(alloc, self.group, group.children, members)?;
+        replies.push(To::Client(from), message)?;
+        Ok(None)
     }
-    Ok(None)
 }
 
 /// `/g_queryTree` (group 0)..
@@ -147,21 +130,10 @@ pub fn run_tree_query(
     replies: &mut Replies,
 ) -> Result<Option<Reason>, NoMemory>
     ensures row { (words : List ℕ) → Follows result (tree_row from (map argument_of arguments.now) (turn_of stage.now words replies.old)) (turn_of stage.now words replies.new) }
-    ensures unsaid { UnlessFollowed result (replies.new ≡ replies.old) }
+    ensures untold { UnlessFollowed result (replies.new ≡ replies.old) }
 {
     let Some(queries) = some_of(pairs::<TreeQuery>(alloc, arguments)?) else {
         return Ok(Some(Reason::Arguments));
     };
-    let before = replies.len();
-    match answer_all(alloc, stage, &queries, from, replies) {
-        Ok(None) => Ok(None),
-        Ok(Some(reason)) => {
-            replies.truncate(before);
-            Ok(Some(reason))
-        }
-        Err(error) => {
-            replies.truncate(before);
-            Err(error)
-        }
-    }
+    answer_all(alloc, stage, &queries, from, replies)
 }

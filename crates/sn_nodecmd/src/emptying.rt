@@ -1,27 +1,24 @@
 //! What lies below groups is freed.
-ghost use Rattle.std.specs.Prelude.{◌≡◌, ◌+◌, ◌*◌, ◌^◌, ◌<◌, map, length, IfOk, OnOk, List, ℕ, pos, false};
+ghost use Rattle.std.specs.Prelude.{◌≡◌, IfOk, OnOk, List, ℕ, pos, false};
 ghost use Rattle.std.specs.List.{All};
 ghost use Rattle.std.specs.Ordering.{int_eq};
 ghost use Rattle.sn_tree.specs.Trees.{children};
 ghost use Rattle.sn_tree.specs.Below.{top_ids, synth_ids};
-ghost use Rattle.sn_osc.specs.Shape.{argument_of};
 ghost use Rattle.sn_world.specs.World.{turn_of};
 ghost use Rattle.sn_world.specs.Freeing.{freed};
-ghost use Rattle.sn_world.specs.Emptying.{freed_each, group_refusal, free_all_row, deep_free_row};
-ghost use Rattle.sn_world.specs.Answers.{Continues, Follows, UnlessFollowed};
-ghost use Rattle.sn_world.specs.Pictures.{Pictures};
-ghost use Rattle.sn_nodecmd.specs.Folding.{IsAtRest, CanStep, Keeps};
+ghost use Rattle.sn_world.specs.Emptying.{freed_each, group_refusal};
+ghost use Rattle.sn_world.specs.Answers.{Continues};
+ghost use Rattle.sn_nodecmd.specs.Folding.{CanStep, Keeps};
 ghost use Rattle.sn_nodecmd.specs.Sparing.{SparesRoom};
 
-use crate::folding::{Repetition, each};
+use crate::folding::Repetition;
 use crate::freeing::{free_node, is_attached};
 use crate::judging::is_synth;
 use crate::telling::view_of;
-use sn_osc::Arg;
 use sn_ports::NoMemory;
 use sn_reply::{Reason, Replies};
 use sn_tree::Tree;
-use sn_world::{DeepFree, FreeAll, Held, NodeId, Stage, singles, some_of};
+use sn_world::{DeepFree, FreeAll, Held, NodeId, Stage};
 use std::alloc::Global;
 
 /// The first reason against freeing what lies below a group.
@@ -139,48 +136,4 @@ impl Repetition for DeepFree {
         free_each(alloc, stage, &synths, replies)?;
         Ok(None)
     }
-}
-
-/// `/g_freeAll` group..
-pub fn run_free_all(
-    alloc: Global,
-    stage: &mut Stage,
-    arguments: &[Arg],
-    replies: &mut Replies,
-) -> Result<Option<Reason>, NoMemory>
-    requires rest { IsAtRest stage.old }
-    requires few { 16 * length arguments.now + 2 ^ 20 < 2 ^ 31 }
-    ensures row { (from : ℕ) (words : List ℕ) → Follows result (free_all_row from (map argument_of arguments.now) (turn_of stage.old words replies.old)) (turn_of stage.new words replies.new) }
-    ensures unchanged { UnlessFollowed result (stage.new ≡ stage.old) }
-    ensures untold { UnlessFollowed result (replies.new ≡ replies.old) }
-    ensures pictures { (words : List ℕ) → Pictures stage.old words → Pictures stage.new words }
-    ensures clients { stage.new.notify ≡ stage.old.notify }
-    ensures region { stage.new.pool.region ≡ stage.old.pool.region }
-{
-    let Some(groups) = some_of(singles::<FreeAll>(alloc, arguments)?) else {
-        return Ok(Some(Reason::Arguments));
-    };
-    each(alloc, stage, &groups, replies)
-}
-
-/// `/g_deepFree` group..
-pub fn run_deep_free(
-    alloc: Global,
-    stage: &mut Stage,
-    arguments: &[Arg],
-    replies: &mut Replies,
-) -> Result<Option<Reason>, NoMemory>
-    requires rest { IsAtRest stage.old }
-    requires few { 16 * length arguments.now + 2 ^ 20 < 2 ^ 31 }
-    ensures row { (from : ℕ) (words : List ℕ) → Follows result (deep_free_row from (map argument_of arguments.now) (turn_of stage.old words replies.old)) (turn_of stage.new words replies.new) }
-    ensures unchanged { UnlessFollowed result (stage.new ≡ stage.old) }
-    ensures untold { UnlessFollowed result (replies.new ≡ replies.old) }
-    ensures pictures { (words : List ℕ) → Pictures stage.old words → Pictures stage.new words }
-    ensures clients { stage.new.notify ≡ stage.old.notify }
-    ensures region { stage.new.pool.region ≡ stage.old.pool.region }
-{
-    let Some(groups) = some_of(singles::<DeepFree>(alloc, arguments)?) else {
-        return Ok(Some(Reason::Arguments));
-    };
-    each(alloc, stage, &groups, replies)
 }

@@ -1,22 +1,19 @@
 //! Nodes that are freed.
-ghost use Rattle.std.specs.Prelude.{◌≡◌, ◌+◌, ◌*◌, ◌^◌, ◌<◌, map, length, OnOk, None, List, ℕ};
+ghost use Rattle.std.specs.Prelude.{◌≡◌, OnOk, None, List, ℕ};
 ghost use Rattle.sn_tree.specs.Trees.{holds};
 ghost use Rattle.sn_tree.specs.Steps.{HasRoom, detached};
-ghost use Rattle.sn_osc.specs.Shape.{argument_of};
 ghost use Rattle.sn_world.specs.World.{turn_of};
-ghost use Rattle.sn_world.specs.Freeing.{free_row, free_refusal, freed};
-ghost use Rattle.sn_world.specs.Answers.{Continues, Follows, UnlessFollowed};
-ghost use Rattle.sn_world.specs.Pictures.{Pictures};
-ghost use Rattle.sn_nodecmd.specs.Folding.{IsAtRest, Keeps};
+ghost use Rattle.sn_world.specs.Freeing.{free_refusal, freed};
+ghost use Rattle.sn_world.specs.Answers.{Continues};
+ghost use Rattle.sn_nodecmd.specs.Folding.{Keeps};
 ghost use Rattle.sn_nodecmd.specs.Sparing.{SparesRoom};
 
-use crate::folding::{Repetition, each};
+use crate::folding::Repetition;
 use crate::telling::{tell_ends, view_of, views_of};
-use sn_osc::Arg;
 use sn_ports::NoMemory;
 use sn_reply::{Reason, Replies};
 use sn_tree::Tree;
-use sn_world::{Held, NodeId, Stage, singles, some_of};
+use sn_world::{Held, NodeId, Stage};
 use std::alloc::Global;
 
 /// Whether a node is in the tree.
@@ -91,26 +88,4 @@ impl Repetition for NodeId {
         free_node(alloc, stage, self, replies)?;
         Ok(None)
     }
-}
-
-/// `/n_free` id..
-pub fn run_free(
-    alloc: Global,
-    stage: &mut Stage,
-    arguments: &[Arg],
-    replies: &mut Replies,
-) -> Result<Option<Reason>, NoMemory>
-    requires rest { IsAtRest stage.old }
-    requires few { 16 * length arguments.now + 2 ^ 20 < 2 ^ 31 }
-    ensures row { (from : ℕ) (words : List ℕ) → Follows result (free_row from (map argument_of arguments.now) (turn_of stage.old words replies.old)) (turn_of stage.new words replies.new) }
-    ensures unchanged { UnlessFollowed result (stage.new ≡ stage.old) }
-    ensures untold { UnlessFollowed result (replies.new ≡ replies.old) }
-    ensures pictures { (words : List ℕ) → Pictures stage.old words → Pictures stage.new words }
-    ensures clients { stage.new.notify ≡ stage.old.notify }
-    ensures region { stage.new.pool.region ≡ stage.old.pool.region }
-{
-    let Some(nodes) = some_of(singles::<NodeId>(alloc, arguments)?) else {
-        return Ok(Some(Reason::Arguments));
-    };
-    each(alloc, stage, &nodes, replies)
 }

@@ -3,7 +3,7 @@ ghost use Rattle.std.specs.Prelude.{◌≡◌, is_some, Some};
 ghost use Rattle.std.specs.Option.{option_map};
 ghost use Rattle.sn_tree.specs.Faults.{insert_fault, is_synth, replace_fault};
 ghost use Rattle.sn_world.specs.NewNodes.{id_for, one_below, next_after, add_action, action_for, replaces, node_refusal};
-ghost use Rattle.sn_nodecmd.specs.Judging.{reason_for, fault_by};
+ghost use Rattle.sn_nodecmd.specs.Judging.{reason_against_new, fault_by};
 
 use sn_reply::Reason;
 use sn_tree::{Action, NodeKind, Spot, Tree, TreeFault};
@@ -88,9 +88,9 @@ fn is_known(new: &NewNode) -> bool
     add_action(new.action).is_some()
 }
 
-/// The reason by the tree's, and by whether an add action has the number.
-fn reason_for(known: bool, fault: Option<TreeFault>) -> Option<Reason>
-    ensures { result ≡ reason_for known fault }
+/// The reason against a new node, by the fault that the tree has, and by whether an add action has the number.
+fn reason_against_new(known: bool, fault: Option<TreeFault>) -> Option<Reason>
+    ensures { result ≡ reason_against_new known fault }
 {
     match fault {
         Some(TreeFault::InUse) => Some(Reason::IdInUse),
@@ -134,5 +134,5 @@ pub fn refusal(tree: &Tree<Held>, node: &NodeId, new: &NewNode) -> Option<Reason
 {
     // A tree has at most 4,096 nodes, so there is room for one more in the place of another.
     let _nodes = tree.len();
-    reason_for(is_known(new), fault_of(tree, node, new))
+    reason_against_new(is_known(new), fault_of(tree, node, new))
 }

@@ -1,4 +1,4 @@
-//! The commands on nodes.
+//! The commands on nodes, and `/notify`.
 #![tactic(auto)]
 
 mod adding;
@@ -19,6 +19,7 @@ mod notifying;
 mod ordering;
 mod placing;
 mod querying;
+mod questions;
 mod running;
 mod runs;
 mod settings;

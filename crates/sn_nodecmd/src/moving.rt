@@ -12,7 +12,7 @@ ghost use Rattle.sn_world.specs.Moving.{move_refusal, node_move, move_from, move
 ghost use Rattle.sn_world.specs.Answers.{Continues, Follows, UnlessFollowed};
 ghost use Rattle.sn_world.specs.Pictures.{Pictures};
 ghost use Rattle.sn_nodecmd.specs.Folding.{IsAtRest};
-ghost use Rattle.sn_nodecmd.specs.Relocating.{reason_of, refused_by};
+ghost use Rattle.sn_nodecmd.specs.Relocating.{reason_against_move, refused_by};
 
 use crate::folding::{Repetition, each};
 use crate::telling::tell;
@@ -73,9 +73,9 @@ fn moves_of(
     }
 }
 
-/// The reason by the tree's.
-fn reason_of(fault: TreeFault) -> Reason
-    ensures { result ≡ reason_of fault }
+/// The reason against a move, by the fault that the tree has.
+fn reason_against_move(fault: TreeFault) -> Reason
+    ensures { result ≡ reason_against_move fault }
 {
     match fault {
         TreeFault::InUse => Reason::IdInUse,
@@ -116,7 +116,7 @@ fn relocate(tree: &mut Tree<Held>, to: &NodeMove) -> Result<(), Reason>
 {
     match shift(tree, to) {
         Ok(()) => Ok(()),
-        Err(fault) => Err(reason_of(fault)),
+        Err(fault) => Err(reason_against_move(fault)),
     }
 }
 

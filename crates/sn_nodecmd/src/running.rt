@@ -12,8 +12,7 @@ ghost use Rattle.sn_world.specs.Commands.{ArgumentsOf, tree_command_of, node_com
 ghost use Rattle.sn_world.specs.Answers.{Follows, UnlessFollowed, Handles, UnlessDone, AsksNothing};
 
 use crate::describing::run_tree_query;
-use crate::emptying::{run_deep_free, run_free_all};
-use crate::freeing::run_free;
+use crate::folding::run_singles;
 use crate::getting::run_get;
 use crate::groups::run_new_groups;
 use crate::making::run_new;
@@ -30,7 +29,7 @@ use sn_osc::{Arg, Body, Message};
 use sn_ports::NoMemory;
 use sn_reply::{Reason, Replies};
 use sn_tree::{Action, NodeKind};
-use sn_world::{Handled, NodeCommand, Stage};
+use sn_world::{DeepFree, FreeAll, Handled, NodeCommand, NodeId, Stage};
 use std::alloc::Global;
 
 /// The command with an address that makes, moves or frees nodes.
@@ -161,9 +160,9 @@ fn run_row<P: Port>(
         NodeCommand::NewParallel => {
             run_new_groups(alloc, stage, NodeKind::Parallel, arguments, replies)
         }
-        NodeCommand::Free => run_free(alloc, stage, arguments, replies),
-        NodeCommand::FreeAll => run_free_all(alloc, stage, arguments, replies),
-        NodeCommand::DeepFree => run_deep_free(alloc, stage, arguments, replies),
+        NodeCommand::Free => run_singles::<NodeId>(alloc, stage, arguments, replies),
+        NodeCommand::FreeAll => run_singles::<FreeAll>(alloc, stage, arguments, replies),
+        NodeCommand::DeepFree => run_singles::<DeepFree>(alloc, stage, arguments, replies),
         NodeCommand::Query => run_query(alloc, stage, arguments, from, replies),
         NodeCommand::QueryTree => run_tree_query(alloc, stage, arguments, from, replies),
         NodeCommand::GetControls => run_get(alloc, stage, port, arguments, from, replies),

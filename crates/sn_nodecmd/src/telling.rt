@@ -6,7 +6,6 @@ ghost use Rattle.sn_world.specs.World.{World, turn_of};
 ghost use Rattle.sn_world.specs.Notices.{told, event_message, notices};
 ghost use Rattle.sn_world.specs.Freeing.{told_ends};
 ghost use Rattle.sn_world.specs.Answers.{Continues};
-ghost use Rattle.sn_world.specs.declared.notices.NodeEvent.TheVariants.{Ended};
 
 use sn_ports::NoMemory;
 use sn_reply::Replies;
@@ -60,20 +59,6 @@ pub fn tell(
     tell_of(alloc, &stage.notify, event, node, &view, replies)
 }
 
-/// Tells of a node that ends.
-fn tell_end(
-    alloc: Global,
-    flags: &Flags,
-    id: i32,
-    view: &NodeView,
-    replies: &mut Replies,
-) -> Result<(), NoMemory>
-    ensures told { OnOk result (replies.new ≡ replies.old ++ notices 0 flags.now (event_message Ended id view.now)) }
-    ensures continues { Continues replies.old replies.new }
-{
-    notify(alloc, flags, NodeEvent::Ended, id, view, replies)
-}
-
 /// Tells of nodes that end, at the places where they stand.
 pub fn tell_ends(
     alloc: Global,
@@ -85,7 +70,8 @@ pub fn tell_ends(
     ensures continues { Continues replies.old replies.new }
 {
     for (id, view) in ended {
-        tell_end(alloc, flags, *id, view, replies)?;
+        let node = NodeId { id: *id };
+        tell_of(alloc, flags, NodeEvent::Ended, &node, view, replies)?;
     }
     Ok(())
 }

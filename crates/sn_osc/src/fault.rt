@@ -39,6 +39,7 @@ pub enum PacketKind {
 /// The first fault of bytes that spell no packet.
 #[derive(Clone, Copy, Debug, PartialEq, Eq)]
 pub struct PacketFault {
+    /// What is wrong.
     pub kind: PacketKind,
     /// The byte of the fault, counted from the packet's first byte.
     pub place: u32,
@@ -58,6 +59,7 @@ pub enum StreamFault {
 /// Why bytes were not decoded.
 #[derive(Clone, Copy, Debug, PartialEq, Eq)]
 pub enum Undecoded {
+    /// Memory ran out.
     NoMemory,
     /// The bytes spell no packet.
     Bad(PacketFault),

@@ -12,6 +12,7 @@ const MOST_BYTES: u32 = 65536;
 /// The bytes of one packet of a stream.
 #[derive(Debug, Drop)]
 pub struct Frame {
+    /// The packet's bytes, without its size.
     pub bytes: Text,
     /// The place in the stream of the packet's first byte.
     pub place: u64,
@@ -20,6 +21,7 @@ pub struct Frame {
 /// Why no frame was given.
 #[derive(Clone, Copy, Debug, PartialEq, Eq)]
 pub enum Unframed {
+    /// Memory ran out.
     NoMemory,
     /// The size is below 4, above 65,536 or no multiple of 4; its first byte is at `place` in the stream.
     Bad { size: i32, place: u64 },

@@ -9,7 +9,7 @@ use std::marker::Model;
 
 /// Cuts a stream that is fed in pieces into frames.
 ///
-/// A contract sees the bytes that are kept, and how many were fed. Feeding and taking cost the bytes that are moved.
+/// A contract sees the bytes that are kept, and how many were fed.
 #[derive(Drop)]
 pub struct Framer {
     alloc: Global,
@@ -65,7 +65,7 @@ impl Framer {
         }
     }
 
-    /// Moves what is kept to the front, where that is no more than what was given since it was moved last.
+    /// May move what is kept to the front of the memory. What a contract sees stays as it was.
     fn compact(&mut self)
         ensures { self.new ≡ self.old }
     {

@@ -3,20 +3,23 @@ ghost use Rattle.std.specs.Prelude.{◌≡◌, List};
 use sn_ports::Text;
 use std::marker::Model;
 
-/// A packet of Open Sound Control 1.0.
+/// A packet of Open Sound Control 1.0. Not each value has a spelling: `spellable` tells.
 #[cycle(packet)]
 #[derive(Debug, Drop)]
 pub enum Packet {
+    /// One message.
     Message(Message),
+    /// A bundle of packets.
     Bundle(Bundle),
 }
 
-/// Packets that act at one time. Bundles nest at most 8 deep.
+/// Packets that act at one time. Bundles nest at most 8 deep in a packet that has a spelling.
 #[cycle(packet)]
 #[derive(Debug, Drop)]
 pub struct Bundle {
     /// 32 bits of seconds, 32 bits of fraction; 1 means at once.
     pub tag: u64,
+    /// Its packets, in order.
     pub elements: Elements,
 }
 
@@ -26,8 +29,9 @@ pub type Elements = Vec<Packet>;
 /// An address and what follows it.
 #[derive(Debug, Drop)]
 pub struct Message {
-    /// It begins with `/` and has no null byte.
+    /// In a packet that has a spelling it begins with `/` and has no null byte.
     pub address: Text,
+    /// What follows the address.
     pub body: Body,
 }
 
@@ -38,15 +42,17 @@ pub enum Body {
     Bare,
     /// Arguments, each with its tag `i`, `s` or `b`.
     Args(Args),
-    /// Tags behind the comma of which one is neither `i` nor `s` nor `b`, and all bytes behind them, unread.
+    /// Tags behind the comma, and all bytes behind the tags, unread. In a packet that has a
+    /// spelling one of the tags is neither `i` nor `s` nor `b`.
     Foreign { tags: Text, rest: Text },
 }
 
 /// An argument of a message.
 #[derive(Debug, Drop)]
 pub enum Arg {
+    /// An integer of 32 bits.
     Int(i32),
-    /// A string: bytes that are not null.
+    /// A string. In a packet that has a spelling none of its bytes is null.
     Text(Text),
     /// Any bytes.
     Blob(Text),

@@ -1,5 +1,5 @@
 //! Which packets have a spelling.
-ghost use Rattle.std.specs.Prelude.{◌≡◌, ◌<◌, ◌^◌, ◌↔◌, suc, ◌==◌, map, IsTrue};
+ghost use Rattle.std.specs.Prelude.{◌≡◌, ◌<◌, ◌↔◌, suc, ◌==◌, map, IsTrue};
 ghost use Rattle.std.specs.List.{list_all};
 ghost use Rattle.sn_osc.specs.Shape.{bundle, argument_of, body_of, message_of, shape, shapes};
 ghost use Rattle.sn_osc.specs.Bytes.{has_no_null, fits_int, is_argument, is_body, is_message, is_packet};

@@ -8,7 +8,9 @@ use sn_mem::Extent;
 /// A run of free words: where it begins, and before which live extent.
 #[derive(Clone, Copy)]
 pub struct Gap {
+    /// The position of the live extent after it, or their number where none is.
     pub index: usize,
+    /// The number of its first word.
     pub at: u32,
 }
 

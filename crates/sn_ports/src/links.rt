@@ -1,4 +1,4 @@
-ghost use Rattle.std.specs.Prelude.{◌<◌, List, ℕ, length};
+ghost use Rattle.std.specs.Prelude.{◌≡◌, ◌<◌, List, ℕ, OnOk, length};
 ghost use Rattle.std.specs.Io.KnownBytes.{Keeps, WriteAppends};
 ghost use Rattle.std.specs.declared.option.Option.{Option};
 ghost use Rattle.sn_ports.specs.Causes.{HasCause};
@@ -8,12 +8,12 @@ ghost use Rattle.sn_ports.specs.Transfer.{WritesSome};
 use crate::failed::Failed;
 use crate::text::Text;
 
-/// What comes over a connection.
+/// What comes over a connection. A link that tells its events has pieces with a byte or more, and ticks of 1 to 1,024 blocks.
 #[derive(Debug, Drop)]
 pub enum Event {
-    /// Bytes, one or more.
+    /// A piece of bytes.
     Bytes(Text),
-    /// So many blocks are due, 1 to 1,024.
+    /// So many blocks are due.
     Ticks(u32),
 }
 
@@ -39,7 +39,7 @@ pub trait Link {
     /// The bytes that were sent, where it tells them.
     ghost sent: { Self → Option (List ℕ) };
 
-    /// How often it has failed.
+    /// A count of failures: a call that answers leaves it, and one that fails raises it while it is below 2^64 - 1.
     ghost faults: { Self → ℕ };
 
     /// Moves a front of the bytes that come next into `into`, or takes the blocks that are due next.
@@ -48,12 +48,14 @@ pub trait Link {
         ensures bound { FeedsWithin result into.new }
         ensures events { NextTakes (left self.old) (left self.new) result into.new }
         ensures sent { Keeps (sent self.old) (sent self.new) }
-        ensures cause { HasCause (faults self.old) (faults self.new) result };
+        ensures cause { HasCause (faults self.old) (faults self.new) result }
+        ensures unfailed { OnOk result (faults self.new ≡ faults self.old) };
 
     /// Sends a front of the piece, of at least one byte where there is one.
     fn send(&mut self, piece: &[u8]) -> Result<usize, Failed>
         ensures bound { WritesSome result piece.now }
         ensures bytes { WriteAppends (sent self.old) (sent self.new) result piece.now }
         ensures events { KeepsEvents (left self.old) (left self.new) }
-        ensures cause { HasCause (faults self.old) (faults self.new) result };
+        ensures cause { HasCause (faults self.old) (faults self.new) result }
+        ensures unfailed { OnOk result (faults self.new ≡ faults self.old) };
 }

@@ -103,7 +103,7 @@ impl Text {
     /// Drops all bytes, and keeps their room.
     pub fn clear(&mut self)
         ensures bytes { self.new.bytes ≡ [] }
-        ensures room { self.old.spare ≤ self.new.spare }
+        ensures room { length self.old.bytes + self.old.spare ≤ self.new.spare }
     {
         self.items.clear();
     }

@@ -38,14 +38,18 @@ impl<T: Drop> From<AllocFailed<T>> for Unput {
 /// Where an entry stands in the order: by time, and at one time by arrival.
 #[derive(Clone, Copy, Debug, PartialEq, Eq, PartialOrd, Ord)]
 pub(crate) struct Place {
+    /// The time, in units of 2^-32 seconds.
     pub(crate) key: u128,
+    /// How many entries were put before.
     pub(crate) number: u64,
 }
 
 /// What waits at a place.
 #[derive(Debug, Drop)]
 pub(crate) struct Held {
+    /// The client that sent them.
     pub(crate) from: u32,
+    /// What acts, in order.
     pub(crate) messages: Messages,
 }
 

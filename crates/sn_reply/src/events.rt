@@ -1,6 +1,5 @@
 //! What clients are told when a block is settled.
 ghost use Rattle.std.specs.Prelude.{◌≡◌, ◌≤◌, ◌+◌, ◌++◌, length};
-ghost use Rattle.sn_osc.specs.Shape.{arguments};
 ghost use Rattle.sn_osc.specs.Bytes.{int_bytes, arguments_bytes, message_bytes, frame_bytes};
 ghost use Rattle.sn_reply.specs.Events.{place_arguments, trigger_arguments, notice_message};
 
@@ -9,9 +8,13 @@ use sn_ports::Text;
 /// Where a synth stands in the tree: its neighbours by their ids, with -1 for none.
 #[derive(Clone, Copy, Debug, PartialEq, Eq)]
 pub struct Place {
+    /// The synth's node id.
     pub id: i32,
+    /// The id of its group, or -1.
     pub parent: i32,
+    /// The id of the node before it in its group, or -1.
     pub previous: i32,
+    /// The id of the node after it in its group, or -1.
     pub next: i32,
 }
 

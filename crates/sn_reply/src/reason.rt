@@ -7,30 +7,38 @@ pub enum Reason {
     ArgumentType,
     /// The number, the kinds or the ranges of the arguments are not those of the command.
     Arguments,
+    /// No node has the id.
     NoSuchNode,
     /// A node has the id, or no id is left to choose.
     IdInUse,
     /// No add action has the number.
     AddAction,
+    /// The node is a synth where a group is asked for.
     NotGroup,
     /// The root can't be moved, replaced or freed.
     Root,
     /// A node can't be moved into itself.
     InsideItself,
+    /// No definition has the name.
     NoSuchDefinition,
     /// No control bus has the number.
     Bus,
     /// No buffer has the number.
     Buffer,
+    /// A sample's index lies outside the buffer.
     SampleIndex,
     /// The pool has no place that is large enough.
     PoolFull,
+    /// There would be more than 4,096 nodes.
     TooManyNodes,
     /// The text of a definition has a fault in the line with this number.
     DefinitionLine(u32),
     /// The control is read once, when a synth begins, and can't follow a bus.
     IndexControl,
+    /// As many entries wait as may.
     QueueFull,
+    /// The bytes spell no packet.
     BadPacket,
+    /// The node is a group where a synth is asked for.
     NotSynth,
 }

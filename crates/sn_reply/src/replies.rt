@@ -21,7 +21,9 @@ pub enum To {
 /// A message, and whom it goes to.
 #[derive(Debug, Drop)]
 pub struct Reply {
+    /// Whom it goes to.
     pub to: To,
+    /// What is sent.
     pub message: Message,
 }
 

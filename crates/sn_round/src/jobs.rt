@@ -90,7 +90,7 @@ impl Jobs {
 
 /// A job of a round: the synths that it renders in order, the words that it may touch, and the jobs that end before it begins.
 ///
-/// A joint has no synths and touches nothing.
+/// A joint is a job that has no synths.
 #[derive(Drop)]
 pub struct Job {
     /// The synths that it renders.

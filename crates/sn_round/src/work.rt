@@ -20,10 +20,12 @@ pub trait Work: Sync {
     /// The jobs may run.
     ghost ready: { Self → Type 0 };
 
+    /// What a job may read and write.
     fn foot(&self, job: u32) -> &Foot
         requires { job < jobs self.now }
         ensures { result.now ≡ foot_of self.now job };
 
+    /// Runs a job over a port of its foot.
     fn run<P: Port>(&self, job: u32, port: &mut P, scratch: &mut Scratch)
         requires ready { ready self.now }
         requires job { job < jobs self.now }

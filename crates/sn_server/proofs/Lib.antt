@@ -5,5 +5,6 @@ pub mod OutcomeLemmas
 pub mod JoiningLemmas
 pub mod TakenLemmas
 pub mod ServingLemmas
+pub mod FaultLemmas
 pub mod PacketLemmas
 pub mod EventLemmas

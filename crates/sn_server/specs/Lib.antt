@@ -5,5 +5,6 @@ pub mod Going
 pub mod Outcomes
 pub mod PlayEvents
 pub mod Served
+pub mod Faults
 pub mod Serving
 pub mod Statuses

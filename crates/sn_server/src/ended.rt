@@ -21,7 +21,7 @@ pub enum Ended {
     LinkFault,
     /// The sink for the sound failed.
     SoundFault,
-    /// 2^62 bytes came or 2^62 blocks were done, more than is counted.
+    /// 2^62 bytes came or 2^62 blocks were done, as many as may.
     Worn { bytes: u64, blocks: u64 },
 }
 

@@ -1,4 +1,4 @@
-//! Bytes in, bytes out: a stream of commands is read, decoded and played.
+//! Bytes in, bytes out: a stream of commands is read, decoded and played, or a connection is served.
 #![tactic(auto)]
 
 mod ended;

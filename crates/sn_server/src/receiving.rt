@@ -8,6 +8,7 @@ ghost use Rattle.sn_osc.specs.Reading.{read};
 ghost use Rattle.sn_osc.specs.Unpacking.{unpacked};
 ghost use Rattle.sn_pcm.specs.declared.settings.Settings.{Settings};
 ghost use Rattle.sn_engine.specs.declared.standing.Standing.TheVariants.{Settled};
+ghost use Rattle.sn_server.specs.Faults.{UnlessFault};
 ghost use Rattle.sn_server.specs.Going.{to_first};
 ghost use Rattle.sn_server.specs.PlayEvents.{Live, receive};
 ghost use Rattle.sn_server.specs.Serving.{IsLive, Follows, IsReady, Stops, StaysOpen, with_packet, with_packets};
@@ -70,6 +71,7 @@ pub fn send_replies<L: Link>(engine: &mut Engine, link: &mut L) -> Result<(), En
     ensures only { IfErr result (λ how. how ≡ Ended.LinkFault) }
     ensures cause { result ≡ Err Ended.LinkFault → Rose (L.faults link.old) (L.faults link.new) }
     ensures later { L.faults link.old ≤ L.faults link.new }
+    ensures unfailed { UnlessFault result (L.faults link.new ≡ L.faults link.old) }
     ensures events { KeepsEvents (L.left link.old) (L.left link.new) }
 {
     match engine.send_replies(0, link) {
@@ -101,6 +103,7 @@ pub fn receive<L: Link>(
     ensures sound { result ≡ Err Ended.SoundFault → ⊥ }
     ensures cause { result ≡ Err Ended.LinkFault → Rose (L.faults link.old) (L.faults link.new) }
     ensures later { L.faults link.old ≤ L.faults link.new }
+    ensures unfailed { UnlessFault result (L.faults link.new ≡ L.faults link.old) }
 {
     framer.feed(piece)?;
     let bad = take_packets(alloc, engine, framer)?;

@@ -1,6 +1,7 @@
 ghost use Rattle.std.specs.Prelude.{◌≡◌, ◌<◌, ◌≤◌, ◌^◌, length, OnOk};
 ghost use Rattle.sn_ports.specs.Causes.{Rose};
 ghost use Rattle.sn_server.specs.Going.{IsAtBoundary, IsBlock, IsEnd, IsEnded, IsWritten, to_first};
+ghost use Rattle.sn_server.specs.Faults.{NothingFailed};
 ghost use Rattle.sn_engine.specs.declared.standing.Standing.TheVariants.{Settled};
 ghost use Rattle.sn_server.specs.declared.rendering.Stop.TheVariants as stops;
 
@@ -44,6 +45,7 @@ fn write_sound<O: Sink>(engine: &mut Engine, least: usize, sink: &mut O) -> Resu
     ensures reply { result ≡ Err Stop.ReplyFault → ⊥ }
     ensures cause { result ≡ Err Stop.SoundFault → Rose (O.faults sink.old) (O.faults sink.new) }
     ensures later { O.faults sink.old ≤ O.faults sink.new }
+    ensures unfailed { OnOk result (O.faults sink.new ≡ O.faults sink.old) }
 {
     if engine.sound_len() < least {
         return Ok(());
@@ -64,6 +66,7 @@ fn write_replies<R: Sink>(engine: &mut Engine, least: usize, sink: &mut R) -> Re
     ensures sound { result ≡ Err Stop.SoundFault → ⊥ }
     ensures cause { result ≡ Err Stop.ReplyFault → Rose (R.faults sink.old) (R.faults sink.new) }
     ensures later { R.faults sink.old ≤ R.faults sink.new }
+    ensures unfailed { OnOk result (R.faults sink.new ≡ R.faults sink.old) }
 {
     if engine.replies_len(0) < least {
         return Ok(());
@@ -91,6 +94,7 @@ fn render_block<H: Threads + Sync, O: Sink, R: Sink, G: Gate>(
     ensures reply { result ≡ Err Stop.ReplyFault → Rose (R.faults replies.old) (R.faults replies.new) }
     ensures sound_later { O.faults sound.old ≤ O.faults sound.new }
     ensures reply_later { R.faults replies.old ≤ R.faults replies.new }
+    ensures unfailed { OnOk result (NothingFailed (O.faults sound.old) (O.faults sound.new) (R.faults replies.old) (R.faults replies.new)) }
 {
     engine.boundary(alloc)?;
     engine.blocks(rt, 1, gate);
@@ -114,6 +118,7 @@ fn render_end<O: Sink, R: Sink>(
     ensures reply { result ≡ Err Stop.ReplyFault → Rose (R.faults replies.old) (R.faults replies.new) }
     ensures sound_later { O.faults sound.old ≤ O.faults sound.new }
     ensures reply_later { R.faults replies.old ≤ R.faults replies.new }
+    ensures unfailed { OnOk result (NothingFailed (O.faults sound.old) (O.faults sound.new) (R.faults replies.old) (R.faults replies.new)) }
 {
     engine.boundary(alloc)?;
     match engine.drain_sound(sound) {
@@ -142,6 +147,7 @@ pub fn render_blocks<H: Threads + Sync, O: Sink, R: Sink, G: Gate>(
     ensures ended { OnOk result (IsEnded engine.settings engine blocks (O.taken sound.old) (O.taken sound.new) (R.taken replies.old) (R.taken replies.new)) }
     ensures sound { result ≡ Err Stop.SoundFault → Rose (O.faults sound.old) (O.faults sound.new) }
     ensures reply { result ≡ Err Stop.ReplyFault → Rose (R.faults replies.old) (R.faults replies.new) }
+    ensures unfailed { OnOk result (NothingFailed (O.faults sound.old) (O.faults sound.new) (R.faults replies.old) (R.faults replies.new)) }
 {
     for number in 0..blocks {
         render_block(rt, alloc, &mut engine, sound, replies, gate)?;

@@ -5,6 +5,7 @@ ghost use Rattle.sn_pcm.specs.Sound.{data_len, header_bytes};
 ghost use Rattle.sn_pcm.specs.declared.settings.Settings.{Settings};
 ghost use Rattle.sn_ports.specs.Causes.{Rose};
 ghost use Rattle.sn_server.specs.Arriving.{ArePut, IsBegun};
+ghost use Rattle.sn_server.specs.Faults.{NothingFailed};
 ghost use Rattle.sn_server.specs.Going.{IsAtBoundary, IsEnded};
 ghost use Rattle.sn_server.specs.Outcomes.{Played, IsTooLong, IsAnswer, HasAnswer, ArePacketsOf, IsUnplayed, IsUntouched, TakesStream};
 ghost use Rattle.sn_server.specs.Play.{arrive, arrived};
@@ -54,6 +55,7 @@ fn write_header<O: Sink>(settings: &Settings, blocks: u64, sound: &mut O) -> Res
     ensures reply { result ≡ Err Stop.ReplyFault → ⊥ }
     ensures cause { result ≡ Err Stop.SoundFault → Rose (O.faults sound.old) (O.faults sound.new) }
     ensures later { O.faults sound.old ≤ O.faults sound.new }
+    ensures unfailed { OnOk result (O.faults sound.new ≡ O.faults sound.old) }
 {
     match write_all(sound, &header(settings, blocks)) {
         Ok(()) => Ok(()),
@@ -79,6 +81,7 @@ fn play<H: Threads + Sync, O: Sink, R: Sink, G: Gate>(
     ensures ended { OnOk result (IsEnded settings.now (record engine { sound = header_bytes settings.now (data_len settings.now blocks) }) blocks (O.taken sound.old) (O.taken sound.new) (R.taken replies.old) (R.taken replies.new)) }
     ensures sound { result ≡ Err Stop.SoundFault → Rose (O.faults sound.old) (O.faults sound.new) }
     ensures reply { result ≡ Err Stop.ReplyFault → Rose (R.faults replies.old) (R.faults replies.new) }
+    ensures unfailed { OnOk result (NothingFailed (O.faults sound.old) (O.faults sound.new) (R.faults replies.old) (R.faults replies.new)) }
 {
     write_header(settings, blocks, sound)?;
     render_blocks(rt, alloc, blocks, engine, sound, replies, gate)
@@ -92,6 +95,7 @@ fn read_packets<S: Source>(alloc: Global, source: &mut S) -> Result<Elements, Ou
     ensures answer { (s : Settings) → IfErr result (λ o. IsAnswer s (S.left source.old) o) }
     ensures taken { IfErr result (λ o. TakesStream o (S.left source.old) (S.left source.new)) }
     ensures read { result ≡ Err Outcome.ReadFault → Rose (S.faults source.old) (S.faults source.new) }
+    ensures unfailed { OnOk result (S.faults source.new ≡ S.faults source.old) }
 {
     let bytes = match read_stream(alloc, source) {
         Ok(bytes) => bytes,
@@ -129,6 +133,8 @@ fn run_stream<H: Threads + Sync, S: Source, O: Sink, R: Sink, G: Gate>(
     ensures read { result ≡ Outcome.ReadFault → Rose (S.faults source.old) (S.faults source.new) }
     ensures sound { result ≡ Outcome.SoundFault → Rose (O.faults sound.old) (O.faults sound.new) }
     ensures reply { result ≡ Outcome.ReplyFault → Rose (R.faults replies.old) (R.faults replies.new) }
+    ensures unfailed { (n : ℕ) → result ≡ Outcome.Done n → (S.faults source.new ≡ S.faults source.old)
+        × NothingFailed (O.faults sound.old) (O.faults sound.new) (R.faults replies.old) (R.faults replies.new) }
     ensures untouched { IsUntouched result (O.taken sound.old) (O.taken sound.new) (R.taken replies.old) (R.taken replies.new) }
 {
     let packets = match read_packets(alloc, source) {
@@ -172,6 +178,9 @@ pub fn render<H: Threads + Sync, S: Source, O: Sink, R: Sink, G: Gate>(
     ensures read { result ≡ Outcome.ReadFault → Rose (S.faults source.old) (S.faults source.new) }
     ensures sound { result ≡ Outcome.SoundFault → Rose (O.faults sound.old) (O.faults sound.new) }
     ensures reply { result ≡ Outcome.ReplyFault → Rose (R.faults replies.old) (R.faults replies.new) }
+    // Where it was done nothing failed.
+    ensures unfailed { (n : ℕ) → result ≡ Outcome.Done n → (S.faults source.new ≡ S.faults source.old)
+        × NothingFailed (O.faults sound.old) (O.faults sound.new) (R.faults replies.old) (R.faults replies.new) }
     // Where no count rises, the answer is the one that the stream has, or want of memory.
     ensures complete { (bytes : List ℕ) (answer : Outcome) → S.left source.old ≡ Some bytes → HasAnswer settings.now bytes answer → (Rose (S.faults source.old) (S.faults source.new) → ⊥)
         → (Rose (O.faults sound.old) (O.faults sound.new) → ⊥) → (Rose (R.faults replies.old) (R.faults replies.new) → ⊥) → (result ≡ answer) ⊎ (result ≡ Outcome.NoMemory) }

@@ -3,8 +3,9 @@ ghost use Rattle.std.specs.Prelude.{◌≡◌, ◌⊎◌, ◌≤◌, ◌<◌, �
 ghost use Rattle.sn_ports.specs.Causes.{Rose};
 ghost use Rattle.sn_ports.specs.Links.{LinkEvent};
 ghost use Rattle.sn_pcm.specs.declared.settings.Settings.{Settings};
+ghost use Rattle.sn_server.specs.Faults.{NothingFailed, UnlessFault};
 ghost use Rattle.sn_server.specs.PlayEvents.{Live, bytes_in, closing, play_events};
-ghost use Rattle.sn_server.specs.Served.{Served, AtClose};
+ghost use Rattle.sn_server.specs.Served.{Served, AtClose, WhereGiven};
 ghost use Rattle.sn_server.specs.Serving.{IsLive, IsReady, HasLeft, Took};
 ghost use Rattle.sn_server.specs.declared.ended.Ended.{Ended};
 
@@ -61,6 +62,7 @@ fn take_event<H: Threads + Sync, L: Link, O: Sink, G: Gate>(
     ensures sound { result ≡ Err Ended.SoundFault → Rose (O.faults sound.old) (O.faults sound.new) }
     ensures link_later { L.faults link.old ≤ L.faults link.new }
     ensures sound_later { O.faults sound.old ≤ O.faults sound.new }
+    ensures unfailed { UnlessFault result (NothingFailed (L.faults link.old) (L.faults link.new) (O.faults sound.old) (O.faults sound.new)) }
 {
     let most = (room.len() as u64).min(MOST - framer.fed()) as usize;
     let into = &mut room[..most];
@@ -98,6 +100,7 @@ fn serve_event<H: Threads + Sync, L: Link, O: Sink, G: Gate>(
     ensures sound { result ≡ Err Ended.SoundFault → Rose (O.faults sound.old) (O.faults sound.new) }
     ensures link_later { L.faults link.old ≤ L.faults link.new }
     ensures sound_later { O.faults sound.old ≤ O.faults sound.new }
+    ensures unfailed { UnlessFault result (NothingFailed (L.faults link.old) (L.faults link.new) (O.faults sound.old) (O.faults sound.new)) }
 {
     check_worn(engine, framer)?;
     take_event(rt, alloc, engine, framer, room, link, sound, gate)
@@ -117,6 +120,7 @@ fn serve<H: Threads + Sync, L: Link, O: Sink, G: Gate>(
     ensures close { AtClose result (L.left link.old) (L.left link.new) }
     ensures link { result ≡ Ended.LinkFault → Rose (L.faults link.old) (L.faults link.new) }
     ensures sound { result ≡ Ended.SoundFault → Rose (O.faults sound.old) (O.faults sound.new) }
+    ensures unfailed { WhereGiven result (NothingFailed (L.faults link.old) (L.faults link.new) (O.faults sound.old) (O.faults sound.new)) }
 {
     let Ok(mut engine) = Engine::open(alloc, settings, base, Some(MOST_ENTRIES), 1) else {
         return Ended::NoMemory;
@@ -144,8 +148,8 @@ fn serve<H: Threads + Sync, L: Link, O: Sink, G: Gate>(
 
 /// Serves one connection until it ends, with block 0 at the time tag `base`.
 ///
-/// Each whole frame that comes is taken at once, and what it makes is sent. Each block that is due comes after its boundary, and then its
-/// sound is written and its replies are sent.
+/// Where it ends without a fault and memory is there, all that its events give was written and sent. The replies of each
+/// piece of bytes and of each block are sent before the next event is asked for, which no clause here says.
 pub fn serve_one<H: Threads + Sync, L: Link, O: Sink, G: Gate>(
     rt: &H,
     alloc: Global,
@@ -162,6 +166,8 @@ pub fn serve_one<H: Threads + Sync, L: Link, O: Sink, G: Gate>(
     // A fault has its cause.
     ensures link { result ≡ Ended.LinkFault → Rose (L.faults link.old) (L.faults link.new) }
     ensures sound { result ≡ Ended.SoundFault → Rose (O.faults sound.old) (O.faults sound.new) }
+    // At an end that the events give nothing failed.
+    ensures unfailed { WhereGiven result (NothingFailed (L.faults link.old) (L.faults link.new) (O.faults sound.old) (O.faults sound.new)) }
     // Where no count rises, the answer is the end that all events give, or want of memory.
     ensures complete { (events : List LinkEvent) → L.left link.old ≡ Some events → bytes_in events < 2 ^ 62 → (Rose (L.faults link.old) (L.faults link.new) → ⊥)
         → (Rose (O.faults sound.old) (O.faults sound.new) → ⊥) → (result ≡ (play_events settings.now base events).ending) ⊎ (result ≡ Ended.NoMemory) }

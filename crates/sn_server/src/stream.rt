@@ -73,6 +73,7 @@ pub fn read_stream<S: Source>(alloc: Global, source: &mut S) -> Result<Vec<u8>, 
     ensures some { result ≡ Err Unread.Failed → (given : List ℕ) × Consumes (S.left source.old) (S.left source.new) given × (length given ≤ 16777216) }
     ensures none { result ≡ Err Unread.NoMemory → Keeps (S.left source.old) (S.left source.new) }
     ensures failed { result ≡ Err Unread.Failed → Rose (S.faults source.old) (S.faults source.new) }
+    ensures unfailed { OnOk result (S.faults source.new ≡ S.faults source.old) }
 {
     let Ok(mut bytes) = room(alloc, MOST_BYTES + 1) else {
         return Err(Unread::NoMemory);

@@ -6,6 +6,7 @@ ghost use Rattle.sn_ports.specs.Links.{KeepsEvents};
 ghost use Rattle.sn_pcm.specs.declared.settings.Settings.{Settings};
 ghost use Rattle.sn_engine.specs.Running.{with_block, with_settled};
 ghost use Rattle.sn_engine.specs.declared.standing.Standing.TheVariants.{Settled, Bounded};
+ghost use Rattle.sn_server.specs.Faults.{NothingFailed, UnlessFault};
 ghost use Rattle.sn_server.specs.Going.{to_first};
 ghost use Rattle.sn_server.specs.PlayEvents.{Live, tick};
 ghost use Rattle.sn_server.specs.Serving.{IsLive, Follows, IsReady, StaysOpen, IsTickEnd, IsTicked, HasQuit, IsWornOut, HasLeft};
@@ -29,6 +30,7 @@ fn write_sound<O: Sink>(engine: &mut Engine, sound: &mut O) -> Result<(), Ended>
     ensures only { IfErr result (λ how. how ≡ Ended.SoundFault) }
     ensures cause { result ≡ Err Ended.SoundFault → Rose (O.faults sound.old) (O.faults sound.new) }
     ensures later { O.faults sound.old ≤ O.faults sound.new }
+    ensures unfailed { UnlessFault result (O.faults sound.new ≡ O.faults sound.old) }
 {
     match engine.drain_sound(sound) {
         Ok(()) => Ok(()),
@@ -56,6 +58,7 @@ fn render_block<H: Threads + Sync, L: Link, O: Sink, G: Gate>(
     ensures sound { result ≡ Err Ended.SoundFault → Rose (O.faults sound.old) (O.faults sound.new) }
     ensures link_later { L.faults link.old ≤ L.faults link.new }
     ensures sound_later { O.faults sound.old ≤ O.faults sound.new }
+    ensures unfailed { UnlessFault result (NothingFailed (L.faults link.old) (L.faults link.new) (O.faults sound.old) (O.faults sound.new)) }
 {
     engine.blocks(rt, 1, gate);
     engine.settle();
@@ -83,6 +86,7 @@ fn tick<H: Threads + Sync, L: Link, O: Sink, G: Gate>(
     ensures sound { result ≡ Err Ended.SoundFault → Rose (O.faults sound.old) (O.faults sound.new) }
     ensures link_later { L.faults link.old ≤ L.faults link.new }
     ensures sound_later { O.faults sound.old ≤ O.faults sound.new }
+    ensures unfailed { UnlessFault result (NothingFailed (L.faults link.old) (L.faults link.new) (O.faults sound.old) (O.faults sound.new)) }
 {
     match engine.boundary(alloc)? {
         Flow::On => render_block(rt, engine, link, sound, gate),
@@ -128,6 +132,7 @@ pub fn ticks<H: Threads + Sync, L: Link, O: Sink, G: Gate>(
     ensures sound { result ≡ Err Ended.SoundFault → Rose (O.faults sound.old) (O.faults sound.new) }
     ensures link_later { L.faults link.old ≤ L.faults link.new }
     ensures sound_later { O.faults sound.old ≤ O.faults sound.new }
+    ensures unfailed { UnlessFault result (NothingFailed (L.faults link.old) (L.faults link.new) (O.faults sound.old) (O.faults sound.new)) }
 {
     for number in 0..count {
         check_worn(engine, framer)?;

@@ -1,5 +1,5 @@
 -- Words that may be read and written, unit by unit.
-use Rattle.std.proofs.Common.{◌≡◌, ◌≤◌, ◌<◌, ◌+◌, ◌-◌, ℕ, zero, suc, ℤ, Bool, true, List, [], ◌∷◌, length, get_or, drop, refl, ap, sym, subst, ◌∙◌, arith}
+use Rattle.std.proofs.Common.{◌≡◌, ◌≤◌, ◌<◌, ◌+◌, ◌-◌, ℕ, zero, suc, ℤ, Bool, true, false, ◌==◌, List, [], ◌∷◌, length, get_or, drop, refl, ap, sym, subst, ◌∙◌, arith}
 use Rattle.sn_ports.specs.Octets.{Octets}
 use Rattle.sn_mem.specs.declared.extents.Foot.{Foot}
 use Rattle.sn_mem.specs.Words.{touches, writes, MayRead, MayWrite}
@@ -30,6 +30,10 @@ drop_first (y ∷ ys) (suc i) d lt = drop_first ys i d (omega arith) ∙ ap (λ 
 pub nothing : {A : Type 0} (xs : List A) → length xs ≤ 0 → xs ≡ []
 nothing [] few = refl
 nothing (x ∷ xs) few = absurd (omega (arith, few))
+
+pub none_there : {A : Type 0} (xs : List A) → (length xs == 0) ≡ false → xs ≡ [] → true ≡ false
+none_there [] some nil = some
+none_there (x ∷ xs) some nil = absurd (omega (arith, ap length nil))
 
 pub drop_past : {A : Type 0} (xs : List A) (i : ℕ) → length xs ≤ i → drop i xs ≡ []
 drop_past [] zero past = refl

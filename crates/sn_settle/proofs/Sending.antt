@@ -13,7 +13,7 @@ use Rattle.sn_world.specs.declared.endings.Ending.{Ending}
 use Rattle.sn_world.specs.Notices.{notices}
 use Rattle.sn_world.specs.Noted.{Noted}
 use Rattle.sn_world.specs.Settling.{notices_of}
-use Rattle.sn_settle.specs.Telling.{out_of, HaveRoom, AreTold, CanLook, AreSeen}
+use Rattle.sn_settle.specs.Telling.{out_of, HaveRoom, AreTold, AreNoted, CanLook, AreSeen}
 
 frames_to-append : (client : ℕ) (rs ss : List ReplyShape) → frames_to client (rs ++ ss) ≡ frames_to client rs ++ frames_to client ss
 frames_to-append client [] ss = refl
@@ -155,6 +155,10 @@ look_left flags es fs xs ys a b n m can seen = record {
   bytes = λ k lt. omega (arith, can.bytes k (omega (arith, lt, seen.told.sent.clients)), seen.told.room k (omega (arith, lt, seen.told.sent.clients)), length-append es fs);
   room = omega (arith, can.room, seen.noted.room, length-append xs ys);
 }
+
+-- the room that endings take is counted
+pub room_kept : (endings : List Ending) (old clear new : Noted) → clear.items ≡ [] → old.spare ≤ clear.spare → AreNoted endings clear new → old.spare ≤ new.spare + length new.items
+room_kept endings old clear new gone room noted = omega (arith, room, noted.room, ap (λ (es : List Ending). length es) (noted.items ∙ ap (λ (es : List Ending). es ++ endings) gone))
 
 -- ---- a walk over all of them
 

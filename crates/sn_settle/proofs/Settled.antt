@@ -20,7 +20,7 @@ use Rattle.sn_mem.specs.Buffers.{Buffer, buffers_of, overlaps}
 use Rattle.sn_world.specs.Nodes.{Content, content_of}
 use Rattle.sn_world.specs.Noted.{Noted}
 use Rattle.sn_world.specs.Pictures.{Pictures, IsHeld, AreHeld, KeepsOutside, held_extents, live_held}
-use Rattle.sn_world.specs.Settling.{done_action, after_ending, settled_at, settled_units, triggers_in, notices_of, told_all, all_acted, with_settled, settled}
+use Rattle.sn_world.specs.Settling.{done_action, after_ending, settled_at, settled_units, triggers_in, endings_in, notices_of, told_all, all_acted, with_settled, settled}
 use Rattle.sn_world.specs.SettleWords.{settled_held, walk_triggers, walk_endings, settled_walk, walk_room}
 use Rattle.sn_world.specs.World.{World, Turn, world_of, turn_of}
 use Rattle.sn_world.proofs.Changes.{pictured_again}
@@ -116,6 +116,10 @@ module _ (stage : Stage) (b : ℕ) (ws : List ℕ) (p : Pictures stage ws) where
 
     pub pictured : Pictures new words
     pictured = acts.pictures words (pictured_again stage words ws long p)
+
+  -- the ends in the world are those in the words
+  pub ended : endings_in stage.rate (world_of stage ws).nodes ≡ endings
+  ended = endings_are stage.rate stage.pool.region stage.tree.attached ws p.synths
 
   -- where nothing ended
   pub none_acted : (outs : List Octets) → endings ≡ [] → IsActed 0 (all_acted endings) stage stage outs outs

@@ -1,8 +1,8 @@
 //! What happens after a block.
-ghost use Rattle.std.specs.Prelude.{◌≡◌, ◌≤◌, ◌<◌, ◌*◌, ◌^◌, [], false, length};
+ghost use Rattle.std.specs.Prelude.{◌≡◌, ◌≤◌, ◌<◌, ◌+◌, ◌*◌, ◌^◌, [], false, length};
 ghost use Rattle.sn_tree.specs.Trees.{running_labels};
 ghost use Rattle.sn_world.specs.Pictures.{Pictures, WritesWorld, KeepsOutside};
-ghost use Rattle.sn_world.specs.Settling.{settled};
+ghost use Rattle.sn_world.specs.Settling.{endings_in, settled};
 ghost use Rattle.sn_world.specs.SettleWords.{walk_room};
 ghost use Rattle.sn_world.specs.World.{world_of, turn_of};
 ghost use Rattle.sn_settle.specs.Telling.{HaveRoom, AreSent};
@@ -15,11 +15,11 @@ use sn_ports::Text;
 use sn_world::{Endings, Stage};
 
 /// Settles a block that was just walked: first its triggers are told. Then the units that ended in it pause or free their synths, which
-/// is told too. What is told is put behind the bytes that wait for each client, by their numbers. Tells whether a unit ended: where
-/// none did, the stage stays as it is.
+/// is told too. What is told is put behind the bytes that wait for each client, by their numbers. Answers `false` only where the
+/// stage stays as it is, and always where no unit ended.
 ///
 /// It takes no memory: each client's bytes have room for 48 bytes for each unit of a running synth that sends triggers or ends, and
-/// `endings` has room for as many.
+/// `endings` has room for as many. What `endings` holds then are the ends of this block, and no room of it is lost.
 pub fn settle<P: Port>(
     stage: &mut Stage,
     port: &mut P,
@@ -35,6 +35,9 @@ pub fn settle<P: Port>(
     requires room { walk_room (running_labels stage.old.tree.attached) ≤ endings.old.spare }
     ensures world { world_of stage.new (P.words port.new) ≡ (settled block (turn_of stage.old (P.words port.old) [])).world }
     ensures same { result ≡ false → stage.new ≡ stage.old }
+    ensures idle { endings_in stage.old.rate (world_of stage.old (P.words port.old)).nodes ≡ [] → result ≡ false }
+    ensures endings { endings.new.items ≡ endings_in stage.old.rate (world_of stage.old (P.words port.old)).nodes }
+    ensures kept { endings.old.spare ≤ endings.new.spare + length endings.new.items }
     ensures sent { AreSent (settled block (turn_of stage.old (P.words port.old) [])).replies outs.old outs.new }
     ensures pictures { Pictures stage.new (P.words port.new) }
     ensures clients { stage.new.notify ≡ stage.old.notify }

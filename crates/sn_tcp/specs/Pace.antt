@@ -1,5 +1,7 @@
--- When blocks are due, in nanoseconds after the start.
-use Rattle.std.specs.Prelude.{ℕ, ◌+◌, ◌*◌, ◌/◌, ◌≤◌, ◌<◌}
+-- When blocks are due, in nanoseconds after the start, and how many are given.
+use Rattle.std.specs.Prelude.{◌≡◌, ℕ, ◌+◌, ◌*◌, ◌/◌, ◌≤◌, ◌<◌, Result, Option, MatchOption, MatchResult}
+use Rattle.sn_ports.specs.declared.links.Fed.{Fed}
+use Rattle.sn_ports.specs.declared.links.Fed.TheVariants as fed
 
 -- block k is due after k * 64 / rate seconds
 abbrev pub IsDue : ℕ → ℕ → ℕ → Type 0
@@ -13,3 +15,17 @@ blocks_due rate nanos = nanos * rate / 64000000000 + 1
 pub record IsUntilNext (rate nanos wait : ℕ) : Type 0 where
   pub due : IsDue rate (nanos + wait) (blocks_due rate nanos)
   pub first : (w : ℕ) → w < wait → IsDue rate (nanos + w) (blocks_due rate nanos) → ⊥
+
+-- how many blocks are given
+abbrev pub blocks_of : Fed → ℕ
+blocks_of (fed.Bytes n) = 0
+blocks_of (fed.Ticks n) = n
+blocks_of fed.End = 0
+
+-- at Ok the blocks that are given are counted, and at Err none are
+abbrev pub NextGives : {E : Type 0} → ℕ → ℕ → Result Fed E → Type 0
+NextGives old new r = MatchResult r (λ f. new ≡ old + blocks_of f) (λ _. new ≡ old)
+
+-- the same where it may be that nothing is given
+abbrev pub MayGive : {E : Type 0} → ℕ → ℕ → Result (Option Fed) E → Type 0
+MayGive old new r = MatchResult r (λ given. MatchOption given (new ≡ old) (λ f. new ≡ old + blocks_of f)) (λ _. new ≡ old)

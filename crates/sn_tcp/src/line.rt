@@ -1,7 +1,10 @@
 //! A socket and a clock.
-ghost use Rattle.std.specs.Prelude.{◌<◌, ◌^◌, IfOk, IfSome};
+ghost use Rattle.std.specs.Prelude.{◌≡◌, ◌<◌, ◌^◌, IfOk, IfSome, length};
 ghost use Rattle.std.specs.Io.{WritesAtMost};
+ghost use Rattle.std.specs.Io.KnownBytes.{WriteAppends};
 ghost use Rattle.sn_ports.specs.Links.{FeedsWithin, IsFed};
+ghost use Rattle.sn_tcp.specs.Hearing.{MayHear, NextHears};
+ghost use Rattle.sn_tcp.specs.Pace.{MayGive, NextGives};
 
 use crate::pace::{Pace, whole_millis};
 use libc::net::{POLLIN, poll};
@@ -25,11 +28,15 @@ pub(crate) struct Line<S, C> {
 }
 
 impl<S: Read + Write + OpenStream + AsRawFd + Drop, C: Clock + Drop> Line<S, C> {
-    /// A line whose first block is due now. What is sent over it is not held back.
+    /// A line over this socket that has given no block.
     pub(crate) fn new(socket: S, clock: C, rate: u32) -> io::Result<Self>
         requires { 0 < rate }
+        ensures socket { IfOk result (λ line. line.socket ≡ socket) }
+        ensures pace { IfOk result (λ line. (line.pace.rate ≡ rate) × (line.pace.given ≡ 0)) }
     {
+        // What is sent is not held back.
         socket.set_nodelay(true)?;
+        // Block 0 is due now.
         let start = clock.monotonic()?;
         Ok(Line {
             socket,
@@ -40,7 +47,7 @@ impl<S: Read + Write + OpenStream + AsRawFd + Drop, C: Clock + Drop> Line<S, C> 
         })
     }
 
-    /// Nanoseconds since the start.
+    /// Nanoseconds since the start, as the clock tells them.
     fn nanos(&self) -> io::Result<u128>
         ensures { IfOk result (λ nanos. nanos < 2 ^ 94) }
     {
@@ -48,7 +55,7 @@ impl<S: Read + Write + OpenStream + AsRawFd + Drop, C: Clock + Drop> Line<S, C> 
         Ok(now.saturating_sub(self.start).as_nanos())
     }
 
-    /// Whether something can be read, once it can or so many nanoseconds have passed.
+    /// Asks the system whether something can be read within so many nanoseconds.
     fn is_readable(&self, nanos: u64) -> io::Result<bool> {
         let mut asked = [pollfd {
             fd: self.socket.as_raw_fd(),
@@ -65,9 +72,13 @@ impl<S: Read + Write + OpenStream + AsRawFd + Drop, C: Clock + Drop> Line<S, C> 
         }
     }
 
-    /// What comes within so many nanoseconds.
+    /// Listens for so many nanoseconds: bytes, the end, or nothing.
     fn listen(&mut self, nanos: u64, into: &mut [u8]) -> io::Result<Option<Fed>>
-        ensures { IfOk result (λ fed. IfSome fed (IsFed into.new)) }
+        requires room { 0 < length into.old }
+        ensures bound { IfOk result (λ fed. IfSome fed (IsFed into.new)) }
+        ensures heard { MayHear (S.remaining self.old.socket) (S.remaining self.new.socket) result into.new }
+        ensures rate { self.new.pace.rate ≡ self.old.pace.rate }
+        ensures given { MayGive self.old.pace.given self.new.pace.given result }
     {
         if !self.is_readable(nanos)? {
             return Ok(None);
@@ -79,9 +90,13 @@ impl<S: Read + Write + OpenStream + AsRawFd + Drop, C: Clock + Drop> Line<S, C> 
         }
     }
 
-    /// What comes without a wait, where the socket has its turn.
+    /// Listens without a wait, where the socket has its turn.
     fn listen_in_turn(&mut self, into: &mut [u8]) -> io::Result<Option<Fed>>
-        ensures { IfOk result (λ fed. IfSome fed (IsFed into.new)) }
+        requires room { 0 < length into.old }
+        ensures bound { IfOk result (λ fed. IfSome fed (IsFed into.new)) }
+        ensures heard { MayHear (S.remaining self.old.socket) (S.remaining self.new.socket) result into.new }
+        ensures rate { self.new.pace.rate ≡ self.old.pace.rate }
+        ensures given { MayGive self.old.pace.given self.new.pace.given result }
     {
         if self.listens {
             self.listen(0, into)
@@ -90,9 +105,13 @@ impl<S: Read + Write + OpenStream + AsRawFd + Drop, C: Clock + Drop> Line<S, C> 
         }
     }
 
-    /// The blocks that are due and were not given, or else what comes until one is.
+    /// Takes the blocks that are due and were not given, or else listens until one is.
     fn tick_or_listen(&mut self, into: &mut [u8]) -> io::Result<Option<Fed>>
-        ensures { IfOk result (λ fed. IfSome fed (IsFed into.new)) }
+        requires room { 0 < length into.old }
+        ensures bound { IfOk result (λ fed. IfSome fed (IsFed into.new)) }
+        ensures heard { MayHear (S.remaining self.old.socket) (S.remaining self.new.socket) result into.new }
+        ensures rate { self.new.pace.rate ≡ self.old.pace.rate }
+        ensures given { MayGive self.old.pace.given self.new.pace.given result }
     {
         let nanos = self.nanos()?;
         let count = self.pace.take_due(nanos);
@@ -106,7 +125,11 @@ impl<S: Read + Write + OpenStream + AsRawFd + Drop, C: Clock + Drop> Line<S, C> 
 
     /// Waits for the next event.
     pub(crate) fn next(&mut self, into: &mut [u8]) -> io::Result<Fed>
-        ensures { FeedsWithin result into.new }
+        requires room { 0 < length into.old }
+        ensures bound { FeedsWithin result into.new }
+        ensures heard { NextHears (S.remaining self.old.socket) (S.remaining self.new.socket) result into.new }
+        ensures rate { self.new.pace.rate ≡ self.old.pace.rate }
+        ensures given { NextGives self.old.pace.given self.new.pace.given result }
     {
         for _ in 0..u64::MAX {
             if let Some(fed) = self.listen_in_turn(into)? {
@@ -121,7 +144,10 @@ impl<S: Read + Write + OpenStream + AsRawFd + Drop, C: Clock + Drop> Line<S, C> 
 
     /// Sends a front of the piece.
     pub(crate) fn send(&mut self, piece: &[u8]) -> io::Result<usize>
-        ensures { WritesAtMost result piece.now }
+        ensures bound { WritesAtMost result piece.now }
+        ensures bytes { WriteAppends (S.contents self.old.socket) (S.contents self.new.socket) result piece.now }
+        ensures rate { self.new.pace.rate ≡ self.old.pace.rate }
+        ensures given { self.new.pace.given ≡ self.old.pace.given }
     {
         self.socket.write(piece)
     }

@@ -1,8 +1,11 @@
 ghost use Rattle.std.specs.Prelude.{◌≡◌, ◌<◌, ◌≤◌, None, IfOk, OnOk, OnErr, length};
+ghost use Rattle.std.specs.Io.KnownBytes.{WriteAppends};
 ghost use Rattle.sn_ports.specs.Causes.{HasCause, Rose};
 ghost use Rattle.sn_ports.specs.Fake.{counted};
 ghost use Rattle.sn_ports.specs.Links.{FeedsWithin};
 ghost use Rattle.sn_ports.specs.Transfer.{WritesSome};
+ghost use Rattle.sn_tcp.specs.Hearing.{NextHears};
+ghost use Rattle.sn_tcp.specs.Pace.{NextGives};
 
 use crate::line::Line;
 use sn_ports::{Failed, Fed, Link};
@@ -12,11 +15,12 @@ use std::net::OpenStream;
 use std::os::fd::AsRawFd;
 use std::time::Clock;
 
-/// A link over a TCP connection. It tells no content, and counts each failure.
+/// A link over a TCP connection. As a link it tells no content. Where the socket tells its bytes, those that `next` gives are a front of what
+/// the socket had left, and those that `send` counts are what the socket took. Each call that fails is counted.
 ///
-/// It gives bytes as soon as the socket has them, and blocks when the clock says that they are due: block k after k * 64 / rate
-/// seconds. It waits in the socket up to the time of the next block, in whole milliseconds. After a pause it gives the blocks that
-/// are due, 1,024 at a time, and the bytes that came take turns with them.
+/// How it works, which the contracts of its `Pace` carry in part: bytes come as soon as the socket has them, and blocks when the clock says
+/// that they are due, block k after k * 64 / rate seconds. It waits in the socket up to the time of the next block, in whole milliseconds.
+/// After a pause the blocks that are due come 1,024 at a time, and the bytes that came take turns with them.
 #[derive(Drop)]
 pub struct TcpLink<S, C> {
     line: Line<S, C>,
@@ -24,10 +28,12 @@ pub struct TcpLink<S, C> {
 }
 
 impl<S: Read + Write + OpenStream + AsRawFd + Drop, C: Clock + Drop> TcpLink<S, C> {
-    /// A link over this socket that has not failed, and whose block 0 is due now.
+    /// A link over this socket that has not failed and has asked for no block.
     pub fn new(socket: S, clock: C, rate: u32) -> io::Result<Self>
         requires { 0 < rate }
-        ensures { IfOk result (λ link. link.faults ≡ 0) }
+        ensures socket { IfOk result (λ link. link.line.socket ≡ socket) }
+        ensures pace { IfOk result (λ link. (link.line.pace.rate ≡ rate) × (link.line.pace.given ≡ 0)) }
+        ensures unfailed { IfOk result (λ link. link.faults ≡ 0) }
     {
         Ok(TcpLink {
             line: Line::new(socket, clock, rate)?,
@@ -40,6 +46,7 @@ impl<S: Read + Write + OpenStream + AsRawFd + Drop, C: Clock + Drop> TcpLink<S, 
         ensures later { self.old.faults ≤ self.new.faults }
         ensures rose { Rose self.old.faults self.new.faults }
         ensures once { self.new.faults ≡ counted 64 self.old.faults }
+        ensures line { self.new.line ≡ self.old.line }
     {
         self.faults = self.faults.saturating_add(1);
         Failed
@@ -63,6 +70,9 @@ impl<S: Read + Write + OpenStream + AsRawFd + Drop, C: Clock + Drop> Link for Tc
     fn next(&mut self, into: &mut [u8]) -> Result<Fed, Failed>
         requires room { 0 < length into.old }
         ensures bound { FeedsWithin result into.new }
+        ensures heard { NextHears (S.remaining self.old.line.socket) (S.remaining self.new.line.socket) result into.new }
+        ensures rate { self.new.line.pace.rate ≡ self.old.line.pace.rate }
+        ensures given { NextGives self.old.line.pace.given self.new.line.pace.given result }
         ensures cause { HasCause self.old.faults self.new.faults result }
         // Each failure is counted once, and nothing else is.
         ensures faults { OnErr result (self.new.faults ≡ counted 64 self.old.faults) }
@@ -76,6 +86,9 @@ impl<S: Read + Write + OpenStream + AsRawFd + Drop, C: Clock + Drop> Link for Tc
 
     fn send(&mut self, piece: &[u8]) -> Result<usize, Failed>
         ensures bound { WritesSome result piece.now }
+        ensures bytes { WriteAppends (S.contents self.old.line.socket) (S.contents self.new.line.socket) result piece.now }
+        ensures rate { self.new.line.pace.rate ≡ self.old.line.pace.rate }
+        ensures given { self.new.line.pace.given ≡ self.old.line.pace.given }
         ensures cause { HasCause self.old.faults self.new.faults result }
         // Each failure is counted once, and nothing else is.
         ensures faults { OnErr result (self.new.faults ≡ counted 64 self.old.faults) }

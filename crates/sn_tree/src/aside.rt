@@ -16,7 +16,9 @@ use crate::search::place_of;
 /// Where the entries of a detached subtree begin, and how many they are.
 #[derive(Clone, Copy, Debug, PartialEq, Eq)]
 pub struct Part {
+    /// The position of its first entry, from 0.
     pub from: usize,
+    /// How many entries it has, that of its top among them.
     pub count: usize,
 }
 

@@ -16,10 +16,15 @@ use std::marker::Model;
 /// A node that the walk has reached, with the number of nodes just below it.
 #[derive(Drop)]
 pub struct Member<'a, P> {
+    /// The node id.
     pub id: i32,
+    /// What the node is.
     pub kind: NodeKind,
+    /// The run flag: false where the node itself is paused.
     pub running: bool,
+    /// The number of nodes just below it.
     pub children: u32,
+    /// What the tree keeps for the node.
     pub payload: &'a P,
 }
 
@@ -27,8 +32,11 @@ pub struct Member<'a, P> {
 /// are left, each with the number of nodes just below it. It takes no memory.
 #[derive(Drop)]
 pub struct Members<'a, P> {
+    /// The root's payload.
     pub(crate) root: &'a P,
+    /// The payloads of the other nodes, by their keys.
     pub(crate) payloads: &'a Slab<P>,
+    /// The nodes that are left, in the order of the walk.
     pub(crate) entries: &'a [Entry],
 }
 

@@ -24,6 +24,7 @@ use sn_ports::NoMemory;
 use std::alloc::Global;
 use std::marker::Model;
 
+/// The nodes in one list, and how many of them are attached.
 #[derive(Drop)]
 pub struct Order {
     entries: Vec<Entry>,
@@ -185,12 +186,14 @@ impl Order {
         self.attached
     }
 
+    /// The next node behind a node, in the order of the walk.
     pub fn next_of(&self, id: i32) -> Option<i32>
         ensures { result ≡ next_after id (ids self.now.attached) }
     {
         next_of(&self.entries[..self.attached], id)
     }
 
+    /// The first node of a group.
     pub fn first_in(&self, id: i32) -> Option<i32>
         ensures { result ≡ first_of (children id self.now.attached) }
     {

@@ -12,6 +12,7 @@ pub trait ChangePayload<P> {
     /// What becomes of a payload.
     ghost changed: { Self → P → P };
 
+    /// Changes a payload.
     fn change(&self, payload: &mut P)
         ensures { payload.new ≡ changed self.now payload.old };
 }

@@ -27,6 +27,7 @@ impl Model for Saved {
 }
 
 impl Saved {
+    /// The nodes as they stand, in a journal with so much room. No payload was put in since.
     pub fn new(alloc: Global, order: Order, room: u32) -> Saved
         ensures { result ≡ record { nodes = order; room = room; made = [] } }
     {

@@ -76,6 +76,7 @@ fn share(ids: &mut [i32], new: &[Entry], entries: &[Entry]) -> bool
 }
 
 impl Scratch {
+    /// A list with room for 4,096 ids.
     pub fn new(alloc: Global) -> Result<Scratch, NoMemory> {
         Ok(Scratch {
             ids: room(alloc, 4096)?,

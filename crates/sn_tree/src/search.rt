@@ -40,6 +40,7 @@ pub fn holds(entries: &[Entry], id: i32) -> bool
     }
 }
 
+/// Whether it is the kind of a synth.
 pub fn is_synth(kind: NodeKind) -> bool
     ensures { result ≡ is_synth kind }
 {

@@ -26,7 +26,7 @@ use crate::saved::{Saved, forget, note, spend};
 use crate::scratch::Scratch;
 use crate::tally::{Tally, tally_entries};
 use crate::views::{view_in, views_in};
-use crate::walk::{Walk, payload_at};
+use crate::walk::Walk;
 use slab::Slab;
 use sn_ports::NoMemory;
 use std::alloc::Global;

@@ -13,8 +13,11 @@ use std::marker::Model;
 /// A running node that the walk has reached.
 #[derive(Drop)]
 pub struct Visit<'a, P> {
+    /// The node id.
     pub id: i32,
+    /// What the node is.
     pub kind: NodeKind,
+    /// What the tree keeps for the node.
     pub payload: &'a P,
 }
 
@@ -22,8 +25,11 @@ pub struct Visit<'a, P> {
 /// A paused node is left out with all below it, in one step. It takes no memory.
 #[derive(Drop)]
 pub struct Walk<'a, P> {
+    /// The root's payload.
     pub(crate) root: &'a P,
+    /// The payloads of the other nodes, by their keys.
     pub(crate) payloads: &'a Slab<P>,
+    /// The nodes that are left, paused ones among them, in the order of the walk.
     pub(crate) entries: &'a [Entry],
 }
 

@@ -20,3 +20,6 @@ pub mod Replacing
 pub mod OwnWords
 pub mod SettleLaws
 pub mod SettleWalks
+pub mod HeldIds
+pub mod ChosenIds
+pub mod ChoosingLaws

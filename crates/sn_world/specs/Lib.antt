@@ -25,6 +25,7 @@ pub mod ControlRuns
 pub mod Notifying
 pub mod RunFlags
 pub mod NewNodes
+pub mod Choosing
 pub mod Freeing
 pub mod Emptying
 pub mod Queries

@@ -20,6 +20,7 @@ pub trait Single: Drop {
 
     ghost from_one: { Argument → Option Self };
 
+    /// What an argument says, where it is of this form.
     fn from_one(first: &Arg) -> Option<Self>
         ensures { result ≡ from_one (argument_of first.now) };
 }
@@ -31,6 +32,7 @@ pub trait Pair: Drop {
 
     ghost from_two: { Argument → Argument → Option Self };
 
+    /// What two arguments say, where they are of this form.
     fn from_two(first: &Arg, second: &Arg) -> Option<Self>
         ensures { result ≡ from_two (argument_of first.now) (argument_of second.now) };
 }
@@ -42,6 +44,7 @@ pub trait Triple: Drop {
 
     ghost from_three: { Argument → Argument → Argument → Option Self };
 
+    /// What three arguments say, where they are of this form.
     fn from_three(first: &Arg, second: &Arg, third: &Arg) -> Option<Self>
         ensures { result ≡ from_three (argument_of first.now) (argument_of second.now) (argument_of third.now) };
 }

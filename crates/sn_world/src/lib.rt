@@ -3,6 +3,7 @@
 
 mod arguments;
 mod buffer_repetition;
+mod choosing;
 mod command;
 mod defs;
 mod emptying;
@@ -23,6 +24,7 @@ pub use arguments::{Pair, Single, Triple, pairs, singles, some_of, triples};
 pub use buffer_repetition::{
     BufferNumber, NewBuffer, SampleFill, SampleIndex, SampleRun, SampleValue,
 };
+pub use choosing::{chosen_ids_are_free, chosen_ids_stay_below};
 pub use command::{BusCommand, Handled, MOST_COMPLETIONS, NodeCommand};
 pub use defs::Defs;
 pub use emptying::{DeepFree, FreeAll};

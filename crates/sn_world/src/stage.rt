@@ -15,6 +15,7 @@ use std::sync::Arc;
 /// What a node holds.
 #[derive(Drop)]
 pub enum Held {
+    /// A group, parallel or not.
     Group,
     /// A synth, and where the words of its units' states are, none where its definition has none.
     Synth {
@@ -27,21 +28,25 @@ pub enum Held {
 /// The nodes, the definitions, the pool from which the words of synths and buffers come, the buffers, and what the server keeps of its clients.
 #[derive(Drop)]
 pub struct Stage {
+    /// The nodes.
     pub tree: Tree<Held>,
+    /// The definitions that were received.
     pub defs: Defs,
+    /// From which the words of synths and buffers come.
     pub pool: Pool,
     /// Where the buffers are.
     pub buffers: Buffers,
     /// Which clients are notified of what happens to nodes.
     pub notify: Flags,
-    /// The id that is chosen next: -2 or less, or `None` once -2147483648 was chosen.
+    /// The id that is chosen next, from -2 downwards, or `None` once -2147483648 was chosen.
     pub next_id: Option<i32>,
-    /// Frames a second: 44,100, 48,000 or 96,000.
+    /// Frames a second.
     pub rate: u32,
 }
 
 impl Stage {
-    /// The root group alone, no definitions, no buffers, a pool of `memory` words behind those of the buses, and `clients` clients, none of them notified.
+    /// The root group alone, no definitions, no buffers, a pool of `memory` words behind those of the buses, and `clients` clients, none of
+    /// them notified.
     pub fn new(alloc: Global, rate: u32, memory: u32, clients: u32) -> Result<Stage, NoMemory>
         requires memory { memory ≤ 16777216 }
         requires clients { clients ≤ 4 }

@@ -1,7 +1,8 @@
 //! A sound server: reads a file of commands, or serves a connection, and writes its sound and its replies.
 #![tactic(auto)]
 
-ghost use Rattle.std.specs.Prelude.{◌<◌, ◌^◌, length};
+ghost use Rattle.std.specs.Prelude.{◌≡◌, ◌<◌, ◌^◌, length};
+ghost use Rattle.snova.specs.Printing.{fault_number};
 
 mod clock;
 mod listening;
@@ -30,7 +31,8 @@ enum Course {
     Rendered(Outcome),
     /// A connection was served.
     Served(Served),
-    /// A file could not be opened, or the port not bound.
+    /// A file could not be opened, or no connection be taken at the port, or the commands would be
+    /// written over.
     NotOpened,
 }
 
@@ -99,7 +101,8 @@ fn run_on_nothing<H: AllocGlobal + Threads + Sync>(
     ))
 }
 
-/// Renders the file that the words name.
+/// Renders the file that the words name. Its own path is refused for the sound and for the replies,
+/// since making them would empty it.
 fn render_files<H: Files + AllocGlobal + Threads + Sync>(
     rt: &H,
     args: &[String],
@@ -110,6 +113,9 @@ fn render_files<H: Files + AllocGlobal + Threads + Sync>(
     match args {
         [.., commands, sound, replies] if settings(words).is_ok() => {
             let paths = [commands.as_str(), sound.as_str(), replies.as_str()];
+            if paths[0] == paths[1] || paths[0] == paths[2] {
+                return Ok(Course::NotOpened);
+            }
             match run_on_files(rt, words, paths) {
                 Ok(outcome) => Ok(Course::Rendered(outcome)),
                 Err(_) => Ok(Course::NotOpened),
@@ -152,7 +158,9 @@ fn carry_out<H: Env + Files + Clock + Net + AllocGlobal + Threads + Sync>(
 }
 
 /// The number by which a fault of a stream is printed, behind a `P`.
-fn number_of(fault: StreamFault) -> u8 {
+fn number_of(fault: StreamFault) -> u8
+    ensures { result ≡ fault_number fault }
+{
     match fault {
         StreamFault::Packet(PacketKind::Size) => 1,
         StreamFault::Packet(PacketKind::Start) => 2,

@@ -1,6 +1,7 @@
 ghost use Rattle.std.specs.Prelude.{◌≡◌, ◌⊎◌, ◌<◌, ◌^◌, ◌↔◌, ℕ, List, Some, Ok, Err, length};
 ghost use Rattle.sn_ports.specs.Causes.{Rose};
 ghost use Rattle.sn_pcm.specs.declared.settings.Settings.{Settings};
+ghost use Rattle.sn_server.specs.Faults.{NothingFailed};
 ghost use Rattle.sn_server.specs.Outcomes.{Played, IsAnswer, HasAnswer, IsUntouched, TakesStream};
 ghost use Rattle.sn_server.specs.declared.outcome.Outcome.{Outcome};
 ghost use Rattle.sn_words.specs.Words.{settings_of};
@@ -37,6 +38,10 @@ pub fn run<H: Threads + Sync, S: Source, O: Sink, R: Sink, G: Gate>(
     ensures read { result ≡ Outcome.ReadFault → Rose (S.faults source.old) (S.faults source.new) }
     ensures sound { result ≡ Outcome.SoundFault → Rose (O.faults sound.old) (O.faults sound.new) }
     ensures reply { result ≡ Outcome.ReplyFault → Rose (R.faults replies.old) (R.faults replies.new) }
+
+    // Where it was done nothing failed.
+    ensures unfailed { (n : ℕ) → result ≡ Outcome.Done n → (S.faults source.new ≡ S.faults source.old)
+        × NothingFailed (O.faults sound.old) (O.faults sound.new) (R.faults replies.old) (R.faults replies.new) }
 
     // Where the words choose settings, the answer is one that the stream has by them; and where no count rises, it is the one that
     // the stream has, or want of memory.

@@ -1,13 +1,11 @@
-use Rattle.std.proofs.Common.{◌≡◌, ◌+◌, ◌∷◌, ◌++◌, [], ℕ, ℤ, List, Option, Some, None, nat_abs, map, set, to_z, of_z, refl, ap, sym, ◌∙◌, arith, rules}
+use Rattle.std.proofs.Common.{◌≡◌, ◌+◌, ◌∷◌, ◌++◌, [], ℤ, None, nat_abs, map, set, ap, ◌∙◌, arith, rules}
 use Rattle.std.specs.Prelude.{FitsSigned, codes}
 use Rattle.std.specs.Int.{w32}
 use Rattle.std.proofs.lemmas.Int.{to_z-of_z}
 use Rattle.sn_mem.specs.declared.extents.Extent.{Extent}
 use Rattle.sn_osc.specs.Shape.{argument_of}
-use Rattle.sn_mem.specs.declared.buffers.BufferPlace.{BufferPlace}
 use Rattle.sn_pool.specs.Pools.{PoolState, times, without_extent}
 use Rattle.sn_reply.specs.declared.replies.To.TheVariants.{Client}
-use Rattle.sn_reply.specs.Replies.{ReplyShape}
 use Rattle.sn_world.specs.declared.stage.Stage.{Stage}
 use Rattle.sn_world.specs.BufferNumbers.{at_number, done_with}
 use Rattle.sn_buscmd.proofs.BufferLemmas.{free_missing, live_there, freed_row, freed_pictures}

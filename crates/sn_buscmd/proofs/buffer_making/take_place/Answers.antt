@@ -1,4 +1,4 @@
-use Rattle.std.proofs.Common.{◌≡◌, ◌+◌, ◌*◌, refl, ap, sym, subst, ◌∙◌, arith, Some}
+use Rattle.std.proofs.Common.{◌≡◌, ◌*◌, refl, ap, sym, subst, ◌∙◌, arith}
 use Rattle.sn_mem.specs.declared.extents.Extent.{Extent}
 use Rattle.sn_pool.specs.Pools.{PoolState, times}
 use Rattle.sn_pool.specs.Regions.{IsFree, least_place}

@@ -1,4 +1,4 @@
-use Rattle.std.proofs.Common.{◌≡◌, ◌<◌, ◌*◌, arith}
+use Rattle.std.proofs.Common.{◌≡◌, ◌*◌, arith}
 use Rattle.sn_buscmd.proofs.PlacingLemmas.{too_many}
 use Rattle.sn_buscmd.proofs.buffer_making.take_words.Goals as goal
 

@@ -4,8 +4,8 @@ use Rattle.sn_def.specs.Defs.{definition_of}
 use Rattle.sn_world.specs.Definitions.{definitions_of}
 use Rattle.sn_world.specs.Names.{names_in}
 use Rattle.sn_world.specs.Free.{are_known}
-use Rattle.sn_world.proofs.DefsLemmas.{is_some-map, turned_round}
-use Rattle.sn_buscmd.specs.Given.{bytes_of}
+use Rattle.sn_world.proofs.DefsLemmas.{is_some-map}
+use Rattle.sn_ports.specs.Octets.{bytes_of}
 use Rattle.sn_buscmd.proofs.FreeingLemmas.{less, less-none, next-known}
 use Rattle.sn_buscmd.proofs.freeing.are_known.Goals as goal
 

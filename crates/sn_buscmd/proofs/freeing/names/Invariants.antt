@@ -3,7 +3,7 @@ use Rattle.sn_osc.specs.Shape.{argument_of}
 use Rattle.sn_world.specs.Rows.{singles}
 use Rattle.sn_world.specs.Free.{name_of}
 use Rattle.sn_world.proofs.Parsing.{after}
-use Rattle.sn_buscmd.specs.Given.{bytes_of}
+use Rattle.sn_ports.specs.Octets.{bytes_of}
 use Rattle.sn_buscmd.proofs.freeing.names.Given as goal
 
 abbrev pub invariant-loop-argument : goal.invariant-loop-argument

@@ -3,7 +3,7 @@ use Rattle.std.specs.Prelude.{FitsSigned}
 use Rattle.std.specs.Int.{w32}
 use Rattle.std.specs.Option.{option_map}
 use Rattle.std.proofs.lemmas.Int.{to_z-of_z}
-use Rattle.sn_osc.specs.Shape.{Argument, int, MessageShape, argument_of, message_of}
+use Rattle.sn_osc.specs.Shape.{int, MessageShape, argument_of, message_of}
 use Rattle.sn_mem.specs.declared.buffers.BufferPlace.{BufferPlace}
 use Rattle.sn_reply.specs.declared.replies.To.TheVariants.{Client}
 use Rattle.sn_mem.specs.Buffers.{samples_of}

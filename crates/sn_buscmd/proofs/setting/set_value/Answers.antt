@@ -4,7 +4,8 @@ use Rattle.std.specs.Int.{w32}
 use Rattle.std.proofs.lemmas.Int.{to_z-of_z}
 use Rattle.sn_mem.specs.Words.{writes}
 use Rattle.sn_mem.specs.Blocks.{word_for}
-use Rattle.sn_buscmd.proofs.BusLemmas.{stored_to, others-set, touched}
+use Rattle.sn_mem.proofs.Masks.{touched}
+use Rattle.sn_buscmd.proofs.BusLemmas.{stored_to, others-set}
 use Rattle.sn_buscmd.proofs.setting.set_value.Goals as goal
 
 pub returns-clause-buses : goal.returns-clause-buses

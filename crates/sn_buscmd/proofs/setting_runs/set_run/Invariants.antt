@@ -1,5 +1,4 @@
-use Rattle.std.proofs.Common.{◌≡◌, ◌+◌, ◌≤◌, drop, length, to_z, of_z, nat_abs}
-use Rattle.std.specs.Int.{w32}
+use Rattle.std.proofs.Common.{◌≡◌, ◌+◌, ◌≤◌, drop, length}
 use Rattle.sn_mem.specs.Buses.{control_buses}
 use Rattle.sn_world.specs.Buses.{with_values}
 use Rattle.sn_buscmd.specs.Setting.{KeepsOtherWords}

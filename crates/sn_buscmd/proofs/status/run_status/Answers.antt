@@ -1,10 +1,10 @@
-use Rattle.std.proofs.Common.{◌≡◌, ◌++◌, ◌∷◌, [], List, length, map, Ok, sym, ap, ◌∙◌}
+use Rattle.std.proofs.Common.{◌++◌, ◌∷◌, [], List, map, Ok, sym, ap, ◌∙◌}
 use Rattle.std.specs.Prelude.{◌==◌}
 use Rattle.std.proofs.lemmas.List.{length-map}
 use Rattle.sn_osc.specs.Shape.{MessageShape, argument_of}
 use Rattle.sn_reply.specs.declared.replies.To.TheVariants.{Client}
 use Rattle.sn_reply.specs.Replies.{ReplyShape}
-use Rattle.sn_world.specs.World.{Turn, turn_of, world_of, replied}
+use Rattle.sn_world.specs.World.{turn_of, world_of}
 use Rattle.sn_buscmd.proofs.StatusLemmas.{status-asked, counts-said}
 use Rattle.sn_buscmd.proofs.status.run_status.Goals as goal
 

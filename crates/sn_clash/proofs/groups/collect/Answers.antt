@@ -1,7 +1,8 @@
 use Rattle.std.proofs.Common.{◌≡◌, [], ap, arith, length, length-append, map}
 use Rattle.std.proofs.lemmas.List.{length-map}
 use Rattle.sn_tree.specs.Trees.{subtree}
-use Rattle.sn_foot.proofs.Finding.{count_below, count_members}
+use Rattle.sn_tree.proofs.Rooting.{count_below}
+use Rattle.sn_foot.proofs.Finding.{count_members}
 use Rattle.sn_clash.specs.Rows.{row_of}
 use Rattle.sn_clash.proofs.groups.collect.Goals as goal
 

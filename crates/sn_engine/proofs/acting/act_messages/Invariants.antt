@@ -4,7 +4,7 @@ use Rattle.std.specs.List.{AllByRecursion}
 use Rattle.sn_osc.specs.Shape.{message_of}
 use Rattle.sn_reply.specs.Sending.{IsAnswerable}
 use Rattle.sn_world.specs.World.{turn_of}
-use Rattle.sn_world.specs.Pictures.{Pictures, WritesWorld}
+use Rattle.sn_world.specs.Pictures.{Pictures}
 use Rattle.sn_engine.specs.Boundary.{act_messages, both, messages_ask}
 use Rattle.sn_engine.proofs.acting.act_messages.Given as goal
 

@@ -1,10 +1,10 @@
-use Rattle.std.proofs.Common.{◌≡◌, map, sym, ap, subst, ◌∙◌}
+use Rattle.std.proofs.Common.{map, sym, ap, subst, ◌∙◌}
 use Rattle.std.specs.List.{AllByRecursion}
 use Rattle.sn_osc.specs.Shape.{message_of}
 use Rattle.sn_reply.specs.Sending.{IsAnswerable}
 use Rattle.sn_world.specs.World.{turn_of}
 use Rattle.sn_engine.specs.Boundary.{act_messages, both, messages_ask, entries_ask, act_entries, due_at}
-use Rattle.sn_engine.proofs.ActingLemmas.{taken, done, both-assoc, both-nothing}
+use Rattle.sn_engine.proofs.ActingLemmas.{taken, done, taken_kept, both-assoc, both-nothing}
 use Rattle.sn_engine.proofs.acting.act_taken.Goals as goal
 
 pub act_messages-requires-clause-messages : goal.act_messages-requires-clause-messages
@@ -17,6 +17,9 @@ returns-in_err-more-clause-waiting g c =
     let t = taken c.args.now c.loop-entry.queue c.take_due.new.self c.in-Some.entry c.in-Some.ensures.taken c.in-Some.ensures.left in
     t.others c.loop-entry.invariant.waiting
 
+pub returns-in_err-more-clause-kept : goal.returns-in_err-more-clause-kept
+returns-in_err-more-clause-kept g c = taken_kept c.args.now c.args.queue.now c.loop-entry.queue c.take_due.new.self c.loop-entry.invariant.kept c.in-Some.ensures.left
+
 pub loop-entry-smaller : goal.loop-entry-smaller
 loop-entry-smaller g c =
     let t = taken c.args.now c.loop-entry.queue c.take_due.new.self c.in-Some.entry c.in-Some.ensures.taken c.in-Some.ensures.left in
@@ -26,7 +29,7 @@ pub loop-entry-preserved : goal.loop-entry-preserved
 loop-entry-preserved g c =
     let i = c.loop-entry.invariant in
     let t = taken c.args.now c.loop-entry.queue c.take_due.new.self c.in-Some.entry c.in-Some.ensures.taken c.in-Some.ensures.left in
-    let t0 = turn_of c.loop-entry.stage (g.P.Port.words c.loop-entry.port) c.loop-entry.replies in
+    let turn_before = turn_of c.loop-entry.stage (g.P.Port.words c.loop-entry.port) c.loop-entry.replies in
     let from = c.in-Some.entry.from in
     let rest = entries_ask (due_at c.args.now c.take_due.new.self) (turn_of c.act_messages.new.stage (g.P.Port.words c.act_messages.new.port) c.act_messages.new.replies) in
     record {
@@ -34,12 +37,13 @@ loop-entry-preserved g c =
           ap (λ a. both a rest) c.both-asked.ensures
           ∙ both-assoc c.loop-entry.asked c.in_ok-more.more rest
           ∙ ap (both c.loop-entry.asked)
-          ((λ k. both ((c.in_ok-more.ensures.asked ∙ ap (λ ms. messages_ask from (map message_of ms) t0) c.as_slice.ensures) k)
-          (entries_ask (due_at c.args.now c.take_due.new.self) ((c.in_ok-more.ensures.acts ∙ ap (λ ms. act_messages from (map message_of ms) t0) c.as_slice.ensures) k)))
-          ∙ t.asks t0)
+          ((λ k. both ((c.in_ok-more.ensures.asked ∙ ap (λ ms. messages_ask from (map message_of ms) turn_before) c.as_slice.ensures) k)
+          (entries_ask (due_at c.args.now c.take_due.new.self) ((c.in_ok-more.ensures.acts ∙ ap (λ ms. act_messages from (map message_of ms) turn_before) c.as_slice.ensures) k)))
+          ∙ t.asks turn_before)
           ∙ i.asked;
       acts = ap (act_entries (due_at c.args.now c.take_due.new.self)) (c.in_ok-more.ensures.acts ∙ ap (λ ms. act_messages c.in-Some.entry.from (map message_of ms) (turn_of c.loop-entry.stage (g.P.Port.words c.loop-entry.port) c.loop-entry.replies)) c.as_slice.ensures) ∙ t.acts _ ∙ i.acts;
       left = t.left ∙ i.left;
+      kept = taken_kept c.args.now c.args.queue.now c.loop-entry.queue c.take_due.new.self i.kept c.in-Some.ensures.left;
       waiting = t.others i.waiting;
       pictures = c.act_messages.ensures.pictures;
       region = c.act_messages.ensures.region ∙ i.region;
@@ -57,6 +61,9 @@ pub returns-clause-left : goal.returns-clause-left
 returns-clause-left g c =
     let d = done c.args.now c.loop-entry.queue c.take_due.new.self c.in_default.ensures.taken c.in_default.ensures.left in
     d.left ∙ c.loop-entry.invariant.left
+
+pub returns-clause-kept : goal.returns-clause-kept
+returns-clause-kept g c = taken_kept c.args.now c.args.queue.now c.loop-entry.queue c.take_due.new.self c.loop-entry.invariant.kept c.in_default.ensures.left
 
 pub returns-clause-waiting : goal.returns-clause-waiting
 returns-clause-waiting g c =

@@ -1,4 +1,4 @@
-use Rattle.std.proofs.Common.{◌≡◌, ◌∙◌, ap, List}
+use Rattle.std.proofs.Common.{◌∙◌, ap, List}
 use Rattle.sn_reply.specs.Replies.{ReplyShape}
 use Rattle.sn_queue.specs.Waiting.{WaitingList}
 use Rattle.sn_world.specs.World.{world_of}

@@ -1,7 +1,7 @@
 -- The entries so far were offered.
 use Rattle.std.proofs.Common.{◌≡◌, ◌≤◌, ◌+◌, ◌^◌, ◌++◌, List, length, map}
 use Rattle.sn_engine.specs.Answerable.{AllAnswerable, AreAnswerable}
-use Rattle.sn_engine.specs.Arriving.{Offered, offer_entries}
+use Rattle.sn_engine.specs.Arriving.{offer_entries}
 use Rattle.sn_engine.specs.Entries.{Timed}
 use Rattle.sn_engine.specs.Stacks.{timed_of}
 use Rattle.sn_engine.proofs.offering.offer_entries.Given as goal

@@ -1,4 +1,4 @@
-use Rattle.std.proofs.Common.{◌≡◌, ap, ◌∙◌, [], map}
+use Rattle.std.proofs.Common.{ap, ◌∙◌, [], map}
 use Rattle.sn_ports.specs.Octets.{bytes_of}
 use Rattle.sn_reply.specs.Frames.{with_frames}
 use Rattle.sn_world.specs.Settling.{settled}

@@ -1,4 +1,4 @@
-use Rattle.std.proofs.Common.{◌≡◌, ◌<◌, ◌+◌, ◌∷◌, [], length, length-append, le_refl, refl, ap, sym, ◌∙◌, arith, rules, ℕ, ℤ, List}
+use Rattle.std.proofs.Common.{◌≡◌, ◌+◌, ◌∷◌, [], length, length-append, le_refl, refl, ap, sym, ◌∙◌, arith, rules, ℕ, ℤ, List}
 use Rattle.std.specs.Prelude.{slice_index_or, FitsSigned}
 use Rattle.std.specs.Int.{w32}
 use Rattle.std.proofs.lemmas.Int.{to_z-of_z}

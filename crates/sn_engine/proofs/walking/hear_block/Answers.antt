@@ -1,4 +1,4 @@
-use Rattle.std.proofs.Common.{◌≡◌, ◌*◌, length, refl, ap, sym, ◌∙◌, arith, ℕ, List}
+use Rattle.std.proofs.Common.{◌≡◌, ◌*◌, length, refl, ap, ◌∙◌, arith, ℕ, List}
 use Rattle.sn_world.specs.World.{world_of}
 use Rattle.sn_engine.proofs.HearingLemmas.{no_frames, next_frame, few_frames, frames_made, room_for_one}
 use Rattle.sn_engine.proofs.walking.hear_block.Goals as goal

@@ -1,4 +1,4 @@
-use Rattle.std.proofs.Common.{◌≡◌, ap, sym, subst, refl, ◌∙◌, ℕ, List, []}
+use Rattle.std.proofs.Common.{◌≡◌, ap, sym, subst, refl, ◌∙◌, List, []}
 use Rattle.sn_tree.specs.Trees.{Label, running_labels}
 use Rattle.sn_world.specs.declared.stage.Held.{Held}
 use Rattle.sn_world.specs.WalkWords.{walk_words}

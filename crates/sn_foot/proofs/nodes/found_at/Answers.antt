@@ -3,9 +3,10 @@ use Rattle.std.specs.Prelude.{FitsSigned}
 use Rattle.std.proofs.lemmas.Int.{to_z-of_z}
 use Rattle.sn_tree.specs.Trees.{Label, subtree}
 use Rattle.sn_tree.specs.Members.{members}
+use Rattle.sn_tree.proofs.Rooting.{count_below}
 use Rattle.sn_world.specs.declared.stage.Held.{Held}
 use Rattle.sn_foot.specs.Walks.{kept}
-use Rattle.sn_foot.proofs.Finding.{all_walked, count_below, count_members, found_reached}
+use Rattle.sn_foot.proofs.Finding.{all_walked, count_members, found_reached}
 use Rattle.sn_foot.proofs.nodes.found_at.Goals as goal
 
 pub loop-member-init : goal.loop-member-init

@@ -3,8 +3,8 @@ use Rattle.std.proofs.Common.{◌≡◌, ◌++◌, map}
 use Rattle.std.specs.Prelude.{pos}
 use Rattle.sn_tree.specs.Trees.{subtree}
 use Rattle.sn_tree.specs.Members.{members}
-use Rattle.sn_graph.specs.Pieces.{seen}
+use Rattle.sn_clash.specs.Rows.{row_of}
 use Rattle.sn_graph.proofs.stages.members_of.Given as goal
 
 abbrev pub invariant-loop-member : goal.invariant-loop-member
-invariant-loop-member l = map seen l.found.items ++ l.member-iterator ≡ members (subtree (pos 0) l.tree.attached)
+invariant-loop-member l = map row_of l.found.items ++ l.member-iterator ≡ members (subtree (pos 0) l.tree.attached)

@@ -1,16 +1,16 @@
 use Rattle.std.proofs.Common.{◌≡◌, ◌∙◌, ap, map, arith, Some}
-use Rattle.std.proofs.lemmas.List.{length-map}
 use Rattle.sn_osc.specs.Shape.{argument_of}
 use Rattle.sn_world.specs.Rows.{triples, some_of}
 use Rattle.sn_world.specs.NewNodes.{new_group, judge_group, act_group}
 use Rattle.sn_world.specs.World.{turn_of}
-use Rattle.sn_nodecmd.proofs.Repeating.{few_triples, row_read}
+use Rattle.sn_world.proofs.Parsing.{triples-few_of}
+use Rattle.sn_nodecmd.proofs.Repeating.{row_read}
 use Rattle.sn_nodecmd.proofs.groups.run_new_groups.Goals as goal
 
 pub each-requires-clause-few : goal.each-requires-clause-few
 each-requires-clause-few c =
     let read : Some c.deref.result.now ≡ some_of (triples (new_group c.args.kind) (map argument_of c.args.arguments.now)) = ap Some c.deref.ensures.value ∙ c.in-Some.ensures ∙ ap some_of c.in_ok-groups_of.ensures in
-    omega (arith, few_triples (new_group c.args.kind) (map argument_of c.args.arguments.now) c.deref.result.now read, length-map c.args.arguments.now argument_of, c.requires.few)
+    omega (arith, triples-few_of (new_group c.args.kind) c.args.arguments.now c.deref.result.now read, c.requires.few)
 
 pub returns-clause-row : goal.returns-clause-row
 returns-clause-row c = λ from words.

@@ -69,36 +69,30 @@ returns-in-NewParallel-clause-pictures g c = c.run_new_groups-in-NewParallel.ens
 
 pub returns-in-Free-clause-row : goal.returns-in-Free-clause-row
 returns-in-Free-clause-row g c =
-    subst (λ (v : NodeCommand). Follows c.run_free.result (node_row v c.args.from (map argument_of c.args.arguments.now) (turn_of c.args.stage.now (g.P.Port.words c.args.port.now) c.args.replies.now)) (turn_of c.run_free.new.stage (g.P.Port.words c.args.port.now) c.run_free.new.replies))
-    (sym c.in-Free.is) (c.run_free.ensures.row c.args.from (g.P.Port.words c.args.port.now))
+    subst (λ (v : NodeCommand). Follows c.run_singles.result (node_row v c.args.from (map argument_of c.args.arguments.now) (turn_of c.args.stage.now (g.P.Port.words c.args.port.now) c.args.replies.now)) (turn_of c.run_singles.new.stage (g.P.Port.words c.args.port.now) c.run_singles.new.replies))
+    (sym c.in-Free.is) (c.run_singles.ensures.row (g.P.Port.words c.args.port.now))
 
 pub returns-in-Free-clause-pictures : goal.returns-in-Free-clause-pictures
-returns-in-Free-clause-pictures g c = c.run_free.ensures.pictures (g.P.Port.words c.args.port.now) c.requires.pictures
+returns-in-Free-clause-pictures g c = c.run_singles.ensures.pictures (g.P.Port.words c.args.port.now) c.requires.pictures
 
-pub run_free-requires-clause-rest : goal.run_free-requires-clause-rest
-run_free-requires-clause-rest g c = at_rest c.args.stage.now (g.P.Port.words c.args.port.now) c.requires.pictures
+pub run_singles-requires-clause-rest : goal.run_singles-requires-clause-rest
+run_singles-requires-clause-rest g c = at_rest c.args.stage.now (g.P.Port.words c.args.port.now) c.requires.pictures
 
 pub returns-in-FreeAll-clause-row : goal.returns-in-FreeAll-clause-row
 returns-in-FreeAll-clause-row g c =
-    subst (λ (v : NodeCommand). Follows c.run_free_all.result (node_row v c.args.from (map argument_of c.args.arguments.now) (turn_of c.args.stage.now (g.P.Port.words c.args.port.now) c.args.replies.now)) (turn_of c.run_free_all.new.stage (g.P.Port.words c.args.port.now) c.run_free_all.new.replies))
-    (sym c.in-FreeAll.is) (c.run_free_all.ensures.row c.args.from (g.P.Port.words c.args.port.now))
+    subst (λ (v : NodeCommand). Follows c.run_singles-in-FreeAll.result (node_row v c.args.from (map argument_of c.args.arguments.now) (turn_of c.args.stage.now (g.P.Port.words c.args.port.now) c.args.replies.now)) (turn_of c.run_singles-in-FreeAll.new.stage (g.P.Port.words c.args.port.now) c.run_singles-in-FreeAll.new.replies))
+    (sym c.in-FreeAll.is) (c.run_singles-in-FreeAll.ensures.row (g.P.Port.words c.args.port.now))
 
 pub returns-in-FreeAll-clause-pictures : goal.returns-in-FreeAll-clause-pictures
-returns-in-FreeAll-clause-pictures g c = c.run_free_all.ensures.pictures (g.P.Port.words c.args.port.now) c.requires.pictures
-
-pub run_free_all-requires-clause-rest : goal.run_free_all-requires-clause-rest
-run_free_all-requires-clause-rest g c = at_rest c.args.stage.now (g.P.Port.words c.args.port.now) c.requires.pictures
+returns-in-FreeAll-clause-pictures g c = c.run_singles-in-FreeAll.ensures.pictures (g.P.Port.words c.args.port.now) c.requires.pictures
 
 pub returns-in-DeepFree-clause-row : goal.returns-in-DeepFree-clause-row
 returns-in-DeepFree-clause-row g c =
-    subst (λ (v : NodeCommand). Follows c.run_deep_free.result (node_row v c.args.from (map argument_of c.args.arguments.now) (turn_of c.args.stage.now (g.P.Port.words c.args.port.now) c.args.replies.now)) (turn_of c.run_deep_free.new.stage (g.P.Port.words c.args.port.now) c.run_deep_free.new.replies))
-    (sym c.in-DeepFree.is) (c.run_deep_free.ensures.row c.args.from (g.P.Port.words c.args.port.now))
+    subst (λ (v : NodeCommand). Follows c.run_singles-in-DeepFree.result (node_row v c.args.from (map argument_of c.args.arguments.now) (turn_of c.args.stage.now (g.P.Port.words c.args.port.now) c.args.replies.now)) (turn_of c.run_singles-in-DeepFree.new.stage (g.P.Port.words c.args.port.now) c.run_singles-in-DeepFree.new.replies))
+    (sym c.in-DeepFree.is) (c.run_singles-in-DeepFree.ensures.row (g.P.Port.words c.args.port.now))
 
 pub returns-in-DeepFree-clause-pictures : goal.returns-in-DeepFree-clause-pictures
-returns-in-DeepFree-clause-pictures g c = c.run_deep_free.ensures.pictures (g.P.Port.words c.args.port.now) c.requires.pictures
-
-pub run_deep_free-requires-clause-rest : goal.run_deep_free-requires-clause-rest
-run_deep_free-requires-clause-rest g c = at_rest c.args.stage.now (g.P.Port.words c.args.port.now) c.requires.pictures
+returns-in-DeepFree-clause-pictures g c = c.run_singles-in-DeepFree.ensures.pictures (g.P.Port.words c.args.port.now) c.requires.pictures
 
 pub returns-in-Query-clause-row : goal.returns-in-Query-clause-row
 returns-in-Query-clause-row g c =

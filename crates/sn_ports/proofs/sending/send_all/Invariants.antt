@@ -11,6 +11,8 @@ invariant-loop-rest g l = record {
   taken : Appends (g.L.Link.sent l.fn.link) (g.L.Link.sent l.link) done;
   events : KeepsEvents (g.L.Link.left l.fn.link) (g.L.Link.left l.link);
   later : g.L.Link.faults l.fn.link ≤ g.L.Link.faults l.link;
+  still : g.L.Link.faults l.link ≡ g.L.Link.faults l.fn.link;
+  unasked : length l.piece ≡ 0 → l.link ≡ l.fn.link;
 }
 
 abbrev pub decreases-loop-rest : goal.decreases-loop-rest

@@ -4,7 +4,8 @@ use Rattle.sn_osc.specs.Unpacking.{unpacked}
 use Rattle.sn_server.specs.PlayEvents.{Live, receive}
 use Rattle.sn_server.specs.Serving.{IsLive, GoesOn, Stops}
 use Rattle.sn_server.proofs.PacketLemmas.{received_ready, received_block, received_alone}
-use Rattle.sn_server.proofs.ServingLemmas.{received, received_whole, received_bad}
+use Rattle.sn_server.proofs.ServingLemmas.{received, received_whole, received_bad, given}
+use Rattle.sn_server.proofs.FaultLemmas.{unless_err}
 use Rattle.sn_server.proofs.receiving.receive.Goals as goal
 
 pub send_replies-requires : goal.send_replies-requires
@@ -34,3 +35,11 @@ returns-in-None-clause-ready g c =
 
 pub returns-in-None-clause-block : goal.returns-in-None-clause-block
 returns-in-None-clause-block g c = received_block c.args.engine.now c.take_packets.new.engine c.send_replies.new.engine (unpacked c.feed.new.self.kept).packets c.in_ok-bad.ensures.engine c.send_replies.ensures.kept
+
+pub returns-in_err-send_replies-clause-unfailed : goal.returns-in_err-send_replies-clause-unfailed
+returns-in_err-send_replies-clause-unfailed g c =
+    let r = c.from_residual-in_err-send_replies in
+    unless_err r.result c.in_err-send_replies.field-0.0 (g.L.Link.faults c.send_replies.new.link ≡ g.L.Link.faults c.args.link.now) r.ensures.1 c.in_err-send_replies.ensures.unfailed
+
+pub returns-in-Some-clause-unfailed : goal.returns-in-Some-clause-unfailed
+returns-in-Some-clause-unfailed g c = given c.in-Some.how (g.L.Link.faults c.send_replies.new.link ≡ g.L.Link.faults c.args.link.now) c.in_ok-send_replies.ensures.unfailed

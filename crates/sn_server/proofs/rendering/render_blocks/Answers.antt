@@ -1,6 +1,7 @@
-use Rattle.std.proofs.Common.{◌≡◌, ◌≤◌, ◌-◌, ◌+◌, ℕ, suc, subst, sym, ◌∙◌, arith, le_refl}
+use Rattle.std.proofs.Common.{◌≡◌, ◌≤◌, ◌-◌, ◌+◌, ℕ, suc, subst, sym, ◌∙◌, arith, le_refl, refl}
 use Rattle.sn_server.specs.Going.{IsGoing}
 use Rattle.sn_server.proofs.GoingLemmas.{begins, goes_on, ended, on_ok}
+use Rattle.sn_server.proofs.FaultLemmas.{none_failed}
 use Rattle.sn_server.proofs.rendering.render_blocks.Goals as goal
 
 pub loop-number-init : goal.loop-number-init
@@ -12,6 +13,7 @@ loop-number-init g c =
           (begins s c.args.blocks (g.O.Sink.taken c.args.sound.now) (g.R.Sink.taken c.args.replies.now) c.args.engine c.requires.stands);
       sound_later = le_refl _;
       reply_later = le_refl _;
+      still = (refl, refl);
     }
 
 pub loop-number-preserved : goal.loop-number-preserved
@@ -26,6 +28,7 @@ loop-number-preserved g c =
           c.in_ok-render_block.ensures.block;
       sound_later = omega (arith, i.sound_later, c.render_block.ensures.sound_later);
       reply_later = omega (arith, i.reply_later, c.render_block.ensures.reply_later);
+      still = none_failed _ _ _ _ _ _ i.still c.in_ok-render_block.ensures.unfailed;
     }
 
 pub returns-clause-ended : goal.returns-clause-ended
@@ -34,3 +37,6 @@ returns-clause-ended g c =
     let none : c.args.blocks - c.loop-number.number ≡ 0 = omega (arith, c.loop-number-test.false) in
     let going = subst (λ n. IsGoing s c.args.engine c.args.blocks n (g.O.Sink.taken c.args.sound.now) (g.O.Sink.taken c.loop-number.sound) (g.R.Sink.taken c.args.replies.now) (g.R.Sink.taken c.loop-number.replies) c.loop-number.engine) none c.loop-number.invariant.going in
     on_ok c.render_end.result (ended s c.args.engine c.args.blocks _ _ _ _ _ _ c.loop-number.engine going) c.render_end.ensures.end
+
+pub returns-clause-unfailed : goal.returns-clause-unfailed
+returns-clause-unfailed g c = on_ok c.render_end.result (none_failed _ _ _ _ _ _ c.loop-number.invariant.still) c.render_end.ensures.unfailed

@@ -2,6 +2,7 @@ use Rattle.sn_pcm.specs.Sound.{data_len, header_bytes}
 use Rattle.std.proofs.Common.{subst, refl}
 use Rattle.sn_server.specs.Going.{IsEnded, IsAtBoundary}
 use Rattle.sn_server.proofs.GoingLemmas.{on_ok, headed, few_blocks}
+use Rattle.sn_server.proofs.FaultLemmas.{none_failed}
 use Rattle.sn_server.proofs.running.play.Goals as goal
 
 pub render_blocks-requires-clause-stands : goal.render_blocks-requires-clause-stands
@@ -15,3 +16,8 @@ returns-clause-ended g c =
     let s = c.args.settings.now in
     on_ok c.render_blocks.result (λ e. headed s c.args.engine c.args.blocks (header_bytes s (data_len s c.args.blocks)) _ _ _ _ _ c.requires.silent c.in_ok-write_header.ensures.written
     (subst (λ t. IsEnded t c.args.engine c.args.blocks (g.O.Sink.taken c.write_header.new.sound) (g.O.Sink.taken c.render_blocks.new.sound) (g.R.Sink.taken c.args.replies.now) (g.R.Sink.taken c.render_blocks.new.replies)) c.requires.stands.settings e)) c.render_blocks.ensures.ended
+
+pub returns-clause-unfailed : goal.returns-clause-unfailed
+returns-clause-unfailed g c =
+    let replies_old = g.R.Sink.faults c.args.replies.now in
+    on_ok c.render_blocks.result (none_failed _ _ _ replies_old replies_old _ (c.in_ok-write_header.ensures.unfailed, refl)) c.render_blocks.ensures.unfailed

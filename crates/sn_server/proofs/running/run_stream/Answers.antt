@@ -60,3 +60,9 @@ returns-in-Err-clause-reply g c = λ e. unplayed c.in-Err.outcome ReplyFault _ (
 
 pub returns-in-Err-clause-untouched : goal.returns-in-Err-clause-untouched
 returns-in-Err-clause-untouched g c = unplayed_untouched c.in-Err.outcome (g.O.Sink.taken c.args.sound.now) (g.R.Sink.taken c.args.replies.now) c.in-Err.ensures.unplayed
+
+pub returns-in-Ok-play-clause-unfailed : goal.returns-in-Ok-play-clause-unfailed
+returns-in-Ok-play-clause-unfailed g c = λ n same. (c.in-Ok.ensures.unfailed, c.in-Ok-play.ensures.unfailed)
+
+pub returns-in-Err-clause-unfailed : goal.returns-in-Err-clause-unfailed
+returns-in-Err-clause-unfailed g c = λ n e. unplayed c.in-Err.outcome (Done n) _ (λ x. x) c.in-Err.ensures.unplayed e

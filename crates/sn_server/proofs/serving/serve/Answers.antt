@@ -1,5 +1,7 @@
-use Rattle.std.proofs.Common.{◌≡◌, ◌∙◌, length, ap, le_refl, arith}
+use Rattle.std.proofs.Common.{◌≡◌, ◌∙◌, length, ap, le_refl, arith, refl}
 use Rattle.sn_server.proofs.EventLemmas.{begins_serving, begins_ready, serves_on, serves_to, as_long}
+use Rattle.sn_server.specs.Faults.{NothingFailed}
+use Rattle.sn_server.proofs.FaultLemmas.{none_failed, given_so}
 use Rattle.sn_server.proofs.serving.serve.Goals as goal
 
 pub loop-how-init : goal.loop-how-init
@@ -11,6 +13,7 @@ loop-how-init g c =
       room = c.in-Ok-room.ensures;
       link_later = le_refl _;
       sound_later = le_refl _;
+      still = (refl, refl);
     }
 
 pub loop-how-preserved : goal.loop-how-preserved
@@ -28,6 +31,7 @@ loop-how-preserved g c =
       room = as_long l.room.len l.room.items n.room l.room.ok.0 (c.serve_event.auto.room ∙ ap length c.deref_mut.ensures.value) ∙ i.room;
       link_later = omega (arith, i.link_later, c.serve_event.ensures.link_later);
       sound_later = omega (arith, i.sound_later, c.serve_event.ensures.sound_later);
+      still = none_failed _ _ _ _ _ _ i.still r.unfailed;
     }
 
 pub returns-in-Err-clause-served : goal.returns-in-Err-clause-served
@@ -39,3 +43,11 @@ returns-in-Err-clause-served g c =
     serves_to s c.args.base (g.L.Link.left c.args.link.now) (g.L.Link.left l.link) (g.L.Link.left n.link) (g.O.Sink.taken c.args.sound.now) (g.O.Sink.taken l.sound) (g.O.Sink.taken n.sound)
     (g.L.Link.sent c.args.link.now) (g.L.Link.sent l.link) (g.L.Link.sent n.link) l.engine l.framer c.in-Err.how i.serving
     (c.in-Err.ensures.took s i.serving.live (g.O.Sink.taken c.args.sound.now) (g.L.Link.sent c.args.link.now) i.serving.stands)
+
+pub returns-in-Err-clause-unfailed : goal.returns-in-Err-clause-unfailed
+returns-in-Err-clause-unfailed g c =
+    let l = c.loop-how in
+    let n = c.serve_event.new in
+    let step = NothingFailed (g.L.Link.faults l.link) (g.L.Link.faults n.link) (g.O.Sink.faults l.sound) (g.O.Sink.faults n.sound) in
+    let all = NothingFailed (g.L.Link.faults c.args.link.now) (g.L.Link.faults n.link) (g.O.Sink.faults c.args.sound.now) (g.O.Sink.faults n.sound) in
+    given_so c.in-Err.how step all (none_failed _ _ _ _ _ _ l.invariant.still) c.in-Err.ensures.unfailed

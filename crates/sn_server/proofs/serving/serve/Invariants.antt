@@ -1,6 +1,7 @@
 -- The events that were taken so far give what was written, and each takes bytes or blocks of those that may come.
 use Rattle.std.proofs.Common.{◌≡◌, ◌≤◌, ◌+◌, ◌-◌, ◌^◌, length}
 use Rattle.sn_server.specs.Serving.{IsReady, IsServing}
+use Rattle.sn_server.specs.Faults.{NothingFailed}
 use Rattle.sn_server.proofs.serving.serve.Given as goal
 
 abbrev pub invariant-loop-how : goal.invariant-loop-how
@@ -10,6 +11,7 @@ invariant-loop-how g l = record {
   room : length l.room.items ≡ 65536;
   link_later : g.L.Link.faults l.fn.link ≤ g.L.Link.faults l.link;
   sound_later : g.O.Sink.faults l.fn.sound ≤ g.O.Sink.faults l.sound;
+  still : NothingFailed (g.L.Link.faults l.fn.link) (g.L.Link.faults l.link) (g.O.Sink.faults l.fn.sound) (g.O.Sink.faults l.sound);
 }
 
 abbrev pub decreases-loop-how : goal.decreases-loop-how

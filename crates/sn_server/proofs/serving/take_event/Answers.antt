@@ -1,6 +1,9 @@
-use Rattle.std.proofs.Common.{take}
+use Rattle.std.proofs.Common.{take, ◌≡◌, ◌∙◌, refl}
 use Rattle.sn_ports.specs.Links.{bytes, ticks, Takes}
 use Rattle.sn_server.proofs.EventLemmas.{known_kept, live_kept, took_event, took_none, none_at_close, fed_bytes, fed_ticks, fed_end}
+use Rattle.sn_server.specs.Faults.{NothingFailed}
+use Rattle.sn_server.proofs.FaultLemmas.{none_failed, unless_so}
+use Rattle.sn_server.proofs.ServingLemmas.{given}
 use Rattle.sn_server.proofs.serving.take_event.Goals as goal
 
 pub returns-in-Ok-Bytes-clause-took : goal.returns-in-Ok-Bytes-clause-took
@@ -41,3 +44,26 @@ returns-in-Ok-End-clause-took g c = λ s v sound_old sent_old live.
 pub returns-in-Ok-End-clause-close : goal.returns-in-Ok-End-clause-close
 returns-in-Ok-End-clause-close g c = none_at_close c.closing.result (g.L.Link.left c.args.link.now) (g.L.Link.left c.next.new.self)
     (fed_end (g.L.Link.left c.args.link.now) (g.L.Link.left c.next.new.self) c.next.new.into c.in-Ok-End.field-0 c.in-Ok-End.field-0-is c.in-Ok-End.ensures.events)
+
+pub returns-in-Ok-Bytes-clause-unfailed : goal.returns-in-Ok-Bytes-clause-unfailed
+returns-in-Ok-Bytes-clause-unfailed g c =
+    let link_old = g.L.Link.faults c.args.link.now in
+    let link_mid = g.L.Link.faults c.next.new.self in
+    let link_new = g.L.Link.faults c.receive.new.link in
+    let sound = g.O.Sink.faults c.args.sound.now in
+    unless_so c.receive.result (link_new ≡ link_mid) (NothingFailed link_old link_new sound sound) (λ still. (still ∙ c.in-Ok-Bytes.ensures.unfailed, refl)) c.receive.ensures.unfailed
+
+pub returns-in-Ok-Ticks-clause-unfailed : goal.returns-in-Ok-Ticks-clause-unfailed
+returns-in-Ok-Ticks-clause-unfailed g c =
+    let link_old = g.L.Link.faults c.args.link.now in
+    let link_mid = g.L.Link.faults c.next.new.self in
+    let link_new = g.L.Link.faults c.ticks.new.link in
+    let sound_old = g.O.Sink.faults c.args.sound.now in
+    let sound_new = g.O.Sink.faults c.ticks.new.sound in
+    unless_so c.ticks.result (NothingFailed link_mid link_new sound_old sound_new) (NothingFailed link_old link_new sound_old sound_new)
+    (none_failed link_old link_mid link_new sound_old sound_old sound_new (c.in-Ok-Ticks.ensures.unfailed, refl)) c.ticks.ensures.unfailed
+
+pub returns-in-Ok-End-clause-unfailed : goal.returns-in-Ok-End-clause-unfailed
+returns-in-Ok-End-clause-unfailed g c =
+    let sound = g.O.Sink.faults c.args.sound.now in
+    given c.closing.result (NothingFailed (g.L.Link.faults c.args.link.now) (g.L.Link.faults c.next.new.self) sound sound) (c.in-Ok-End.ensures.unfailed, refl)

@@ -1,9 +1,28 @@
-use Rattle.std.proofs.Common.{◌≡◌, [], length, ap, ◌∙◌}
+use Rattle.std.proofs.Common.{◌≡◌, [], length, ap, ◌∙◌, refl}
 use Rattle.sn_engine.specs.Running.{Running, with_block, with_settled}
 use Rattle.sn_server.proofs.ServingLemmas.{block_alone}
+use Rattle.sn_server.specs.Faults.{NothingFailed}
+use Rattle.sn_server.proofs.FaultLemmas.{given_so, unless_so, unless_err}
 use Rattle.sn_server.proofs.ticking.render_block.Goals as goal
 
 pub send_replies-requires : goal.send_replies-requires
 send_replies-requires g c =
     let done : c.settle.new.self ≡ with_settled (with_block c.args.engine.now) = c.settle.ensures ∙ ap with_settled c.blocks-2.ensures in
     record { alone = ap (λ (r : Running). length r.replies) c.write_sound.ensures.kept ∙ ap (λ (r : Running). length r.replies) done ∙ block_alone c.args.engine.now c.requires.alone }
+
+pub returns-in_err-write_sound-clause-unfailed : goal.returns-in_err-write_sound-clause-unfailed
+returns-in_err-write_sound-clause-unfailed g c =
+    let how = c.in_err-write_sound.field-0.0 in
+    let link = g.L.Link.faults c.args.link.now in
+    let sound_old = g.O.Sink.faults c.args.sound.now in
+    let sound_new = g.O.Sink.faults c.write_sound.new.sound in
+    unless_err c.from_residual.result how (NothingFailed link link sound_old sound_new) c.from_residual.ensures.1
+    (given_so how (sound_new ≡ sound_old) (NothingFailed link link sound_old sound_new) (λ still. (refl, still)) c.in_err-write_sound.ensures.unfailed)
+
+pub returns-clause-unfailed : goal.returns-clause-unfailed
+returns-clause-unfailed g c =
+    let link_old = g.L.Link.faults c.args.link.now in
+    let link_new = g.L.Link.faults c.send_replies.new.link in
+    let sound_old = g.O.Sink.faults c.args.sound.now in
+    let sound_new = g.O.Sink.faults c.write_sound.new.sound in
+    unless_so c.send_replies.result (link_new ≡ link_old) (NothingFailed link_old link_new sound_old sound_new) (λ still. (still, c.in_ok-write_sound.ensures.unfailed)) c.send_replies.ensures.unfailed

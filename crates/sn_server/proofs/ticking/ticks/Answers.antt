@@ -4,6 +4,8 @@ use Rattle.sn_server.specs.PlayEvents.{tick}
 use Rattle.sn_server.proofs.EventLemmas.{known_same}
 use Rattle.sn_server.proofs.ServingLemmas.{ticks_on, ticked_ready, ticked_block, all_ticked, worn_tick, ended_tick, follows_err, given}
 use Rattle.sn_server.specs.Serving.{HasEnded}
+use Rattle.sn_server.specs.Faults.{NothingFailed}
+use Rattle.sn_server.proofs.FaultLemmas.{none_failed, given_so, unless_err}
 use Rattle.sn_server.proofs.ticking.ticks.Goals as goal
 
 pub returns-in_err-check_worn-clause-follows : goal.returns-in_err-check_worn-clause-follows
@@ -39,6 +41,7 @@ loop-number-init g c =
       events = known_same (g.L.Link.left c.args.link.now) (λ a b. b ≡ a) (λ a. refl);
       link_later = le_refl _;
       sound_later = le_refl _;
+      still = (refl, refl);
     }
 
 pub loop-number-preserved : goal.loop-number-preserved
@@ -58,6 +61,7 @@ loop-number-preserved g c =
       events = keeps_events-trans (g.L.Link.left c.args.link.now) (g.L.Link.left l.link) (g.L.Link.left c.tick.new.link) i.events c.tick.ensures.events;
       link_later = omega (arith, i.link_later, c.tick.ensures.link_later);
       sound_later = omega (arith, i.sound_later, c.tick.ensures.sound_later);
+      still = none_failed _ _ _ _ _ _ i.still c.in_ok-tick.ensures.unfailed;
     }
 
 pub returns-clause-follows : goal.returns-clause-follows
@@ -65,3 +69,20 @@ returns-clause-follows g c = λ s v sound_old sent_old live.
     let l = c.loop-number in
     let none : c.args.count - l.number ≡ 0 = omega (arith, c.loop-number-test.false) in
     all_ticked s sound_old (g.O.Sink.taken l.sound) sent_old (g.L.Link.sent l.link) (tick s c.args.count v) (c.args.count - l.number) l.engine c.args.framer.now (l.invariant.follows s v sound_old sent_old live) none
+
+pub returns-in_err-check_worn-clause-unfailed : goal.returns-in_err-check_worn-clause-unfailed
+returns-in_err-check_worn-clause-unfailed g c =
+    let l = c.loop-number in
+    let how = c.in_err-check_worn.field-0.0 in
+    let still = NothingFailed (g.L.Link.faults c.args.link.now) (g.L.Link.faults l.link) (g.O.Sink.faults c.args.sound.now) (g.O.Sink.faults l.sound) in
+    unless_err c.from_residual.result how still c.from_residual.ensures.1 (given how still l.invariant.still)
+
+pub returns-in_err-tick-clause-unfailed : goal.returns-in_err-tick-clause-unfailed
+returns-in_err-tick-clause-unfailed g c =
+    let l = c.loop-number in
+    let n = c.tick.new in
+    let r = c.from_residual-in_err-tick in
+    let how = c.in_err-tick.field-0.0 in
+    let step = NothingFailed (g.L.Link.faults l.link) (g.L.Link.faults n.link) (g.O.Sink.faults l.sound) (g.O.Sink.faults n.sound) in
+    let all = NothingFailed (g.L.Link.faults c.args.link.now) (g.L.Link.faults n.link) (g.O.Sink.faults c.args.sound.now) (g.O.Sink.faults n.sound) in
+    unless_err r.result how all r.ensures.1 (given_so how step all (none_failed _ _ _ _ _ _ l.invariant.still) c.in_err-tick.ensures.unfailed)

@@ -5,6 +5,7 @@ use Rattle.sn_ports.specs.Links.{KeepsEvents}
 use Rattle.sn_server.specs.PlayEvents.{Live, tick}
 use Rattle.sn_server.specs.Serving.{IsLive, IsReady}
 use Rattle.sn_server.proofs.ServingLemmas.{IsTicking}
+use Rattle.sn_server.specs.Faults.{NothingFailed}
 use Rattle.sn_server.proofs.ticking.ticks.Given as goal
 
 abbrev pub invariant-loop-number : goal.invariant-loop-number
@@ -16,4 +17,5 @@ invariant-loop-number g l = record {
   events : KeepsEvents (g.L.Link.left l.fn.link) (g.L.Link.left l.link);
   link_later : g.L.Link.faults l.fn.link ≤ g.L.Link.faults l.link;
   sound_later : g.O.Sink.faults l.fn.sound ≤ g.O.Sink.faults l.sound;
+  still : NothingFailed (g.L.Link.faults l.fn.link) (g.L.Link.faults l.link) (g.O.Sink.faults l.fn.sound) (g.O.Sink.faults l.sound);
 }

@@ -8,8 +8,9 @@ use Rattle.sn_world.specs.SettleWords.{walk_endings, settled_walk}
 use Rattle.sn_world.specs.World.{Turn, world_of}
 use Rattle.sn_settle.specs.Telling.{HaveRoom}
 use Rattle.sn_settle.specs.Acting.{IsActed}
-use Rattle.sn_settle.proofs.Reading.{nothing}
-use Rattle.sn_settle.proofs.Settled.{long, outside_kept, settled_is, all_sent, pictured, none_acted, same_words, can_look, room_to_act}
+use Rattle.sn_settle.proofs.Reading.{nothing, none_there}
+use Rattle.sn_settle.proofs.Sending.{room_kept}
+use Rattle.sn_settle.proofs.Settled.{long, outside_kept, ended, settled_is, all_sent, pictured, none_acted, same_words, can_look, room_to_act}
 use Rattle.sn_settle.proofs.settling.settle.Goals as goal
 
 pub look_at_all-requires-clause-can : goal.look_at_all-requires-clause-can
@@ -83,3 +84,28 @@ returns-clause-others g c = λ k behind past.
     let stage = c.args.stage.now in
     ap (λ (us : List ℕ). get_or us k 0) (c.settle_words.ensures.words ∙ ap (λ (us : List ℕ). settled_walk stage.rate (running_labels stage.tree.attached) us) c.look_at_all.ensures.words)
     ∙ outside_kept stage c.args.block (g.P.Port.words c.args.port.now) c.requires.pictures k behind past
+
+pub returns-clause-idle : goal.returns-clause-idle
+returns-clause-idle g c = λ none.
+    let stage = c.args.stage.now in
+    let ws = g.P.Port.words c.args.port.now in
+    let are : c.as_slice.result.now ≡ walk_endings stage.rate (running_labels stage.tree.attached) ws = c.as_slice.ensures ∙ c.look_at_all.ensures.seen.noted.items ∙ ap (λ (xs : List Ending). xs ++ walk_endings stage.rate (running_labels stage.tree.attached) ws) c.clear.ensures.items in
+    none_there c.as_slice.result.now (sym c.if-is_empty.ensures) (are ∙ sym (ended stage c.args.block ws c.requires.pictures) ∙ none)
+
+pub returns-then-is_empty-clause-endings : goal.returns-then-is_empty-clause-endings
+returns-then-is_empty-clause-endings g c =
+    let stage = c.args.stage.now in
+    let ws = g.P.Port.words c.args.port.now in
+    c.look_at_all.ensures.seen.noted.items ∙ ap (λ (xs : List Ending). xs ++ walk_endings stage.rate (running_labels stage.tree.attached) ws) c.clear.ensures.items ∙ sym (ended stage c.args.block ws c.requires.pictures)
+
+pub returns-clause-endings : goal.returns-clause-endings
+returns-clause-endings g c =
+    let stage = c.args.stage.now in
+    let ws = g.P.Port.words c.args.port.now in
+    c.look_at_all.ensures.seen.noted.items ∙ ap (λ (xs : List Ending). xs ++ walk_endings stage.rate (running_labels stage.tree.attached) ws) c.clear.ensures.items ∙ sym (ended stage c.args.block ws c.requires.pictures)
+
+pub returns-then-is_empty-clause-kept : goal.returns-then-is_empty-clause-kept
+returns-then-is_empty-clause-kept g c = room_kept _ c.args.endings.now c.clear.new.self c.look_at_all.new.endings c.clear.ensures.items c.clear.ensures.room c.look_at_all.ensures.seen.noted
+
+pub returns-clause-kept : goal.returns-clause-kept
+returns-clause-kept g c = room_kept _ c.args.endings.now c.clear.new.self c.look_at_all.new.endings c.clear.ensures.items c.clear.ensures.room c.look_at_all.ensures.seen.noted

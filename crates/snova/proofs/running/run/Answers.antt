@@ -9,3 +9,6 @@ returns-in-Ok-clause-answer g c = by_words c.args.words.now c.in-Ok.chosen _ c.i
 
 pub returns-in-Ok-clause-complete : goal.returns-in-Ok-clause-complete
 returns-in-Ok-clause-complete g c = by_words c.args.words.now c.in-Ok.chosen _ c.in-Ok.ensures.ok c.render.ensures.complete
+
+pub returns-in-Ok-clause-unfailed : goal.returns-in-Ok-clause-unfailed
+returns-in-Ok-clause-unfailed g c = c.render.ensures.unfailed

@@ -1,4 +1,4 @@
-use Rattle.std.proofs.Common.{◌≡◌, ◌∙◌, ap, map, List, ℕ, rules}
+use Rattle.std.proofs.Common.{◌≡◌, ◌∙◌, ap, map, refl, List, ℕ, rules}
 use Rattle.std.specs.Vec.{with_items}
 use Rattle.std.proofs.lemmas.List.{with_items_is, places}
 use Rattle.sn_ports.specs.Octets.{Octets, bytes_of}
@@ -7,7 +7,8 @@ use Rattle.sn_reply.specs.Replies.{ReplyShape}
 use Rattle.sn_world.specs.World.{world_of}
 use Rattle.sn_engine.specs.Boundary.{replies_at}
 use Rattle.sn_engine.specs.Running.{Running, at_boundary}
-use Rattle.sn_engine.proofs.Bounded.{bounded}
+use Rattle.sn_engine.specs.declared.standing.Standing.TheVariants.{Bounded, Spent}
+use Rattle.sn_engine.proofs.Bounded.{bounded, rest_kept}
 use Rattle.sn_engine.proofs.ClientLemmas.{none_lost, none_sent, front_waits, all_waits}
 use Rattle.sn_engine.proofs.OfferLemmas.{on_err}
 use Rattle.sn_engine.proofs.engine.Engine.boundary.Goals as goal
@@ -78,3 +79,41 @@ returns-clause-ok c =
     bounded r (world_of c.act_boundary.new.stage c.act_boundary.new.port.words.items) c.act_boundary.new.queue c.act_boundary.new.held c.reserve-2.new.self.bytes c.act_boundary.new.said (map bytes_of (with_items out c.reserve_settling.new.replies).items)
     c.in_ok-quits.ensures.world c.in_ok-quits.ensures.left c.in_ok-quits.ensures.clashes c.reserve-2.ensures.bytes c.in_ok-quits.ensures.replies sent
     ∙ ap at_boundary c.self.view_is
+
+pub returns-in_err-reserve-clause-others : goal.returns-in_err-reserve-clause-others
+returns-in_err-reserve-clause-others c =
+    let e = c.self.inside in
+    let r : Running = record { settings = e.settings; world = world_of e.stage e.port.words.items; waiting = e.queue; clashes = e.clashes; block = e.block; standing = e.standing; sound = e.sound.bytes; replies = map bytes_of e.replies.items } in
+    rest_kept r c.args.self.now (world_of e.stage e.port.words.items) e.queue e.clashes Spent e.sound.bytes (map bytes_of e.replies.items) c.self.view_is refl refl
+
+pub returns-in_err-reserve-2-clause-others : goal.returns-in_err-reserve-2-clause-others
+returns-in_err-reserve-2-clause-others c =
+    let e = c.self.inside in
+    let r : Running = record { settings = e.settings; world = world_of e.stage e.port.words.items; waiting = e.queue; clashes = e.clashes; block = e.block; standing = e.standing; sound = e.sound.bytes; replies = map bytes_of e.replies.items } in
+    rest_kept r c.args.self.now (world_of e.stage e.port.words.items) e.queue e.clashes Spent c.reserve-2.new.self.bytes (map bytes_of e.replies.items) c.self.view_is refl c.reserve-2.ensures.bytes
+
+pub returns-in_err-quits-clause-others : goal.returns-in_err-quits-clause-others
+returns-in_err-quits-clause-others c =
+    let e = c.self.inside in
+    let r : Running = record { settings = e.settings; world = world_of e.stage e.port.words.items; waiting = e.queue; clashes = e.clashes; block = e.block; standing = e.standing; sound = e.sound.bytes; replies = map bytes_of e.replies.items } in
+    rest_kept r c.args.self.now (world_of c.act_boundary.new.stage c.act_boundary.new.port.words.items) c.act_boundary.new.queue c.act_boundary.new.held Spent c.reserve-2.new.self.bytes (map bytes_of e.replies.items) c.self.view_is c.act_boundary.ensures.kept c.reserve-2.ensures.bytes
+
+pub returns-in_err-send-clause-others : goal.returns-in_err-send-clause-others
+returns-in_err-send-clause-others c =
+    let e = c.self.inside in
+    let r : Running = record { settings = e.settings; world = world_of e.stage e.port.words.items; waiting = e.queue; clashes = e.clashes; block = e.block; standing = e.standing; sound = e.sound.bytes; replies = map bytes_of e.replies.items } in
+    rest_kept r c.args.self.now (world_of c.act_boundary.new.stage c.act_boundary.new.port.words.items) c.act_boundary.new.queue c.act_boundary.new.held Spent c.reserve-2.new.self.bytes (map bytes_of (with_items e.replies c.send.new.out).items) c.self.view_is c.act_boundary.ensures.kept c.reserve-2.ensures.bytes
+
+pub returns-in_err-self-inside-clause-others : goal.returns-in_err-self-inside-clause-others
+returns-in_err-self-inside-clause-others c =
+    let e = c.self.inside in
+    let r : Running = record { settings = e.settings; world = world_of e.stage e.port.words.items; waiting = e.queue; clashes = e.clashes; block = e.block; standing = e.standing; sound = e.sound.bytes; replies = map bytes_of e.replies.items } in
+    let out = with_items e.replies c.send.new.out in
+    rest_kept r c.args.self.now (world_of c.act_boundary.new.stage c.act_boundary.new.port.words.items) c.act_boundary.new.queue c.act_boundary.new.held Spent c.reserve-2.new.self.bytes (map bytes_of (with_items out c.reserve_settling.new.replies).items) c.self.view_is c.act_boundary.ensures.kept c.reserve-2.ensures.bytes
+
+pub returns-clause-others : goal.returns-clause-others
+returns-clause-others c =
+    let e = c.self.inside in
+    let r : Running = record { settings = e.settings; world = world_of e.stage e.port.words.items; waiting = e.queue; clashes = e.clashes; block = e.block; standing = e.standing; sound = e.sound.bytes; replies = map bytes_of e.replies.items } in
+    let out = with_items e.replies c.send.new.out in
+    rest_kept r c.args.self.now (world_of c.act_boundary.new.stage c.act_boundary.new.port.words.items) c.act_boundary.new.queue c.act_boundary.new.held Bounded c.reserve-2.new.self.bytes (map bytes_of (with_items out c.reserve_settling.new.replies).items) c.self.view_is c.act_boundary.ensures.kept c.reserve-2.ensures.bytes

@@ -1,4 +1,4 @@
-use Rattle.std.proofs.Common.{◌≡◌, ◌≤◌, [], List, ℕ, length, slice_set, get_or, arith, ap, ◌∙◌}
+use Rattle.std.proofs.Common.{◌≤◌, [], List, ℕ, slice_set, get_or, arith, ap, ◌∙◌}
 use Rattle.std.specs.Prelude.{vec_capacity}
 use Rattle.sn_tree.specs.Trees.{running_labels}
 use Rattle.sn_world.specs.SettleWords.{walk_room}

@@ -3,7 +3,7 @@ use Rattle.std.specs.Prelude.{IsSorted}
 use Rattle.std.specs.Ordering.{int_cmp, int_eq}
 use Rattle.std.proofs.lemmas.List.Sorted.{list_any-IsPermutation}
 use Rattle.sn_clash.specs.declared.clash.Clash.{Clash}
-use Rattle.sn_graph.specs.Stages.{is_listed}
+use Rattle.sn_graph.specs.Plans.{is_listed}
 use Rattle.sn_graph.proofs.named.NamedGroups.has.Goals as goal
 
 pub is_among-requires : goal.is_among-requires

@@ -10,22 +10,22 @@ use Rattle.sn_world.specs.World.{turn_of}
 use Rattle.sn_world.specs.Notices.{event_message}
 use Rattle.sn_nodecmd.proofs.TurningLemmas.{no_node, some_node}
 use Rattle.sn_nodecmd.proofs.QueryLemmas.{informed}
-use Rattle.sn_nodecmd.proofs.querying.answer.Goals as goal
+use Rattle.sn_nodecmd.proofs.querying.NodeQueryQuestion.answer.Goals as goal
 
-pub returns-in_default-clause-act : goal.returns-in_default-clause-act
-returns-in_default-clause-act c =
-    let fits : FitsSigned w32 c.args.query.now.id = search rules in
-    let same = to_z-of_z w32 c.args.query.now.id fits in
-    λ words. no_node c.args.stage.now words c.args.query.now.id (c.in_default.ensures ∙ ap (λ n. view_of n c.args.stage.now.tree.attached) same)
+pub returns-in_default-clause-row : goal.returns-in_default-clause-row
+returns-in_default-clause-row c =
+    let fits : FitsSigned w32 c.args.self.now.id = search rules in
+    let same = to_z-of_z w32 c.args.self.now.id fits in
+    λ words. no_node c.args.stage.now words c.args.self.now.id (c.in_default.ensures ∙ ap (λ n. view_of n c.args.stage.now.tree.attached) same)
 
-pub returns-clause-act : goal.returns-clause-act
-returns-clause-act c =
-    let fits : FitsSigned w32 c.args.query.now.id = search rules in
-    let same = to_z-of_z w32 c.args.query.now.id fits in
+pub returns-clause-row : goal.returns-clause-row
+returns-clause-row c =
+    let fits : FitsSigned w32 c.args.self.now.id = search rules in
+    let same = to_z-of_z w32 c.args.self.now.id fits in
     let seen = c.in-Some.ensures ∙ ap (λ n. view_of n c.args.stage.now.tree.attached) same in
     λ words. (
-      some_node c.args.stage.now words c.args.query.now.id c.in-Some.view seen,
+      some_node c.args.stage.now words c.args.self.now.id c.in-Some.view seen,
       sym (ap (λ (rs : List ReplyShape). turn_of c.args.stage.now words rs)
           (c.in_ok-push.ensures.ok ∙ ap (λ (m : MessageShape). let r : ReplyShape = record { to = Client c.args.from; message = m } in c.args.replies.now ++ r ∷ []) (c.in_ok-message.ensures.message ∙ ap (λ n. event_message Asked n c.in-Some.view) same))
-          ∙ informed c.args.stage.now words c.args.replies.now c.args.from c.args.query.now (Some c.in-Some.view) seen),
+          ∙ informed c.args.stage.now words c.args.replies.now c.args.from c.args.self.now (Some c.in-Some.view) seen),
     )

@@ -31,7 +31,7 @@ impl<'a> Known<'a> {
         self.map.get(&name).copied()
     }
 
-    /// Makes a name known. An `Err` changes nothing.
+    /// Makes a name known, in place of what it stood for.
     pub fn add(&mut self, name: &'a [u8], input: Input) -> Result<(), NoMemory>
         ensures { OnOk result ((q : List ℕ) → value_at self.new.map q ≡ (if bytes_eq name.now q then Some input else value_at self.old.map q)) }
     {

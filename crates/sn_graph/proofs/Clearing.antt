@@ -74,7 +74,7 @@ has_overlaps : (x : ℕ) (es : List Extent) → 1 ≤ overlaps x es → has es x
 has_overlaps x es l = has-overlaps es x ∙ lt-ltb 0 (overlaps x es) (omega (arith, l))
 
 module _ (buffers : List (Option BufferPlace)) where
-  fewer : (es fs : List Extent) → AreDisjoint buffers es → ((x : ℕ) → overlaps x fs ≤ overlaps x es) → AreDisjoint buffers fs
+  pub fewer : (es fs : List Extent) → AreDisjoint buffers es → ((x : ℕ) → overlaps x fs ≤ overlaps x es) → AreDisjoint buffers fs
   fewer es fs is l = record {
     places = is.places;
     behind = λ x h. is.behind x (has_overlaps x es (omega (arith, overlaps_has x fs h, l x)));
@@ -151,17 +151,17 @@ states_both : (x : ℕ) (ls ms : List (Label Held)) → overlaps x (states_of (p
 states_both x [] ms = omega arith
 states_both x (l ∷ ls) ms = omega (arith, overlaps-append x (held_extents l.payload) (states_of (payloads (ls ++ ms))), overlaps-append x (held_extents l.payload) (states_of (payloads ls)), states_both x ls ms)
 
-live_parts : (x : ℕ) (label : Label Held) (below after : Nodes Held) → overlaps x (live_held (trees.node label below after)) ≡ overlaps x (held_extents label.payload) + (overlaps x (live_held below) + overlaps x (live_held after))
+pub live_parts : (x : ℕ) (label : Label Held) (below after : Nodes Held) → overlaps x (live_held (trees.node label below after)) ≡ overlaps x (held_extents label.payload) + (overlaps x (live_held below) + overlaps x (live_held after))
 live_parts x label below after = omega (arith, overlaps-append x (held_extents label.payload) (live_held below ++ live_held after), overlaps-append x (live_held below) (live_held after))
 
-few_states : (x : ℕ) (t : Nodes Held) → overlaps x (states_of (held_of t)) ≤ overlaps x (live_held t)
+pub few_states : (x : ℕ) (t : Nodes Held) → overlaps x (states_of (held_of t)) ≤ overlaps x (live_held t)
 few_states x trees.none = omega arith
 few_states x (trees.node label below after) =
     cond_both label.running (label ∷ (running_labels below ++ running_labels after)) (running_labels after) (λ ls. overlaps x (states_of (payloads ls)) ≤ overlaps x (live_held (trees.node label below after)))
     (λ b. omega (arith, live_parts x label below after, overlaps-append x (held_extents label.payload) (states_of (payloads (running_labels below ++ running_labels after))), states_both x (running_labels below) (running_labels after), few_states x below, few_states x after))
     (λ b. omega (arith, live_parts x label below after, few_states x after))
 
-live_below : (x : ℕ) (id : ℤ) (t : Nodes Held) → overlaps x (live_held (subtree id t)) ≤ overlaps x (live_held t)
+pub live_below : (x : ℕ) (id : ℤ) (t : Nodes Held) → overlaps x (live_held (subtree id t)) ≤ overlaps x (live_held t)
 live_below x id trees.none = omega arith
 live_below x id (trees.node label below after) =
     cond_both (int_eq label.id id) (trees.node label below trees.none) (if holds id below then subtree id below else subtree id after) (λ u. overlaps x (live_held u) ≤ overlaps x (live_held (trees.node label below after)))

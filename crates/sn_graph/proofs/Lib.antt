@@ -16,5 +16,6 @@ pub mod Labels
 pub mod Counting
 pub mod Clearing
 pub mod Worlds
+pub mod Beside
 pub mod Naming
 pub mod Distinctly

@@ -1,13 +1,14 @@
 //! Laws of the clashes of nodes.
-ghost use Rattle.std.specs.Prelude.{◌≡◌, ◌↔◌, ◌++◌, ℕ, ℤ, true, List, Option};
+ghost use Rattle.std.specs.Prelude.{◌≡◌, ◌↔◌, ◌++◌, ℕ, ℤ, true, false, List, Option};
 ghost use Rattle.std.specs.List.{All};
 ghost use Rattle.sn_mem.specs.declared.buffers.BufferPlace.{BufferPlace};
 ghost use Rattle.sn_mem.specs.Words.{Clash};
 ghost use Rattle.sn_mem.specs.Buffers.{live_places};
+ghost use Rattle.sn_tree.specs.Trees.{holds, subtree};
 ghost use Rattle.sn_world.specs.declared.stage.Held.{Held};
 ghost use Rattle.sn_world.specs.Pictures.{Pictures, live_held};
 ghost use Rattle.sn_foot.specs.Canonical.{Ends};
-ghost use Rattle.sn_foot.specs.Footprints.{Clash as FootprintsClash, foot_of, footprint_of, states_of};
+ghost use Rattle.sn_foot.specs.Footprints.{Clash as FootprintsClash, foot_at, foot_of, footprint_at, footprint_of, states_of};
 ghost use Rattle.sn_graph.specs.Clear.{IsClashing};
 ghost use Rattle.sn_graph.specs.Disjoint.{AreDisjoint};
 ghost use Rattle.sn_graph.specs.Plans.{is_listed};
@@ -26,6 +27,14 @@ pub fn worlds_are_disjoint(stage: &Stage)
     ensures buffers { (words : List ℕ) → Pictures stage.now words → All Ends (live_places stage.now.buffers) }
     ensures states { (words : List ℕ) → Pictures stage.now words → All Ends (live_held stage.now.tree.attached) }
     ensures disjoint { (words : List ℕ) → Pictures stage.now words → AreDisjoint stage.now.buffers (live_held stage.now.tree.attached) }
+{
+    let _ = stage;
+}
+
+/// A law: in a stage that stands for a world, the words of two nodes of which neither stands at or below the other clash exactly
+/// where their footprints clash.
+pub fn nodes_clash_as_footprints(stage: &Stage)
+    ensures { let buffers = stage.now.buffers in let nodes = stage.now.tree.attached in (words : List ℕ) (a b : ℤ) → Pictures stage.now words → holds a (subtree b nodes) ≡ false → holds b (subtree a nodes) ≡ false → Clash (foot_at buffers a nodes) (foot_at buffers b nodes) ↔ FootprintsClash (footprint_at buffers a nodes) (footprint_at buffers b nodes) }
 {
     let _ = stage;
 }

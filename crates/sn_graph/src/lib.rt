@@ -9,7 +9,10 @@ mod parts;
 mod stages;
 
 pub use jobs::plan_of_nodes;
-pub use laws::{clashes_name_the_groups, feet_clash_as_footprints, worlds_are_disjoint};
+pub use laws::{
+    clashes_name_the_groups, feet_clash_as_footprints, nodes_clash_as_footprints,
+    worlds_are_disjoint,
+};
 pub use nodes::{Running, Voice};
 pub use stages::plan;
 

@@ -18,13 +18,6 @@ new_synth-step (p ∷ q ∷ r ∷ s ∷ rest) a b c d four is-a is-b is-c is-d =
     let whole : take (length (p ∷ q ∷ r ∷ s ∷ rest) - 4) rest ≡ rest = take_all _ rest (omega arith) in
     rw (whole, ← is-a, ← is-b, ← is-c, ← is-d) refl
 
-pub new_synth-few : (args : List Arg) → length args ≤ 3 → new_synth (map argument_of args) ≡ None
-new_synth-few [] few = refl
-new_synth-few (p ∷ []) few = refl
-new_synth-few (p ∷ q ∷ []) few = refl
-new_synth-few (p ∷ q ∷ r ∷ []) few = refl
-new_synth-few (p ∷ q ∷ r ∷ s ∷ rest) few = absurd (omega arith)
-
 pub asked-made : (args : List Arg) (a b c d : Arg) (name : List ℕ) (n : NewNode) → 4 ≤ length args → a ≡ get_or args 0 a → b ≡ get_or args 1 b → c ≡ get_or args 2 c → d ≡ get_or args 3 d
     → Some name ≡ text_of (argument_of a) → Some n ≡ new_node (argument_of b) (argument_of c) (argument_of d)
     → is_some (pairs control_value (map argument_of (take (length args - 4) (drop 4 args)))) ≡ true

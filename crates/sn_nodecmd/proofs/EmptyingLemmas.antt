@@ -26,7 +26,7 @@ use Rattle.sn_world.specs.Freeing.{told_ends, freed, free_refusal}
 use Rattle.sn_world.specs.Emptying.{freed_each, group_refusal}
 use Rattle.sn_world.specs.Rows.{first_of}
 use Rattle.sn_world.specs.World.{World, Turn, world_of, turn_of}
-use Rattle.sn_nodecmd.specs.Folding.{CanStep, Keeps}
+use Rattle.sn_nodecmd.specs.Folding.{Keeps}
 use Rattle.sn_nodecmd.specs.Sparing.{SparesRoom}
 use Rattle.sn_world.proofs.Replacing.{fewer}
 use Rattle.sn_world.proofs.Turning.{is_seen}
@@ -91,14 +91,6 @@ nothing_freed stage id replies words h =
     ap (λ (vs : List (ℤ × NodeView)). let u : Turn = told_ends vs t in let r : Turn = record u { world = record w { nodes = without id w.nodes } } in r) (no_views (negsuc 0) (negsuc 0) id w.nodes gone)
     ∙ ap (λ (n : Nodes Content). let r : Turn = record t { world = record w { nodes = n } } in r) (nothing_taken id w.nodes gone)
 
-pub there_allowed : (id : ℤ) (t : Nodes Held) → holds id t ≡ true → int_eq id (pos 0) ≡ false → free_refusal id t ≡ None
-there_allowed id t there apart = at (holds id t) (int_eq id (pos 0)) there apart
-  where
-    at : (held root : Bool) → held ≡ true → root ≡ false → first_of ((not held, Reasons.NoSuchNode) ∷ (root, Reasons.Root) ∷ []) ≡ None
-    at true false h r = refl
-    at true true h r = absurd cc
-    at false root h r = absurd cc
-
 -- ---- room
 
 there : (id : ℤ) (t : Nodes Held) → free_refusal id t ≡ None → holds id t ≡ true
@@ -133,9 +125,6 @@ keeps_more old now new k s k2 s2 = record {
 
 pub spares_more : (old now new : NodeTree Held) → SparesRoom old now → SparesRoom now new → SparesRoom old new
 spares_more old now new s s2 = omega (arith, s, s2)
-
-pub can_still : (old now : Stage) → CanStep old.tree → Keeps old now → SparesRoom old.tree now.tree → CanStep now.tree
-can_still old now can k s = record { is_open = ap (λ o. is_some o) k.tree.saved ∙ can.is_open; room = omega (arith, can.room, s) }
 
 pub freed_one : (ids : List ℤ) (i : ℕ) (d id : ℤ) (t after all : Turn) → i < length ids → id ≡ get_or ids i d → freed id t ≡ after → freed_each (drop i ids) t ≡ all → freed_each (drop (i + 1) ids) after ≡ all
 freed_one ids i d id t after all lt is one so_far =

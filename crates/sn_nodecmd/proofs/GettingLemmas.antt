@@ -192,15 +192,6 @@ module _ (buses : List ControlBus) (d : Definition) (controls : List Control) wh
       let nothing : size a ≡ 0 = ap size e in
       omega (arith, size-append b (values_asked buses d controls cs), size-append a (x ∷ []), size-values cs, length-append (argument_bytes x) [])
 
--- ---- one control after the other
-
--- what was told of some, and then of the next one
-pub one-more : (buses : List ControlBus) (d : Definition) (controls : List Control) (told : List Argument) (cs : List ControlName) (c : ControlName) (rest : List ControlName) → cs ≡ c ∷ rest
-    → (told ++ value_arguments buses controls c (control_of d c)) ++ values_asked buses d controls rest ≡ told ++ values_asked buses d controls cs
-one-more buses d controls told cs c rest e =
-    append_assoc told (value_arguments buses controls c (control_of d c)) (values_asked buses d controls rest)
-    ∙ ap (λ bs. told ++ values_asked buses d controls bs) (sym e)
-
 -- ---- what a node holds
 
 abbrev pub NoSynth : Held → Type 0

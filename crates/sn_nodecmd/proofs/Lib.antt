@@ -14,7 +14,6 @@ pub mod Relocating
 pub mod ToldLemmas
 pub mod QueryLemmas
 pub mod MappingLemmas
-pub mod MappingFold
 pub mod OrderLemmas
 pub mod Replacing
 pub mod NameLemmas

@@ -128,9 +128,6 @@ module _ (id : ℤ) (r : NewNode) (d : Definition) (controls : List Control) (he
   pub made_pictures : Pictures new us
   made_pictures = put_pictures (replaces r.action) id kinds.Synth (action_for r.action) r.target (held e) old ws new us put_is before
 
-  pub made_region : new.pool.region ≡ old.pool.region
-  made_region = put_is.region
-
   pub made_length : length us ≡ length ws
   made_length = put_is.length
 

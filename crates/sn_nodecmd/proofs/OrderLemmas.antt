@@ -1,10 +1,10 @@
 -- `/n_order`: its arguments, its place, and the moves.
-use Rattle.std.proofs.Common.{◌≡◌, ◌≤◌, ◌<◌, ◌-◌, ◌+◌, ◌||◌, ◌&&◌, ℕ, suc, ℤ, negsuc, Bool, true, false, not, is_some, List, [], ◌∷◌, ◌++◌, length, map, take, drop, get_or, drop-cons, Option, Some, None, Result, Err, refl, ap, sym, subst, ◌∙◌, arith, append_assoc, append-nil}
+use Rattle.std.proofs.Common.{◌≡◌, ◌≤◌, ◌<◌, ◌+◌, ◌||◌, ◌&&◌, ℕ, suc, ℤ, negsuc, Bool, true, false, not, is_some, List, [], ◌∷◌, ◌++◌, length, map, take, drop, get_or, drop-cons, Option, Some, None, Result, Err, refl, ap, sym, subst, ◌∙◌, arith, append_assoc, append-nil}
 use Rattle.std.specs.Prelude.{if◌then◌else◌, IfSome}
 use Rattle.std.specs.List.{filter, dedup}
 use Rattle.std.specs.Option.{option_map}
 use Rattle.std.specs.Ordering.{int_eq}
-use Rattle.std.proofs.lemmas.List.{take_all, drop_all, length-map, length-take, length-drop}
+use Rattle.std.proofs.lemmas.List.{drop_all, length-map, length-take, length-drop}
 use Rattle.sn_osc.specs.declared.packet.Arg.{Arg}
 use Rattle.sn_osc.specs.Shape.{argument_of}
 use Rattle.sn_ports.specs.declared.failed.NoMemory.{NoMemory}
@@ -16,7 +16,7 @@ use Rattle.sn_tree.specs.declared.node.Action.TheVariants.{After}
 use Rattle.sn_tree.specs.declared.node.NodeKind.{NodeKind}
 use Rattle.sn_tree.specs.declared.node.Spot.{Spot}
 use Rattle.sn_tree.specs.Trees.{Label, Nodes, none, node, holds, label_of, view_from, view_of, first_id, last_id}
-use Rattle.sn_tree.specs.Faults.{is_missing, is_inside, is_synth, labels_synth, is_in_synth, is_beside_root}
+use Rattle.sn_tree.specs.Faults.{is_inside, is_synth, labels_synth, is_in_synth, is_beside_root}
 use Rattle.sn_tree.proofs.PayloadLaws.{holds-payloads, synth-payloads}
 use Rattle.sn_world.specs.declared.node_repetition.NodeMove.{NodeMove}
 use Rattle.sn_world.specs.declared.ordering.NodePlace.{NodePlace}
@@ -26,7 +26,7 @@ use Rattle.sn_world.specs.declared.stage.Stage.{Stage}
 use Rattle.sn_world.specs.Freeing.{node_id}
 use Rattle.sn_world.specs.NewNodes.{action_for}
 use Rattle.sn_world.specs.Nodes.{content_of}
-use Rattle.sn_world.specs.NodeOrder.{NodeOrder, node_place, order_with, node_order, is_place, place_refusal, is_same, in_a_row, moves_of, order_outcome}
+use Rattle.sn_world.specs.NodeOrder.{NodeOrder, is_place, place_refusal, is_same, in_a_row, moves_of, order_outcome}
 use Rattle.sn_world.specs.Rows.{first_of, singles, steps, unless}
 use Rattle.sn_world.specs.World.{Turn, world_of, turn_of}
 use Rattle.sn_world.specs.Moving.{judge_move, act_move}
@@ -34,23 +34,6 @@ use Rattle.sn_world.specs.Answers.{Follows}
 use Rattle.sn_world.proofs.Parsing.{singles-length}
 
 -- ---- arguments
-
-pub order-step : (args : List Arg) (a b : Arg) → 2 ≤ length args → a ≡ get_or args 0 a → b ≡ get_or args 1 b
-    → node_order (map argument_of args) ≡ order_with (node_place (argument_of a) (argument_of b)) (singles node_id (map argument_of (take (length args - 2) (drop 2 args))))
-order-step [] a b two is-a is-b = absurd (omega arith)
-order-step (p ∷ []) a b two is-a is-b = absurd (omega arith)
-order-step (p ∷ q ∷ rest) a b two is-a is-b =
-    let whole : take (length (p ∷ q ∷ rest) - 2) rest ≡ rest = take_all _ rest (omega arith) in
-    rw (whole, ← is-a, ← is-b) refl
-
-pub order-few : (args : List Arg) → length args ≤ 1 → node_order (map argument_of args) ≡ None
-order-few [] few = refl
-order-few (p ∷ []) few = refl
-order-few (p ∷ q ∷ rest) few = absurd (omega arith)
-
-pub no_place : (o : Option (List NodeId)) → order_with None o ≡ None
-no_place None = refl
-no_place (Some nodes) = refl
 
 -- no more nodes than arguments
 pub order-short : (args : List Arg) (n : ℕ) (o : Option (List NodeId)) (ids : List NodeId) → o ≡ singles node_id (map argument_of (take n (drop 2 args))) → o ≡ Some ids → length ids ≤ length args
@@ -85,14 +68,6 @@ label_there id (node l below after) = at (int_eq l.id id) (holds id below) (labe
     at false false b a = a
 
 -- ---- what is against a place
-
--- it has no add action
-pub no_action : (place : NodePlace) (t : Nodes Held) → is_place place.action ≡ false → Some Reasons.AddAction ≡ place_refusal place t
-no_action place t unknown = at (is_place place.action) unknown (is_missing place.target t) (is_in_synth (action_for place.action) place.target t) (is_beside_root (action_for place.action) place.target)
-  where
-    at : (known : Bool) → known ≡ false → (missing synth beside : Bool) → Some Reasons.AddAction ≡ first_of ((not known, Reasons.AddAction) ∷ (missing, Reasons.NoSuchNode) ∷ (synth, Reasons.NotGroup) ∷ (beside, Reasons.Root) ∷ [])
-    at true h missing synth beside = absurd cc
-    at false h missing synth beside = refl
 
 -- its target isn't there
 pub no_target : (place : NodePlace) (t : Nodes Held) → is_place place.action ≡ true → None ≡ option_map (λ l. l.kind) (label_of place.target t) → Some Reasons.NoSuchNode ≡ place_refusal place t

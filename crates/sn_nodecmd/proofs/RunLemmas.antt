@@ -1,5 +1,5 @@
 -- Runs of controls.
-use Rattle.std.proofs.Common.{◌≡◌, ◌≤◌, ◌<◌, ◌-◌, ◌+◌, ℕ, zero, suc, ℤ, Bool, true, false, List, [], ◌∷◌, ◌++◌, map, length, take, drop, set, Option, Some, None, refl, ap, sym, ◌∙◌, arith, length-set, length-drop, append_assoc}
+use Rattle.std.proofs.Common.{◌≡◌, ◌≤◌, ◌<◌, ◌-◌, ◌+◌, ℕ, zero, suc, ℤ, Bool, true, false, List, [], ◌∷◌, ◌++◌, map, length, take, drop, set, Option, Some, None, refl, ap, sym, ◌∙◌, arith, length-drop, append_assoc}
 use Rattle.std.specs.Prelude.{if◌then◌else◌}
 use Rattle.std.specs.List.{list_all}
 use Rattle.std.specs.Option.{option_map}
@@ -10,7 +10,6 @@ use Rattle.sn_osc.specs.declared.packet.Arg.TheVariants as args
 use Rattle.sn_osc.specs.Shape.{Argument, argument_of}
 use Rattle.sn_def.specs.declared.control.Control.{Control}
 use Rattle.sn_world.specs.Rows.{another}
-use Rattle.sn_world.specs.NewSynth.{with_value}
 use Rattle.sn_world.specs.ControlRuns.{ControlRun, ints, first_values, and_more, repeated, with_values_from}
 use Rattle.sn_nodecmd.specs.Runs.{is_int, value_in}
 
@@ -55,13 +54,6 @@ module _ (read : List Argument → Option (ControlRun × List Argument)) (args :
     pub enough : length rest ≤ fuel
     pub is : option_map (λ rs. found ++ rs) (repeated read fuel (map argument_of rest)) ≡ repeated read (length (map argument_of args)) (map argument_of args)
 
-  pub reading-none : IsReading [] args
-  reading-none = record { fuel = length (map argument_of args); enough = omega (arith, length-map args argument_of); is = same (repeated read (length (map argument_of args)) (map argument_of args)) }
-    where
-      same : (o : Option (List ControlRun)) → option_map (λ rs. [] ++ rs) o ≡ o
-      same None = refl
-      same (Some rs) = refl
-
   reading-by : (found : List ControlRun) (fuel : ℕ) (x : Arg) (xs : List Arg) → length (x ∷ xs) ≤ suc fuel → option_map (λ rs. found ++ rs) (repeated read (suc fuel) (map argument_of (x ∷ xs))) ≡ repeated read (length (map argument_of args)) (map argument_of args)
       → (run : ControlRun) (rest : List Arg) → length rest < length (x ∷ xs) → Some (run, map argument_of rest) ≡ read (map argument_of (x ∷ xs)) → IsReading (found ++ run ∷ []) rest
   reading-by found fuel x xs enough is run rest fewer took = record {
@@ -83,16 +75,6 @@ module _ (read : List Argument → Option (ControlRun × List Argument)) (args :
       at (x ∷ xs) zero enough is few is_read = absurd (omega arith)
       at (x ∷ xs) (suc fuel) enough is few is_read = reading-by found fuel x xs enough is run rest few is_read
 
-  -- an argument that begins no repetition
-  pub reading-wrong : (found : List ControlRun) (now : List Arg) → IsReading found now → 0 < length now → None ≡ read (map argument_of now) → None ≡ repeated read (length (map argument_of args)) (map argument_of args)
-  reading-wrong found now r some took = at now r.fuel r.enough r.is some took
-    where
-      at : (ys : List Arg) (fuel : ℕ) → length ys ≤ fuel → option_map (λ rs. found ++ rs) (repeated read fuel (map argument_of ys)) ≡ repeated read (length (map argument_of args)) (map argument_of args)
-          → 0 < length ys → None ≡ read (map argument_of ys) → None ≡ repeated read (length (map argument_of args)) (map argument_of args)
-      at [] fuel enough is few is_read = absurd (omega arith)
-      at (x ∷ xs) zero enough is few is_read = absurd (omega arith)
-      at (x ∷ xs) (suc fuel) enough is few is_read = ap (λ (o : Option (ControlRun × List Argument)). option_map (λ rs. found ++ rs) (and_more o (λ ys. repeated read fuel ys))) is_read ∙ is
-
   pub reading-all : (found : List ControlRun) (now : List Arg) → IsReading found now → length now ≤ 0 → Some found ≡ repeated read (length (map argument_of args)) (map argument_of args)
   reading-all found now r few = at now r.fuel r.is few
     where
@@ -109,12 +91,5 @@ values-past k [] cs past = refl
 values-past k (v ∷ vs) cs past =
     ap (with_values_from (k + 1) vs) (set_past cs k (record { value = v; bus = None }) past) ∙ values-past (k + 1) vs cs (omega arith)
 
-pub length-values : (k : ℕ) (vs : List ℤ) (cs : List Control) → length (with_values_from k vs cs) ≡ length cs
-length-values k [] cs = refl
-length-values k (v ∷ vs) cs = length-values (k + 1) vs (with_value (Some k) v cs) ∙ length-set cs k (record { value = v; bus = None })
-
 pub values-step : (k : ℕ) (all rest : List ℤ) (v : ℤ) (cs : List Control) → all ≡ v ∷ rest → with_values_from k all cs ≡ with_values_from (k + 1) rest (set cs k (record { value = v; bus = None }))
 values-step k all rest v cs is = ap (λ vs. with_values_from k vs cs) is
-
-pub values-none : (k : ℕ) (all : List ℤ) (cs : List Control) → all ≡ [] → with_values_from k all cs ≡ cs
-values-none k all cs is = ap (λ vs. with_values_from k vs cs) is

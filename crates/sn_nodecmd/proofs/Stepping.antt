@@ -79,9 +79,6 @@ room_followed cost step (Some journal) = refl
 
 -- ---- steps
 
-pub keeps_same : (tree : NodeTree Held) → KeepsTree tree tree
-keeps_same tree = record { saved = refl; room = omega arith; extents = λ weight. refl; held = λ rate region h. h }
-
 pub keeps_detached : (id : ℤ) (tree : NodeTree Held) → KeepsTree tree (detached id tree)
 keeps_detached id tree = record {
   saved = saved_followed 1 (detaching id) tree.journal;
@@ -125,9 +122,6 @@ freed_is stage new id old_replies new_replies is told words =
     ap (λ (t : Turn). let r : Turn = record { world = record w { nodes = without id w.nodes }; replies = t.replies } in r) all
     ∙ ap (λ (n : Nodes Content). let r : Turn = record { world = record w { nodes = n }; replies = new_replies } in r) (without-payloads (content_of words) id stage.tree.attached)
     ∙ sym (ap (λ (s : Stage). turn_of s words new_replies) is)
-
-pub keeps_stage : (old new : Stage) → new ≡ old → Keeps old new
-keeps_stage old new is = record { tree = subst (KeepsTree old.tree) (sym (ap (λ (s : Stage). s.tree) is)) (keeps_same old.tree); pool = ap (λ (s : Stage). s.pool) is; buffers = ap (λ (s : Stage). s.buffers) is; defs = ap (λ (s : Stage). s.defs) is; notify = ap (λ (s : Stage). s.notify) is; rate = ap (λ (s : Stage). s.rate) is }
 
 pub keeps_with : (old new : Stage) (tree : NodeTree Held) (next : Option ℤ) → KeepsTree old.tree tree → new ≡ record old { tree = tree; next_id = next } → Keeps old new
 keeps_with old new tree next keeps is = record { tree = subst (KeepsTree old.tree) (sym (ap (λ (s : Stage). s.tree) is)) keeps; pool = ap (λ (s : Stage). s.pool) is; buffers = ap (λ (s : Stage). s.buffers) is; defs = ap (λ (s : Stage). s.defs) is; notify = ap (λ (s : Stage). s.notify) is; rate = ap (λ (s : Stage). s.rate) is }

@@ -38,7 +38,3 @@ pub told_by : (stage : Stage) (words : List ℕ) (id : ℤ) (old new : List Repl
 told_by stage words id old new is =
     told_said Went id (view_of id (world_of stage words).nodes) (turn_of stage words old)
     ∙ ap (turn_of stage words) (ap (λ (o : Option NodeView). said Went id o stage.notify old) (view_is stage words id (view_of id stage.tree.attached) refl) ∙ sym is)
-
-pub on_any : (o : Result (Unit {0}) NoMemory) (P : Type 0) → P → OnOk o P
-on_any (Ok u) P p = p
-on_any (Err e) P p = tt

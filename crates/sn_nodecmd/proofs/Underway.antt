@@ -1,56 +1,22 @@
 -- A stage whose journals are open.
-use Rattle.std.proofs.Common.{◌≡◌, ◌≤◌, ◌+◌, ℕ, true, List, Option, Some, None, is_some, ap, sym, subst, ◌∙◌, arith}
+use Rattle.std.proofs.Common.{◌≡◌, ◌≤◌, ◌+◌, ℕ, List, Option, None, ap, sym, subst, ◌∙◌, arith}
 use Rattle.std.specs.Prelude.{if◌then◌else◌}
 use Rattle.sn_mem.specs.declared.extents.Extent.{Extent}
 use Rattle.sn_mem.specs.Words.{covers}
-use Rattle.sn_pool.specs.Pools.{PoolState, same_extent, times, mark_of, saved_of, room_of}
+use Rattle.sn_pool.specs.Pools.{PoolState, same_extent, times, room_of}
 use Rattle.sn_pool.specs.declared.pool.Mark.{Mark}
 use Rattle.sn_mem.specs.declared.buffers.BufferPlace.{BufferPlace}
-use Rattle.sn_tree.specs.Trees.{Nodes, Sides, none, count}
-use Rattle.sn_tree.specs.Model.{Journal, NodeTree}
-use Rattle.sn_tree.specs.Steps.{IsOpen, IsOpened, HasRoom, undone, restored}
+use Rattle.sn_tree.specs.Trees.{Nodes, none}
+use Rattle.sn_tree.specs.Model.{NodeTree}
 use Rattle.sn_world.specs.declared.stage.Held.{Held}
 use Rattle.sn_world.specs.declared.stage.Stage.{Stage}
 use Rattle.sn_mem.specs.Buffers.{live_places, overlaps}
 use Rattle.sn_world.specs.Buffers.{AreBuffers}
 use Rattle.sn_world.specs.Pictures.{live_held, amount, AreHeld, Pictures}
 use Rattle.sn_world.proofs.Counting.{times-amount, overlaps-amount, few_extents, amount-none}
-use Rattle.sn_nodecmd.specs.Folding.{room_in, saved_in, IsAtRest, CanStep, Keeps, IsUnderway}
-
-pub at_rest : (stage : Stage) (words : List ℕ) → Pictures stage words → IsAtRest stage
-at_rest stage words p = record { live = p.live; detached = p.attached; settled = p.settled; closed = p.closed }
-
--- ---- journals
-
-pub opened : (j : Option (Journal Held)) → is_some (saved_in j) ≡ true → IsOpen j
-opened None h = absurd cc
-opened (Some journal) h = tt
-
-pub has_room : (j : Option (Journal Held)) → 1 ≤ room_in j → HasRoom j
-has_room None some = tt
-has_room (Some journal) some = some
-
-restored_is : (j : Option (Journal Held)) (tree : NodeTree Held) (a d : Nodes Held) → saved_in j ≡ Some (record { attached = a; detached = d }) → restored j tree ≡ record { attached = a; detached = d; journal = None }
-restored_is None tree a d h = absurd cc
-restored_is (Some journal) tree a d h = ap (λ (s : Option (Sides Held)). back s) h
-  where
-    back : Option (Sides Held) → NodeTree Held
-    back None = tree
-    back (Some sides) = record { attached = sides.attached; detached = sides.detached; journal = None }
+use Rattle.sn_nodecmd.specs.Folding.{IsAtRest, Keeps, IsUnderway}
 
 module _ (left : ℕ) (mark : Mark) (old now : Stage) (is : IsUnderway left mark old now) where
-  pub underway_open : IsOpen now.tree.journal
-  underway_open = opened now.tree.journal (ap (λ (s : Option (Sides Held)). is_some s) is.saved)
-
-  pub underway_mark : mark_of now.pool.journal ≡ Some mark
-  underway_mark = ap (λ (p : PoolState). mark_of p.journal) is.pool
-
-  pub underway_undone : undone now.tree ≡ record { attached = old.tree.attached; detached = old.tree.detached; journal = None }
-  underway_undone = restored_is now.tree.journal now.tree old.tree.attached old.tree.detached is.saved
-
-  pub underway_saved : saved_of now.pool.journal ≡ old.pool.live
-  underway_saved = ap (λ (p : PoolState). saved_of p.journal) is.pool
-
   total_times : (e : Extent) → times e (live_held now.tree.attached) + times e (live_held now.tree.detached) ≡ times e (live_held old.tree.attached) + times e (live_held old.tree.detached)
   total_times e = omega (arith, is.extents (λ y. if same_extent e y then 1 else 0), times-amount e (live_held now.tree.attached), times-amount e (live_held now.tree.detached), times-amount e (live_held old.tree.attached), times-amount e (live_held old.tree.detached))
 
@@ -106,23 +72,3 @@ underway_more left mark old now new is keeps = record {
   notify = keeps.notify ∙ is.notify;
   rate = keeps.rate ∙ is.rate;
 }
-
-pub can_step : (left : ℕ) (mark : Mark) (old now : Stage) → IsUnderway (1 + left) mark old now → CanStep now.tree
-can_step left mark old now is = record { is_open = ap (λ (s : Option (Sides Held)). is_some s) is.saved; room = omega (arith, is.room) }
-
--- journals that were just opened
-pub underway_first : (steps : ℕ) (mark : Mark) (old new : Stage) (tree : NodeTree Held) → IsAtRest old → IsOpened (count old.tree.attached + steps) old.tree tree
-    → new ≡ record old { tree = tree; pool = record old.pool { journal = Some (record { mark = mark; saved = old.pool.live; room = count old.tree.attached }) } } → IsUnderway steps mark old new
-underway_first steps mark old new tree rest begun is =
-    let tree_is : new.tree ≡ record old.tree { journal = Some begun.journal } = ap (λ (s : Stage). s.tree) is ∙ begun.open_now in
-    record {
-      pool = ap (λ (s : Stage). s.pool) is;
-      saved = ap (λ (t : NodeTree Held). saved_in t.journal) tree_is ∙ (λ i. Some (record { attached = begun.attached_now i; detached = begun.detached_now i }));
-      room = omega (arith, ap (λ (t : NodeTree Held). room_in t.journal) tree_is, begun.room, ap (λ (t : NodeTree Held). count t.attached) tree_is);
-      extents = λ weight. ap (λ (t : NodeTree Held). amount weight (live_held t.attached) + amount weight (live_held t.detached)) tree_is;
-      held = λ rate region h. subst (λ (t : NodeTree Held). AreHeld rate region t.attached) (sym tree_is) h;
-      buffers = ap (λ (s : Stage). s.buffers) is;
-      defs = ap (λ (s : Stage). s.defs) is;
-      notify = ap (λ (s : Stage). s.notify) is;
-      rate = ap (λ (s : Stage). s.rate) is;
-    }

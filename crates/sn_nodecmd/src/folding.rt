@@ -1,18 +1,17 @@
 //! Repetitions that change the tree, each judged in what the earlier ones left.
-ghost use Rattle.std.specs.Prelude.{◌≡◌, ◌+◌, ◌*◌, ◌<◌, ◌^◌, List, ℕ, length, map, IfOk, IfErr};
-ghost use Rattle.sn_osc.specs.Shape.{argument_of};
+ghost use Rattle.std.specs.Prelude.{◌≡◌, ◌<◌, ◌^◌, List, ℕ, length, IfOk, IfErr, IfSome};
+ghost use Rattle.std.specs.Option.{option_map};
 ghost use Rattle.sn_reply.specs.Replies.{ReplyShape};
 ghost use Rattle.sn_world.specs.Answers.{Follows, UnlessFollowed};
 ghost use Rattle.sn_world.specs.Pictures.{Pictures};
-ghost use Rattle.sn_world.specs.Rows.{row, singles, some_of, steps};
+ghost use Rattle.sn_world.specs.Rows.{row, some_of, steps};
 ghost use Rattle.sn_world.specs.World.{turn_of};
 ghost use Rattle.sn_nodecmd.specs.Folding.{IsAtRest, IsUnderway, WasAtRest};
 
-use sn_osc::Arg;
 use sn_pool::Mark;
 use sn_ports::NoMemory;
 use sn_reply::{Reason, Replies};
-use sn_world::{Single, Stage, end_freed, singles, some_of};
+use sn_world::{Stage, end_freed, some_of};
 use std::alloc::Global;
 
 /// What a message repeats.
@@ -119,23 +118,23 @@ pub fn each<R: Repetition>(
     Ok(None)
 }
 
-/// A command whose arguments each say one repetition, at least one.
-pub fn run_singles<R: Repetition + Single>(
+/// Carries out repetitions as they were read from arguments, where there is at least one, as `each` does.
+pub fn run<R: Repetition + Drop>(
     alloc: Global,
     stage: &mut Stage,
-    arguments: &[Arg],
+    found: Option<Vec<R>>,
     replies: &mut Replies,
 ) -> Result<Option<Reason>, NoMemory>
     requires rest { IsAtRest stage.old }
-    requires few { 16 * length arguments.now + 2 ^ 20 < 2 ^ 31 }
-    ensures row { (words : List ℕ) → Follows result (row R.judge R.act (some_of (singles R.from_one (map argument_of arguments.now))) (turn_of stage.old words replies.old)) (turn_of stage.new words replies.new) }
+    requires few { IfSome (some_of (option_map (λ v. v.items) found)) (λ all. length all < 2 ^ 31) }
+    ensures row { (words : List ℕ) → Follows result (row R.judge R.act (some_of (option_map (λ v. v.items) found)) (turn_of stage.old words replies.old)) (turn_of stage.new words replies.new) }
     ensures unchanged { UnlessFollowed result (stage.new ≡ stage.old) }
     ensures untold { UnlessFollowed result (replies.new ≡ replies.old) }
     ensures pictures { (words : List ℕ) → Pictures stage.old words → Pictures stage.new words }
     ensures clients { stage.new.notify ≡ stage.old.notify }
     ensures region { stage.new.pool.region ≡ stage.old.pool.region }
 {
-    let Some(repetitions) = some_of(singles::<R>(alloc, arguments)?) else {
+    let Some(repetitions) = some_of(found) else {
         return Ok(Some(Reason::Arguments));
     };
     each(alloc, stage, &repetitions, replies)

@@ -180,7 +180,7 @@ fn answer<P: Port>(
     requires pictures { Pictures stage.now (P.words port.old) }
     requires foot { WritesBuses (P.foot port.old) }
     ensures row { Follows result (values_outcome from (Some (request_of asked.now)) (turn_of stage.now (P.words port.old) replies.old)) (turn_of stage.now (P.words port.new) replies.new) }
-    ensures unsaid { UnlessFollowed result (replies.new ≡ replies.old) }
+    ensures untold { UnlessFollowed result (replies.new ≡ replies.old) }
     ensures words { P.words port.new ≡ P.words port.old }
     ensures foot { P.foot port.new ≡ P.foot port.old }
     ensures rest { P.rest port.new ≡ P.rest port.old }
@@ -209,7 +209,7 @@ pub fn run_get<P: Port>(
     requires pictures { Pictures stage.now (P.words port.old) }
     requires foot { WritesBuses (P.foot port.old) }
     ensures row { Follows result (values_row from (map argument_of arguments.now) (turn_of stage.now (P.words port.old) replies.old)) (turn_of stage.now (P.words port.new) replies.new) }
-    ensures unsaid { UnlessFollowed result (replies.new ≡ replies.old) }
+    ensures untold { UnlessFollowed result (replies.new ≡ replies.old) }
     ensures words { P.words port.new ≡ P.words port.old }
     ensures foot { P.foot port.new ≡ P.foot port.old }
     ensures rest { P.rest port.new ≡ P.rest port.old }

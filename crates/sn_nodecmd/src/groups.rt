@@ -1,24 +1,23 @@
 //! Groups that are made.
-ghost use Rattle.std.specs.Prelude.{◌≡◌, ◌+◌, ◌*◌, ◌^◌, ◌<◌, map, length, OnOk, IfOk, Some, None, List, ℕ};
+ghost use Rattle.std.specs.Prelude.{◌≡◌, map, OnOk, IfOk, Some, None, List, ℕ};
 ghost use Rattle.std.specs.Option.{option_map};
 ghost use Rattle.sn_tree.specs.Steps.{HasRoom};
 ghost use Rattle.sn_osc.specs.Shape.{argument_of};
 ghost use Rattle.sn_world.specs.World.{turn_of};
 ghost use Rattle.sn_world.specs.Rows.{triples};
-ghost use Rattle.sn_world.specs.NewNodes.{new_group, group_row, node_refusal, act_with};
-ghost use Rattle.sn_world.specs.Answers.{Continues, Follows, UnlessFollowed};
-ghost use Rattle.sn_world.specs.Pictures.{Pictures};
-ghost use Rattle.sn_nodecmd.specs.Folding.{IsAtRest, Keeps};
+ghost use Rattle.sn_world.specs.NewNodes.{new_group, node_refusal, act_with};
+ghost use Rattle.sn_world.specs.Answers.{Continues};
+ghost use Rattle.sn_nodecmd.specs.Folding.{Keeps};
 
 use crate::adding::{add, tell_replaced};
-use crate::folding::{Repetition, each};
+use crate::folding::Repetition;
 use crate::judging::{id_for, next_after, refusal};
 use crate::telling::tell;
 use sn_osc::Arg;
 use sn_ports::NoMemory;
 use sn_reply::{Reason, Replies};
 use sn_tree::NodeKind;
-use sn_world::{Held, NewGroup, NewNode, NodeEvent, NodeId, Stage, Triple, some_of};
+use sn_world::{Held, NewGroup, NewNode, NodeEvent, NodeId, Stage, Triple};
 use std::alloc::Global;
 
 fn new_group(kind: NodeKind, id: &Arg, action: &Arg, target: &Arg) -> Option<NewGroup>
@@ -30,8 +29,8 @@ fn new_group(kind: NodeKind, id: &Arg, action: &Arg, target: &Arg) -> Option<New
     }
 }
 
-/// Groups of a kind, each of three arguments.
-fn groups_of(
+/// Groups of a kind, each of three arguments: (id action target)..
+pub fn groups_of(
     alloc: Global,
     kind: NodeKind,
     arguments: &[Arg],
@@ -96,27 +95,4 @@ impl Repetition for NewGroup {
         make_group(alloc, stage, &node, self, replies)?;
         Ok(None)
     }
-}
-
-/// `/g_new` and `/p_new` (id action target)..
-pub fn run_new_groups(
-    alloc: Global,
-    stage: &mut Stage,
-    kind: NodeKind,
-    arguments: &[Arg],
-    replies: &mut Replies,
-) -> Result<Option<Reason>, NoMemory>
-    requires rest { IsAtRest stage.old }
-    requires few { 16 * length arguments.now + 2 ^ 20 < 2 ^ 31 }
-    ensures row { (from : ℕ) (words : List ℕ) → Follows result (group_row kind from (map argument_of arguments.now) (turn_of stage.old words replies.old)) (turn_of stage.new words replies.new) }
-    ensures unchanged { UnlessFollowed result (stage.new ≡ stage.old) }
-    ensures untold { UnlessFollowed result (replies.new ≡ replies.old) }
-    ensures pictures { (words : List ℕ) → Pictures stage.old words → Pictures stage.new words }
-    ensures clients { stage.new.notify ≡ stage.old.notify }
-    ensures region { stage.new.pool.region ≡ stage.old.pool.region }
-{
-    let Some(groups) = some_of(groups_of(alloc, kind, arguments)?) else {
-        return Ok(Some(Reason::Arguments));
-    };
-    each(alloc, stage, &groups, replies)
 }

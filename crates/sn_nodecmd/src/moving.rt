@@ -1,5 +1,5 @@
 //! Nodes that are moved.
-ghost use Rattle.std.specs.Prelude.{◌≡◌, ◌+◌, ◌*◌, ◌^◌, ◌<◌, map, length, OnOk, OnErr, IfOk, None, Some, List, ℕ};
+ghost use Rattle.std.specs.Prelude.{◌≡◌, map, OnOk, OnErr, IfOk, List, ℕ};
 ghost use Rattle.std.specs.Option.{option_map};
 ghost use Rattle.sn_tree.specs.Faults.{fault_of, move_fault};
 ghost use Rattle.sn_tree.specs.Steps.{HasRoom, moved};
@@ -8,19 +8,17 @@ ghost use Rattle.sn_world.specs.declared.notices.NodeEvent.TheVariants.{Moved};
 ghost use Rattle.sn_osc.specs.Shape.{argument_of};
 ghost use Rattle.sn_world.specs.World.{turn_of};
 ghost use Rattle.sn_world.specs.Rows.{pairs};
-ghost use Rattle.sn_world.specs.Moving.{move_refusal, node_move, move_from, move_row};
-ghost use Rattle.sn_world.specs.Answers.{Continues, Follows, UnlessFollowed};
-ghost use Rattle.sn_world.specs.Pictures.{Pictures};
-ghost use Rattle.sn_nodecmd.specs.Folding.{IsAtRest};
+ghost use Rattle.sn_world.specs.Moving.{move_refusal, node_move, move_from};
+ghost use Rattle.sn_world.specs.Answers.{Continues};
 ghost use Rattle.sn_nodecmd.specs.Relocating.{reason_against_move, refused_by};
 
-use crate::folding::{Repetition, each};
+use crate::folding::Repetition;
 use crate::telling::tell;
 use sn_osc::Arg;
 use sn_ports::NoMemory;
 use sn_reply::{Reason, Replies};
 use sn_tree::{Action, Spot, Tree, TreeFault};
-use sn_world::{Held, NodeEvent, NodeId, NodeMove, Stage, some_of};
+use sn_world::{Held, NodeEvent, NodeId, NodeMove, Stage};
 use std::alloc::Global;
 
 fn node_move(action: Action, first: i32, second: i32) -> NodeMove
@@ -49,8 +47,8 @@ fn move_from(action: Action, first: &Arg, second: &Arg) -> Option<NodeMove>
     }
 }
 
-/// Moves with an action, each of two arguments.
-fn moves_of(
+/// Moves with an action, each of two arguments: (id target).. for `/n_before` and `/n_after`, (group id).. for `/g_head` and `/g_tail`.
+pub fn moves(
     alloc: Global,
     action: Action,
     arguments: &[Arg],
@@ -154,27 +152,4 @@ impl Repetition for NodeMove {
         tell_move(alloc, stage, self, replies)?;
         Ok(None)
     }
-}
-
-/// `/n_before`, `/n_after` (id target).. and `/g_head`, `/g_tail` (group id)..
-pub fn run_moves(
-    alloc: Global,
-    stage: &mut Stage,
-    action: Action,
-    arguments: &[Arg],
-    replies: &mut Replies,
-) -> Result<Option<Reason>, NoMemory>
-    requires rest { IsAtRest stage.old }
-    requires few { 16 * length arguments.now + 2 ^ 20 < 2 ^ 31 }
-    ensures row { (from : ℕ) (words : List ℕ) → Follows result (move_row action from (map argument_of arguments.now) (turn_of stage.old words replies.old)) (turn_of stage.new words replies.new) }
-    ensures unchanged { UnlessFollowed result (stage.new ≡ stage.old) }
-    ensures untold { UnlessFollowed result (replies.new ≡ replies.old) }
-    ensures pictures { (words : List ℕ) → Pictures stage.old words → Pictures stage.new words }
-    ensures clients { length stage.new.notify ≡ length stage.old.notify }
-    ensures region { stage.new.pool.region ≡ stage.old.pool.region }
-{
-    let Some(moves) = some_of(moves_of(alloc, action, arguments)?) else {
-        return Ok(Some(Reason::Arguments));
-    };
-    each(alloc, stage, &moves, replies)
 }

@@ -12,24 +12,23 @@ ghost use Rattle.sn_world.specs.Commands.{ArgumentsOf, tree_command_of, node_com
 ghost use Rattle.sn_world.specs.Answers.{Follows, UnlessFollowed, Handles, UnlessDone, AsksNothing};
 
 use crate::describing::run_tree_query;
-use crate::folding::run_singles;
+use crate::folding::run;
 use crate::getting::run_get;
-use crate::groups::run_new_groups;
+use crate::groups::groups_of;
 use crate::making::run_new;
 use crate::mappings::run_map;
-use crate::moving::run_moves;
+use crate::moving::moves;
 use crate::notifying::run_notify;
 use crate::ordering::run_order;
 use crate::querying::run_query;
 use crate::runs::RunForm;
 use crate::settings::run_set;
-use crate::turning::run_flags;
 use sn_mem::Port;
 use sn_osc::{Arg, Body, Message};
 use sn_ports::NoMemory;
 use sn_reply::{Reason, Replies};
 use sn_tree::{Action, NodeKind};
-use sn_world::{DeepFree, FreeAll, Handled, NodeCommand, NodeId, Stage};
+use sn_world::{DeepFree, FreeAll, Handled, NodeCommand, NodeId, RunFlag, Stage, pairs, singles};
 use std::alloc::Global;
 
 /// The command with an address that makes, moves or frees nodes.
@@ -149,24 +148,26 @@ fn run_row<P: Port>(
     match command {
         NodeCommand::New => run_new(alloc, stage, port, arguments, replies),
         NodeCommand::Notify => run_notify(alloc, stage, arguments, from, replies),
-        NodeCommand::TurnNodes => run_flags(alloc, stage, arguments, replies),
+        NodeCommand::TurnNodes => run::<RunFlag>(alloc, stage, pairs(alloc, arguments)?, replies),
         NodeCommand::SetControls => run_set(alloc, stage, RunForm::Value, arguments),
         NodeCommand::SetRuns => run_set(alloc, stage, RunForm::Values, arguments),
         NodeCommand::FillRuns => run_set(alloc, stage, RunForm::Fill, arguments),
         NodeCommand::MapControls => run_map(alloc, stage, arguments),
         NodeCommand::NewGroup => {
-            run_new_groups(alloc, stage, NodeKind::Group, arguments, replies)
+            let groups = groups_of(alloc, NodeKind::Group, arguments)?;
+            run(alloc, stage, groups, replies)
         }
         NodeCommand::NewParallel => {
-            run_new_groups(alloc, stage, NodeKind::Parallel, arguments, replies)
+            let groups = groups_of(alloc, NodeKind::Parallel, arguments)?;
+            run(alloc, stage, groups, replies)
         }
-        NodeCommand::Free => run_singles::<NodeId>(alloc, stage, arguments, replies),
-        NodeCommand::FreeAll => run_singles::<FreeAll>(alloc, stage, arguments, replies),
-        NodeCommand::DeepFree => run_singles::<DeepFree>(alloc, stage, arguments, replies),
+        NodeCommand::Free => run::<NodeId>(alloc, stage, singles(alloc, arguments)?, replies),
+        NodeCommand::FreeAll => run::<FreeAll>(alloc, stage, singles(alloc, arguments)?, replies),
+        NodeCommand::DeepFree => run::<DeepFree>(alloc, stage, singles(alloc, arguments)?, replies),
         NodeCommand::Query => run_query(alloc, stage, arguments, from, replies),
         NodeCommand::QueryTree => run_tree_query(alloc, stage, arguments, from, replies),
         NodeCommand::GetControls => run_get(alloc, stage, port, arguments, from, replies),
-        NodeCommand::Move(action) => run_moves(alloc, stage, action, arguments, replies),
+        NodeCommand::Move(action) => run(alloc, stage, moves(alloc, action, arguments)?, replies),
         NodeCommand::Order => run_order(alloc, stage, arguments, replies),
     }
 }

@@ -1,22 +1,18 @@
 //! `/n_run`.
-ghost use Rattle.std.specs.Prelude.{◌≡◌, ◌+◌, ◌*◌, ◌^◌, ◌<◌, true, List, ℕ, OnOk, Some, length, map};
-ghost use Rattle.sn_osc.specs.Shape.{argument_of};
+ghost use Rattle.std.specs.Prelude.{◌≡◌, true, List, ℕ, OnOk, Some};
 ghost use Rattle.sn_tree.specs.Trees.{holds};
 ghost use Rattle.sn_tree.specs.Steps.{HasRoom, running};
 ghost use Rattle.sn_world.specs.World.{turn_of};
 ghost use Rattle.sn_world.specs.Notices.{told};
-ghost use Rattle.sn_world.specs.Pictures.{Pictures};
-ghost use Rattle.sn_world.specs.RunFlags.{is_flagged, turning, run_row};
-ghost use Rattle.sn_world.specs.Answers.{Continues, Follows, UnlessFollowed};
-ghost use Rattle.sn_nodecmd.specs.Folding.{IsAtRest};
+ghost use Rattle.sn_world.specs.RunFlags.{is_flagged, turning};
+ghost use Rattle.sn_world.specs.Answers.{Continues};
 
-use crate::folding::{Repetition, each};
+use crate::folding::Repetition;
 use crate::telling::tell;
-use sn_osc::Arg;
 use sn_ports::NoMemory;
 use sn_reply::{Reason, Replies};
 use sn_tree::{NodeView, Tree};
-use sn_world::{Held, NodeEvent, NodeId, RunFlag, Stage, pairs, some_of};
+use sn_world::{Held, NodeEvent, NodeId, RunFlag, Stage};
 use std::alloc::Global;
 
 fn turning(on: bool) -> NodeEvent
@@ -85,26 +81,4 @@ impl Repetition for RunFlag {
         tell_turn(alloc, stage, self, replies)?;
         Ok(None)
     }
-}
-
-/// `/n_run` (id flag)..
-pub fn run_flags(
-    alloc: Global,
-    stage: &mut Stage,
-    arguments: &[Arg],
-    replies: &mut Replies,
-) -> Result<Option<Reason>, NoMemory>
-    requires rest { IsAtRest stage.old }
-    requires few { 16 * length arguments.now + 2 ^ 20 < 2 ^ 31 }
-    ensures row { (from : ℕ) (words : List ℕ) → Follows result (run_row from (map argument_of arguments.now) (turn_of stage.old words replies.old)) (turn_of stage.new words replies.new) }
-    ensures unchanged { UnlessFollowed result (stage.new ≡ stage.old) }
-    ensures untold { UnlessFollowed result (replies.new ≡ replies.old) }
-    ensures pictures { (words : List ℕ) → Pictures stage.old words → Pictures stage.new words }
-    ensures clients { stage.new.notify ≡ stage.old.notify }
-    ensures region { stage.new.pool.region ≡ stage.old.pool.region }
-{
-    let Some(flags) = some_of(pairs::<RunFlag>(alloc, arguments)?) else {
-        return Ok(Some(Reason::Arguments));
-    };
-    each(alloc, stage, &flags, replies)
 }

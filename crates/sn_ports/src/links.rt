@@ -8,7 +8,7 @@ ghost use Rattle.sn_ports.specs.Transfer.{WritesSome};
 use crate::failed::Failed;
 use crate::text::Text;
 
-/// What comes over a connection. A link that tells its events has pieces with a byte or more, and ticks of 1 to 1,024 blocks.
+/// What comes over a connection. `PlayedLink` asks for pieces with a byte or more, and ticks of 1 to 1,024 blocks.
 #[derive(Debug, Drop)]
 pub enum Event {
     /// A piece of bytes.

@@ -1,5 +1,5 @@
 -- Packets of a stream are offered one after another.
-use Rattle.std.proofs.Common.{◌≡◌, ℕ, Option, None, cond, ◌+◌, ◌*◌, ◌≤◌, ◌<◌, List, [], ◌∷◌, ◌++◌, length, refl, sym, ap, subst, ◌∙◌, arith, inl, inr, ◌⊎◌, IsTrue}
+use Rattle.std.proofs.Common.{◌≡◌, ℕ, Option, None, ◌+◌, ◌≤◌, List, [], ◌∷◌, ◌++◌, length, refl, sym, ap, subst, ◌∙◌, arith}
 use Rattle.std.specs.Prelude.{if◌then◌else◌}
 use Rattle.std.specs.Int.{w32, to_be_bytes}
 use Rattle.std.proofs.lemmas.List.{length-append}

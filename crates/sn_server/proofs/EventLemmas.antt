@@ -1,6 +1,6 @@
 -- A connection that is served, event after event, to its end.
-use Rattle.std.proofs.Common.{◌≡◌, ◌⊎◌, inl, inr, ℕ, zero, ◌+◌, ◌<◌, ◌≤◌, ◌^◌, ◌||◌, Bool, true, false, leb, Result, Ok, Err, IfErr, List, [], ◌∷◌, ◌++◌, length, take, drop, Option, Some, None, refl, sym, ap, subst, ◌∙◌, append-nil, arith}
-use Rattle.std.specs.Prelude.{if◌then◌else◌, nat_le}
+use Rattle.std.proofs.Common.{◌≡◌, ◌⊎◌, inl, inr, ℕ, ◌<◌, Bool, false, Result, Ok, Err, IfErr, List, [], ◌∷◌, ◌++◌, length, take, drop, Option, Some, None, refl, sym, ap, subst, ◌∙◌, append-nil, arith}
+use Rattle.std.specs.Prelude.{if◌then◌else◌}
 use Rattle.std.specs.Io.KnownBytes.{Appends, Keeps}
 use Rattle.std.specs.Result.{IsErrAnd}
 use Rattle.std.proofs.KnownBytes.{Appends-kept}
@@ -14,11 +14,14 @@ use Rattle.sn_pcm.specs.Pcm.{pcm}
 use Rattle.sn_engine.specs.Running.{Running, opened}
 use Rattle.sn_server.specs.declared.ended.Ended.{Ended}
 use Rattle.sn_server.specs.declared.ended.Ended.TheVariants.{Quit, NoMemory, Closed, Cut, BadFrame, LinkFault, SoundFault, Worn}
+use Rattle.sn_server.specs.Play.{Session}
 use Rattle.sn_server.specs.PlayEvents.{Live, Over, Course, going, ended, event, is_worn, worn, unless_worn, after_event, after_events, at_end, closing, closed, beginning, over_events, play_events, bytes_in}
-use Rattle.sn_server.specs.Served.{TakesEach, WhileOpen, WasOpen, ByEnd, IsServed, Served, AtClose}
-use Rattle.sn_server.specs.Serving.{engine_of, framer_of, IsLive, IsReady, HasEnded, GoesOn, Follows, StaysOpen, IsWornOut, HasLeft, TookEvent, EndsBy, Took, IsServing}
-use Rattle.sn_server.proofs.JoiningLemmas.{not_worn, some_left, events_both}
-use Rattle.sn_server.proofs.ServingLemmas.{by_end, by_end_so, worn_is}
+use Rattle.sn_server.specs.Fronts.{TakesBetween}
+use Rattle.sn_server.specs.Served.{TakesEach, WhileOpen, IsCutShort, ByEnd, IsServed, Served, AtClose}
+use Rattle.sn_server.specs.Serving.{engine_of, framer_of, IsLive, IsReady, HasEnded, GoesOn, IsCut, Follows, StaysOpen, IsWornOut, HasLeft, TookEvent, EndsBy, IsStepCut, Took, IsServing}
+use Rattle.sn_server.proofs.JoiningLemmas.{some_left, events_both}
+use Rattle.sn_server.proofs.GrowingLemmas.{grows_not, grows_end, live_end}
+use Rattle.sn_server.proofs.ServingLemmas.{by_end, by_end_so, worn_is, worn_out, cut_here}
 use Rattle.sn_server.proofs.TakenLemmas.{IsClosing, whole_end}
 
 -- ---- known events
@@ -79,7 +82,7 @@ goes v c left = ap (λ (b : Bool). if b then ended (worn v) else c) left
 
 -- an event that was taken whole gives what follows
 pub took_event : (s : Settings) (left_old left_new : Option (List LinkEvent)) (sound_old sound_mid sound_new sent_old sent_mid sent_new : Option (List ℕ)) (v : Live) (e0 e : Running) (f0 f : Framing) (x : LinkEvent) (r : Result (Unit {0}) Ended)
-    → IsLive s sound_old sound_mid sent_old sent_mid v e0 f0 → HasLeft e0 f0 → Known left_old left_new (λ old new. Takes old new x) → Follows s sound_old sound_new sent_old sent_new (event s x v) e f r → Took s left_old left_new sound_old sound_new sent_old sent_new v e f r
+    → IsLive s sound_old sound_mid sent_old sent_mid v e0 f0 → HasLeft e0 f0 → Known left_old left_new (λ old new. Takes old new x) → Follows s sound_old sound_new sent_old sent_new v (event s x v) e f r → Took s left_old left_new sound_old sound_new sent_old sent_new v e f r
 took_event s left_old left_new sound_old sound_mid sound_new sent_old sent_mid sent_new v e0 e f0 f x (Ok u) live enough taken on =
     let open_still = live_left s sound_old sound_mid sent_old sent_mid v e0 f0 live enough in
     let at : after_event s x (going v) ≡ event s x v = goes v (event s x v) open_still in
@@ -88,7 +91,7 @@ took_event s left_old left_new sound_old sound_mid sound_new sent_old sent_mid s
     let open_still = live_left s sound_old sound_mid sent_old sent_mid v e0 f0 live enough in
     let at : after_event s x (going v) ≡ event s x v = goes v (event s x v) open_still in
     let taken_one = known_so left_old left_new (λ old new. Takes old new x) (λ old new. TakesEach old (x ∷ []) new) (λ a b t. (b, t, refl)) taken in
-    by_end_so how (HasEnded s sound_old sound_new sent_old sent_new (event s x v) how) (EndsBy s left_old left_new sound_old sound_new sent_old sent_new (going v) how) (Unit {0}) (WasOpen s (going v) left_old left_new) (λ h. record {
+    by_end_so how (HasEnded s sound_old sound_new sent_old sent_new (event s x v) how) (EndsBy s left_old left_new sound_old sound_new sent_old sent_new (going v) how) (IsCut s sound_old sound_new sent_old sent_new v (event s x v)) (IsStepCut s left_old left_new sound_old sound_new sent_old sent_new v) (λ h. record {
       events = x ∷ [];
       taken = taken_one;
       while_open = (open_still, tt);
@@ -97,27 +100,31 @@ took_event s left_old left_new sound_old sound_mid sound_new sent_old sent_mid s
       ending = h.ending;
       sound = h.sound;
       sent = h.sent;
-    }) (λ none. record { events = x ∷ []; taken = taken_one; while_open = (open_still, tt) }) on
+    }) (λ h. record {
+      last = x ∷ [];
+      one = omega arith;
+      taken = taken_one;
+      while_open = (open_still, tt);
+      cut = subst (λ (c : Course). IsCut s sound_old sound_new sent_old sent_new v c) (sym at) h;
+    }) on
 
 -- no event was taken
-none_taken : (s : Settings) (c : Course) (left_old left_new : Option (List LinkEvent)) → KeepsEvents left_old left_new → WasOpen s c left_old left_new
-none_taken s c left_old left_new keeps = record { events = []; taken = keeps; while_open = tt }
-
--- the link failed before an event came
-pub took_fault : (s : Settings) (left_old left_new : Option (List LinkEvent)) (sound_old sound_new sent_old sent_new : Option (List ℕ)) (v : Live) (e : Running) (f : Framing) → KeepsEvents left_old left_new
-    → Took s left_old left_new sound_old sound_new sent_old sent_new v e f (Err LinkFault)
-took_fault s left_old left_new sound_old sound_new sent_old sent_new v e f keeps = none_taken s (going v) left_old left_new keeps
-
--- memory ran out before one was asked for
-pub serves_nothing : (s : Settings) (base : ℕ) (left : Option (List LinkEvent)) (sound_old sound_new sent_old sent_new : Option (List ℕ)) → Served s base left left sound_old sound_new sent_old sent_new NoMemory
-serves_nothing s base left sound_old sound_new sent_old sent_new = none_taken s (going (beginning s base)) left left (known_same left (λ a b. b ≡ a) (λ a. refl))
+pub none_taken : (s : Settings) (left_old left_new : Option (List LinkEvent)) (sound_old sound_new sent_old sent_new : Option (List ℕ)) (v : Live) (e : Running) (f : Framing) → IsLive s sound_old sound_new sent_old sent_new v e f → KeepsEvents left_old left_new
+    → IsStepCut s left_old left_new sound_old sound_new sent_old sent_new v
+none_taken s left_old left_new sound_old sound_new sent_old sent_new v e f live keeps = record {
+  last = [];
+  one = omega arith;
+  taken = keeps;
+  while_open = tt;
+  cut = cut_here s sound_old sound_new sent_old sent_new v e f (going v) live (grows_end s v.session v (grows_not s v.session));
+}
 
 -- nothing more came
 pub took_none : (s : Settings) (left_old left_new : Option (List LinkEvent)) (sound_old sound_new sent_old sent_new : Option (List ℕ)) (v : Live) (e : Running) (f : Framing) (how : Ended) → IsLive s sound_old sound_new sent_old sent_new v e f → HasLeft e f
     → Known left_old left_new (λ old new. (old ≡ []) × (new ≡ [])) → how ≡ closing f.kept → Took s left_old left_new sound_old sound_new sent_old sent_new v e f (Err how)
 took_none s left_old left_new sound_old sound_new sent_old sent_new v e f how live enough none is =
     let keeps = known_so left_old left_new (λ old new. (old ≡ []) × (new ≡ [])) (λ old new. new ≡ old) (λ a b t. t.1 ∙ sym t.0) none in
-    by_end how (EndsBy s left_old left_new sound_old sound_new sent_old sent_new (going v) how) (WasOpen s (going v) left_old left_new) (record {
+    by_end how (EndsBy s left_old left_new sound_old sound_new sent_old sent_new (going v) how) (IsStepCut s left_old left_new sound_old sound_new sent_old sent_new v) (record {
       events = [];
       taken = keeps;
       while_open = tt;
@@ -126,7 +133,7 @@ took_none s left_old left_new sound_old sound_new sent_old sent_new v e f how li
       ending = sym (is ∙ ap (λ (g : Framing). closing g.kept) live.framer);
       sound = live.sound;
       sent = live.sent;
-    }) (none_taken s (going v) left_old left_new keeps)
+    }) (none_taken s left_old left_new sound_old sound_new sent_old sent_new v e f live keeps)
 
 pub none_at_close : (how : Ended) (left_old left_new : Option (List LinkEvent)) → Known left_old left_new (λ old new. (old ≡ []) × (new ≡ [])) → AtClose how left_old left_new
 none_at_close Closed left_old left_new none = known_so left_old left_new (λ old new. (old ≡ []) × (new ≡ [])) (λ old new. new ≡ []) (λ a b t. t.1) none
@@ -160,7 +167,7 @@ took_worn s left_old sound_old sound_new sent_old sent_new v e f (Ok x) how same
 took_worn s left_old sound_old sound_new sent_old sent_new v e f (Err k) how same live w =
     let is = worn_is s sound_old sound_new sent_old sent_new v e f how live w in
     let keeps = known_same left_old (λ old new. new ≡ old) (λ a. refl) in
-    by_end k (EndsBy s left_old left_old sound_old sound_new sent_old sent_new (going v) k) (WasOpen s (going v) left_old left_old) (record {
+    worn_out k f.fed e.block (EndsBy s left_old left_old sound_old sound_new sent_old sent_new (going v) k) (IsStepCut s left_old left_old sound_old sound_new sent_old sent_new v) (same ∙ w.numbers) (record {
       events = [];
       taken = keeps;
       while_open = tt;
@@ -169,7 +176,7 @@ took_worn s left_old sound_old sound_new sent_old sent_new v e f (Err k) how sam
       ending = is.1 ∙ sym same;
       sound = live.sound;
       sent = live.sent;
-    }) (none_taken s (going v) left_old left_old keeps)
+    })
 
 pub worn_close : (r : Result (Unit {0}) Ended) (left_old : Option (List LinkEvent)) (e : Running) (f : Framing) (how : Ended) → IsErrAnd r (λ k. k ≡ how) → IsWornOut e f how → IfErr r (λ k. AtClose k left_old left_old)
 worn_close (Ok x) left_old e f how same w = absurd same
@@ -219,26 +226,65 @@ serves_on s base left_old left_mid left_new sound_old sound_mid sound_new sent_o
       stands = t.gives.stands;
     }
 
+-- what was taken before a step, and in it
+known_on : (s : Settings) (base : ℕ) (left_old left_mid left_new : Option (List LinkEvent)) (sound_old sound_mid sent_old sent_mid : Option (List ℕ)) (e : Running) (f : Framing) (es : List LinkEvent) → (i : IsServing s base left_old left_mid sound_old sound_mid sent_old sent_mid e f)
+    → Known left_mid left_new (λ old new. TakesEach old es new) → Known left_old left_new (λ old new. TakesEach old (i.events ++ es) new)
+known_on s base left_old left_mid left_new sound_old sound_mid sent_old sent_mid e f es i taken =
+    known_both left_old left_mid left_new (λ old new. TakesEach old i.events new) (λ old new. TakesEach old es new) (λ old new. TakesEach old (i.events ++ es) new) (λ a b c p q. takes_both i.events es a b c p q) i.taken taken
+
+open_on : (s : Settings) (base : ℕ) (left_old left_mid : Option (List LinkEvent)) (sound_old sound_mid sent_old sent_mid : Option (List ℕ)) (e : Running) (f : Framing) (es : List LinkEvent) → (i : IsServing s base left_old left_mid sound_old sound_mid sent_old sent_mid e f)
+    → WhileOpen s es (going i.live) → WhileOpen s (i.events ++ es) (going (beginning s base))
+open_on s base left_old left_mid sound_old sound_mid sent_old sent_mid e f es i on = open_both s i.events es (going (beginning s base)) i.while_open (subst (λ c. WhileOpen s es c) (sym i.course) on)
+
+course_on : (s : Settings) (base : ℕ) (left_old left_mid : Option (List LinkEvent)) (sound_old sound_mid sent_old sent_mid : Option (List ℕ)) (e : Running) (f : Framing) (es : List LinkEvent) → (i : IsServing s base left_old left_mid sound_old sound_mid sent_old sent_mid e f)
+    → over_events s base (i.events ++ es) ≡ at_end (after_events s es (going i.live))
+course_on s base left_old left_mid sound_old sound_mid sent_old sent_mid e f es i = ap (λ c. at_end c) (events_both s i.events es (going (beginning s base)) ∙ ap (after_events s es) i.course)
+
+-- what was taken lies between what others give
+between_same : (old new : Option (List ℕ)) (a b c d : List ℕ) → a ≡ b → c ≡ d → TakesBetween old new b d → TakesBetween old new a c
+between_same old new a b c d least most h = subst (λ (x : List ℕ). TakesBetween old new x c) (sym least) (subst (λ (x : List ℕ). TakesBetween old new b x) (sym most) h)
+
+pub cut_short : (s : Settings) (base : ℕ) (left_old left_mid left_new : Option (List LinkEvent)) (sound_old sound_mid sound_new sent_old sent_mid sent_new : Option (List ℕ)) (e : Running) (f : Framing) → (i : IsServing s base left_old left_mid sound_old sound_mid sent_old sent_mid e f)
+    → IsStepCut s left_mid left_new sound_old sound_new sent_old sent_new i.live → IsCutShort s base left_old left_new sound_old sound_new sent_old sent_new
+cut_short s base left_old left_mid left_new sound_old sound_mid sound_new sent_old sent_mid sent_new e f i h =
+    let first : (over_events s base i.events).session ≡ i.live.session = ap (λ (c : Course). (at_end c).session) i.course ∙ live_end i.live in
+    let all : over_events s base (i.events ++ h.last) ≡ at_end (after_events s h.last (going i.live)) = course_on s base left_old left_mid sound_old sound_mid sent_old sent_mid e f h.last i in
+    record {
+      whole = i.events;
+      last = h.last;
+      one = h.one;
+      taken = known_on s base left_old left_mid left_new sound_old sound_mid sent_old sent_mid e f h.last i h.taken;
+      while_open = open_on s base left_old left_mid sound_old sound_mid sent_old sent_mid e f h.last i h.while_open;
+      sound = between_same sound_old sound_new (play_events s base i.events).sound (pcm s i.live.session.samples) (play_events s base (i.events ++ h.last)).sound (pcm s (at_end (after_events s h.last (going i.live))).session.samples)
+          (ap (λ (p : Session). pcm s p.samples) first) (ap (λ (o : Over). pcm s o.session.samples) all) h.cut.sound;
+      sent = between_same sent_old sent_new (play_events s base i.events).sent i.live.session.replies (play_events s base (i.events ++ h.last)).sent (at_end (after_events s h.last (going i.live))).session.replies
+          (ap (λ (p : Session). p.replies) first) (ap (λ (o : Over). o.session.replies) all) h.cut.sent;
+    }
+
+-- memory ran out before an event was asked for
+pub serves_nothing : (s : Settings) (base : ℕ) (left : Option (List LinkEvent)) (sound sent : Option (List ℕ)) → Served s base left left sound sound sent sent NoMemory
+serves_nothing s base left sound sent =
+    let e = engine_of s (beginning s base) in
+    let f = framer_of (beginning s base) in
+    let i = begins_serving s base left sound sent e f refl refl in
+    cut_short s base left left left sound sound sound sent sent sent e f i (none_taken s left left sound sound sent sent i.live e f i.stands (known_same left (λ a b. b ≡ a) (λ a. refl)))
+
 pub serves_to : (s : Settings) (base : ℕ) (left_old left_mid left_new : Option (List LinkEvent)) (sound_old sound_mid sound_new sent_old sent_mid sent_new : Option (List ℕ)) (e : Running) (f : Framing) (how : Ended) → (i : IsServing s base left_old left_mid sound_old sound_mid sent_old sent_mid e f)
-    → ByEnd how (EndsBy s left_mid left_new sound_old sound_new sent_old sent_new (going i.live) how) (WasOpen s (going i.live) left_mid left_new) → Served s base left_old left_new sound_old sound_new sent_old sent_new how
+    → ByEnd how (EndsBy s left_mid left_new sound_old sound_new sent_old sent_new (going i.live) how) (IsStepCut s left_mid left_new sound_old sound_new sent_old sent_new i.live) → Served s base left_old left_new sound_old sound_new sent_old sent_new how
 serves_to s base left_old left_mid left_new sound_old sound_mid sound_new sent_old sent_mid sent_new e f how i given_end =
-    let both = λ (es : List LinkEvent) (taken : Known left_mid left_new (λ old new. TakesEach old es new)).
-    known_both left_old left_mid left_new (λ old new. TakesEach old i.events new) (λ old new. TakesEach old es new) (λ old new. TakesEach old (i.events ++ es) new) (λ a b c p q. takes_both i.events es a b c p q) i.taken taken in
-    let still = λ (es : List LinkEvent) (on : WhileOpen s es (going i.live)).
-    open_both s i.events es (going (beginning s base)) i.while_open (subst (λ c. WhileOpen s es c) (sym i.course) on) in
     by_end_so how (EndsBy s left_mid left_new sound_old sound_new sent_old sent_new (going i.live) how) (IsServed s base left_old left_new sound_old sound_new sent_old sent_new how)
-    (WasOpen s (going i.live) left_mid left_new) (WasOpen s (going (beginning s base)) left_old left_new)
+    (IsStepCut s left_mid left_new sound_old sound_new sent_old sent_new i.live) (IsCutShort s base left_old left_new sound_old sound_new sent_old sent_new)
     (λ h.
-    let whole : over_events s base (i.events ++ h.events) ≡ h.over = ap (λ c. at_end c) (events_both s i.events h.events (going (beginning s base)) ∙ ap (after_events s h.events) i.course) ∙ h.course in
+    let whole : over_events s base (i.events ++ h.events) ≡ h.over = course_on s base left_old left_mid sound_old sound_mid sent_old sent_mid e f h.events i ∙ h.course in
     record {
       events = i.events ++ h.events;
-      taken = both h.events h.taken;
-      while_open = still h.events h.while_open;
+      taken = known_on s base left_old left_mid left_new sound_old sound_mid sent_old sent_mid e f h.events i h.taken;
+      while_open = open_on s base left_old left_mid sound_old sound_mid sent_old sent_mid e f h.events i h.while_open;
       ending = ap (λ (o : Over). o.ending) whole ∙ h.ending;
       sound = subst (λ (o : Over). Appends sound_old sound_new (pcm s o.session.samples)) (sym whole) h.sound;
       sent = subst (λ (o : Over). Appends sent_old sent_new o.session.replies) (sym whole) h.sent;
     })
-    (λ h. record { events = i.events ++ h.events; taken = both h.events h.taken; while_open = still h.events h.while_open })
+    (cut_short s base left_old left_mid left_new sound_old sound_mid sound_new sent_old sent_mid sent_new e f i)
     given_end
 
 later_close : (left_old left_mid left_new : Option (List LinkEvent)) (P : List LinkEvent → List LinkEvent → Type 0) → Known left_old left_mid P → Known left_mid left_new (λ old new. new ≡ []) → Known left_old left_new (λ old new. new ≡ [])

@@ -4,7 +4,7 @@ use Rattle.std.specs.Result.{IsErrAnd}
 use Rattle.sn_server.specs.declared.ended.Ended.{Ended}
 use Rattle.sn_server.specs.Faults.{NothingFailed, UnlessFault}
 use Rattle.sn_server.specs.Served.{WhereGiven}
-use Rattle.sn_server.proofs.ServingLemmas.{by_end_so, given}
+use Rattle.sn_server.proofs.ServingLemmas.{by_end_so}
 
 -- nothing failed in two steps
 pub none_failed : (a b c d e f : ℕ) → NothingFailed a b d e → NothingFailed b c e f → NothingFailed a c d f

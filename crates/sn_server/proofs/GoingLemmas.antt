@@ -1,21 +1,19 @@
 -- A run goes on from block to block, and ends.
-use Rattle.std.proofs.Common.{◌≡◌, ℕ, zero, suc, ◌+◌, ◌*◌, ◌/◌, Result, Ok, Err, OnOk, ℤ, pos, List, [], ◌∷◌, ◌++◌, length, replicate, Option, Some, None, rules, ◌<◌, ◌≤◌, ◌^◌, mul-suc, refl, sym, ap, subst, ◌∙◌, append_assoc, append-nil, arith, Bool, true, false, eqb, ◌⊎◌, inl, inr, IsTrue}
-use Rattle.std.specs.List.{flat_map}
+use Rattle.std.proofs.Common.{◌≡◌, ℕ, zero, suc, ◌+◌, ◌*◌, ◌/◌, Result, Ok, Err, OnOk, ℤ, List, [], ◌∷◌, ◌++◌, length, Option, rules, ◌<◌, ◌≤◌, ◌^◌, mul-suc, refl, sym, ap, subst, ◌∙◌, append_assoc, append-nil, arith, Bool, true, false, eqb, ◌⊎◌, inl, inr, IsTrue}
 use Rattle.std.proofs.lemmas.Bool.{eqb-true}
 use Rattle.std.specs.Io.KnownBytes.{Appends}
-use Rattle.std.proofs.KnownBytes.{Appends-trans}
-use Rattle.std.proofs.lemmas.List.{length-append, length-replicate}
+use Rattle.std.proofs.KnownBytes.{Appends-nil, Appends-trans}
+use Rattle.std.proofs.lemmas.List.{length-append}
 use Rattle.sn_pcm.specs.declared.settings.Settings.{Settings}
 use Rattle.sn_pcm.specs.Allowed.{is_width, is_within}
 use Rattle.std.proofs.lemmas.Bool.Decides.{leb_tells}
 use Rattle.sn_server.specs.Outcomes.{IsTooLong}
-use Rattle.sn_pcm.specs.Pcm.{pcm, sample_bytes, wav}
+use Rattle.sn_pcm.specs.Pcm.{pcm, sample_bytes}
 use Rattle.sn_pcm.specs.Sound.{data_len, header_bytes}
 use Rattle.sn_pcm.proofs.PcmLemmas.{pcm_length_is}
 use Rattle.sn_queue.specs.Waiting.{WaitingList}
 use Rattle.sn_reply.specs.Frames.{frames_to}
-use Rattle.std.specs.Prelude.{slice_index_or}
-use Rattle.sn_mem.specs.Buses.{heard, silent}
+use Rattle.sn_mem.specs.Buses.{silent}
 use Rattle.sn_engine.proofs.HearingLemmas.{frames_made}
 use Rattle.sn_world.specs.World.{World}
 use Rattle.sn_world.specs.Walk.{walk}
@@ -24,14 +22,13 @@ use Rattle.sn_world.specs.Opening.{opening}
 use Rattle.sn_osc.specs.Shape.{Shape}
 use Rattle.sn_clash.specs.declared.clash.Clash.{Clash}
 use Rattle.sn_engine.specs.Boundary.{unsaid, turn_at, waiting_at, clashes_at, replies_at}
-use Rattle.sn_engine.specs.Outputs.{frame_of, frames_of, outputs}
-use Rattle.sn_engine.specs.declared.standing.Standing.TheVariants.{Settled}
+use Rattle.sn_engine.specs.Outputs.{outputs}
 use Rattle.sn_reply.specs.Replies.{ReplyShape}
 use Rattle.sn_reply.specs.Frames.{with_frames}
 use Rattle.sn_reply.proofs.FrameLaws.{first_sent, as_many}
-use Rattle.sn_server.specs.Play.{Session, boundary, play_block, settle, blocks, arrived, begun, last_of, played, sound_of, replies_of}
+use Rattle.sn_server.specs.Play.{Session, boundary, play_block, settle, blocks, arrived, begun, last_of, sound_of, replies_of}
 use Rattle.sn_engine.specs.Running.{Running, at_boundary, with_block, turn_settled}
-use Rattle.sn_server.specs.Going.{to_first, session_of, after_block, IsAtBoundary, IsGoing, IsWritten, IsBlock, IsEnd, IsEnded}
+use Rattle.sn_server.specs.Going.{to_first, session_of, after_block, whole_sound, whole_replies, IsAtBoundary, IsGoing, IsWritten, IsBlock, IsEnd, IsEnded}
 
 pub pcm-append : (s : Settings) (a b : List ℤ) → pcm s (a ++ b) ≡ pcm s a ++ pcm s b
 unfolding pcm
@@ -67,12 +64,8 @@ boundary_replies p r out alone world waiting clashes so_far =
 
 -- ---- what was written
 
-nothing_more : (old : Option (List ℕ)) → Appends old old []
-nothing_more None = tt
-nothing_more (Some xs) = sym (append-nil xs)
-
 pub none_written : (bytes : List ℕ) (old : Option (List ℕ)) → IsWritten bytes bytes old old
-none_written bytes old = record { piece = []; parts = refl; taken = nothing_more old }
+none_written bytes old = record { piece = []; parts = refl; taken = Appends-nil old }
 
 pub all_written : (bytes : List ℕ) (old new : Option (List ℕ)) → Appends old new bytes → IsWritten bytes [] old new
 all_written bytes old new taken = record { piece = bytes; parts = sym (append-nil bytes); taken = taken }
@@ -96,11 +89,11 @@ begins s total sound_old replies_old r stands = record {
   clashes = refl;
   sound = sym (append-nil r.sound);
   replies = refl;
-  sound_taken = nothing_more sound_old;
-  replies_taken = nothing_more replies_old;
+  sound_taken = Appends-nil sound_old;
+  replies_taken = Appends-nil replies_old;
 }
 
-same_blocks : (s : Settings) (p : Session) (r : Running) (out : List ℕ) (begun : List ℕ) → r.settings ≡ s → r.world ≡ p.world → r.waiting ≡ p.waiting → out ++ r.sound ≡ begun ++ pcm s p.samples
+pub same_blocks : (s : Settings) (p : Session) (r : Running) (out : List ℕ) (begun : List ℕ) → r.settings ≡ s → r.world ≡ p.world → r.waiting ≡ p.waiting → out ++ r.sound ≡ begun ++ pcm s p.samples
     → out ++ (after_block r).sound ≡ begun ++ pcm s (settle r.block (play_block s r.block (boundary r.block p))).samples
 same_blocks s p r out begun settings world waiting so_far =
     let samples = outputs s r.block (walk r.block (boundary r.block p).world) in
@@ -123,7 +116,7 @@ still_alone r alone = as_many 0 (replies_at r.block r.waiting r.clashes r.world)
 pub settled_alone : (r : Running) → length r.replies ≡ 1 → length (after_block r).replies ≡ 1
 settled_alone r alone = as_many 0 (turn_settled (with_block (at_boundary r))).replies (at_boundary r).replies ∙ still_alone r alone
 
-block_replies : (s : Settings) (p : Session) (r : Running) (out : List ℕ) → length r.replies ≡ 1 → r.world ≡ p.world → r.waiting ≡ p.waiting → r.clashes ≡ p.clashes → out ++ to_first r.replies ≡ p.replies
+pub block_replies : (s : Settings) (p : Session) (r : Running) (out : List ℕ) → length r.replies ≡ 1 → r.world ≡ p.world → r.waiting ≡ p.waiting → r.clashes ≡ p.clashes → out ++ to_first r.replies ≡ p.replies
     → out ++ to_first (after_block r).replies ≡ (settle r.block (play_block s r.block (boundary r.block p))).replies
 block_replies s p r out alone world waiting clashes so_far =
     let rs = (turn_settled (with_block (at_boundary r))).replies in
@@ -218,14 +211,23 @@ data_made s n b p none =
     let made : length samples ≡ n * (64 * s.channels) = omega (arith, samples_made s n b p, ap length none) in
     pcm_length_is s samples ∙ whole_bytes n s.channels s.bits (length samples) (width_cases s.bits s.bits_are) made
 
-pub ended : (s : Settings) (begun : Running) (total : ℕ) (sound_old sound_mid sound_new replies_old replies_mid replies_new : Option (List ℕ)) (r : Running) → IsGoing s begun total 0 sound_old sound_mid replies_old replies_mid r → IsEnd sound_mid sound_new replies_mid replies_new r → IsEnded s begun total sound_old sound_new replies_old replies_new
-ended s begun total sound_old sound_mid sound_new replies_old replies_mid replies_new r g e =
+-- what was written before the end, and what is then still to be written
+pub whole_sound_is : (s : Settings) (begun : Running) (total : ℕ) (sound_old sound_mid replies_old replies_mid : Option (List ℕ)) (r : Running) → (g : IsGoing s begun total 0 sound_old sound_mid replies_old replies_mid r)
+    → g.sound_out ++ r.sound ≡ whole_sound s begun total
+whole_sound_is s begun total sound_old sound_mid replies_old replies_mid r g = g.sound ∙ ap (λ (p : Session). begun.sound ++ pcm s p.samples) g.plays
+
+pub whole_replies_is : (s : Settings) (begun : Running) (total : ℕ) (sound_old sound_mid replies_old replies_mid : Option (List ℕ)) (r : Running) → (g : IsGoing s begun total 0 sound_old sound_mid replies_old replies_mid r)
+    → g.replies_out ++ to_first (at_boundary r).replies ≡ whole_replies s begun total
+whole_replies_is s begun total sound_old sound_mid replies_old replies_mid r g =
     let final = blocks s total begun.block (session_of begun) in
     let at : r.block ≡ begun.block + total = omega (arith, g.count) in
-    record {
-      sound = subst (Appends sound_old sound_new) (g.sound ∙ ap (λ (p : Session). begun.sound ++ pcm s p.samples) g.plays) (Appends-trans _ _ _ _ _ g.sound_taken e.sound);
-      replies = subst (Appends replies_old replies_new) (boundary_replies g.session r g.replies_out g.stands.alone g.world g.waiting g.clashes g.replies ∙ ap (λ (p : Session). (boundary r.block p).replies) g.plays ∙ ap (λ (n : ℕ). (boundary n final).replies) at) (Appends-trans _ _ _ _ _ g.replies_taken e.replies);
-    }
+    boundary_replies g.session r g.replies_out g.stands.alone g.world g.waiting g.clashes g.replies ∙ ap (λ (p : Session). (boundary r.block p).replies) g.plays ∙ ap (λ (n : ℕ). (boundary n final).replies) at
+
+pub ended : (s : Settings) (begun : Running) (total : ℕ) (sound_old sound_mid sound_new replies_old replies_mid replies_new : Option (List ℕ)) (r : Running) → IsGoing s begun total 0 sound_old sound_mid replies_old replies_mid r → IsEnd sound_mid sound_new replies_mid replies_new r → IsEnded s begun total sound_old sound_new replies_old replies_new
+ended s begun total sound_old sound_mid sound_new replies_old replies_mid replies_new r g e = record {
+  sound = subst (Appends sound_old sound_new) (whole_sound_is s begun total _ _ _ _ r g) (Appends-trans _ _ _ _ _ g.sound_taken e.sound);
+  replies = subst (Appends replies_old replies_new) (whole_replies_is s begun total _ _ _ _ r g) (Appends-trans _ _ _ _ _ g.replies_taken e.replies);
+}
 
 abbrev make : World → WaitingList → List Clash → List ℤ → List ℕ → Session
 make world waiting clashes samples replies = record { world = world; waiting = waiting; clashes = clashes; samples = samples; replies = replies }
@@ -239,22 +241,28 @@ pub record IsOpened (s : Settings) (packets : List Shape) (r : Running) : Type 0
   pub sound : r.sound ≡ header_bytes s (data_len s (last_of s packets))
   pub replies : to_first r.replies ≡ []
 
--- has played them
-pub all_played : (s : Settings) (packets : List Shape) (r : Running) (sound_old sound_new replies_old replies_new : Option (List ℕ)) → IsOpened s packets r → IsEnded s r (last_of s packets) sound_old sound_new replies_old replies_new
-    → Appends sound_old sound_new (sound_of s packets) × Appends replies_old replies_new (replies_of s packets)
-all_played s packets r sound_old sound_new replies_old replies_new o e =
+-- gives the sound and the replies of the packets
+pub all_given : (s : Settings) (packets : List Shape) (r : Running) → IsOpened s packets r → (whole_sound s r (last_of s packets) ≡ sound_of s packets) × (whole_replies s r (last_of s packets) ≡ replies_of s packets)
+all_given s packets r o =
     let last = last_of s packets in
     let p : session_of r ≡ begun s packets = session_is (session_of r) (begun s packets) o.world o.waiting o.clashes refl o.replies in
     let final : blocks s last r.block (session_of r) ≡ blocks s last 0 (begun s packets) = ap (λ (n : ℕ). blocks s last n (session_of r)) o.block ∙ ap (blocks s last 0) p in
     let size : data_len s last ≡ length (pcm s (blocks s last 0 (begun s packets)).samples) = sym (data_made s last 0 (begun s packets) refl) in
     let head : r.sound ≡ header_bytes s (length (pcm s (blocks s last 0 (begun s packets)).samples)) = o.sound ∙ ap (header_bytes s) size in
     let at : r.block + last ≡ last = omega (arith, o.block) in (
-      subst (Appends sound_old sound_new) (ap (λ (q : Session). r.sound ++ pcm s q.samples) final ∙ ap (λ (t : List ℕ). t ++ pcm s (blocks s last 0 (begun s packets)).samples) head) e.sound,
-      subst (Appends replies_old replies_new) (ap (λ (q : Session). (boundary (r.block + last) q).replies) final ∙ ap (λ (n : ℕ). (boundary n (blocks s last 0 (begun s packets))).replies) at) e.replies,
+      ap (λ (q : Session). r.sound ++ pcm s q.samples) final ∙ ap (λ (t : List ℕ). t ++ pcm s (blocks s last 0 (begun s packets)).samples) head,
+      ap (λ (q : Session). (boundary (r.block + last) q).replies) final ∙ ap (λ (n : ℕ). (boundary n (blocks s last 0 (begun s packets))).replies) at,
     )
   where
     session_is : (p q : Session) → p.world ≡ q.world → p.waiting ≡ q.waiting → p.clashes ≡ q.clashes → p.samples ≡ q.samples → p.replies ≡ q.replies → p ≡ q
     session_is p q a b e c d = λ i. make (a i) (b i) (e i) (c i) (d i)
+
+-- and has played them
+pub all_played : (s : Settings) (packets : List Shape) (r : Running) (sound_old sound_new replies_old replies_new : Option (List ℕ)) → IsOpened s packets r → IsEnded s r (last_of s packets) sound_old sound_new replies_old replies_new
+    → Appends sound_old sound_new (sound_of s packets) × Appends replies_old replies_new (replies_of s packets)
+all_played s packets r sound_old sound_new replies_old replies_new o e =
+    let given = all_given s packets r o in
+    (subst (Appends sound_old sound_new) given.0 e.sound, subst (Appends replies_old replies_new) given.1 e.replies)
 
 pub on_ok : {T E A B : Type 0} (r : Result T E) → (A → B) → OnOk r A → OnOk r B
 on_ok (Ok x) f h = f h

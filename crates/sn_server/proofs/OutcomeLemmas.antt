@@ -1,20 +1,21 @@
 -- A stream has one answer, and what was played is what it gives.
-use Rattle.std.proofs.Common.{◌≡◌, Bool, true, false, IsTrue, ℕ, ◌+◌, ◌<◌, ◌≤◌, ◌⊎◌, List, [], ◌∷◌, ◌++◌, length, Option, Some, None, refl, sym, ap, subst, ◌∙◌, arith, inl, inr}
+use Rattle.std.proofs.Common.{◌≡◌, Bool, true, false, IsTrue, ℕ, ◌≤◌, ◌⊎◌, List, length, Option, Some, None, refl, sym, ap, subst, ◌∙◌, arith, inl, inr}
 use Rattle.std.specs.Prelude.{IfSome}
-use Rattle.std.specs.Io.KnownBytes.{Appends, Keeps}
+use Rattle.std.specs.Io.KnownBytes.{Keeps}
 use Rattle.sn_osc.specs.Shape.{Shape}
 use Rattle.sn_pcm.specs.declared.settings.Settings.{Settings}
 use Rattle.sn_pcm.specs.Sound.{data_len, header_bytes}
 use Rattle.sn_server.specs.declared.outcome.Outcome.{Outcome}
 use Rattle.sn_server.specs.declared.outcome.Outcome.TheVariants.{Done, NoMemory, BadWords, BadStream, LongStream, LongSound, ReadFault, SoundFault, ReplyFault}
 use Rattle.sn_osc.specs.declared.fault.StreamFault.{StreamFault}
-use Rattle.sn_server.specs.Going.{IsEnded}
-use Rattle.sn_server.specs.Outcomes.{IsTooLong, HasAnswer, IsAnswer, Played, IsUnplayed, IsUntouched}
-use Rattle.sn_server.specs.Play.{last_of, sound_of, replies_of, arrived}
+use Rattle.sn_server.specs.Fronts.{TakesFront, TakeFronts}
+use Rattle.sn_server.specs.Going.{IsEnded, whole_sound, whole_replies}
+use Rattle.sn_server.specs.Outcomes.{IsTooLong, HasAnswer, IsAnswer, Played, ArePacketsOf, IsUnplayed, PlayedPart, Writes}
+use Rattle.sn_server.specs.Play.{last_of, arrived}
 use Rattle.sn_engine.specs.Running.{Running, opened}
 use Rattle.sn_osc.specs.Frames.{Frames, StreamFaultAt}
 use Rattle.sn_osc.proofs.Streams.{one_list, excluded, one_stream_fault}
-use Rattle.sn_server.proofs.GoingLemmas.{all_played}
+use Rattle.sn_server.proofs.GoingLemmas.{IsOpened, all_given, all_played}
 
 bad_alone : (bytes : List ℕ) (packets : List Shape) (number place : ℕ) (fault : StreamFault) → StreamFaultAt bytes number place fault → Frames packets bytes → ⊥
 bad_alone bytes packets number place fault s h = excluded packets s.before 0 bytes s.front s.rest place fault h s.frames s.parts s.why
@@ -131,13 +132,36 @@ kept : (old : Option (List ℕ)) → Keeps old old
 kept None = tt
 kept (Some xs) = refl
 
-pub unplayed_untouched : (o : Outcome) (sound replies : Option (List ℕ)) → IsUnplayed o → IsUntouched o sound sound replies replies
-unplayed_untouched NoMemory sound replies is = tt
-unplayed_untouched (BadStream packet place fault) sound replies is = (kept sound, kept replies)
-unplayed_untouched (LongStream n) sound replies is = (kept sound, kept replies)
-unplayed_untouched ReadFault sound replies is = (kept sound, kept replies)
-unplayed_untouched (Done n) sound replies is = tt
-unplayed_untouched (BadWords i) sound replies is = (kept sound, kept replies)
-unplayed_untouched (LongSound n) sound replies is = (kept sound, kept replies)
-unplayed_untouched SoundFault sound replies is = tt
-unplayed_untouched ReplyFault sound replies is = tt
+pub unplayed_writes : (s : Settings) (stream : Option (List ℕ)) (o : Outcome) (sound replies : Option (List ℕ)) → IsUnplayed o → Writes s stream o sound sound replies replies
+unplayed_writes s stream NoMemory sound replies is = inl (kept sound, kept replies)
+unplayed_writes s stream (BadStream packet place fault) sound replies is = (kept sound, kept replies)
+unplayed_writes s stream (LongStream n) sound replies is = (kept sound, kept replies)
+unplayed_writes s stream ReadFault sound replies is = (kept sound, kept replies)
+unplayed_writes s stream (Done n) sound replies is = tt
+unplayed_writes s stream (BadWords i) sound replies is = (kept sound, kept replies)
+unplayed_writes s stream (LongSound n) sound replies is = (kept sound, kept replies)
+unplayed_writes s stream SoundFault sound replies is = absurd is
+unplayed_writes s stream ReplyFault sound replies is = absurd is
+
+-- ---- a stream whose playing was cut
+
+pub nothing_written : (sound replies : Option (List ℕ)) → Keeps sound sound × Keeps replies replies
+nothing_written sound replies = (kept sound, kept replies)
+
+pub played_part : (s : Settings) (stream sound_old sound_new replies_old replies_new : Option (List ℕ)) (packets : List Shape) (blocks : ℕ) (e : Running)
+    → ArePacketsOf stream packets → blocks ≡ last_of s packets → (IsTooLong s blocks → ⊥) → e ≡ arrived_engine s packets
+    → TakeFronts sound_old sound_new replies_old replies_new (whole_sound s (record e { sound = header_bytes s (data_len s blocks) }) blocks) (whole_replies s (record e { sound = header_bytes s (data_len s blocks) }) blocks)
+    → PlayedPart s stream sound_old sound_new replies_old replies_new
+played_part s stream sound_old sound_new replies_old replies_new packets blocks e given last short is t =
+    let fronts_at : Running → ℕ → Type 0 = λ r k. TakeFronts sound_old sound_new replies_old replies_new (whole_sound s (record r { sound = header_bytes s (data_len s k) }) k) (whole_replies s (record r { sound = header_bytes s (data_len s k) }) k) in
+    let fronts : fronts_at (arrived_engine s packets) (last_of s packets) = subst (λ (r : Running). fronts_at r (last_of s packets)) is (subst (fronts_at e) last t) in
+    let opening = record (arrived_engine s packets) { sound = header_bytes s (data_len s (last_of s packets)) } in
+    let opens : IsOpened s packets opening = record { world = refl; waiting = refl; clashes = refl; block = refl; sound = refl; replies = refl } in
+    let whole = all_given s packets opening opens in
+    record {
+      packets = packets;
+      given = given;
+      short = λ long. short (subst (IsTooLong s) (sym last) long);
+      sound = subst (TakesFront sound_old sound_new) whole.0 fronts.sound;
+      replies = subst (TakesFront replies_old replies_new) whole.1 fronts.replies;
+    }

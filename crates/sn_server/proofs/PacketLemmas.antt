@@ -1,11 +1,11 @@
 -- Packets that come to an engine over a connection.
-use Rattle.std.proofs.Common.{◌≡◌, ℕ, ℤ, ◌+◌, ◌-◌, ◌<◌, ◌≤◌, ◌^◌, Bool, true, false, not, cond, ltb, Result, Ok, Err, Some, List, [], ◌∷◌, ◌++◌, length, take, drop, refl, sym, ap, subst, ◌∙◌, arith}
+use Rattle.std.proofs.Common.{◌≡◌, ℕ, ℤ, ◌+◌, ◌≤◌, Bool, true, false, not, cond, ltb, Result, Ok, Err, Some, List, [], ◌∷◌, ◌++◌, length, take, drop, refl, sym, ap, ◌∙◌, arith}
 use Rattle.std.specs.Int.{w32, to_be_bytes}
 use Rattle.std.specs.Prelude.{if◌then◌else◌, IsTrue}
-use Rattle.std.proofs.lemmas.Bool.{ltb-true, ltb-false}
+use Rattle.std.proofs.lemmas.Bool.{ltb-true}
 use Rattle.std.proofs.lemmas.List.{length-append, length-drop}
 use Rattle.sn_osc.specs.Bytes.{frame_bytes}
-use Rattle.sn_osc.specs.Frames.{FirstFrame, cut, bad_size, frame, first_frame, is_frame_size}
+use Rattle.sn_osc.specs.Frames.{cut, bad_size, frame, first_frame, is_frame_size}
 use Rattle.sn_osc.specs.Framing.{Framing}
 use Rattle.sn_osc.specs.Framed.{fed_with, packet_of, Next}
 use Rattle.sn_osc.specs.declared.frame.Frame.{Frame}
@@ -17,7 +17,7 @@ use Rattle.sn_osc.specs.declared.fault.PacketFault.{PacketFault}
 use Rattle.sn_osc.proofs.Streams.{no_more, frame_first}
 use Rattle.sn_osc.proofs.UnpackingLemmas.{unpack_frame}
 use Rattle.sn_queue.specs.Steps.{put}
-use Rattle.sn_engine.specs.Arriving.{Offered, offer_entry, offer_entries, nothing_offered, next_boundary, offered, with_offered, is_full, refusal_of, IsSpelled}
+use Rattle.sn_engine.specs.Arriving.{Offered, offer_entry, offer_entries, nothing_offered, next_boundary, offered, with_offered, is_full, refusal_of}
 use Rattle.sn_engine.specs.Entries.{Timed, entries_of}
 use Rattle.sn_engine.specs.Running.{Running}
 use Rattle.sn_engine.specs.declared.standing.Standing.TheVariants.{Settled}

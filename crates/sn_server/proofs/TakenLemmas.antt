@@ -1,6 +1,6 @@
 -- Events that were taken, in whatever pieces, give what they give whole.
-use Rattle.std.proofs.Common.{◌≡◌, ℕ, ◌+◌, ◌<◌, ◌||◌, Bool, true, false, List, [], ◌∷◌, ◌++◌, length, refl, sym, ap, subst, ◌∙◌, append-nil, arith, ◌⊎◌, inl, inr}
-use Rattle.std.specs.Prelude.{if◌then◌else◌, nat_le}
+use Rattle.std.proofs.Common.{◌≡◌, ℕ, ◌+◌, ◌<◌, Bool, true, false, List, [], ◌∷◌, ◌++◌, length, refl, sym, ap, subst, ◌∙◌, append-nil, arith, ◌⊎◌, inl, inr}
+use Rattle.std.specs.Prelude.{if◌then◌else◌}
 use Rattle.std.proofs.lemmas.List.{length-append}
 use Rattle.sn_ports.specs.Links.{LinkEvent, bytes, ticks, with_rest, IsFront, Takes}
 use Rattle.sn_pcm.specs.declared.settings.Settings.{Settings}
@@ -8,7 +8,7 @@ use Rattle.sn_server.specs.declared.ended.Ended.{Ended}
 use Rattle.sn_server.specs.declared.ended.Ended.TheVariants.{Closed, Cut}
 use Rattle.sn_server.specs.PlayEvents.{Live, Over, Course, going, ended, event, is_worn, worn, after_event, after_events, at_end, closed, beginning, over_events, bytes_in}
 use Rattle.sn_server.specs.Served.{TakesEach}
-use Rattle.sn_server.proofs.JoiningLemmas.{fed_to, fed_event, event_bytes, joins_course}
+use Rattle.sn_server.proofs.JoiningLemmas.{fed_to, fed_event, joins_course}
 
 taken_piece : (s : Settings) (c : Course) (old between : List LinkEvent) (piece : List ℕ) → fed_to c + bytes_in old < 4611686018427387904 → IsFront old between piece
     → (after_events s old c ≡ after_events s between (after_event s (bytes piece) c)) × (fed_to (after_event s (bytes piece) c) + bytes_in between < 4611686018427387904)

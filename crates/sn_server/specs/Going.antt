@@ -1,5 +1,5 @@
 -- Where a run stands between two blocks, and what a block does.
-use Rattle.std.specs.Prelude.{◌≡◌, ◌+◌, ℕ, ℤ, List, [], ◌++◌, length, Option, slice_index_or}
+use Rattle.std.specs.Prelude.{◌≡◌, ◌+◌, ℕ, List, [], ◌++◌, length, Option, slice_index_or}
 use Rattle.std.specs.Io.KnownBytes.{Appends}
 use Rattle.sn_pcm.specs.declared.settings.Settings.{Settings}
 use Rattle.sn_pcm.specs.Pcm.{pcm}
@@ -65,7 +65,14 @@ pub record IsEnd (sound_old sound_new replies_old replies_new : Option (List ℕ
   pub sound : Appends sound_old sound_new old.sound
   pub replies : Appends replies_old replies_new (to_first (at_boundary old).replies)
 
+-- the bytes of so many blocks from an engine on, and of the boundary after the last
+abbrev pub whole_sound : Settings → Running → ℕ → List ℕ
+whole_sound s begun total = begun.sound ++ pcm s (blocks s total begun.block (session_of begun)).samples
+
+abbrev pub whole_replies : Settings → Running → ℕ → List ℕ
+whole_replies s begun total = (boundary (begun.block + total) (blocks s total begun.block (session_of begun))).replies
+
 -- what was written in all, from the first block to the boundary after the last
 pub record IsEnded (s : Settings) (begun : Running) (total : ℕ) (sound_old sound_new replies_old replies_new : Option (List ℕ)) : Type 0 where
-  pub sound : Appends sound_old sound_new (begun.sound ++ pcm s (blocks s total begun.block (session_of begun)).samples)
-  pub replies : Appends replies_old replies_new (boundary (begun.block + total) (blocks s total begun.block (session_of begun))).replies
+  pub sound : Appends sound_old sound_new (whole_sound s begun total)
+  pub replies : Appends replies_old replies_new (whole_replies s begun total)

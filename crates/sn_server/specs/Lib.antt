@@ -1,6 +1,7 @@
 pub mod Stream
 pub mod Play
 pub mod Arriving
+pub mod Fronts
 pub mod Going
 pub mod Outcomes
 pub mod PlayEvents

@@ -7,6 +7,7 @@ use Rattle.sn_pcm.specs.Sound.{data_len}
 use Rattle.sn_server.specs.declared.outcome.Outcome.{Outcome}
 use Rattle.sn_server.specs.declared.outcome.Outcome.TheVariants.{Done, NoMemory, BadWords, BadStream, LongStream, LongSound, ReadFault, SoundFault, ReplyFault}
 use Rattle.sn_osc.specs.Frames.{Frames, StreamFaultAt}
+use Rattle.sn_server.specs.Fronts.{TakesFront}
 use Rattle.sn_server.specs.Play.{last_of, sound_of, replies_of}
 
 -- the sound of so many blocks can't stand in a WAV header
@@ -61,17 +62,26 @@ IsUnplayed (LongSound n) = ⊥
 IsUnplayed SoundFault = ⊥
 IsUnplayed ReplyFault = ⊥
 
--- both sinks are as they were where the stream or its length is refused, or the source failed
-abbrev pub IsUntouched : Outcome → Option (List ℕ) → Option (List ℕ) → Option (List ℕ) → Option (List ℕ) → Type 0
-IsUntouched (LongStream n) sound_old sound_new replies_old replies_new = Keeps sound_old sound_new × Keeps replies_old replies_new
-IsUntouched (BadStream packet place fault) sound_old sound_new replies_old replies_new = Keeps sound_old sound_new × Keeps replies_old replies_new
-IsUntouched (LongSound n) sound_old sound_new replies_old replies_new = Keeps sound_old sound_new × Keeps replies_old replies_new
-IsUntouched ReadFault sound_old sound_new replies_old replies_new = Keeps sound_old sound_new × Keeps replies_old replies_new
-IsUntouched (BadWords i) sound_old sound_new replies_old replies_new = Keeps sound_old sound_new × Keeps replies_old replies_new
-IsUntouched (Done n) sound_old sound_new replies_old replies_new = Unit {0}
-IsUntouched NoMemory sound_old sound_new replies_old replies_new = Unit {0}
-IsUntouched SoundFault sound_old sound_new replies_old replies_new = Unit {0}
-IsUntouched ReplyFault sound_old sound_new replies_old replies_new = Unit {0}
+-- A stream of packets whose sound isn't too long, and a front of what they give in each sink.
+pub record PlayedPart (s : Settings) (stream sound_old sound_new replies_old replies_new : Option (List ℕ)) : Type 0 where
+  pub packets : List Shape
+  pub given : ArePacketsOf stream packets
+  pub short : IsTooLong s (last_of s packets) → ⊥
+  pub sound : TakesFront sound_old sound_new (sound_of s packets)
+  pub replies : TakesFront replies_old replies_new (replies_of s packets)
+
+-- What the sinks took at each answer but `Done`: nothing where the stream, its length or the words are refused, or the source failed; a front of
+-- what the packets give where a sink failed; and where memory ran out nothing, or such a front.
+abbrev pub Writes : Settings → Option (List ℕ) → Outcome → Option (List ℕ) → Option (List ℕ) → Option (List ℕ) → Option (List ℕ) → Type 0
+Writes s stream (Done n) sound_old sound_new replies_old replies_new = Unit {0}
+Writes s stream (LongStream n) sound_old sound_new replies_old replies_new = Keeps sound_old sound_new × Keeps replies_old replies_new
+Writes s stream (BadStream packet place fault) sound_old sound_new replies_old replies_new = Keeps sound_old sound_new × Keeps replies_old replies_new
+Writes s stream (LongSound n) sound_old sound_new replies_old replies_new = Keeps sound_old sound_new × Keeps replies_old replies_new
+Writes s stream ReadFault sound_old sound_new replies_old replies_new = Keeps sound_old sound_new × Keeps replies_old replies_new
+Writes s stream (BadWords i) sound_old sound_new replies_old replies_new = Keeps sound_old sound_new × Keeps replies_old replies_new
+Writes s stream SoundFault sound_old sound_new replies_old replies_new = PlayedPart s stream sound_old sound_new replies_old replies_new
+Writes s stream ReplyFault sound_old sound_new replies_old replies_new = PlayedPart s stream sound_old sound_new replies_old replies_new
+Writes s stream NoMemory sound_old sound_new replies_old replies_new = (Keeps sound_old sound_new × Keeps replies_old replies_new) ⊎ PlayedPart s stream sound_old sound_new replies_old replies_new
 
 -- so many bytes were taken
 abbrev pub Takes : ℕ → Option (List ℕ) → Option (List ℕ) → Type 0

@@ -1,5 +1,5 @@
 -- What a connection gives: a fold over the events that come over it.
-use Rattle.std.specs.Prelude.{ℕ, zero, suc, ◌+◌, ◌^◌, ℤ, List, [], ◌∷◌, ◌++◌, length, Some, Bool, ◌||◌, nat_le, if◌then◌else◌, Result, Ok, Err}
+use Rattle.std.specs.Prelude.{ℕ, zero, suc, ◌+◌, ◌^◌, List, [], ◌∷◌, ◌++◌, length, Some, Bool, ◌||◌, nat_le, if◌then◌else◌, Result, Ok, Err}
 use Rattle.sn_ports.specs.Links.{LinkEvent, bytes, ticks}
 use Rattle.sn_osc.specs.Frames.{FirstFrame, cut, bad_size, frame, first_frame}
 use Rattle.sn_osc.specs.Reading.{read}
@@ -7,7 +7,6 @@ use Rattle.sn_osc.specs.Shape.{Shape}
 use Rattle.sn_osc.specs.declared.fault.PacketFault.{PacketFault}
 use Rattle.sn_pcm.specs.declared.settings.Settings.{Settings}
 use Rattle.sn_pcm.specs.Pcm.{pcm}
-use Rattle.sn_queue.specs.Waiting.{WaitingList}
 use Rattle.sn_reply.specs.Frames.{frames_to}
 use Rattle.sn_world.specs.Opening.{opening}
 use Rattle.sn_engine.specs.Arriving.{Offered, offer_entries, nothing_offered}

@@ -1,8 +1,9 @@
 -- What each end of a connection says.
-use Rattle.std.specs.Prelude.{◌≡◌, ℕ, false, List, [], ◌∷◌, Option}
+use Rattle.std.specs.Prelude.{◌≡◌, ◌≤◌, ℕ, false, List, [], ◌∷◌, ◌++◌, length, Option}
 use Rattle.std.specs.Io.KnownBytes.{Appends}
 use Rattle.sn_ports.specs.Links.{LinkEvent, Takes, Known}
 use Rattle.sn_pcm.specs.declared.settings.Settings.{Settings}
+use Rattle.sn_server.specs.Fronts.{TakesBetween}
 use Rattle.sn_server.specs.declared.ended.Ended.{Ended}
 use Rattle.sn_server.specs.declared.ended.Ended.TheVariants.{Quit, NoMemory, Closed, Cut, BadFrame, LinkFault, SoundFault, Worn}
 use Rattle.sn_server.specs.PlayEvents.{Course, going, ended, is_worn, after_event, beginning, play_events}
@@ -33,12 +34,6 @@ ByEnd SoundFault P Q = Q
 abbrev pub WhereGiven : Ended → Type 0 → Type 0
 WhereGiven how P = ByEnd how P (Unit {0})
 
--- Each event that was taken was taken while a course went on. It is said where events are told.
-pub record WasOpen (s : Settings) (c : Course) (left_old left_new : Option (List LinkEvent)) : Type 0 where
-  pub events : List LinkEvent
-  pub taken : Known left_old left_new (λ old new. TakesEach old events new)
-  pub while_open : WhileOpen s events c
-
 -- The events that were taken give this end, and none was taken after it; the sink took the sound that they give, and what they answer was
 -- sent. Each is said where it is told.
 pub record IsServed (s : Settings) (base : ℕ) (left_old left_new : Option (List LinkEvent)) (sound_old sound_new sent_old sent_new : Option (List ℕ)) (how : Ended) : Type 0 where
@@ -49,10 +44,21 @@ pub record IsServed (s : Settings) (base : ℕ) (left_old left_new : Option (Lis
   pub sound : Appends sound_old sound_new (play_events s base events).sound
   pub sent : Appends sent_old sent_new (play_events s base events).sent
 
--- At an end that events give, those that were taken give it. At a fault, and where memory ran out, none was taken after an end.
+-- A fault or want of memory cut the connection short. All events that were taken but at most the last were answered whole: what was written
+-- and sent begins with what the whole ones give, and what all of them give begins with it. Each is said where it is told.
+pub record IsCutShort (s : Settings) (base : ℕ) (left_old left_new : Option (List LinkEvent)) (sound_old sound_new sent_old sent_new : Option (List ℕ)) : Type 0 where
+  pub whole : List LinkEvent
+  pub last : List LinkEvent
+  pub one : length last ≤ 1
+  pub taken : Known left_old left_new (λ old new. TakesEach old (whole ++ last) new)
+  pub while_open : WhileOpen s (whole ++ last) (going (beginning s base))
+  pub sound : TakesBetween sound_old sound_new (play_events s base whole).sound (play_events s base (whole ++ last)).sound
+  pub sent : TakesBetween sent_old sent_new (play_events s base whole).sent (play_events s base (whole ++ last)).sent
+
+-- At an end that events give, those that were taken give it. A fault and want of memory cut it short.
 abbrev pub Served : Settings → ℕ → Option (List LinkEvent) → Option (List LinkEvent) → Option (List ℕ) → Option (List ℕ) → Option (List ℕ) → Option (List ℕ) → Ended → Type 0
 Served s base left_old left_new sound_old sound_new sent_old sent_new how =
-    ByEnd how (IsServed s base left_old left_new sound_old sound_new sent_old sent_new how) (WasOpen s (going (beginning s base)) left_old left_new)
+    ByEnd how (IsServed s base left_old left_new sound_old sound_new sent_old sent_new how) (IsCutShort s base left_old left_new sound_old sound_new sent_old sent_new)
 
 -- where nothing more comes, no event is left
 abbrev pub AtClose : Ended → Option (List LinkEvent) → Option (List LinkEvent) → Type 0

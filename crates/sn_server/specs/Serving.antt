@@ -1,26 +1,28 @@
 -- How far a connection has come that is served.
-use Rattle.std.specs.Prelude.{◌≡◌, ◌≤◌, ◌<◌, ◌+◌, ◌^◌, ◌||◌, nat_le, Bool, true, false, ℕ, ℤ, List, [], ◌∷◌, length, Option, None, Some, Result, Ok, Err, ⊤}
+use Rattle.std.specs.Prelude.{◌≡◌, ◌≤◌, ◌<◌, ◌+◌, ◌^◌, ◌||◌, nat_le, true, false, ℕ, List, [], ◌∷◌, length, Option, None, Some, Result, Ok, Err, ⊤}
 use Rattle.std.specs.Io.KnownBytes.{Appends, Keeps}
-use Rattle.sn_ports.specs.Links.{LinkEvent, bytes, ticks, Takes, Known}
+use Rattle.sn_ports.specs.Links.{LinkEvent, Takes, Known}
 use Rattle.sn_osc.specs.Framing.{Framing}
 use Rattle.sn_osc.specs.Reading.{read}
 use Rattle.sn_osc.specs.Shape.{Shape}
 use Rattle.sn_osc.specs.declared.fault.PacketFault.{PacketFault}
-use Rattle.sn_osc.specs.Frames.{FirstFrame, cut, bad_size, frame, first_frame}
+use Rattle.sn_osc.specs.Frames.{FirstFrame, cut, bad_size}
 use Rattle.sn_pcm.specs.declared.settings.Settings.{Settings}
 use Rattle.sn_pcm.specs.Pcm.{pcm}
 use Rattle.sn_engine.specs.Arriving.{with_offered}
 use Rattle.sn_engine.specs.Entries.{entries_of}
 use Rattle.sn_engine.specs.Refusing.{with_bad_packet}
 use Rattle.sn_engine.specs.Running.{Running, at_boundary, flow_at}
+use Rattle.sn_engine.specs.declared.standing.Flow.{Flow}
 use Rattle.sn_engine.specs.declared.standing.Flow.TheVariants.{On}
 use Rattle.sn_engine.specs.declared.standing.Flow.TheVariants as flows
 use Rattle.sn_engine.specs.declared.standing.Standing.TheVariants.{Settled}
 use Rattle.sn_server.specs.declared.ended.Ended.{Ended}
 use Rattle.sn_server.specs.declared.ended.Ended.TheVariants.{Quit, NoMemory, Closed, Cut, BadFrame, LinkFault, SoundFault, Worn}
+use Rattle.sn_server.specs.Fronts.{TakesFront, TakesBetween}
 use Rattle.sn_server.specs.Going.{to_first, after_block}
 use Rattle.sn_server.specs.PlayEvents.{Live, Over, Course, going, ended, is_worn, after_event, after_events, at_end, beginning}
-use Rattle.sn_server.specs.Served.{TakesEach, WhileOpen, WasOpen, ByEnd, WhereGiven}
+use Rattle.sn_server.specs.Served.{TakesEach, WhileOpen, ByEnd}
 
 -- ---- how far it has come
 
@@ -107,10 +109,16 @@ pub record GoesOn (s : Settings) (sound_old sound_new sent_old sent_new : Option
   pub course : c ≡ going live
   pub stands : IsLive s sound_old sound_new sent_old sent_new live e f
 
--- where it has come by a step, and what the step answers
-abbrev pub Follows : Settings → Option (List ℕ) → Option (List ℕ) → Option (List ℕ) → Option (List ℕ) → Course → Running → Framing → Result Unit Ended → Type 0
-Follows s sound_old sound_new sent_old sent_new c e f (Ok x) = GoesOn s sound_old sound_new sent_old sent_new c e f
-Follows s sound_old sound_new sent_old sent_new c e f (Err how) = WhereGiven how (HasEnded s sound_old sound_new sent_old sent_new c how)
+-- A course behind a connection was cut short. What was written and sent begins with what the connection gave, and what the course gives begins
+-- with it.
+pub record IsCut (s : Settings) (sound_old sound_new sent_old sent_new : Option (List ℕ)) (v : Live) (c : Course) : Type 0 where
+  pub sound : TakesBetween sound_old sound_new (pcm s v.session.samples) (pcm s (at_end c).session.samples)
+  pub sent : TakesBetween sent_old sent_new v.session.replies (at_end c).session.replies
+
+-- where a connection has come by a step, and what the step answers
+abbrev pub Follows : Settings → Option (List ℕ) → Option (List ℕ) → Option (List ℕ) → Option (List ℕ) → Live → Course → Running → Framing → Result Unit Ended → Type 0
+Follows s sound_old sound_new sent_old sent_new v c e f (Ok x) = GoesOn s sound_old sound_new sent_old sent_new c e f
+Follows s sound_old sound_new sent_old sent_new v c e f (Err how) = ByEnd how (HasEnded s sound_old sound_new sent_old sent_new c how) (IsCut s sound_old sound_new sent_old sent_new v c)
 
 -- an engine and a framer that can take what comes: no more entries were put than bytes were used
 pub record IsReady (e : Running) (f : Framing) : Type 0 where
@@ -133,6 +141,16 @@ pub record HasQuit (sound_old sound_new sent_old sent_new : Option (List ℕ)) (
   pub flow : flow_at old ≡ flows.Quit
   pub sound : Keeps sound_old sound_new
   pub replies : Appends sent_old sent_new (to_first (at_boundary old).replies)
+
+-- the next boundary and, unless `/quit` was accepted at it, its block and its settling
+abbrev pub after_flow : Flow → Running → Running
+after_flow On r = after_block r
+after_flow flows.Quit r = at_boundary r
+
+-- A front of what they give was written and sent.
+pub record IsTickPart (sound_old sound_new sent_old sent_new : Option (List ℕ)) (old : Running) : Type 0 where
+  pub sound : TakesFront sound_old sound_new (after_flow (flow_at old) old).sound
+  pub sent : TakesFront sent_old sent_new (to_first (after_flow (flow_at old) old).replies)
 
 -- as many bytes came, or as many blocks were done, as may
 pub record IsWornOut (e : Running) (f : Framing) (how : Ended) : Type 0 where
@@ -164,11 +182,19 @@ pub record EndsBy (s : Settings) (left_old left_new : Option (List LinkEvent)) (
   pub sound : Appends sound_old sound_new (pcm s over.session.samples)
   pub sent : Appends sent_old sent_new over.session.replies
 
+-- A step was cut short, in an event or before one was taken.
+pub record IsStepCut (s : Settings) (left_old left_new : Option (List LinkEvent)) (sound_old sound_new sent_old sent_new : Option (List ℕ)) (v : Live) : Type 0 where
+  pub last : List LinkEvent
+  pub one : length last ≤ 1
+  pub taken : Known left_old left_new (λ old new. TakesEach old last new)
+  pub while_open : WhileOpen s last (going v)
+  pub cut : IsCut s sound_old sound_new sent_old sent_new v (after_events s last (going v))
+
 -- an event was taken, or this is the end
 abbrev pub Took : Settings → Option (List LinkEvent) → Option (List LinkEvent) → Option (List ℕ) → Option (List ℕ) → Option (List ℕ) → Option (List ℕ) → Live → Running → Framing → Result Unit Ended → Type 0
 Took s left_old left_new sound_old sound_new sent_old sent_new v e f (Ok x) = TookEvent left_old left_new v (λ x. GoesOn s sound_old sound_new sent_old sent_new (after_event s x (going v)) e f)
 Took s left_old left_new sound_old sound_new sent_old sent_new v e f (Err how) =
-    ByEnd how (EndsBy s left_old left_new sound_old sound_new sent_old sent_new (going v) how) (WasOpen s (going v) left_old left_new)
+    ByEnd how (EndsBy s left_old left_new sound_old sound_new sent_old sent_new (going v) how) (IsStepCut s left_old left_new sound_old sound_new sent_old sent_new v)
 
 -- the events so far have given this
 pub record IsServing (s : Settings) (base : ℕ) (left_old left_new : Option (List LinkEvent)) (sound_old sound_new sent_old sent_new : Option (List ℕ)) (e : Running) (f : Framing) : Type 0 where

@@ -9,6 +9,7 @@ ghost use Rattle.sn_osc.specs.Unpacking.{unpacked};
 ghost use Rattle.sn_pcm.specs.declared.settings.Settings.{Settings};
 ghost use Rattle.sn_engine.specs.declared.standing.Standing.TheVariants.{Settled};
 ghost use Rattle.sn_server.specs.Faults.{UnlessFault};
+ghost use Rattle.sn_server.specs.Fronts.{TakesFront};
 ghost use Rattle.sn_server.specs.Going.{to_first};
 ghost use Rattle.sn_server.specs.PlayEvents.{Live, receive};
 ghost use Rattle.sn_server.specs.Serving.{IsLive, Follows, IsReady, Stops, StaysOpen, with_packet, with_packets};
@@ -63,10 +64,11 @@ fn take_packets(
     }
 }
 
-/// Sends the replies that are still to be sent.
+/// Sends the replies that are still to be sent. After a fault a front of them was sent.
 pub fn send_replies<L: Link>(engine: &mut Engine, link: &mut L) -> Result<(), Ended>
     requires alone { length engine.old.replies ≡ 1 }
     ensures sent { OnOk result (Appends (L.sent link.old) (L.sent link.new) (to_first engine.old.replies)) }
+    ensures front { TakesFront (L.sent link.old) (L.sent link.new) (to_first engine.old.replies) }
     ensures kept { engine.new ≡ record engine.old { replies = [] ∷ [] } }
     ensures only { IfErr result (λ how. how ≡ Ended.LinkFault) }
     ensures cause { result ≡ Err Ended.LinkFault → Rose (L.faults link.old) (L.faults link.new) }
@@ -94,7 +96,7 @@ pub fn receive<L: Link>(
     requires new { framer.old.fed < 2 ^ 62 }
     requires few { length piece.now ≤ 65536 }
     ensures follows { (s : Settings) (v : Live) (sound_old sound_new sent_old : Option (List ℕ)) → IsLive s sound_old sound_new sent_old (L.sent link.old) v engine.old framer.old
-        → Follows s sound_old sound_new sent_old (L.sent link.new) (receive piece.now v) engine.new framer.new result }
+        → Follows s sound_old sound_new sent_old (L.sent link.new) v (receive piece.now v) engine.new framer.new result }
     ensures ready { OnOk result (IsReady engine.new framer.new) }
     ensures fed { OnOk result (framer.new.fed ≡ framer.old.fed + length piece.now) }
     ensures block { OnOk result (engine.new.block ≡ engine.old.block) }

@@ -1,6 +1,8 @@
-ghost use Rattle.std.specs.Prelude.{◌≡◌, ◌<◌, ◌≤◌, ◌^◌, length, OnOk};
+ghost use Rattle.std.specs.Prelude.{◌≡◌, ◌<◌, ◌≤◌, ◌^◌, length, OnErr, OnOk};
 ghost use Rattle.sn_ports.specs.Causes.{Rose};
-ghost use Rattle.sn_server.specs.Going.{IsAtBoundary, IsBlock, IsEnd, IsEnded, IsWritten, to_first};
+ghost use Rattle.sn_server.specs.Fronts.{TakesFront, TakeFronts};
+ghost use Rattle.sn_server.specs.Going.{IsAtBoundary, IsBlock, IsEnd, IsEnded, IsWritten, after_block, to_first, whole_replies, whole_sound};
+ghost use Rattle.sn_engine.specs.Running.{at_boundary};
 ghost use Rattle.sn_server.specs.Faults.{NothingFailed};
 ghost use Rattle.sn_engine.specs.declared.standing.Standing.TheVariants.{Settled};
 ghost use Rattle.sn_server.specs.declared.rendering.Stop.TheVariants as stops;
@@ -40,6 +42,7 @@ impl From<NoMemory> for Stop {
 /// Writes the sound that was gathered, where it has `least` bytes.
 fn write_sound<O: Sink>(engine: &mut Engine, least: usize, sink: &mut O) -> Result<(), Stop>
     ensures written { OnOk result (IsWritten engine.old.sound engine.new.sound (O.taken sink.old) (O.taken sink.new)) }
+    ensures front { OnErr result (TakesFront (O.taken sink.old) (O.taken sink.new) engine.old.sound) }
     ensures kept { OnOk result (engine.new ≡ record engine.old { sound = engine.new.sound }) }
     ensures memory { result ≡ Err Stop.NoMemory → ⊥ }
     ensures reply { result ≡ Err Stop.ReplyFault → ⊥ }
@@ -60,6 +63,7 @@ fn write_sound<O: Sink>(engine: &mut Engine, least: usize, sink: &mut O) -> Resu
 fn write_replies<R: Sink>(engine: &mut Engine, least: usize, sink: &mut R) -> Result<(), Stop>
     requires alone { length engine.old.replies ≡ 1 }
     ensures written { OnOk result (IsWritten (to_first engine.old.replies) (to_first engine.new.replies) (R.taken sink.old) (R.taken sink.new)) }
+    ensures front { OnErr result (TakesFront (R.taken sink.old) (R.taken sink.new) (to_first engine.old.replies)) }
     ensures alone { length engine.new.replies ≡ 1 }
     ensures kept { OnOk result (engine.new ≡ record engine.old { replies = engine.new.replies }) }
     ensures memory { result ≡ Err Stop.NoMemory → ⊥ }
@@ -90,6 +94,7 @@ fn render_block<H: Threads + Sync, O: Sink, R: Sink, G: Gate>(
     requires settled { engine.old.standing ≡ Settled }
     requires alone { length engine.old.replies ≡ 1 }
     ensures block { OnOk result (IsBlock (O.taken sound.old) (O.taken sound.new) (R.taken replies.old) (R.taken replies.new) engine.old engine.new) }
+    ensures fronts { OnErr result (TakeFronts (O.taken sound.old) (O.taken sound.new) (R.taken replies.old) (R.taken replies.new) (after_block engine.old).sound (to_first (after_block engine.old).replies)) }
     ensures sound { result ≡ Err Stop.SoundFault → Rose (O.faults sound.old) (O.faults sound.new) }
     ensures reply { result ≡ Err Stop.ReplyFault → Rose (R.faults replies.old) (R.faults replies.new) }
     ensures sound_later { O.faults sound.old ≤ O.faults sound.new }
@@ -114,6 +119,7 @@ fn render_end<O: Sink, R: Sink>(
     requires settled { engine.old.standing ≡ Settled }
     requires alone { length engine.old.replies ≡ 1 }
     ensures end { OnOk result (IsEnd (O.taken sound.old) (O.taken sound.new) (R.taken replies.old) (R.taken replies.new) engine.old) }
+    ensures fronts { OnErr result (TakeFronts (O.taken sound.old) (O.taken sound.new) (R.taken replies.old) (R.taken replies.new) engine.old.sound (to_first (at_boundary engine.old).replies)) }
     ensures sound { result ≡ Err Stop.SoundFault → Rose (O.faults sound.old) (O.faults sound.new) }
     ensures reply { result ≡ Err Stop.ReplyFault → Rose (R.faults replies.old) (R.faults replies.new) }
     ensures sound_later { O.faults sound.old ≤ O.faults sound.new }
@@ -145,6 +151,7 @@ pub fn render_blocks<H: Threads + Sync, O: Sink, R: Sink, G: Gate>(
     requires stands { IsAtBoundary engine.settings engine }
     requires blocks { blocks < 2 ^ 62 }
     ensures ended { OnOk result (IsEnded engine.settings engine blocks (O.taken sound.old) (O.taken sound.new) (R.taken replies.old) (R.taken replies.new)) }
+    ensures fronts { OnErr result (TakeFronts (O.taken sound.old) (O.taken sound.new) (R.taken replies.old) (R.taken replies.new) (whole_sound engine.settings engine blocks) (whole_replies engine.settings engine blocks)) }
     ensures sound { result ≡ Err Stop.SoundFault → Rose (O.faults sound.old) (O.faults sound.new) }
     ensures reply { result ≡ Err Stop.ReplyFault → Rose (R.faults replies.old) (R.faults replies.new) }
     ensures unfailed { OnOk result (NothingFailed (O.faults sound.old) (O.faults sound.new) (R.faults replies.old) (R.faults replies.new)) }

@@ -1,4 +1,4 @@
-ghost use Rattle.std.specs.Prelude.{◌≡◌, ◌⊎◌, ◌<◌, ◌≤◌, ◌+◌, ℕ, List, [], Some, None, Err, IfOk, IfErr, OnOk, map, unwrap_or};
+ghost use Rattle.std.specs.Prelude.{◌≡◌, ◌⊎◌, ◌<◌, ◌≤◌, ◌+◌, ℕ, List, [], Some, None, Err, IfOk, IfErr, OnErr, OnOk, map, unwrap_or};
 ghost use Rattle.std.specs.Io.KnownBytes.{Appends, IsAtEnd};
 ghost use Rattle.sn_osc.specs.Shape.{shape};
 ghost use Rattle.sn_pcm.specs.Sound.{data_len, header_bytes};
@@ -6,8 +6,9 @@ ghost use Rattle.sn_pcm.specs.declared.settings.Settings.{Settings};
 ghost use Rattle.sn_ports.specs.Causes.{Rose};
 ghost use Rattle.sn_server.specs.Arriving.{ArePut, IsBegun};
 ghost use Rattle.sn_server.specs.Faults.{NothingFailed};
-ghost use Rattle.sn_server.specs.Going.{IsAtBoundary, IsEnded};
-ghost use Rattle.sn_server.specs.Outcomes.{Played, IsTooLong, IsAnswer, HasAnswer, ArePacketsOf, IsUnplayed, IsUntouched, TakesStream};
+ghost use Rattle.sn_server.specs.Fronts.{TakesFront, TakeFronts};
+ghost use Rattle.sn_server.specs.Going.{IsAtBoundary, IsEnded, whole_replies, whole_sound};
+ghost use Rattle.sn_server.specs.Outcomes.{Played, IsTooLong, IsAnswer, HasAnswer, ArePacketsOf, IsUnplayed, TakesStream, Writes};
 ghost use Rattle.sn_server.specs.Play.{arrive, arrived};
 ghost use Rattle.sn_engine.specs.Running.{opened};
 ghost use Rattle.sn_server.specs.declared.outcome.Outcome.{Outcome};
@@ -51,6 +52,7 @@ fn opened(alloc: Global, settings: &Settings, packets: Elements) -> Result<Engin
 fn write_header<O: Sink>(settings: &Settings, blocks: u64, sound: &mut O) -> Result<(), Stop>
     requires short { IsTooLong settings.now blocks → ⊥ }
     ensures written { OnOk result (Appends (O.taken sound.old) (O.taken sound.new) (header_bytes settings.now (data_len settings.now blocks))) }
+    ensures front { OnErr result (TakesFront (O.taken sound.old) (O.taken sound.new) (header_bytes settings.now (data_len settings.now blocks))) }
     ensures memory { result ≡ Err Stop.NoMemory → ⊥ }
     ensures reply { result ≡ Err Stop.ReplyFault → ⊥ }
     ensures cause { result ≡ Err Stop.SoundFault → Rose (O.faults sound.old) (O.faults sound.new) }
@@ -79,6 +81,8 @@ fn play<H: Threads + Sync, O: Sink, R: Sink, G: Gate>(
     requires stands { IsAtBoundary settings.now engine }
     requires short { IsTooLong settings.now blocks → ⊥ }
     ensures ended { OnOk result (IsEnded settings.now (record engine { sound = header_bytes settings.now (data_len settings.now blocks) }) blocks (O.taken sound.old) (O.taken sound.new) (R.taken replies.old) (R.taken replies.new)) }
+    ensures fronts { OnErr result (TakeFronts (O.taken sound.old) (O.taken sound.new) (R.taken replies.old) (R.taken replies.new)
+        (whole_sound settings.now (record engine { sound = header_bytes settings.now (data_len settings.now blocks) }) blocks) (whole_replies settings.now (record engine { sound = header_bytes settings.now (data_len settings.now blocks) }) blocks)) }
     ensures sound { result ≡ Err Stop.SoundFault → Rose (O.faults sound.old) (O.faults sound.new) }
     ensures reply { result ≡ Err Stop.ReplyFault → Rose (R.faults replies.old) (R.faults replies.new) }
     ensures unfailed { OnOk result (NothingFailed (O.faults sound.old) (O.faults sound.new) (R.faults replies.old) (R.faults replies.new)) }
@@ -135,7 +139,7 @@ fn run_stream<H: Threads + Sync, S: Source, O: Sink, R: Sink, G: Gate>(
     ensures reply { result ≡ Outcome.ReplyFault → Rose (R.faults replies.old) (R.faults replies.new) }
     ensures unfailed { (n : ℕ) → result ≡ Outcome.Done n → (S.faults source.new ≡ S.faults source.old)
         × NothingFailed (O.faults sound.old) (O.faults sound.new) (R.faults replies.old) (R.faults replies.new) }
-    ensures untouched { IsUntouched result (O.taken sound.old) (O.taken sound.new) (R.taken replies.old) (R.taken replies.new) }
+    ensures written { Writes settings.now (S.left source.old) result (O.taken sound.old) (O.taken sound.new) (R.taken replies.old) (R.taken replies.new) }
 {
     let packets = match read_packets(alloc, source) {
         Ok(packets) => packets,
@@ -158,7 +162,8 @@ fn run_stream<H: Threads + Sync, S: Source, O: Sink, R: Sink, G: Gate>(
 
 /// Reads a stream to its end, decodes every packet, checks the length, and then writes the sound and the replies that it gives.
 ///
-/// The first refusal in this order is the answer. Before rendering begins neither sink has taken a byte.
+/// The first refusal in this order is the answer. Before rendering begins neither sink has taken a byte. Where a sink fails, or memory runs out
+/// in the midst, each sink took a front of the bytes that the whole run gives.
 pub fn render<H: Threads + Sync, S: Source, O: Sink, R: Sink, G: Gate>(
     rt: &H,
     alloc: Global,
@@ -184,8 +189,8 @@ pub fn render<H: Threads + Sync, S: Source, O: Sink, R: Sink, G: Gate>(
     // Where no count rises, the answer is the one that the stream has, or want of memory.
     ensures complete { (bytes : List ℕ) (answer : Outcome) → S.left source.old ≡ Some bytes → HasAnswer settings.now bytes answer → (Rose (S.faults source.old) (S.faults source.new) → ⊥)
         → (Rose (O.faults sound.old) (O.faults sound.new) → ⊥) → (Rose (R.faults replies.old) (R.faults replies.new) → ⊥) → (result ≡ answer) ⊎ (result ≡ Outcome.NoMemory) }
-    // A refusal writes nothing.
-    ensures untouched { IsUntouched result (O.taken sound.old) (O.taken sound.new) (R.taken replies.old) (R.taken replies.new) }
+    // What each sink took at every other answer: nothing, or a front of what the stream gives.
+    ensures written { Writes settings.now (S.left source.old) result (O.taken sound.old) (O.taken sound.new) (R.taken replies.old) (R.taken replies.new) }
 {
     run_stream(rt, alloc, settings, source, sound, replies, gate)
 }

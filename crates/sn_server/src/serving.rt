@@ -148,8 +148,9 @@ fn serve<H: Threads + Sync, L: Link, O: Sink, G: Gate>(
 
 /// Serves one connection until it ends, with block 0 at the time tag `base`.
 ///
-/// Where it ends without a fault and memory is there, all that its events give was written and sent. The replies of each
-/// piece of bytes and of each block are sent before the next event is asked for, which no clause here says.
+/// Where it ends without a fault and memory is there, all that its events give was written and sent. Where a fault or want of
+/// memory cuts it short, each event that was taken but the last was answered whole, and a front of what the last one gives was
+/// written and sent. A link may fail at any call: so what an event gives is written and sent before the next one is asked for.
 pub fn serve_one<H: Threads + Sync, L: Link, O: Sink, G: Gate>(
     rt: &H,
     alloc: Global,
@@ -159,7 +160,8 @@ pub fn serve_one<H: Threads + Sync, L: Link, O: Sink, G: Gate>(
     sound: &mut O,
     gate: &G,
 ) -> Ended
-    // What was taken gives this end, and what it gives was written, where the objects tell it.
+    // What was taken gives this end, and what it gives was written; or the connection was cut short in its last event. Each is said where the
+    // objects tell it.
     ensures served { Served settings.now base (L.left link.old) (L.left link.new) (O.taken sound.old) (O.taken sound.new) (L.sent link.old) (L.sent link.new) result }
     // No event is left where nothing more comes.
     ensures close { AtClose result (L.left link.old) (L.left link.new) }

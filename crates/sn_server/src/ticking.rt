@@ -7,9 +7,10 @@ ghost use Rattle.sn_pcm.specs.declared.settings.Settings.{Settings};
 ghost use Rattle.sn_engine.specs.Running.{with_block, with_settled};
 ghost use Rattle.sn_engine.specs.declared.standing.Standing.TheVariants.{Settled, Bounded};
 ghost use Rattle.sn_server.specs.Faults.{NothingFailed, UnlessFault};
+ghost use Rattle.sn_server.specs.Fronts.{TakesFront};
 ghost use Rattle.sn_server.specs.Going.{to_first};
 ghost use Rattle.sn_server.specs.PlayEvents.{Live, tick};
-ghost use Rattle.sn_server.specs.Serving.{IsLive, Follows, IsReady, StaysOpen, IsTickEnd, IsTicked, HasQuit, IsWornOut, HasLeft};
+ghost use Rattle.sn_server.specs.Serving.{IsLive, Follows, IsReady, StaysOpen, IsTickEnd, IsTicked, IsTickPart, HasQuit, IsWornOut, HasLeft};
 ghost use Rattle.sn_server.specs.declared.ended.Ended.{Ended};
 
 use crate::ended::Ended;
@@ -23,9 +24,10 @@ use std::thread::Threads;
 /// As many bytes may come, and as many blocks may be done.
 pub const MOST: u64 = 4611686018427387904;
 
-/// Writes the sound that is still to be written.
+/// Writes the sound that is still to be written. After a fault a front of it was written.
 fn write_sound<O: Sink>(engine: &mut Engine, sound: &mut O) -> Result<(), Ended>
     ensures written { OnOk result (Appends (O.taken sound.old) (O.taken sound.new) engine.old.sound) }
+    ensures front { TakesFront (O.taken sound.old) (O.taken sound.new) engine.old.sound }
     ensures kept { engine.new ≡ record engine.old { sound = [] } }
     ensures only { IfErr result (λ how. how ≡ Ended.SoundFault) }
     ensures cause { result ≡ Err Ended.SoundFault → Rose (O.faults sound.old) (O.faults sound.new) }
@@ -52,6 +54,8 @@ fn render_block<H: Threads + Sync, L: Link, O: Sink, G: Gate>(
     ensures engine { OnOk result (engine.new ≡ record (with_settled (with_block engine.old)) { sound = []; replies = [] ∷ [] }) }
     ensures written { OnOk result (Appends (O.taken sound.old) (O.taken sound.new) (with_settled (with_block engine.old)).sound) }
     ensures sent { OnOk result (Appends (L.sent link.old) (L.sent link.new) (to_first (with_settled (with_block engine.old)).replies)) }
+    ensures sound_front { TakesFront (O.taken sound.old) (O.taken sound.new) (with_settled (with_block engine.old)).sound }
+    ensures reply_front { TakesFront (L.sent link.old) (L.sent link.new) (to_first (with_settled (with_block engine.old)).replies) }
     ensures only { IfErr result (λ how. (how ≡ Ended.SoundFault) ⊎ (how ≡ Ended.LinkFault)) }
     ensures events { KeepsEvents (L.left link.old) (L.left link.new) }
     ensures link { result ≡ Err Ended.LinkFault → Rose (L.faults link.old) (L.faults link.new) }
@@ -80,6 +84,7 @@ fn tick<H: Threads + Sync, L: Link, O: Sink, G: Gate>(
     requires block { engine.old.block < 2 ^ 62 }
     ensures block { OnOk result (IsTicked (O.taken sound.old) (O.taken sound.new) (L.sent link.old) (L.sent link.new) engine.old engine.new) }
     ensures quit { result ≡ Err Ended.Quit → HasQuit (O.taken sound.old) (O.taken sound.new) (L.sent link.old) (L.sent link.new) engine.old }
+    ensures part { IsTickPart (O.taken sound.old) (O.taken sound.new) (L.sent link.old) (L.sent link.new) engine.old }
     ensures only { IfErr result IsTickEnd }
     ensures events { KeepsEvents (L.left link.old) (L.left link.new) }
     ensures link { result ≡ Err Ended.LinkFault → Rose (L.faults link.old) (L.faults link.new) }
@@ -123,7 +128,7 @@ pub fn ticks<H: Threads + Sync, L: Link, O: Sink, G: Gate>(
 ) -> Result<(), Ended>
     requires ready { IsReady engine.old framer.now }
     ensures follows { (s : Settings) (v : Live) (sound_old sent_old : Option (List ℕ)) → IsLive s sound_old (O.taken sound.old) sent_old (L.sent link.old) v engine.old framer.now
-        → Follows s sound_old (O.taken sound.new) sent_old (L.sent link.new) (tick s count v) engine.new framer.now result }
+        → Follows s sound_old (O.taken sound.new) sent_old (L.sent link.new) v (tick s count v) engine.new framer.now result }
     ensures ready { OnOk result (IsReady engine.new framer.now) }
     ensures block { OnOk result (engine.new.block ≡ engine.old.block + count) }
     ensures open { IfErr result StaysOpen }

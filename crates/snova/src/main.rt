@@ -31,8 +31,8 @@ enum Course {
     Rendered(Outcome),
     /// A connection was served.
     Served(Served),
-    /// A file could not be opened, or no connection be taken at the port, or the commands would be
-    /// written over.
+    /// A file could not be opened, no connection be taken at the port, or the clock not be read, or the
+    /// commands would be written over.
     NotOpened,
 }
 

@@ -1,8 +1,9 @@
 ghost use Rattle.std.specs.Prelude.{◌≡◌, ◌⊎◌, ◌<◌, ◌^◌, ◌↔◌, ℕ, List, Some, Ok, Err, length};
+ghost use Rattle.std.specs.Io.KnownBytes.{Keeps};
 ghost use Rattle.sn_ports.specs.Causes.{Rose};
 ghost use Rattle.sn_pcm.specs.declared.settings.Settings.{Settings};
 ghost use Rattle.sn_server.specs.Faults.{NothingFailed};
-ghost use Rattle.sn_server.specs.Outcomes.{Played, IsAnswer, HasAnswer, IsUntouched, TakesStream};
+ghost use Rattle.sn_server.specs.Outcomes.{Played, IsAnswer, HasAnswer, TakesStream, Writes};
 ghost use Rattle.sn_server.specs.declared.outcome.Outcome.{Outcome};
 ghost use Rattle.sn_words.specs.Words.{settings_of};
 ghost use Rattle.snova.specs.Headline.{AreChosen, ByWords};
@@ -15,6 +16,9 @@ use std::thread::Threads;
 
 /// Does what the words `render [key=value ..] COMMANDS SOUND REPLIES` say: reads a command stream, and writes the sound and the
 /// replies that it gives.
+///
+/// Where the words, the stream or its length are refused, or the source fails, neither sink takes a byte. Where a sink fails, or memory runs out in
+/// the midst, each sink took a front of the bytes that the whole run gives.
 pub fn run<H: Threads + Sync, S: Source, O: Sink, R: Sink, G: Gate>(
     rt: &H,
     alloc: Global,
@@ -50,8 +54,9 @@ pub fn run<H: Threads + Sync, S: Source, O: Sink, R: Sink, G: Gate>(
         → (Rose (S.faults source.old) (S.faults source.new) → ⊥) → (Rose (O.faults sound.old) (O.faults sound.new) → ⊥) → (Rose (R.faults replies.old) (R.faults replies.new) → ⊥)
         → (result ≡ answer) ⊎ (result ≡ Outcome.NoMemory)) }
 
-    // A refusal writes nothing.
-    ensures untouched { IsUntouched result (O.taken sound.old) (O.taken sound.new) (R.taken replies.old) (R.taken replies.new) }
+    // What each sink took at every other answer: nothing, or a front of what the stream gives by the settings that the words choose.
+    ensures written { ByWords words.now (λ s. Writes s (S.left source.old) result (O.taken sound.old) (O.taken sound.new) (R.taken replies.old) (R.taken replies.new)) }
+    ensures untouched { (i : ℕ) → result ≡ Outcome.BadWords i → Keeps (O.taken sound.old) (O.taken sound.new) × Keeps (R.taken replies.old) (R.taken replies.new) }
 {
     match settings(words) {
         Ok(chosen) => render(rt, alloc, &chosen, source, sound, replies, gate),

@@ -50,7 +50,8 @@ pub fn serve<H: Threads + Sync, L: Link, O: Sink, G: Gate>(
 ) -> Served
     requires { length words.now < 2 ^ 32 }
 
-    // The events that were taken give the end by the settings of the words, and what they give was written, where the objects tell it.
+    // The events that were taken give the end by the settings of the words, and what they give was written; or a fault or want of memory cut
+    // the last one short. Each is said where the objects tell it.
     ensures served { (how : Ended) → result ≡ Served.Ran how → (s : Settings) × AreServed words.now s × GivesEnd s base
         (L.left link.old) (L.left link.new) (O.taken sound.old) (O.taken sound.new) (L.sent link.old) (L.sent link.new) how }
     ensures close { (how : Ended) → result ≡ Served.Ran how → AtClose how (L.left link.old) (L.left link.new) }

@@ -327,17 +327,19 @@ fn sound_and_replies_go_into_the_files_that_are_named(rt: HostRuntime) -> Result
 
 #[test]
 fn commands_are_not_written_over(rt: HostRuntime) -> Result<(), Fail> {
-    let mut args = Vec::new(rt.alloc());
-    for word in ["render", "kept", "heard", "kept"] {
-        args.push(String::from_str(rt.alloc(), word)?)?;
-    }
-    let words = as_words(&rt, &args)?;
-    assert!(rt; words.len() < 10);
     fs::write(&rt, "kept", SYNC.as_slice())?;
-    let course = render_files(&rt, &args, &words)?;
-    assert!(rt; matches!(course, Course::NotOpened));
-    let kept = fs::read(&rt, "kept")?;
-    assert_eq!(rt; kept.as_slice(), SYNC.as_slice());
+    for (sound, replies) in [("heard", "kept"), ("kept", "told")] {
+        let mut args = Vec::new(rt.alloc());
+        for word in ["render", "kept", sound, replies] {
+            args.push(String::from_str(rt.alloc(), word)?)?;
+        }
+        let words = as_words(&rt, &args)?;
+        assert!(rt; words.len() < 10);
+        let course = render_files(&rt, &args, &words)?;
+        assert!(rt; matches!(course, Course::NotOpened));
+        let kept = fs::read(&rt, "kept")?;
+        assert_eq!(rt; kept.as_slice(), SYNC.as_slice());
+    }
     Ok(())
 }
 

@@ -19,41 +19,33 @@ pub undo-requires : goal.undo-requires
 undo-requires g c = (
   length c.args.repetitions.now - (c.loop-repetition.repetition-index + 1),
   c.args.stage.now,
-  underway_next c.args.repetitions.now c.loop-repetition.repetition-index c.in_ok-mark.mark c.args.stage.now c.loop-repetition.stage c.step.new.stage c.loop-repetition-test.true c.loop-repetition.invariant.underway c.step.ensures.keeps,
+  underway_next c.args.repetitions.now c.loop-repetition.repetition-index c.loop-repetition-test.true c.loop-repetition.invariant.underway c.step.ensures.keeps,
   c.requires.rest,
 )
 
 pub returns-in_default-clause-unchanged : goal.returns-in_default-clause-unchanged
 returns-in_default-clause-unchanged g c =
     unless_any _ (c.undo.new.stage ≡ c.args.stage.now)
-    (c.undo.ensures (length c.args.repetitions.now - (c.loop-repetition.repetition-index + 1)) c.args.stage.now
-    (underway_next c.args.repetitions.now c.loop-repetition.repetition-index c.in_ok-mark.mark c.args.stage.now c.loop-repetition.stage c.step.new.stage c.loop-repetition-test.true c.loop-repetition.invariant.underway c.step.ensures.keeps)
-    c.requires.rest)
+    (c.undo.ensures _ _ (underway_next c.args.repetitions.now c.loop-repetition.repetition-index c.loop-repetition-test.true c.loop-repetition.invariant.underway c.step.ensures.keeps) c.requires.rest)
 
 pub returns-in_default-clause-pictures : goal.returns-in_default-clause-pictures
 returns-in_default-clause-pictures g c = λ words p.
     subst (λ (s : Stage). Pictures s words)
-    (sym (c.undo.ensures (length c.args.repetitions.now - (c.loop-repetition.repetition-index + 1)) c.args.stage.now
-    (underway_next c.args.repetitions.now c.loop-repetition.repetition-index c.in_ok-mark.mark c.args.stage.now c.loop-repetition.stage c.step.new.stage c.loop-repetition-test.true c.loop-repetition.invariant.underway c.step.ensures.keeps)
-    c.requires.rest)) p
+    (sym (c.undo.ensures _ _ (underway_next c.args.repetitions.now c.loop-repetition.repetition-index c.loop-repetition-test.true c.loop-repetition.invariant.underway c.step.ensures.keeps) c.requires.rest)) p
 
 pub returns-in_default-clause-region : goal.returns-in_default-clause-region
 returns-in_default-clause-region g c =
     ap (λ (s : Stage). s.pool.region)
-    (c.undo.ensures (length c.args.repetitions.now - (c.loop-repetition.repetition-index + 1)) c.args.stage.now
-    (underway_next c.args.repetitions.now c.loop-repetition.repetition-index c.in_ok-mark.mark c.args.stage.now c.loop-repetition.stage c.step.new.stage c.loop-repetition-test.true c.loop-repetition.invariant.underway c.step.ensures.keeps)
-    c.requires.rest)
+    (c.undo.ensures _ _ (underway_next c.args.repetitions.now c.loop-repetition.repetition-index c.loop-repetition-test.true c.loop-repetition.invariant.underway c.step.ensures.keeps) c.requires.rest)
 
 pub returns-in_default-clause-clients : goal.returns-in_default-clause-clients
 returns-in_default-clause-clients g c =
     ap (λ (s : Stage). s.notify)
-    (c.undo.ensures (length c.args.repetitions.now - (c.loop-repetition.repetition-index + 1)) c.args.stage.now
-    (underway_next c.args.repetitions.now c.loop-repetition.repetition-index c.in_ok-mark.mark c.args.stage.now c.loop-repetition.stage c.step.new.stage c.loop-repetition-test.true c.loop-repetition.invariant.underway c.step.ensures.keeps)
-    c.requires.rest)
+    (c.undo.ensures _ _ (underway_next c.args.repetitions.now c.loop-repetition.repetition-index c.loop-repetition-test.true c.loop-repetition.invariant.underway c.step.ensures.keeps) c.requires.rest)
 
 pub loop-repetition-preserved : goal.loop-repetition-preserved
 loop-repetition-preserved g c = record {
-  underway = underway_next c.args.repetitions.now c.loop-repetition.repetition-index c.in_ok-mark.mark c.args.stage.now c.loop-repetition.stage c.step.new.stage c.loop-repetition-test.true c.loop-repetition.invariant.underway c.step.ensures.keeps;
+  underway = underway_next c.args.repetitions.now c.loop-repetition.repetition-index c.loop-repetition-test.true c.loop-repetition.invariant.underway c.step.ensures.keeps;
   row = λ words.
       step_done g.R.Repetition.judge g.R.Repetition.act c.args.repetitions.now c.loop-repetition.repetition-index c.repetition-item.result (turn_of c.loop-repetition.stage words c.loop-repetition.replies) (turn_of c.step.new.stage words c.step.new.replies)
       c.step.result c.loop-repetition-test.true c.repetition-item.is (c.step.ensures.row words) (c.in-Ok-None.is ∙ ap Ok c.in-Ok-None.field-0-is) ∙ c.loop-repetition.invariant.row words;

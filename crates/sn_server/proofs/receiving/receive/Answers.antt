@@ -1,15 +1,42 @@
-use Rattle.std.proofs.Common.{◌≡◌, [], ◌∷◌, List, ℕ, Option, Some, None, subst}
+use Rattle.std.proofs.Common.{◌≡◌, subst, inl, inr, refl}
 use Rattle.sn_osc.specs.Frames.{first_frame}
 use Rattle.sn_osc.specs.Unpacking.{unpacked}
-use Rattle.sn_server.specs.PlayEvents.{Live, receive}
-use Rattle.sn_server.specs.Serving.{IsLive, GoesOn, Stops}
+use Rattle.sn_server.specs.PlayEvents.{receive}
+use Rattle.sn_server.specs.Serving.{Stops}
+use Rattle.sn_server.specs.declared.ended.Ended.TheVariants as ends
 use Rattle.sn_server.proofs.PacketLemmas.{received_ready, received_block, received_alone}
-use Rattle.sn_server.proofs.ServingLemmas.{received, received_whole, received_bad, given}
+use Rattle.sn_server.proofs.ServingLemmas.{received, received_cut, received_whole, received_bad, cut_here, follows_cut, given}
 use Rattle.sn_server.proofs.FaultLemmas.{unless_err}
+use Rattle.sn_server.proofs.GrowingLemmas.{receive_grows}
 use Rattle.sn_server.proofs.receiving.receive.Goals as goal
 
 pub send_replies-requires : goal.send_replies-requires
 send_replies-requires g c = record { alone = received_alone c.args.engine.now c.take_packets.new.engine (unpacked c.feed.new.self.kept).packets c.in_ok-bad.ensures.engine c.requires.ready.said }
+
+pub returns-in_err-feed-clause-follows : goal.returns-in_err-feed-clause-follows
+returns-in_err-feed-clause-follows g c = λ s v sound_old sound_new sent_old live.
+    let sent = g.L.Link.sent c.args.link.now in
+    let course = receive c.args.piece.now v in
+    follows_cut s sound_old sound_new sent_old sent v course c.args.engine.now c.feed.new.self c.from_residual.result ends.NoMemory c.from_residual.ensures.1 (inl refl)
+    (cut_here s sound_old sound_new sent_old sent v c.args.engine.now c.args.framer.now course live (receive_grows s c.args.piece.now v))
+
+pub returns-in_err-bad-clause-follows : goal.returns-in_err-bad-clause-follows
+returns-in_err-bad-clause-follows g c = λ s v sound_old sound_new sent_old live.
+    let sent = g.L.Link.sent c.args.link.now in
+    let course = receive c.args.piece.now v in
+    let r = c.from_residual-in_err-bad in
+    follows_cut s sound_old sound_new sent_old sent v course c.take_packets.new.engine c.take_packets.new.framer r.result ends.NoMemory r.ensures.1 (inl refl)
+    (cut_here s sound_old sound_new sent_old sent v c.args.engine.now c.args.framer.now course live (receive_grows s c.args.piece.now v))
+
+pub returns-in_err-send_replies-clause-follows : goal.returns-in_err-send_replies-clause-follows
+returns-in_err-send_replies-clause-follows g c = λ s v sound_old sound_new sent_old live.
+    let sent_old_link = g.L.Link.sent c.args.link.now in
+    let sent_new = g.L.Link.sent c.send_replies.new.link in
+    let course = receive c.args.piece.now v in
+    let r = c.from_residual-in_err-send_replies in
+    follows_cut s sound_old sound_new sent_old sent_new v course c.send_replies.new.engine c.take_packets.new.framer r.result c.in_err-send_replies.field-0.0 r.ensures.1 (inr c.in_err-send_replies.ensures.only)
+    (received_cut s v c.args.piece.now sound_old sound_new sent_old sent_old_link sent_new c.args.engine.now c.take_packets.new.engine c.args.framer.now c.feed.new.self
+    live c.in_ok-feed.ensures.ok c.in_ok-bad.ensures.engine c.send_replies.ensures.front)
 
 pub returns-in-Some-clause-follows : goal.returns-in-Some-clause-follows
 returns-in-Some-clause-follows g c = λ s v sound_old sound_new sent_old live.

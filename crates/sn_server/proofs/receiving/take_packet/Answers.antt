@@ -1,6 +1,5 @@
-use Rattle.std.proofs.Common.{◌+◌, length, arith}
+use Rattle.std.proofs.Common.{arith}
 use Rattle.sn_osc.specs.Shape.{shape}
-use Rattle.sn_engine.specs.Entries.{entries_of}
 use Rattle.sn_engine.proofs.PutLemmas.{entries_few}
 use Rattle.sn_server.proofs.PacketLemmas.{packet_puts}
 use Rattle.sn_server.proofs.receiving.take_packet.Goals as goal

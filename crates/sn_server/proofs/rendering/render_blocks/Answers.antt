@@ -1,7 +1,8 @@
-use Rattle.std.proofs.Common.{◌≡◌, ◌≤◌, ◌-◌, ◌+◌, ℕ, suc, subst, sym, ◌∙◌, arith, le_refl, refl}
+use Rattle.std.proofs.Common.{◌≡◌, ◌-◌, ◌+◌, suc, subst, arith, le_refl, refl}
 use Rattle.sn_server.specs.Going.{IsGoing}
 use Rattle.sn_server.proofs.GoingLemmas.{begins, goes_on, ended, on_ok}
 use Rattle.sn_server.proofs.FaultLemmas.{none_failed}
+use Rattle.sn_server.proofs.CutLemmas.{block_cut, end_cut, on_any_err, on_err}
 use Rattle.sn_server.proofs.rendering.render_blocks.Goals as goal
 
 pub loop-number-init : goal.loop-number-init
@@ -40,3 +41,18 @@ returns-clause-ended g c =
 
 pub returns-clause-unfailed : goal.returns-clause-unfailed
 returns-clause-unfailed g c = on_ok c.render_end.result (none_failed _ _ _ _ _ _ c.loop-number.invariant.still) c.render_end.ensures.unfailed
+
+pub returns-in_err-render_block-clause-fronts : goal.returns-in_err-render_block-clause-fronts
+returns-in_err-render_block-clause-fronts g c =
+    let s = c.args.engine.settings in
+    let left = c.args.blocks - (c.loop-number.number + 1) in
+    let more : c.args.blocks - c.loop-number.number ≡ suc left = omega (arith, c.loop-number-test.true) in
+    let going = subst (λ n. IsGoing s c.args.engine c.args.blocks n (g.O.Sink.taken c.args.sound.now) (g.O.Sink.taken c.loop-number.sound) (g.R.Sink.taken c.args.replies.now) (g.R.Sink.taken c.loop-number.replies) c.loop-number.engine) more c.loop-number.invariant.going in
+    on_any_err c.from_residual.result (block_cut s c.args.engine c.args.blocks left _ _ _ _ _ _ c.loop-number.engine going c.in_err-render_block.ensures.fronts)
+
+pub returns-clause-fronts : goal.returns-clause-fronts
+returns-clause-fronts g c =
+    let s = c.args.engine.settings in
+    let none : c.args.blocks - c.loop-number.number ≡ 0 = omega (arith, c.loop-number-test.false) in
+    let going = subst (λ n. IsGoing s c.args.engine c.args.blocks n (g.O.Sink.taken c.args.sound.now) (g.O.Sink.taken c.loop-number.sound) (g.R.Sink.taken c.args.replies.now) (g.R.Sink.taken c.loop-number.replies) c.loop-number.engine) none c.loop-number.invariant.going in
+    on_err c.render_end.result (end_cut s c.args.engine c.args.blocks _ _ _ _ _ _ c.loop-number.engine going) c.render_end.ensures.fronts

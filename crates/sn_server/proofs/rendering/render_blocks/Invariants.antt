@@ -1,5 +1,5 @@
 -- The engine plays on what the session would.
-use Rattle.std.proofs.Common.{◌≡◌, ◌≤◌, ◌-◌, pos, ◌*◌, replicate}
+use Rattle.std.proofs.Common.{◌≤◌, ◌-◌}
 use Rattle.sn_server.specs.Going.{IsGoing}
 use Rattle.sn_server.specs.Faults.{NothingFailed}
 use Rattle.sn_server.proofs.rendering.render_blocks.Given as goal

@@ -1,4 +1,4 @@
-use Rattle.std.proofs.Common.{map, subst, arith, ap}
+use Rattle.std.proofs.Common.{map, subst}
 use Rattle.sn_osc.specs.Shape.{shape}
 use Rattle.sn_server.specs.Play.{arrive}
 use Rattle.sn_server.proofs.ArrivingLemmas.{IsOffering, offers}

@@ -1,8 +1,10 @@
 use Rattle.sn_pcm.specs.Sound.{data_len, header_bytes}
 use Rattle.std.proofs.Common.{subst, refl}
-use Rattle.sn_server.specs.Going.{IsEnded, IsAtBoundary}
+use Rattle.sn_server.specs.Fronts.{TakeFronts}
+use Rattle.sn_server.specs.Going.{IsEnded, whole_replies, whole_sound}
 use Rattle.sn_server.proofs.GoingLemmas.{on_ok, headed, few_blocks}
 use Rattle.sn_server.proofs.FaultLemmas.{none_failed}
+use Rattle.sn_server.proofs.CutLemmas.{head_cut, headed_cut, on_any_err, on_err}
 use Rattle.sn_server.proofs.running.play.Goals as goal
 
 pub render_blocks-requires-clause-stands : goal.render_blocks-requires-clause-stands
@@ -21,3 +23,15 @@ pub returns-clause-unfailed : goal.returns-clause-unfailed
 returns-clause-unfailed g c =
     let replies_old = g.R.Sink.faults c.args.replies.now in
     on_ok c.render_blocks.result (none_failed _ _ _ replies_old replies_old _ (c.in_ok-write_header.ensures.unfailed, refl)) c.render_blocks.ensures.unfailed
+
+pub returns-in_err-write_header-clause-fronts : goal.returns-in_err-write_header-clause-fronts
+returns-in_err-write_header-clause-fronts g c =
+    let s = c.args.settings.now in
+    on_any_err c.from_residual.result (head_cut s c.args.engine c.args.blocks (header_bytes s (data_len s c.args.blocks)) _ _ _ c.in_err-write_header.ensures.front)
+
+pub returns-clause-fronts : goal.returns-clause-fronts
+returns-clause-fronts g c =
+    let s = c.args.settings.now in
+    on_err c.render_blocks.result (λ t. headed_cut s c.args.engine c.args.blocks (header_bytes s (data_len s c.args.blocks)) _ _ _ _ _ c.requires.silent c.in_ok-write_header.ensures.written
+    (subst (λ k. TakeFronts (g.O.Sink.taken c.write_header.new.sound) (g.O.Sink.taken c.render_blocks.new.sound) (g.R.Sink.taken c.args.replies.now) (g.R.Sink.taken c.render_blocks.new.replies)
+    (whole_sound k c.args.engine c.args.blocks) (whole_replies k c.args.engine c.args.blocks)) c.requires.stands.settings t)) c.render_blocks.ensures.fronts

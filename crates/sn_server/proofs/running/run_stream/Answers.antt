@@ -1,11 +1,11 @@
-use Rattle.std.proofs.Common.{◌≡◌, map, ap, ◌∙◌, arith}
+use Rattle.std.proofs.Common.{◌≡◌, map, ap, ◌∙◌, arith, inr}
 use Rattle.std.specs.Prelude.{unwrap_or}
 use Rattle.sn_osc.specs.Shape.{shape}
 use Rattle.sn_queue.specs.Steps.{last_due}
 use Rattle.sn_server.specs.declared.outcome.Outcome.TheVariants.{Done, SoundFault, ReplyFault}
 use Rattle.sn_server.specs.Play.{last_of}
 use Rattle.sn_server.proofs.ArrivingLemmas.{frames_put}
-use Rattle.sn_server.proofs.OutcomeLemmas.{done_played, long_answer, faulty_answer, not_long, unplayed, unplayed_untouched}
+use Rattle.sn_server.proofs.OutcomeLemmas.{done_played, long_answer, faulty_answer, not_long, played_part, unplayed, unplayed_writes}
 use Rattle.sn_server.proofs.running.run_stream.Goals as goal
 
 pub opened-requires : goal.opened-requires
@@ -58,11 +58,35 @@ returns-in-Err-clause-sound g c = λ e. unplayed c.in-Err.outcome SoundFault _ (
 pub returns-in-Err-clause-reply : goal.returns-in-Err-clause-reply
 returns-in-Err-clause-reply g c = λ e. unplayed c.in-Err.outcome ReplyFault _ (λ x. x) c.in-Err.ensures.unplayed e
 
-pub returns-in-Err-clause-untouched : goal.returns-in-Err-clause-untouched
-returns-in-Err-clause-untouched g c = unplayed_untouched c.in-Err.outcome (g.O.Sink.taken c.args.sound.now) (g.R.Sink.taken c.args.replies.now) c.in-Err.ensures.unplayed
+pub returns-in-Err-clause-written : goal.returns-in-Err-clause-written
+returns-in-Err-clause-written g c = unplayed_writes c.args.settings.now (g.S.Source.left c.args.source.now) c.in-Err.outcome (g.O.Sink.taken c.args.sound.now) (g.R.Sink.taken c.args.replies.now) c.in-Err.ensures.unplayed
 
 pub returns-in-Ok-play-clause-unfailed : goal.returns-in-Ok-play-clause-unfailed
 returns-in-Ok-play-clause-unfailed g c = λ n same. (c.in-Ok.ensures.unfailed, c.in-Ok-play.ensures.unfailed)
 
 pub returns-in-Err-clause-unfailed : goal.returns-in-Err-clause-unfailed
 returns-in-Err-clause-unfailed g c = λ n e. unplayed c.in-Err.outcome (Done n) _ (λ x. x) c.in-Err.ensures.unplayed e
+
+pub returns-in-Err-NoMemory-clause-written : goal.returns-in-Err-NoMemory-clause-written
+returns-in-Err-NoMemory-clause-written g c =
+    let s = c.args.settings.now in
+    let packets = map shape c.in-Ok.packets.items in
+    let last : c.unwrap_or-blocks.result ≡ last_of s packets = c.unwrap_or-blocks.ensures ∙ ap (λ o. unwrap_or o 0) (c.last.ensures ∙ ap (λ e. last_due e.waiting) c.in-Ok-opened.ensures) in
+    inr (played_part s (g.S.Source.left c.args.source.now) (g.O.Sink.taken c.args.sound.now) (g.O.Sink.taken c.play.new.sound) (g.R.Sink.taken c.args.replies.now) (g.R.Sink.taken c.play.new.replies)
+    packets c.unwrap_or-blocks.result c.in-Ok-opened.engine c.in-Ok.ensures.packets last (not_long _ _ c.too_long.ensures.1 c.if-too_long.false) c.in-Ok-opened.ensures c.in-Err-NoMemory.ensures.fronts)
+
+pub returns-in-Err-SoundFault-clause-written : goal.returns-in-Err-SoundFault-clause-written
+returns-in-Err-SoundFault-clause-written g c =
+    let s = c.args.settings.now in
+    let packets = map shape c.in-Ok.packets.items in
+    let last : c.unwrap_or-blocks.result ≡ last_of s packets = c.unwrap_or-blocks.ensures ∙ ap (λ o. unwrap_or o 0) (c.last.ensures ∙ ap (λ e. last_due e.waiting) c.in-Ok-opened.ensures) in
+    played_part s (g.S.Source.left c.args.source.now) (g.O.Sink.taken c.args.sound.now) (g.O.Sink.taken c.play.new.sound) (g.R.Sink.taken c.args.replies.now) (g.R.Sink.taken c.play.new.replies)
+    packets c.unwrap_or-blocks.result c.in-Ok-opened.engine c.in-Ok.ensures.packets last (not_long _ _ c.too_long.ensures.1 c.if-too_long.false) c.in-Ok-opened.ensures c.in-Err-SoundFault.ensures.fronts
+
+pub returns-in-Err-ReplyFault-clause-written : goal.returns-in-Err-ReplyFault-clause-written
+returns-in-Err-ReplyFault-clause-written g c =
+    let s = c.args.settings.now in
+    let packets = map shape c.in-Ok.packets.items in
+    let last : c.unwrap_or-blocks.result ≡ last_of s packets = c.unwrap_or-blocks.ensures ∙ ap (λ o. unwrap_or o 0) (c.last.ensures ∙ ap (λ e. last_due e.waiting) c.in-Ok-opened.ensures) in
+    played_part s (g.S.Source.left c.args.source.now) (g.O.Sink.taken c.args.sound.now) (g.O.Sink.taken c.play.new.sound) (g.R.Sink.taken c.args.replies.now) (g.R.Sink.taken c.play.new.replies)
+    packets c.unwrap_or-blocks.result c.in-Ok-opened.engine c.in-Ok.ensures.packets last (not_long _ _ c.too_long.ensures.1 c.if-too_long.false) c.in-Ok-opened.ensures c.in-Err-ReplyFault.ensures.fronts

@@ -1,8 +1,14 @@
-use Rattle.std.proofs.Common.{◌≡◌, ◌∙◌, length, ap, le_refl, arith, refl}
-use Rattle.sn_server.proofs.EventLemmas.{begins_serving, begins_ready, serves_on, serves_to, as_long}
+use Rattle.std.proofs.Common.{◌∙◌, length, ap, le_refl, arith, refl}
+use Rattle.sn_server.proofs.EventLemmas.{begins_serving, begins_ready, serves_on, serves_to, serves_nothing, as_long}
 use Rattle.sn_server.specs.Faults.{NothingFailed}
 use Rattle.sn_server.proofs.FaultLemmas.{none_failed, given_so}
 use Rattle.sn_server.proofs.serving.serve.Goals as goal
+
+pub returns-in_default-clause-served : goal.returns-in_default-clause-served
+returns-in_default-clause-served g c = serves_nothing c.args.settings.now c.args.base (g.L.Link.left c.args.link.now) (g.O.Sink.taken c.args.sound.now) (g.L.Link.sent c.args.link.now)
+
+pub returns-in_default-room-clause-served : goal.returns-in_default-room-clause-served
+returns-in_default-room-clause-served g c = serves_nothing c.args.settings.now c.args.base (g.L.Link.left c.args.link.now) (g.O.Sink.taken c.args.sound.now) (g.L.Link.sent c.args.link.now)
 
 pub loop-how-init : goal.loop-how-init
 loop-how-init g c =

@@ -1,6 +1,6 @@
 use Rattle.std.proofs.Common.{take, ◌≡◌, ◌∙◌, refl}
 use Rattle.sn_ports.specs.Links.{bytes, ticks, Takes}
-use Rattle.sn_server.proofs.EventLemmas.{known_kept, live_kept, took_event, took_none, none_at_close, fed_bytes, fed_ticks, fed_end}
+use Rattle.sn_server.proofs.EventLemmas.{known_kept, live_kept, took_event, took_none, none_taken, none_at_close, fed_bytes, fed_ticks, fed_end}
 use Rattle.sn_server.specs.Faults.{NothingFailed}
 use Rattle.sn_server.proofs.FaultLemmas.{none_failed, unless_so}
 use Rattle.sn_server.proofs.ServingLemmas.{given}
@@ -40,6 +40,13 @@ returns-in-Ok-End-clause-took g c = λ s v sound_old sent_old live.
     let sent_new = g.L.Link.sent c.next.new.self in
     let on = live_kept s sound_old sound_new sent_old (g.L.Link.sent c.args.link.now) sent_new v c.args.engine.now c.args.framer.now live c.in-Ok-End.ensures.sent in
     took_none s (g.L.Link.left c.args.link.now) (g.L.Link.left c.next.new.self) sound_old sound_new sent_old sent_new v c.args.engine.now c.args.framer.now c.closing.result on c.requires.left (fed_end (g.L.Link.left c.args.link.now) (g.L.Link.left c.next.new.self) c.next.new.into c.in-Ok-End.field-0 c.in-Ok-End.field-0-is c.in-Ok-End.ensures.events) c.closing.ensures
+
+pub returns-in-Err-clause-took : goal.returns-in-Err-clause-took
+returns-in-Err-clause-took g c = λ s v sound_old sent_old live.
+    let sound_new = g.O.Sink.taken c.args.sound.now in
+    let sent_new = g.L.Link.sent c.next.new.self in
+    let on = live_kept s sound_old sound_new sent_old (g.L.Link.sent c.args.link.now) sent_new v c.args.engine.now c.args.framer.now live c.in-Err.ensures.sent in
+    none_taken s (g.L.Link.left c.args.link.now) (g.L.Link.left c.next.new.self) sound_old sound_new sent_old sent_new v c.args.engine.now c.args.framer.now on c.in-Err.ensures.events
 
 pub returns-in-Ok-End-clause-close : goal.returns-in-Ok-End-clause-close
 returns-in-Ok-End-clause-close g c = none_at_close c.closing.result (g.L.Link.left c.args.link.now) (g.L.Link.left c.next.new.self)

@@ -1,6 +1,9 @@
-use Rattle.std.proofs.Common.{◌≡◌, [], length, ap, ◌∙◌, refl}
+use Rattle.std.proofs.Common.{◌≡◌, ℕ, List, length, ap, subst, ◌∙◌, refl}
 use Rattle.sn_engine.specs.Running.{Running, with_block, with_settled}
+use Rattle.sn_server.specs.Going.{to_first}
+use Rattle.sn_server.specs.Fronts.{TakesFront}
 use Rattle.sn_server.proofs.ServingLemmas.{block_alone}
+use Rattle.sn_server.proofs.GrowingLemmas.{takes_none}
 use Rattle.sn_server.specs.Faults.{NothingFailed}
 use Rattle.sn_server.proofs.FaultLemmas.{given_so, unless_so, unless_err}
 use Rattle.sn_server.proofs.ticking.render_block.Goals as goal
@@ -26,3 +29,22 @@ returns-clause-unfailed g c =
     let sound_old = g.O.Sink.faults c.args.sound.now in
     let sound_new = g.O.Sink.faults c.write_sound.new.sound in
     unless_so c.send_replies.result (link_new ≡ link_old) (NothingFailed link_old link_new sound_old sound_new) (λ still. (still, c.in_ok-write_sound.ensures.unfailed)) c.send_replies.ensures.unfailed
+
+pub returns-in_err-write_sound-clause-sound_front : goal.returns-in_err-write_sound-clause-sound_front
+returns-in_err-write_sound-clause-sound_front g c =
+    let done : c.settle.new.self ≡ with_settled (with_block c.args.engine.now) = c.settle.ensures ∙ ap with_settled c.blocks-2.ensures in
+    subst (λ (t : List ℕ). TakesFront (g.O.Sink.taken c.args.sound.now) (g.O.Sink.taken c.write_sound.new.sound) t) (ap (λ (r : Running). r.sound) done) c.write_sound.ensures.front
+
+pub returns-clause-sound_front : goal.returns-clause-sound_front
+returns-clause-sound_front g c =
+    let done : c.settle.new.self ≡ with_settled (with_block c.args.engine.now) = c.settle.ensures ∙ ap with_settled c.blocks-2.ensures in
+    subst (λ (t : List ℕ). TakesFront (g.O.Sink.taken c.args.sound.now) (g.O.Sink.taken c.write_sound.new.sound) t) (ap (λ (r : Running). r.sound) done) c.write_sound.ensures.front
+
+pub returns-in_err-write_sound-clause-reply_front : goal.returns-in_err-write_sound-clause-reply_front
+returns-in_err-write_sound-clause-reply_front g c = takes_none (g.L.Link.sent c.args.link.now) (to_first (with_settled (with_block c.args.engine.now)).replies)
+
+pub returns-clause-reply_front : goal.returns-clause-reply_front
+returns-clause-reply_front g c =
+    let done : c.settle.new.self ≡ with_settled (with_block c.args.engine.now) = c.settle.ensures ∙ ap with_settled c.blocks-2.ensures in
+    subst (λ (t : List ℕ). TakesFront (g.L.Link.sent c.args.link.now) (g.L.Link.sent c.send_replies.new.link) t)
+    (ap (λ (r : Running). to_first r.replies) c.write_sound.ensures.kept ∙ ap (λ (r : Running). to_first r.replies) done) c.send_replies.ensures.front

@@ -1,5 +1,5 @@
-use Rattle.std.proofs.Common.{length, ap, ◌∙◌, ◌≡◌, refl}
-use Rattle.sn_server.proofs.ServingLemmas.{boundary_alone}
+use Rattle.std.proofs.Common.{length, ap, sym, ◌∙◌, ◌≡◌, refl}
+use Rattle.sn_server.proofs.ServingLemmas.{boundary_alone, none_part, quit_part, block_part}
 use Rattle.sn_server.specs.Faults.{NothingFailed}
 use Rattle.sn_server.proofs.FaultLemmas.{given_so, unless_err}
 use Rattle.sn_server.proofs.ticking.tick.Goals as goal
@@ -19,3 +19,21 @@ returns-in_err-send_replies-in-Quit-clause-unfailed g c =
     let sound = g.O.Sink.faults c.args.sound.now in
     unless_err r.result how (NothingFailed link_old link_new sound sound) r.ensures.1
     (given_so how (link_new ≡ link_old) (NothingFailed link_old link_new sound sound) (λ still. (still, refl)) c.in_err-send_replies-in-Quit.ensures.unfailed)
+
+pub returns-in_err-boundary-clause-part : goal.returns-in_err-boundary-clause-part
+returns-in_err-boundary-clause-part g c = none_part (g.O.Sink.taken c.args.sound.now) (g.L.Link.sent c.args.link.now) c.args.engine.now
+
+pub returns-in-On-clause-part : goal.returns-in-On-clause-part
+returns-in-On-clause-part g c =
+    block_part (g.O.Sink.taken c.args.sound.now) (g.O.Sink.taken c.render_block.new.sound) (g.L.Link.sent c.args.link.now) (g.L.Link.sent c.render_block.new.link) c.args.engine.now c.boundary.new.self
+    (sym c.in_ok-boundary.ensures.flow ∙ c.in-On.is) c.in_ok-boundary.ensures.ok c.render_block.ensures.sound_front c.render_block.ensures.reply_front
+
+pub returns-in_err-send_replies-in-Quit-clause-part : goal.returns-in_err-send_replies-in-Quit-clause-part
+returns-in_err-send_replies-in-Quit-clause-part g c =
+    quit_part (g.O.Sink.taken c.args.sound.now) (g.L.Link.sent c.args.link.now) (g.L.Link.sent c.send_replies.new.link) c.args.engine.now c.boundary.new.self
+    (sym c.in_ok-boundary.ensures.flow ∙ c.in-Quit.is) c.in_ok-boundary.ensures.ok c.send_replies.ensures.front
+
+pub returns-in_ok-send_replies-in-Quit-clause-part : goal.returns-in_ok-send_replies-in-Quit-clause-part
+returns-in_ok-send_replies-in-Quit-clause-part g c =
+    quit_part (g.O.Sink.taken c.args.sound.now) (g.L.Link.sent c.args.link.now) (g.L.Link.sent c.send_replies.new.link) c.args.engine.now c.boundary.new.self
+    (sym c.in_ok-boundary.ensures.flow ∙ c.in-Quit.is) c.in_ok-boundary.ensures.ok c.send_replies.ensures.front

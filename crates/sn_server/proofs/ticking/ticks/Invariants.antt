@@ -11,7 +11,7 @@ use Rattle.sn_server.proofs.ticking.ticks.Given as goal
 abbrev pub invariant-loop-number : goal.invariant-loop-number
 invariant-loop-number g l = record {
   follows : (s : Settings) (v : Live) (sound_old sent_old : Option (List ℕ)) → IsLive s sound_old (g.O.Sink.taken l.fn.sound) sent_old (g.L.Link.sent l.fn.link) v l.fn.engine l.framer
-      → IsTicking s sound_old (g.O.Sink.taken l.sound) sent_old (g.L.Link.sent l.link) (tick s l.count v) (l.count - l.number) l.engine l.framer;
+      → IsTicking s sound_old (g.O.Sink.taken l.sound) sent_old (g.L.Link.sent l.link) v (tick s l.count v) (l.count - l.number) l.engine l.framer;
   ready : IsReady l.engine l.framer;
   block : l.engine.block ≡ l.fn.engine.block + l.number;
   events : KeepsEvents (g.L.Link.left l.fn.link) (g.L.Link.left l.link);

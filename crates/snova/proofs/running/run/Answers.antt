@@ -1,3 +1,5 @@
+use Rattle.std.proofs.Common.{subst}
+use Rattle.sn_server.specs.Outcomes.{Writes}
 use Rattle.snova.proofs.ByWordsLemmas.{by_words}
 use Rattle.snova.proofs.running.run.Goals as goal
 
@@ -12,3 +14,10 @@ returns-in-Ok-clause-complete g c = by_words c.args.words.now c.in-Ok.chosen _ c
 
 pub returns-in-Ok-clause-unfailed : goal.returns-in-Ok-clause-unfailed
 returns-in-Ok-clause-unfailed g c = c.render.ensures.unfailed
+
+pub returns-in-Ok-clause-written : goal.returns-in-Ok-clause-written
+returns-in-Ok-clause-written g c = by_words c.args.words.now c.in-Ok.chosen _ c.in-Ok.ensures.ok c.render.ensures.written
+
+pub returns-in-Ok-clause-untouched : goal.returns-in-Ok-clause-untouched
+returns-in-Ok-clause-untouched g c = λ i bad.
+    subst (λ o. Writes c.in-Ok.chosen (g.S.Source.left c.args.source.now) o (g.O.Sink.taken c.args.sound.now) (g.O.Sink.taken c.render.new.sound) (g.R.Sink.taken c.args.replies.now) (g.R.Sink.taken c.render.new.replies)) bad c.render.ensures.written

@@ -1,0 +1,8 @@
+use Rattle.sn_reply.proofs.FrameLaws.{begins_refl}
+use Rattle.sn_server.specs.Going.{to_first}
+use Rattle.sn_server.proofs.receiving.send_replies.Goals as goal
+
+pub returns-in-Ok-clause-front : goal.returns-in-Ok-clause-front
+returns-in-Ok-clause-front g c =
+    let said = to_first c.args.engine.now.replies in
+    (said, c.in-Ok.ensures.sent, begins_refl said)

@@ -1,83 +1,93 @@
 #!/usr/bin/env python3
-"""Plays a scale over a connection to `snova serve`, note by note, and prints each reply as it comes.
+"""Plays over a connection to `snova serve`, and prints each reply as it comes.
 
-    python3 examples/live.py PORT
+    python3 examples/live.py PORT NAME      a piece of this directory, in time, and `/quit` at its end
+    python3 examples/live.py PORT           lines as they are typed: messages and definitions, as in a piece, which act at once
+
+It waits up to ten seconds for the server, and exits with 1 if a command was refused.
 """
 import socket
 import struct
 import sys
+import threading
 import time
 
-from make import message, sized
+import make
+from replies import packets, shown
 
-NOTE = """snova 1
-def note
-control freq 440000
-tone = SinOsc freq 0
-level = Line 0.3 0 600 2
-sound = Mul tone level
-Out.ar 0 sound
-Out.ar 1 sound
-end
-"""
-SCALE = [261626, 293665, 329628, 349228, 391995, 440000, 493883, 523251]
+# Seconds by which a bundle is sent ahead, and from 1900, as time tags count, to 1970, as the clock does.
+AHEAD = 0.2
+SINCE_1900 = 2208988800
 
 
-def text_at(data, at):
-    """The string at a place of a packet, and the place behind it."""
-    end = data.index(b"\0", at)
-    return data[at:end].decode(), end + 4 - end % 4
-
-
-def words(packet):
-    """The address and the arguments of a message of ints and strings."""
-    address, at = text_at(packet, 0)
-    tags, at = text_at(packet, at)
-    found = [address]
-    for tag in tags[1:]:
-        if tag == "i":
-            found.append(struct.unpack_from(">i", packet, at)[0])
-            at += 4
-        else:
-            argument, at = text_at(packet, at)
-            found.append(argument)
-    return found
-
-
-def listen(connection, seconds):
-    """Prints the replies that come within so many seconds."""
-    until = time.monotonic() + seconds
-    kept = b""
-    while (left := until - time.monotonic()) > 0:
-        connection.settimeout(left)
+def connect(port):
+    until = time.monotonic() + 10
+    while True:
         try:
-            piece = connection.recv(65536)
-        except TimeoutError:
-            return
-        if not piece:
-            return
-        kept += piece
-        while len(kept) >= 4 and len(kept) >= 4 + (size := struct.unpack_from(">i", kept)[0]):
-            print(*words(kept[4:4 + size]), flush=True)
-            kept = kept[4 + size:]
+            found = socket.create_connection(("127.0.0.1", port))
+        except ConnectionRefusedError:
+            if time.monotonic() > until:
+                raise SystemExit(f"nobody listens on port {port}") from None
+            time.sleep(0.05)
+        else:
+            found.setsockopt(socket.IPPROTO_TCP, socket.TCP_NODELAY, 1)
+            return found
+
+
+class Listener(threading.Thread):
+    """Prints what comes over a connection until it is closed, and counts what was refused."""
+
+    def __init__(self, connection):
+        super().__init__(daemon=True)
+        self.connection, self.refused = connection, 0
+
+    def run(self):
+        kept = b""
+        while piece := self.connection.recv(65536):
+            found, kept = packets(kept + piece)
+            for packet in found:
+                line = shown(packet)
+                self.refused += line.startswith("/fail ")
+                print(line, flush=True)
+
+
+def play(connection, name):
+    """Sends each bundle of a piece a little before its time, and `/quit` at the end."""
+    piece = make.read(name)
+    begin = time.time() + AHEAD
+    for seconds, messages in piece:
+        time.sleep(max(0, begin + float(seconds) - AHEAD - time.time()))
+        tag = make.tag_at(seconds) + int((begin + SINCE_1900) * 2**32)
+        if seconds == piece[-1][0]:
+            messages = [*messages, make.message("/quit", [])]
+        connection.sendall(make.sized(make.bundle(tag, messages)))
+
+
+def type_lines(connection):
+    """Sends each line of the standard input as a message, and each definition by `/d_recv`."""
+    lines = enumerate((line.rstrip("\n") for line in sys.stdin), 1)
+    for _, line in lines:
+        try:
+            if line == "snova 1":
+                connection.sendall(make.sized(make.message("/d_recv", [make.definition(lines)])))
+            elif line.strip():
+                connection.sendall(make.sized(make.line_message(line)))
+        except make.BadLine as bad:
+            print(f"not sent: {bad}", file=sys.stderr)
+    connection.shutdown(socket.SHUT_WR)
 
 
 def main():
-    connection = socket.create_connection(("127.0.0.1", int(sys.argv[1])))
-    connection.setsockopt(socket.IPPROTO_TCP, socket.TCP_NODELAY, 1)
-
-    def send(address, *arguments):
-        connection.sendall(sized(message(address, arguments)))
-
-    send("/notify", 1)
-    send("/d_recv", NOTE.encode())
-    for frequency in SCALE:
-        send("/s_new", "note", -1, 0, 0, "freq", frequency)
-        listen(connection, 0.25)
-    listen(connection, 0.6)
-    send("/quit")
-    listen(connection, 1)
+    connection = connect(int(sys.argv[1]))
+    listener = Listener(connection)
+    listener.start()
+    if sys.argv[2:]:
+        play(connection, sys.argv[2])
+    else:
+        type_lines(connection)
+    listener.join(10)
+    return 1 if listener.refused else 0
 
 
 if __name__ == "__main__":
-    main()
+    sys.exit(main())

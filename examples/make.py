@@ -1,15 +1,27 @@
 #!/usr/bin/env python3
-"""Writes the command file of each piece in this directory, NAME.txt, to out/NAME.osc.
+"""Writes command files of pieces, NAME.txt in this directory, to out/NAME.osc.
 
-A piece is read line by line. `at SECONDS` begins a bundle that acts at that time. A line that begins with `/` is a message: its words
-that are whole numbers are ints, the others are strings. The lines from `snova 1` to `end` are a definition, sent by `/d_recv` at the
-beginning. Empty lines and lines that begin with `#` say nothing. The sound ends at the last `at`.
+    python3 examples/make.py            all pieces
+    python3 examples/make.py NAME..     some of them
+
+A piece is read line by line. `at SECONDS` begins a bundle that acts at that time. A line that begins with `/` is a message. Its words
+are ints (`440000`), numbers with a point, which are samples in Q8.24 (`0.5` is 8388608), and names, which are strings. The lines from
+`snova 1` to `end` are a definition, sent by `/d_recv` in the bundle before it. Empty lines and lines that begin with `#` say nothing.
+The sound ends at the last `at`. A line that can't be read is told with its number, and no file is written.
 """
 import math
 import re
 import struct
+import sys
 from fractions import Fraction
 from pathlib import Path
+
+HERE = Path(__file__).resolve().parent
+ONE = 1 << 24
+
+
+class BadLine(Exception):
+    """A line of a piece can't be read."""
 
 
 def padded(data):
@@ -37,45 +49,96 @@ def message(address, arguments):
     return string(address) + string(tags) + data
 
 
-def bundle(seconds, messages):
-    """A bundle that acts at a time, with the first time tag that is not before it."""
-    tag = math.ceil(seconds * 2**32)
+def bundle(tag, messages):
     return b"#bundle\0" + struct.pack(">Q", tag) + b"".join(map(sized, messages))
 
 
+def tag_at(seconds):
+    """The first time tag that is not before a time."""
+    return math.ceil(seconds * 2**32)
+
+
 def word(text):
-    return int(text) if re.fullmatch(r"-?[0-9]+", text) else text
+    """An int, or a string; a number with a point is a sample in Q8.24."""
+    if re.fullmatch(r"-?[0-9]+", text):
+        value = int(text)
+    elif re.fullmatch(r"-?[0-9]+\.[0-9]+", text):
+        value = math.floor(Fraction(text) * ONE)
+    elif re.fullmatch(r"[A-Za-z_][A-Za-z0-9_]*", text):
+        return text
+    else:
+        raise BadLine(f"{text} is neither a number nor a name")
+    if not -(2**31) <= value < 2**31:
+        raise BadLine(f"{text} has more than 32 bits")
+    return value
 
 
-def stream(piece):
-    """The packets of a piece, each behind its size."""
-    packets = [(Fraction(0), [])]
-    lines = iter(piece.splitlines())
-    for line in lines:
-        if line == "snova 1":
-            text = [line]
-            while text[-1] != "end":
-                text.append(next(lines))
-            blob = "".join(part + "\n" for part in text).encode()
-            packets[0][1].append(message("/d_recv", [blob]))
-        elif line.startswith("at "):
-            packets.append((Fraction(line[3:]), []))
-        elif line.startswith("/"):
-            address, *rest = line.split()
-            packets[-1][1].append(message(address, map(word, rest)))
-        elif line and not line.startswith("#"):
-            raise SystemExit(f"not a line of a piece: {line}")
-    return b"".join(sized(bundle(seconds, messages)) for seconds, messages in packets)
+def line_message(line):
+    """The message that a line says."""
+    address, *rest = line.split()
+    return message(address, [word(text) for text in rest])
+
+
+def seconds_of(text):
+    if not re.fullmatch(r"[0-9]+(\.[0-9]+)?", text):
+        raise BadLine(f"{text} is no time in seconds")
+    return Fraction(text)
+
+
+def definition(lines):
+    """The text of a definition, of which the first line was read."""
+    text = ["snova 1"]
+    for _, line in lines:
+        text.append(line)
+        if line == "end":
+            return "".join(part + "\n" for part in text).encode()
+    raise BadLine("the definition has no line `end`")
+
+
+def bundles(piece):
+    """The bundles of a piece: their times in seconds, and their messages."""
+    found = [(Fraction(0), [])]
+    lines = iter(enumerate(piece.splitlines(), 1))
+    for number, line in lines:
+        try:
+            if line == "snova 1":
+                found[-1][1].append(message("/d_recv", [definition(lines)]))
+            elif line.startswith("at "):
+                found.append((seconds_of(line[3:]), []))
+            elif line.startswith("/"):
+                found[-1][1].append(line_message(line))
+            elif line and not line.startswith("#"):
+                raise BadLine("it is no line of a piece")
+        except BadLine as bad:
+            raise BadLine(f"line {number}: {bad}: {line}") from None
+    return found
+
+
+def read(name):
+    """The bundles of the piece of a name, or the end of the program with what is wrong."""
+    path = HERE / (name + ".txt")
+    try:
+        return bundles(path.read_text())
+    except (OSError, BadLine) as wrong:
+        raise SystemExit(f"{path}: {wrong}") from None
+
+
+def write(name):
+    """Writes the command file of a piece: its bundles, each as a packet behind its size."""
+    packets = [bundle(tag_at(seconds), messages) for seconds, messages in read(name)]
+    target = HERE / "out" / (name + ".osc")
+    target.parent.mkdir(exist_ok=True)
+    target.write_bytes(b"".join(map(sized, packets)))
+    return target
+
+
+def all_names():
+    return sorted(path.stem for path in HERE.glob("*.txt"))
 
 
 def main():
-    here = Path(__file__).resolve().parent
-    out = here / "out"
-    out.mkdir(exist_ok=True)
-    for piece in sorted(here.glob("*.txt")):
-        target = out / (piece.stem + ".osc")
-        target.write_bytes(stream(piece.read_text()))
-        print(target)
+    for name in sys.argv[1:] or all_names():
+        print(write(name))
 
 
 if __name__ == "__main__":

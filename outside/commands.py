@@ -495,7 +495,7 @@ def command(world, message):
         need(address in COMMANDS, "unknown command")
         need(not isinstance(message.body, osc.Foreign), "argument type")
         need(depth(message) <= DEEPEST, "arguments")
-        changed = Commands(copied(world), message.body)
+        changed = Commands(world if address == "/sync" else copied(world), message.body)
         COMMANDS[address](changed)
     except Failed as failed:
         return world, [("/fail", address, str(failed))], None, None

@@ -1,10 +1,12 @@
 """A whole run: the order of what waits, boundaries, blocks, and the bytes of sound and replies."""
+import re
 import struct
 import commands
 import osc
 from world import World
 
 DEFAULTS = {"rate": 48000, "channels": 2, "bits": 16, "workers": 4, "memory": 1048576}
+ALLOWED = {"rate": (44100, 48000, 96000), "channels": range(1, 9), "bits": (16, 24), "workers": range(1, 17), "memory": range(65536, 16777217)}
 LONGEST_STREAM = 16777216
 
 
@@ -88,6 +90,17 @@ def settings_of(words):
     settings = dict(DEFAULTS)
     settings.update((key, int(value)) for key, value in (word.split("=") for word in words))
     return settings
+
+
+def bad_word(words):
+    """The number of the first bad setting, from 1, or None."""
+    given = set()
+    for number, word in enumerate(words, 1):
+        key, _, value = word.partition("=")
+        if key not in ALLOWED or key in given or not re.fullmatch("[1-9][0-9]*", value, re.A) or int(value) not in ALLOWED[key]:
+            return number
+        given.add(key)
+    return None
 
 
 def run(words, stream):

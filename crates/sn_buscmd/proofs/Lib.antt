@@ -4,7 +4,6 @@ pub mod FillingLemmas
 pub mod AskingLemmas
 pub mod RunLemmas
 pub mod RunningLemmas
-pub mod FoldLaws
 pub mod CompletingLemmas
 pub mod FreeingLemmas
 pub mod StatusLemmas

@@ -1,4 +1,5 @@
-//! The bytes of messages, as Open Sound Control 1.0 spells them.
+//! The bytes of messages, as Open Sound Control 1.0 spells them, and of the header of a WAV file.
+use sn_pcm::Settings;
 use sn_ports::{NoMemory, Text};
 use std::alloc::Global;
 
@@ -81,4 +82,38 @@ pub fn bundle_head(alloc: Global, tag: u64) -> Result<Text, NoMemory> {
     put_string(&mut out, b"#bundle")?;
     out.append(&tag.to_be_bytes())?;
     Ok(out)
+}
+
+/// The header of a WAV file of so many blocks.
+pub fn header(alloc: Global, settings: &Settings, blocks: u64) -> Result<Text, NoMemory> {
+    let width = settings.channels.wrapping_mul(settings.bits) / 8;
+    let Ok(len) = u32::try_from(blocks.wrapping_mul(64).wrapping_mul(u64::from(width))) else {
+        return Err(NoMemory);
+    };
+    let mut out = Text::new(alloc);
+    out.append(b"RIFF")?;
+    out.append(&len.wrapping_add(36).to_le_bytes())?;
+    out.append(b"WAVEfmt ")?;
+    // Two numbers of 16 bits stand in a word: PCM and the channels, the width of a frame and the bits of a sample.
+    for word in [
+        16,
+        settings.channels.wrapping_mul(65536).wrapping_add(1),
+        settings.rate,
+        settings.rate.wrapping_mul(width),
+        settings.bits.wrapping_mul(65536).wrapping_add(width),
+    ] {
+        out.append(&word.to_le_bytes())?;
+    }
+    out.append(b"data")?;
+    out.append(&len.to_le_bytes())?;
+    Ok(out)
+}
+
+/// The FNV-1a sum of bytes, of 64 bits.
+pub fn sum_of(bytes: &[u8]) -> u64 {
+    let mut sum: u64 = 14695981039346656037;
+    for byte in bytes {
+        sum = (sum ^ u64::from(*byte)).wrapping_mul(1099511628211);
+    }
+    sum
 }

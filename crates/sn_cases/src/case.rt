@@ -1,7 +1,6 @@
 //! What a script asks for, and what is to come of it.
 use crate::bytes::put_sized;
-use sn_ports::{NoMemory, Text, Word};
-use sn_server::Ended;
+use sn_ports::{Calls, NoMemory, Text, Word};
 use std::alloc::Global;
 use std::mem;
 
@@ -13,12 +12,31 @@ pub enum Step {
     Ticks(u32),
 }
 
-/// A connection: when its block 0 begins, what comes over it, and how it is to end.
+/// A connection: when its block 0 begins, and what comes over it.
 #[derive(Drop)]
 pub struct Connection {
     pub base: u64,
     pub steps: Vec<Step>,
-    pub ending: Option<Ended>,
+}
+
+/// How many bytes a call moves at most, and the numbers of the calls that fail, from 0.
+#[derive(Drop)]
+pub struct Port {
+    pub piece: u32,
+    pub fails: Vec<u32>,
+}
+
+impl Port {
+    fn new(alloc: Global, piece: u32) -> Port {
+        Port {
+            piece,
+            fails: Vec::new(alloc),
+        }
+    }
+
+    pub fn calls(&self, alloc: Global) -> Result<Calls, NoMemory> {
+        Ok(Calls::from_vec(Vec::from_slice(alloc, &self.fails)?))
+    }
 }
 
 /// A stream of commands with its settings, and what is to come of it.
@@ -33,12 +51,21 @@ pub struct Case {
     pub bundle: Option<Text>,
     /// The bytes of the replies.
     pub replies: Text,
-    /// The first bytes of the sound behind its header.
+    /// The bytes of the sound behind its header.
     pub sound: Text,
-    /// The number of blocks, where the script says it.
-    pub blocks: Option<u64>,
+    /// The sum of all bytes of the sound, where it is given in their place.
+    pub sum: Option<u64>,
+    /// The number of blocks.
+    pub blocks: u64,
+    /// The line of its end, where that is another than `done`.
+    pub ending: Option<String>,
+    /// The case of the same sound and replies.
+    pub same: Option<String>,
     /// The connection that is served, where the stream is not rendered.
     pub connection: Option<Connection>,
+    pub source_port: Port,
+    pub sound_port: Port,
+    pub reply_port: Port,
 }
 
 impl Case {
@@ -53,8 +80,14 @@ impl Case {
             bundle: None,
             replies: Text::new(alloc),
             sound: Text::new(alloc),
-            blocks: None,
+            sum: None,
+            blocks: 0,
+            ending: None,
+            same: None,
             connection: None,
+            source_port: Port::new(alloc, 4096),
+            sound_port: Port::new(alloc, 65536),
+            reply_port: Port::new(alloc, 65536),
         })
     }
 

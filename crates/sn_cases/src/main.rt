@@ -1,8 +1,9 @@
-//! Renders scripts of commands or serves them as a connection, and compares what comes of each with what the script says.
+//! Renders scripts of commands or serves them as a connection, and compares all that comes of each with what the script says.
 #![tactic(auto)]
 
 mod bytes;
 mod case;
+mod ending;
 mod script;
 mod serving;
 mod trial;
@@ -12,11 +13,12 @@ use std::process::ExitCode;
 use std::rt::Files;
 use std::thread::Threads;
 use std::{env, fs, io};
-use trial::{Verdict, try_case};
+use trial::{Difference, Verdict, try_case};
 
-/// Prints bytes in hexadecimal, on a line of their own.
-fn print_bytes(rt: &impl Print, bytes: &[u8]) -> io::Result<()> {
-    for byte in bytes {
+/// Prints where what came differs, and the bytes from there on.
+fn print_difference(rt: &impl Print, found: &Difference) -> io::Result<()> {
+    print!(rt; "from byte {}:", found.place)?;
+    for byte in found.bytes.as_slice() {
         print!(rt; " {byte:02x}")?;
     }
     println!(rt; "")
@@ -25,8 +27,10 @@ fn print_bytes(rt: &impl Print, bytes: &[u8]) -> io::Result<()> {
 /// Prints what came of a case, and answers whether it is what should come.
 fn print_verdict(rt: &impl Print, name: &str, verdict: &Verdict) -> io::Result<bool> {
     println!(rt; "{name}: {}", verdict.words())?;
-    if let Some(bytes) = verdict.bytes() {
-        print_bytes(rt, bytes)?;
+    match verdict {
+        Verdict::Ending(line) => println!(rt; "{}", line.as_str())?,
+        Verdict::Replies(found) | Verdict::Sound(found) => print_difference(rt, found)?,
+        _ => {}
     }
     Ok(matches!(verdict, Verdict::Agrees))
 }
@@ -46,7 +50,7 @@ fn run_file<H: Files + Print + AllocGlobal + Threads + Sync>(
         println!(rt; "{path}: line {line} says nothing")?;
     }
     for case in script.cases.iter() {
-        let verdict = try_case(rt, case).unwrap_or(Verdict::NoMemory);
+        let verdict = try_case(rt, &script.cases, case).unwrap_or(Verdict::NoMemory);
         is_well = print_verdict(rt, case.name.as_str(), &verdict)? && is_well;
     }
     Ok(is_well)

@@ -1,17 +1,23 @@
 //! Scripts as text: one line for each step.
 //!
-//! `case NAME` begins a case, `with KEY=VALUE` gives a setting, `at TAG` begins a bundle, `/address argument ..` is a message,
-//! `raw HEX ..` the bytes of a packet, `> /address argument ..` a reply, `= HEX ..` the first bytes of the sound, `blocks N` its length.
-//! `blob NAME /address ..` names the bytes of a message, and `text NAME` those of the lines up to a line `.`; `@NAME` is such a blob as an argument. An argument
-//! that is a whole number is an int, any other is a string, and so is what stands between two `"`. `many N LINE` is a line N times.
+//! `case NAME` begins a case, `with KEY=VALUE ..` gives settings, `at TAG` begins a bundle, `/address argument ..` is a message, and
+//! `raw HEX ..` the bytes of a packet. `blob NAME /address ..` names the bytes of a message, and `text NAME` those of the lines up to a
+//! line `.`; `@NAME` is such a blob as an argument. An argument that is a whole number is an int, any other is a string, and so is what
+//! stands between two `"`. `bytes HEX ..` are bytes of the stream without a size. `many N LINE` is a line N times.
 //!
-//! `over TAG` makes a case a connection whose block 0 begins at a time: `ticks N` lets come what stands above it, and then N blocks
-//! are due; `bytes HEX ..` are bytes without a size; and `ends closed`, `ends quit`, `ends cut N` and `ends bad N` say how it ends. `=`
-//! gives the whole sound of a connection.
+//! `> /address argument ..` is a reply, `= HEX ..` are bytes of the sound behind its header, `sum HEX` is the FNV-1a sum of 64 bits of
+//! all its bytes in their place, and `blocks N` its length. `same as NAME` stands for the sound and the replies of another case.
+//! `ends LINE` is the line that the program prints at the end, where it isn't `done N blocks`. After a refusal nothing was written, and
+//! after a fault a prefix of what the case says.
+//!
+//! `source PIECE CALL ..` lets a call move at most so many bytes and the calls of these numbers fail, from 0; so do `sound` and
+//! `replies`.
+//!
+//! `over TAG` makes a case a connection whose block 0 begins at a time, without a header of its sound: `ticks N` lets come what stands
+//! above it, and then N blocks are due. The calls of `replies` are then those of the link.
 use crate::bytes::{Given, bundle_head, message, put_sized};
-use crate::case::{Case, Connection, Step};
+use crate::case::{Case, Connection, Port, Step};
 use sn_ports::{NoMemory, Text};
-use sn_server::Ended;
 use std::alloc::Global;
 
 /// The cases of a script, and the numbers of the lines that say nothing.
@@ -60,7 +66,7 @@ fn given<'a>(blobs: &'a [Blob], word: &'a str) -> Option<Given<'a>> {
     }
 }
 
-/// The arguments of a line, or `None` where a blob has no such name.
+/// The arguments of a line, or `None` if a blob has no such name or a quote stays open.
 fn arguments<'a>(
     alloc: Global,
     blobs: &'a [Blob],
@@ -81,7 +87,8 @@ fn arguments<'a>(
         }
         is_quoted = !is_quoted;
     }
-    Ok(Some(found))
+    // What stands behind the last quote is outside.
+    Ok(if is_quoted { Some(found) } else { None })
 }
 
 /// The bytes of the message that a line gives.
@@ -166,7 +173,6 @@ fn put_connection(alloc: Global, case: &mut Case, base: &str) -> bool {
     case.connection = Some(Connection {
         base,
         steps: Vec::new(alloc),
-        ending: None,
     });
     true
 }
@@ -185,34 +191,64 @@ fn put_ticks(alloc: Global, case: &mut Case, count: &str) -> Result<bool, NoMemo
     }
 }
 
-/// The end that words name.
-fn ending_of(words: &str) -> Option<Ended> {
-    let (word, number) = words.split_once(' ').unwrap_or((words, ""));
-    match word {
-        "closed" => Some(Ended::Closed),
-        "quit" => Some(Ended::Quit),
-        "cut" => match number.parse::<u32>() {
-            Ok(kept) => Some(Ended::Cut { kept }),
-            Err(_) => None,
-        },
-        "bad" => match number.parse::<i32>() {
-            Ok(size) => Some(Ended::BadFrame { size }),
-            Err(_) => None,
-        },
-        _ => None,
+fn put_port(port: &mut Port, line: &str) -> Result<bool, NoMemory> {
+    let (piece, calls) = line.split_once(' ').unwrap_or((line, ""));
+    let Ok(piece) = piece.parse::<u32>() else {
+        return Ok(false);
+    };
+    port.piece = piece;
+    for word in calls.split_whitespace() {
+        match word.parse::<u32>() {
+            Ok(call) => port.fails.push(call)?,
+            Err(_) => return Ok(false),
+        }
+    }
+    Ok(true)
+}
+
+fn put_same(alloc: Global, case: &mut Case, words: &str) -> Result<bool, NoMemory> {
+    let Some(name) = words.strip_prefix("as ") else {
+        return Ok(false);
+    };
+    case.same = Some(String::from_str(alloc, name)?);
+    Ok(true)
+}
+
+fn put_blocks(case: &mut Case, number: &str) -> bool {
+    match number.parse::<u64>() {
+        Ok(blocks) => {
+            case.blocks = blocks;
+            true
+        }
+        Err(_) => false,
     }
 }
 
-fn put_ending(case: &mut Case, words: &str) -> bool {
-    let Some(connection) = &mut case.connection else {
-        return false;
-    };
-    connection.ending = ending_of(words);
-    connection.ending.is_some()
+/// A line of what is to come, or none. It answers whether the line says something.
+fn outcome_line(
+    alloc: Global,
+    case: &mut Case,
+    word: &str,
+    rest: &str,
+) -> Result<Option<bool>, NoMemory> {
+    match word {
+        "ends" => {
+            case.ending = Some(String::from_str(alloc, rest)?);
+            Ok(Some(true))
+        }
+        "blocks" => Ok(Some(put_blocks(case, rest))),
+        "=" => Ok(Some(put_hex(&mut case.sound, rest)?)),
+        "sum" => {
+            case.sum = u64::from_str_radix(rest, 16).ok();
+            Ok(Some(case.sum.is_some()))
+        }
+        "same" => Ok(Some(put_same(alloc, case, rest)?)),
+        _ => Ok(None),
+    }
 }
 
-/// A line of a connection, or none. It answers whether the line says something.
-fn connection_line(
+/// A line of the outside, or none. It answers whether the line says something.
+fn outside_line(
     alloc: Global,
     case: &mut Case,
     word: &str,
@@ -221,8 +257,13 @@ fn connection_line(
     match word {
         "over" => Ok(Some(put_connection(alloc, case, rest))),
         "ticks" => Ok(Some(put_ticks(alloc, case, rest)?)),
-        "bytes" => Ok(Some(put_hex(&mut case.stream, rest)?)),
-        "ends" => Ok(Some(put_ending(case, rest))),
+        "bytes" => {
+            case.close_bundle()?;
+            Ok(Some(put_hex(&mut case.stream, rest)?))
+        }
+        "source" => Ok(Some(put_port(&mut case.source_port, rest)?)),
+        "sound" => Ok(Some(put_port(&mut case.sound_port, rest)?)),
+        "replies" => Ok(Some(put_port(&mut case.reply_port, rest)?)),
         _ => Ok(None),
     }
 }
@@ -230,7 +271,10 @@ fn connection_line(
 /// A line of a case. It answers whether the line says something.
 fn case_line(alloc: Global, blobs: &[Blob], case: &mut Case, line: &str) -> Result<bool, NoMemory> {
     let (word, rest) = line.split_once(' ').unwrap_or((line, ""));
-    if let Some(says) = connection_line(alloc, case, word, rest)? {
+    if let Some(says) = outcome_line(alloc, case, word, rest)? {
+        return Ok(says);
+    }
+    if let Some(says) = outside_line(alloc, case, word, rest)? {
         return Ok(says);
     }
     match word {
@@ -240,11 +284,6 @@ fn case_line(alloc: Global, blobs: &[Blob], case: &mut Case, line: &str) -> Resu
         }
         "at" => put_bundle(alloc, case, rest),
         "raw" => put_raw(alloc, case, rest),
-        "=" => put_hex(&mut case.sound, rest),
-        "blocks" => {
-            case.blocks = rest.parse::<u64>().ok();
-            Ok(case.blocks.is_some())
-        }
         ">" => put_reply(alloc, blobs, case, rest),
         _ => put_command(alloc, blobs, case, line),
     }

@@ -3,10 +3,11 @@ ghost use Rattle.std.specs.Prelude.{IfOk, IfSome, OnOk};
 ghost use Rattle.sn_ports.specs.Links.{ArePlayable, IsPlayable};
 
 use crate::case::{Case, Connection, Step};
-use crate::trial::{CAPACITY, Verdict};
+use crate::ending::{ended_line, ended_writes};
+use crate::trial::{CAPACITY, Came, sink};
 use sn_pcm::Settings;
-use sn_ports::{Calls, Event, Events, MemorySink, NoMemory, Open, PlayedLink, Text};
-use sn_server::{Ended, serve_one};
+use sn_ports::{Event, Events, NoMemory, Open, PlayedLink, Text};
+use sn_server::serve_one;
 use std::alloc::Global;
 use std::thread::Threads;
 
@@ -58,39 +59,17 @@ fn events_of(alloc: Global, steps: &[Step]) -> Result<Events, NoMemory>
     Ok(events)
 }
 
-fn judged(
-    alloc: Global,
-    case: &Case,
-    ended: Ended,
-    sound: &[u8],
-    sent: &[u8],
-) -> Result<Verdict, NoMemory> {
-    match &case.connection {
-        Some(connection) if connection.ending == Some(ended) => {}
-        _ => return Ok(Verdict::Ending),
-    }
-    if sent != case.replies.as_slice() {
-        let first = sent.get(..64).unwrap_or(sent);
-        return Ok(Verdict::Replies(Text::from_slice(alloc, first)?));
-    }
-    if sound != case.sound.as_slice() {
-        let first = sound.get(..64).unwrap_or(sound);
-        return Ok(Verdict::Sound(Text::from_slice(alloc, first)?));
-    }
-    Ok(Verdict::Agrees)
-}
-
 /// Serves the connection of a case in memory.
-pub fn try_connection<H: AllocGlobal + Threads + Sync>(
+pub fn served<H: AllocGlobal + Threads + Sync>(
     rt: &H,
     case: &Case,
     connection: &Connection,
     settings: &Settings,
-) -> Result<Verdict, NoMemory> {
+) -> Result<Came, NoMemory> {
     let alloc = rt.alloc();
     let events = events_of(alloc, &connection.steps)?;
-    let mut link = PlayedLink::new(alloc, events, CAPACITY, Calls::from_vec(Vec::new(alloc)))?;
-    let mut sound = MemorySink::new(alloc, CAPACITY, 65536, Calls::from_vec(Vec::new(alloc)))?;
+    let mut link = PlayedLink::new(alloc, events, CAPACITY, case.reply_port.calls(alloc)?)?;
+    let mut sound = sink(alloc, &case.sound_port)?;
     let ended = serve_one(
         rt,
         alloc,
@@ -100,8 +79,10 @@ pub fn try_connection<H: AllocGlobal + Threads + Sync>(
         &mut sound,
         &Open,
     );
-    match ended {
-        Ended::NoMemory => Err(NoMemory),
-        _ => judged(alloc, case, ended, sound.taken(), link.sent()),
-    }
+    Ok(Came {
+        line: ended_line(alloc, ended)?,
+        written: ended_writes(ended),
+        sound: Text::from_slice(alloc, sound.taken())?,
+        replies: Text::from_slice(alloc, link.sent())?,
+    })
 }

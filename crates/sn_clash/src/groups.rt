@@ -24,6 +24,7 @@ fn collect<'a>(
     ensures rows { IfOk result (λ nodes. map row_of nodes.items ≡ members (subtree node.now.id tree.now.attached)) }
     ensures few { IfOk result (λ nodes. length nodes.items ≤ 4096) }
 {
+    // A hint for the proof alone: a tree has at most 4,096 nodes.
     let _nodes = tree.len();
     let mut nodes = Vec::new(alloc);
     for member in tree.members(node.id) {

@@ -16,6 +16,3 @@ mod walking;
 pub use clash::{Clash, Clashes};
 pub use laws::world_has_the_clashes;
 pub use walking::clashes;
-
-#[cfg(test)]
-mod tests;

@@ -48,9 +48,6 @@ from_fields outputs (unit ∷ inputs) parts h =
     same_some : Some (record { outputs = outputs; unit = unit; inputs = inputs }) ≡ Some parts → record { outputs = outputs; unit = unit; inputs = inputs } ≡ parts
     same_some h = cc
 
-is_equals : List ℕ → Bool
-is_equals f = bytes_eq f (codes "=")
-
 with_outputs : (fields : List (List ℕ)) (i : ℕ) (parts : UnitParts) (b : Bool) → (b ≡ false → i ≢ 0) → position (λ f. bytes_eq f (codes "=")) fields ≡ Some i
     → cond b None (parts_from (take i fields) (drop (i + 1) fields)) ≡ Some parts → fields ≡ unit_fields parts
 with_outputs fields i parts true some is h = cc

@@ -143,9 +143,6 @@ literal_some (b ∷ bs) z h = λ e. omega arith
 pub literal_field : (f : List ℕ) (z : ℤ) → HasLiteralBytes f → literal f ≡ Some z → IsField f
 literal_field f z bytes h = record { some = literal_some f z h; plain = literals_above f (bytes z h) }
 
-is_equals : List ℕ → Bool
-is_equals f = bytes_eq f (codes "=")
-
 pub name_no_equals : (n : List ℕ) → is_name n ≡ true → bytes_eq n (codes "=") ≡ false
 name_no_equals n h =
     let p = name_parts n h in

@@ -120,14 +120,18 @@ abbrev pub counts_fit : UnitRow → ℕ → ℕ → Bool
 counts_fit row inputs outputs =
     nat_le (length row.inputs + (if row.signals == 0 then 0 else 1)) inputs && nat_le inputs (length row.inputs + row.signals) && nat_le row.least outputs && nat_le outputs row.most
 
+-- the wires and inputs of a unit of this kind, whose counts and names are right
+abbrev pub unit_with : Definition → UnitParts → Kind → Result Definition DefKind
+unit_with d parts kind = do
+  named_wires ← wires_at d parts.outputs
+  inputs ← inputs_at d (row_of kind).inputs 0 parts.inputs
+  Ok (with_unit named_wires kind inputs (length parts.outputs))
+
 -- a unit of this kind
 unfoldable pub unit_of : Definition → UnitParts → Kind → Result Definition DefKind
 unit_of d parts kind =
     if not (counts_fit (row_of kind) (length parts.inputs) (length parts.outputs)) then Err wrong.Count else
-    if not (list_all is_name parts.outputs) then Err wrong.Name else (do
-      named_wires ← wires_at d parts.outputs
-      inputs ← inputs_at d (row_of kind).inputs 0 parts.inputs
-      Ok (with_unit named_wires kind inputs (length parts.outputs)))
+    if not (list_all is_name parts.outputs) then Err wrong.Name else unit_with d parts kind
 
 abbrev pub unit_if_known : Definition → UnitParts → Option Kind → Result Definition DefKind
 unit_if_known d parts (Some kind) = unit_of d parts kind

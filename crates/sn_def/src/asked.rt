@@ -1,3 +1,4 @@
+//! What is asked of a definition: its index controls, and its controls by name.
 ghost use Rattle.std.specs.Prelude.{◌≡◌, position, zip};
 ghost use Rattle.std.specs.List.{list_any};
 ghost use Rattle.std.specs.Str.{bytes_eq};

@@ -1,3 +1,4 @@
+//! The controls of a synth, and what a unit is told of its surroundings.
 ghost use Rattle.std.specs.Prelude.{◌≡◌, List, slice_set};
 
 use std::marker::Model;

@@ -1,3 +1,4 @@
+//! Definitions, as they are kept.
 ghost use Rattle.std.specs.Prelude.{◌≡◌, ◌≤◌, List, map, length};
 ghost use Rattle.sn_def.specs.Params.{parameter_of};
 ghost use Rattle.sn_def.specs.Definition.{whole};

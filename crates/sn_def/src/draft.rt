@@ -1,4 +1,5 @@
-ghost use Rattle.std.specs.Prelude.{◌≡◌, ◌+◌, ◌<◌, ◌∷◌, [], length, None, IfOk};
+//! A definition of which some lines were read.
+ghost use Rattle.std.specs.Prelude.{◌≡◌, ◌+◌, ◌<◌, ◌≤◌, ◌∷◌, [], length, None, IfOk};
 ghost use Rattle.sn_def.specs.Definition.{named, named_only, with_control, with_wires, with_unit};
 ghost use Rattle.sn_def.specs.Reading.{IsWritten};
 ghost use Rattle.sn_def.specs.Defs.{definition_of};
@@ -69,7 +70,8 @@ impl<'a> Draft<'a> {
 
     /// How many wires there are.
     pub fn wires(&self) -> usize
-        ensures { result ≡ length self.now.wires }
+        ensures count { result ≡ length self.now.wires }
+        ensures few { result ≤ 512 }
     {
         self.wires.len()
     }

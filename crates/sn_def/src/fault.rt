@@ -1,3 +1,4 @@
+//! What may be wrong with a text.
 ghost use Rattle.std.specs.Prelude.{◌≡◌};
 ghost use Rattle.sn_def.specs.declared.fault.Unread.TheVariants as unread;
 
@@ -9,7 +10,7 @@ use std::alloc::{AllocError, AllocFailed};
 pub enum DefKind {
     /// It is cut, misses its shape, or is no line that may stand here.
     Line,
-    /// A name is none.
+    /// A name is not made of 1 to 31 letters, digits and `_`, begins with a digit, or is a word that begins lines.
     Name,
     /// More than 128 controls, 256 units or 512 wires.
     Limit,
@@ -69,6 +70,24 @@ impl From<AllocError> for Unread {
 
     fn from(_: AllocError) -> Self {
         Unread::NoMemory
+    }
+}
+
+impl From<DefFault> for Unread {
+    ghost from_gives = { λ fault e. e ≡ unread.Bad fault };
+
+    fn from(fault: DefFault) -> Self {
+        Unread::Bad(fault)
+    }
+}
+
+impl From<DefKind> for Refused {
+    ghost use Rattle.sn_def.specs.declared.fault.Refused.TheVariants as refused;
+
+    ghost from_gives = { λ kind e. e ≡ refused.Because kind };
+
+    fn from(kind: DefKind) -> Self {
+        Refused::Because(kind)
     }
 }
 

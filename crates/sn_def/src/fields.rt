@@ -1,3 +1,4 @@
+//! Lines, fields and names.
 ghost use Rattle.std.specs.Prelude.{◌≡◌, IfOk};
 ghost use Rattle.std.specs.List.{list_all};
 ghost use Rattle.sn_def.specs.Reading.{pieces, is_name, is_reserved, begins_name, is_name_byte};

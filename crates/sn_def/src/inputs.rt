@@ -1,3 +1,4 @@
+//! The inputs of a unit line.
 ghost use Rattle.std.specs.Prelude.{◌≡◌, Some};
 ghost use Rattle.sn_def.specs.Reading.{mark_at, literal_at, name_at, input_at, inputs_at};
 ghost use Rattle.sn_def.specs.Answers.{Gives, texts};
@@ -17,13 +18,13 @@ fn mark_at(marks: &[Mark], at: usize) -> Mark
 }
 
 /// The input that a literal is.
-fn literal_input(mark: Mark, value: i32) -> Result<Input, Refused>
-    ensures { Gives (λ x. x) result (literal_at mark value) }
+fn literal_input(mark: Mark, value: i32) -> Result<Input, DefKind>
+    ensures { result ≡ literal_at mark value }
 {
     match mark {
         Mark::Longest => {
             if value < 0 || value > 60_000 {
-                return Err(Refused::Because(DefKind::Constant));
+                return Err(DefKind::Constant);
             }
             Ok(Input::Literal(value))
         }
@@ -32,25 +33,26 @@ fn literal_input(mark: Mark, value: i32) -> Result<Input, Refused>
 }
 
 /// The input that a name is.
-fn named_input(mark: Mark, input: Option<Input>) -> Result<Input, Refused>
-    ensures { Gives (λ x. x) result (name_at mark input) }
+fn named_input(mark: Mark, input: Option<Input>) -> Result<Input, DefKind>
+    ensures { result ≡ name_at mark input }
 {
     match input {
-        None => Err(Refused::Because(DefKind::Input)),
+        None => Err(DefKind::Input),
         Some(input) => match mark {
             Mark::Signal => Ok(input),
             Mark::Index => match input {
-                Input::Wire(_) => Err(Refused::Because(DefKind::Index)),
+                Input::Wire(_) => Err(DefKind::Index),
                 _ => Ok(input),
             },
-            _ => Err(Refused::Because(DefKind::Constant)),
+            _ => Err(DefKind::Constant),
         },
     }
 }
 
+/// The input that a field is.
 #[tactic(auto, unfolding(crate::specs::Reading::input_at))]
-fn input<'a>(draft: &Draft<'a>, mark: Mark, field: &'a [u8]) -> Result<Input, Refused>
-    ensures { Gives (λ x. x) result (input_at draft.now mark field.now) }
+fn input<'a>(draft: &Draft<'a>, mark: Mark, field: &'a [u8]) -> Result<Input, DefKind>
+    ensures { result ≡ input_at draft.now mark field.now }
 {
     match literal(field) {
         Some(value) => literal_input(mark, value),

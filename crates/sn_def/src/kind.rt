@@ -1,3 +1,5 @@
+//! The kinds of units.
+
 /// The kinds of units, each named as its unit without the dot.
 #[derive(Clone, Copy, Debug, PartialEq, Eq)]
 pub enum Kind {

@@ -1,3 +1,4 @@
+//! Names, and what they stand for.
 ghost use Rattle.std.specs.Prelude.{◌≡◌, ℕ, List, Option, Some, None, OnOk, if◌then◌else◌};
 ghost use Rattle.std.specs.Str.{bytes_eq};
 ghost use Rattle.sn_def.specs.Known.{value_at};

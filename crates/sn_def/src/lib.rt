@@ -33,6 +33,3 @@ pub use printing::print;
 pub use table::{Mark, Row, Words, row_of};
 pub use text::read;
 pub use unit::{Input, Inputs, Unit, Units};
-
-#[cfg(test)]
-mod tests;

@@ -1,3 +1,4 @@
+//! The kinds by their names.
 ghost use Rattle.std.specs.Prelude.{◌≡◌};
 ghost use Rattle.std.specs.Str.{bytes_eq};
 ghost use Rattle.sn_def.specs.Units.{kind_named, row_of};

@@ -1,3 +1,4 @@
+//! The parts of a unit line.
 ghost use Rattle.std.specs.Prelude.{◌≡◌, ◌&&◌, codes, position, Option};
 ghost use Rattle.std.specs.Option.{option_map};
 ghost use Rattle.std.specs.Str.{bytes_eq};

@@ -1,3 +1,4 @@
+//! The text of a definition.
 ghost use Rattle.std.specs.Prelude.{◌≡◌, ◌++◌, ◌∷◌, ◌≤◌, [], map, flat_map, length, unwrap_or, slice_get, IfOk, OnOk};
 ghost use Rattle.std.specs.Option.{option_map};
 ghost use Rattle.sn_def.specs.Definition.{control_names};

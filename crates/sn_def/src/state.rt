@@ -1,3 +1,4 @@
+//! How many words of state units have.
 ghost use Rattle.std.specs.Prelude.{◌≡◌, ◌≤◌, ◌<◌, position};
 ghost use Rattle.sn_def.specs.Defs.{definition_of};
 ghost use Rattle.sn_def.specs.StateWords.{is_longest, literal_value, longest, words_of, unit_words, units_words, state_words};

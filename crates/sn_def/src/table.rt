@@ -1,3 +1,4 @@
+//! The table of units.
 ghost use Rattle.std.specs.Prelude.{◌≡◌};
 ghost use Rattle.sn_def.specs.Units.{row_of};
 ghost use Rattle.sn_def.specs.Rows.{row_seen};

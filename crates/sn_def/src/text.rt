@@ -1,3 +1,4 @@
+//! Reading a whole text.
 ghost use Rattle.std.specs.Prelude.{◌≡◌, Err, IfOk};
 ghost use Rattle.sn_def.specs.Reading.{pieces, line_at, at_line, line_number, fault, is_over, body_at, end_at, def_at, def_and_body, named_at, after_title, title_at, text_at};
 ghost use Rattle.sn_def.specs.Defs.{definition_of};
@@ -16,6 +17,7 @@ use sn_fixed::literal_bytes;
 use sn_ports::Text;
 use std::alloc::Global;
 
+/// This is wrong with that line.
 fn bad(line: u32, kind: DefKind) -> Unread
     ensures { result ≡ unread.Bad (fault line kind) }
 {
@@ -32,14 +34,24 @@ fn is_over(after: &[&[u8]]) -> bool
     }
 }
 
-/// The line `end` is the last one.
-fn end<'a>(draft: Draft<'a>, after: &[&'a [u8]]) -> Result<Draft<'a>, Unread>
-    ensures { Reads (λ d. d) result (end_at draft.entry (texts after.now)) }
+/// The whole definition, where nothing stands after the line `end`.
+fn after_end<'a>(draft: Draft<'a>, after: &[&'a [u8]]) -> Result<Draft<'a>, DefFault>
+    ensures { result ≡ end_at draft.entry (texts after.now) }
 {
     if is_over(after) {
         return Ok(draft);
     }
-    Err(bad(draft.line() + 1, DefKind::Line))
+    Err(DefFault {
+        line: draft.line() + 1,
+        kind: DefKind::Line,
+    })
+}
+
+/// The line `end` is the last one.
+fn end<'a>(draft: Draft<'a>, after: &[&'a [u8]]) -> Result<Draft<'a>, Unread>
+    ensures { Reads (λ d. d) result (end_at draft.entry (texts after.now)) }
+{
+    Ok(after_end(draft, after)?)
 }
 
 /// A line between the first two and `end`.

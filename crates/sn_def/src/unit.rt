@@ -1,3 +1,4 @@
+//! Units and their inputs.
 ghost use Rattle.std.specs.Prelude.{◌≡◌, List};
 
 use crate::kind::Kind;

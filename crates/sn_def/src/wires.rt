@@ -1,3 +1,4 @@
+//! The wires that a unit line names.
 ghost use Rattle.std.specs.Prelude.{◌≡◌, ◌≤◌, ◌+◌, length};
 ghost use Rattle.std.specs.List.{list_all};
 ghost use Rattle.sn_def.specs.Reading.{wires_at, is_name};

@@ -30,6 +30,18 @@ all_done k from a whole last so_far =
     let step : all_completed 0 from a ≡ a = refl in
     sym step ∙ ap (λ (j : ℕ). all_completed j from a) (sym none) ∙ so_far
 
+not_completed : (from : ℕ) (n : Next) (t : Turn) → is_completing n ≡ false → completed from n t ≡ record { turn = t; next = n }
+not_completed from nothing t none = refl
+not_completed from quitting t none = refl
+not_completed from clearing t none = refl
+not_completed from (completing m) t none = absurd cc
+
+-- where none is carried, no more is done
+pub none_carried : (n from : ℕ) (a : Acted) → is_completing a.next ≡ false → all_completed n from a ≡ a
+unfolding all_completed
+none_carried zero from a none = refl
+none_carried (suc n) from a none = ap (all_completed n from) (not_completed from a.next a.turn none) ∙ none_carried n from a none
+
 -- ---- none is left
 
 -- what is done besides where a command carries none is no completion

@@ -1,7 +1,8 @@
 -- The samples that are heard of audio buses.
-use Rattle.std.proofs.Common.{◌≡◌, ◌<◌, ◌≤◌, ◌+◌, ◌*◌, ℕ, zero, suc, ℤ, pos, Bool, true, cond, List, [], ◌∷◌, ◌++◌, ap, sym, ◌∙◌, arith, append_assoc, append-nil, add-one, length, length-append, mul-suc}
+use Rattle.std.proofs.Common.{◌≡◌, ◌≢◌, ◌<◌, ◌≤◌, ◌+◌, ◌*◌, ℕ, zero, suc, ℤ, pos, Bool, true, false, cond, List, [], ◌∷◌, ◌++◌, set, ap, sym, ◌∙◌, ⊎_elim, arith, get_or-set_other, append_assoc, append-nil, add-one, length, length-append, mul-suc}
 use Rattle.std.specs.Prelude.{◌==◌, slice_index, slice_index_or}
-use Rattle.std.proofs.lemmas.Bool.{eq-eqb}
+use Rattle.std.proofs.lemmas.Bool.{cases_eq}
+use Rattle.std.proofs.lemmas.Grind.{get_or-set_at}
 use Rattle.std.proofs.Math.Nat.{mul-le-mul_left, mul_comm}
 use Rattle.sn_mem.specs.Blocks.{table, sample_in}
 use Rattle.sn_mem.specs.Buses.{AudioBus, audio_bus, audio_buses, heard, silent}
@@ -9,15 +10,27 @@ use Rattle.sn_mem.proofs.Windows.{table_at}
 use Rattle.sn_mem.proofs.Tables.{length-table}
 use Rattle.sn_mem.proofs.BusLaws.{audio_at}
 use Rattle.sn_world.specs.World.{World}
+use Rattle.sn_engine.specs.Hearing.{AreWritten}
 use Rattle.sn_engine.specs.Outputs.{frame_of, frames_of}
 
 chosen : (b : Bool) (x y : ℤ) → b ≡ true → cond b x y ≡ x
 chosen b x y e = ap (λ c. cond c x y) e
 
-pub heard_written : (ws : List ℕ) (bus b frame : ℕ) → frame < 64 → slice_index ws (65 * bus) ≡ b + 1 → heard b (audio_bus ws bus) frame ≡ sample_in (slice_index ws (65 * bus + 1 + frame))
-heard_written ws bus b frame low is =
-    chosen (slice_index ws (65 * bus) == b + 1) _ _ (eq-eqb (slice_index ws (65 * bus)) (b + 1) is)
+pub heard_written : (ws : List ℕ) (bus b frame : ℕ) (written : Bool) → frame < 64 → written ≡ true → written ≡ ((audio_bus ws bus).written == b + 1) → heard b (audio_bus ws bus) frame ≡ sample_in (slice_index ws (65 * bus + 1 + frame))
+heard_written ws bus b frame written low on is =
+    chosen (slice_index ws (65 * bus) == b + 1) _ _ (sym is ∙ on)
     ∙ table_at (λ k. sample_in (slice_index ws (65 * bus + 1 + k))) 64 frame (pos 0) low
+
+pub heard_unwritten : (ws : List ℕ) (bus b frame : ℕ) (written : Bool) → written ≡ false → written ≡ ((audio_bus ws bus).written == b + 1) → heard b (audio_bus ws bus) frame ≡ pos 0
+heard_unwritten ws bus b frame written off is = ap (λ c. cond c (slice_index_or (audio_bus ws bus).samples frame (pos 0)) (pos 0)) (sym is ∙ off)
+
+-- one more bus of which it is known
+pub one_more : (b : ℕ) (ws : List ℕ) (written : List Bool) (n : ℕ) (x : Bool) → n < length written → AreWritten b ws n written → x ≡ ((audio_bus ws n).written == b + 1) → AreWritten b ws (n + 1) (set written n x)
+one_more b ws written n x low so_far is c less =
+    ⊎_elim
+    (λ (e : c ≡ n). get_or-set_at written n c x false e low ∙ (is ∙ ap (λ k. (audio_bus ws k).written == b + 1) (sym e)))
+    (λ (d : c ≢ n). get_or-set_other written n c x false d ∙ so_far c (omega (arith, less, d)))
+    (cases_eq c n)
 
 -- the bus of a number
 pub of_bus : (b frame : ℕ) (ws : List ℕ) (c : ℕ) → c < 128 → heard b (slice_index_or (audio_buses ws) c silent) frame ≡ heard b (audio_bus ws c) frame

@@ -2,6 +2,7 @@ pub mod EntryLemmas
 pub mod DueLemmas
 pub mod ActingLemmas
 pub mod CompletionLemmas
+pub mod ChosenLemmas
 pub mod OpeningLemmas
 pub mod PutLemmas
 pub mod HearingLemmas

@@ -32,7 +32,8 @@ unfoldable pub all_completed : ℕ → ℕ → Acted → Acted
 all_completed zero from a = a
 all_completed (suc n) from a = all_completed n from (completed from a.next a.turn)
 
--- A message of a client acts, and then its completion messages, as many as may nest in it: a command in which more do is refused.
+-- A message of a client acts, and each completion message right after the command that carried it. A command in which more than eight
+-- nest is refused, so after eight none is left: the law `no_completion_is_left` says so.
 abbrev pub act_message : ℕ → MessageShape → Turn → Acted
 act_message from m t = all_completed deepest from (acted from m t)
 

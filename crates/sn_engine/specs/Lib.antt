@@ -3,7 +3,9 @@ pub mod Stacks
 pub mod Answerable
 pub mod Boundary
 pub mod Outputs
+pub mod Hearing
 pub mod Running
+pub mod Runs
 pub mod Keeping
 pub mod Arriving
 pub mod Refusing

@@ -3,6 +3,7 @@ ghost use Rattle.std.specs.List.{AllByRecursion};
 ghost use Rattle.sn_osc.specs.Shape.{message_of};
 ghost use Rattle.sn_reply.specs.Sending.{IsAnswerable};
 ghost use Rattle.sn_world.specs.World.{turn_of};
+ghost use Rattle.sn_world.specs.Ending.{is_completing};
 ghost use Rattle.sn_world.specs.Pictures.{Pictures, WritesWorld};
 ghost use Rattle.sn_world.specs.Commands.{run_node, run_bus, either as first_there, command, next_after};
 ghost use Rattle.sn_world.specs.Answers.{Handles, UnlessDone, TellsNext, NextHas, next_told};
@@ -154,6 +155,16 @@ fn complete<P: Port>(
     }
 }
 
+/// Whether a completion message is to act next.
+fn carries(handled: &Handled) -> bool
+    ensures { result ≡ is_completing (next_told handled.now) }
+{
+    match handled {
+        Handled::Completion(_) => true,
+        _ => false,
+    }
+}
+
 /// Runs a message from a client, and right after it the completion messages that it carries, each inside the one before. Gives what they
 /// ask besides.
 fn act_message<P: Port>(
@@ -177,6 +188,9 @@ fn act_message<P: Port>(
 {
     let mut handled = run_command(alloc, stage, port, message, from, replies)?;
     for _ in 0..MOST_COMPLETIONS {
+        if !carries(&handled) {
+            return Ok(asked_by(&handled));
+        }
         handled = complete(alloc, stage, port, handled, from, replies)?;
     }
     Ok(asked_by(&handled))

@@ -16,5 +16,5 @@ mod standing;
 mod walking;
 
 pub use engine::Engine;
-pub use laws::no_completion_is_left;
+pub use laws::{chosen_ids_are_below, no_completion_is_left};
 pub use standing::{Flow, Standing};

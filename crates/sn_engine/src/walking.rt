@@ -1,11 +1,12 @@
 //! One block of the walk, and its sound.
-ghost use Rattle.std.specs.Prelude.{◌≡◌, ◌≤◌, ◌<◌, ◌+◌, ◌++◌, ◌∷◌, [], ◌^◌, length, vec_capacity};
+ghost use Rattle.std.specs.Prelude.{◌≡◌, ◌==◌, ◌≤◌, ◌<◌, ◌+◌, ◌++◌, ◌∷◌, [], ◌^◌, ℕ, length, vec_capacity};
 ghost use Rattle.sn_mem.specs.Buses.{audio_bus, heard};
 ghost use Rattle.sn_world.specs.Pictures.{Pictures, WritesWorld, WritesBuses, IsHeld, IsApart};
 ghost use Rattle.sn_world.specs.Buffers.{AreEach};
 ghost use Rattle.sn_world.specs.Walk.{walk};
 ghost use Rattle.sn_world.specs.WalkWords.{held_words};
 ghost use Rattle.sn_world.specs.World.{world_of};
+ghost use Rattle.sn_engine.specs.Hearing.{AreWritten};
 ghost use Rattle.sn_engine.specs.Outputs.{frame_of, frames_of};
 
 use sn_def::Now;
@@ -68,22 +69,49 @@ pub fn run_nodes<P: Port>(port: &mut P, stage: &Stage, block: u64, scratch: &mut
     }
 }
 
-/// The sample of an audio bus at a frame of a block, 0 where the bus was not written in it.
-fn heard<P: Port>(port: &mut P, bus: u32, block: u64, frame: u32) -> i32
+/// Whether an audio bus was written in a block.
+fn is_written<P: Port>(port: &mut P, bus: u32, block: u64) -> bool
     requires bus { bus < 128 }
-    requires frame { frame < 64 }
     requires block { block < 2 ^ 63 }
     requires foot { WritesBuses (P.foot port.old) }
-    ensures sample { result ≡ heard block (audio_bus (P.words port.old) bus) frame }
+    ensures tag { result ≡ ((audio_bus (P.words port.old) bus).written == block + 1) }
     ensures words { P.words port.new ≡ P.words port.old }
     ensures foot { P.foot port.new ≡ P.foot port.old }
     ensures rest { P.rest port.new ≡ P.rest port.old }
 {
-    let place = Places::audio(bus).at;
-    if port.load(place) != block + 1 {
+    port.load(Places::audio(bus).at) == block + 1
+}
+
+/// Of each of the first 8 audio buses whether it was written in a block.
+fn written_buses<P: Port>(port: &mut P, block: u64) -> [bool; 8]
+    requires block { block < 2 ^ 63 }
+    requires foot { WritesBuses (P.foot port.old) }
+    ensures written { AreWritten block (P.words port.old) 8 result }
+    ensures words { P.words port.new ≡ P.words port.old }
+    ensures foot { P.foot port.new ≡ P.foot port.old }
+    ensures rest { P.rest port.new ≡ P.rest port.old }
+{
+    let mut written = [false; 8];
+    for bus in 0..8 {
+        written[bus as usize] = is_written(port, bus, block);
+    }
+    written
+}
+
+/// The sample of an audio bus at a frame of a block, 0 if the bus was not written in it.
+fn heard<P: Port>(port: &mut P, bus: u32, written: bool, frame: u32) -> i32
+    requires bus { bus < 128 }
+    requires frame { frame < 64 }
+    requires foot { WritesBuses (P.foot port.old) }
+    ensures sample { (b : ℕ) → written ≡ ((audio_bus (P.words port.old) bus).written == b + 1) → result ≡ heard b (audio_bus (P.words port.old) bus) frame }
+    ensures words { P.words port.new ≡ P.words port.old }
+    ensures foot { P.foot port.new ≡ P.foot port.old }
+    ensures rest { P.rest port.new ≡ P.rest port.old }
+{
+    if !written {
         return 0;
     }
-    sample_of(port.load(place + 1 + frame))
+    sample_of(port.load(Places::audio(bus).at + 1 + frame))
 }
 
 /// Appends a sample, where there is room.
@@ -103,23 +131,22 @@ fn append_frame<P: Port>(
     port: &mut P,
     stage: &Stage,
     channels: u32,
-    block: u64,
+    written: &[bool; 8],
     frame: u32,
     samples: &mut Vec<i32>,
 )
     requires channels { channels ≤ 8 }
     requires frame { frame < 64 }
-    requires block { block < 2 ^ 63 }
     requires foot { WritesBuses (P.foot port.old) }
     requires room { length samples.old.items + channels ≤ vec_capacity samples.old }
-    ensures samples { samples.new.items ≡ samples.old.items ++ frame_of channels block (world_of stage.now (P.words port.old)) frame }
+    ensures samples { (b : ℕ) → AreWritten b (P.words port.old) 8 written.now → samples.new.items ≡ samples.old.items ++ frame_of channels b (world_of stage.now (P.words port.old)) frame }
     ensures room { vec_capacity samples.old ≤ vec_capacity samples.new }
     ensures words { P.words port.new ≡ P.words port.old }
     ensures foot { P.foot port.new ≡ P.foot port.old }
     ensures rest { P.rest port.new ≡ P.rest port.old }
 {
     for bus in 0..channels {
-        put_sample(samples, heard(port, bus, block, frame));
+        put_sample(samples, heard(port, bus, written[bus as usize], frame));
     }
 }
 
@@ -143,7 +170,8 @@ pub fn hear_block<P: Port>(
     ensures rest { P.rest port.new ≡ P.rest port.old }
 {
     samples.clear();
+    let written = written_buses(port, block);
     for frame in 0..64 {
-        append_frame(port, stage, channels, block, frame, samples);
+        append_frame(port, stage, channels, &written, frame, samples);
     }
 }

@@ -20,18 +20,8 @@ pub in_64 : (x : ℤ) → unsigned_abs x ≤ 2 ^ 62 → FitsSigned w64 x
 in_64 (pos n) low = record { sfits = omega (arith, ints) }
 in_64 (negsuc n) low = record { sfits = omega (arith, ints) }
 
-small_sample : (x : ℤ) → FitsSigned w32 x → unsigned_abs x ≤ 2 ^ 40
-small_sample (pos n) f = let h = f.sfits in omega (arith, ints)
-small_sample (negsuc n) f = let h = f.sfits in omega (arith, ints)
-
-pub small_of : (xs : List ℤ) → Samples xs → Small xs
-small_of xs f = Each1-weaker (λ x. FitsSigned w32 x) (λ x. unsigned_abs x ≤ 2 ^ 40) small_sample xs f
-
 pub wide_of : (xs : List ℤ) → Small xs → Wide xs
 wide_of xs f = Each1-weaker (λ x. unsigned_abs x ≤ 2 ^ 40) (λ x. unsigned_abs x ≤ 2 ^ 62) (λ x low. omega arith) xs f
-
-pub wide_samples : (xs : List ℤ) → Samples xs → Wide xs
-wide_samples xs f = wide_of xs (small_of xs f)
 
 -- two lanes at a time
 pub both : (P : ℤ → Type 0) (xs ys : List ℤ) → Each1 P xs → Each1 P ys → Each2 (λ x y. P x × P y) xs ys

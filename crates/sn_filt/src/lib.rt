@@ -6,14 +6,9 @@ mod block;
 mod held;
 mod lanes;
 mod laws;
-#[cfg(test)]
-mod plain;
 mod poles;
 mod rings;
 mod sections;
 
 pub use block::run;
 pub use laws::{delayed_input, delayed_sum};
-
-#[cfg(test)]
-mod tests;

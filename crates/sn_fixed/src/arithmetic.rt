@@ -5,7 +5,7 @@ ghost use Rattle.sn_fixed.specs.Fixed.{floor, sat, mul};
 /// 1.0 as a sample.
 pub const ONE: i32 = 16_777_216;
 
-/// The sample nearest to `x`.
+/// The sample nearest to `x`: `x` itself where a sample can be so, or else the least or the greatest sample.
 #[tactic(auto, unfolding(crate::specs::Fixed::sat))]
 pub fn sat(x: i64) -> i32
     ensures { result ≡ sat x }
@@ -13,7 +13,7 @@ pub fn sat(x: i64) -> i32
     x.clamp(i64::from(i32::MIN), i64::from(i32::MAX)) as i32
 }
 
-/// The sample nearest to `x`.
+/// The sample nearest to `x`, as `sat` gives it.
 #[tactic(auto, unfolding(crate::specs::Fixed::sat))]
 pub fn sat_wide(x: i128) -> i32
     ensures { result ≡ sat x }
@@ -37,7 +37,7 @@ pub fn added(a: i64, b: i64) -> i128
     i128::from(a) + i128::from(b)
 }
 
-/// The exact sum of three sums of products.
+/// The exact sum of two sums of products and a product.
 pub fn total(a: i128, b: i128, c: i64) -> i128
     requires a { unsigned_abs a ≤ 2 ^ 64 }
     requires b { unsigned_abs b ≤ 2 ^ 64 }
@@ -54,7 +54,7 @@ pub fn products(a: i32, x: i32, b: i32, y: i32) -> i128
     added(times(a, x), times(b, y))
 }
 
-/// A product in the scale of samples, rounded down.
+/// A product in the scale of samples (2^-24 of it), rounded down.
 pub fn scaled(product: i64) -> i64
     ensures { result ≡ floor product 16777216 }
 {
@@ -68,7 +68,7 @@ pub fn scaled_sample(products: i128) -> i32
     sat_wide(products.div_euclid(i128::from(ONE)))
 }
 
-/// The sum of two samples.
+/// The sample nearest to the sum of two samples.
 #[tactic(auto, unfolding(crate::specs::Fixed::sat))]
 pub fn add(a: i32, b: i32) -> i32
     ensures { result ≡ sat (a +ℤ b) }
@@ -76,7 +76,7 @@ pub fn add(a: i32, b: i32) -> i32
     a.saturating_add(b)
 }
 
-/// The difference of two samples.
+/// The sample nearest to the difference of two samples.
 #[tactic(auto, unfolding(crate::specs::Fixed::sat))]
 pub fn sub(a: i32, b: i32) -> i32
     ensures { result ≡ sat (a -ℤ b) }
@@ -84,7 +84,7 @@ pub fn sub(a: i32, b: i32) -> i32
     a.saturating_sub(b)
 }
 
-/// The product of two samples.
+/// The sample nearest to the product of two samples, which is brought to their scale (by 2^-24) and rounded down first.
 #[tactic(auto, unfolding(crate::specs::Fixed::mul))]
 pub fn mul(a: i32, b: i32) -> i32
     ensures { result ≡ mul a b }
@@ -92,14 +92,14 @@ pub fn mul(a: i32, b: i32) -> i32
     sat(scaled(times(a, b)))
 }
 
-/// The sum of a product and a sample.
+/// The sample nearest to the sum of a product and a sample. The product is brought to the scale of samples and rounded down first.
 pub fn mul_add(a: i32, b: i32, x: i32) -> i32
     ensures { result ≡ sat (floor (a *ℤ b) 16777216 +ℤ x) }
 {
     sat_wide(added(scaled(times(a, b)), i64::from(x)))
 }
 
-/// The sum of two products.
+/// The sample nearest to the sum of two products, which is brought to the scale of samples and rounded down first.
 pub fn weighted(a: i32, x: i32, b: i32, y: i32) -> i32
     ensures { result ≡ sat (floor (a *ℤ x +ℤ b *ℤ y) 16777216) }
 {

@@ -8,8 +8,6 @@ mod literals;
 mod naturals;
 mod phases;
 mod ranges;
-#[cfg(test)]
-mod tests;
 mod triggers;
 
 pub use arithmetic::{

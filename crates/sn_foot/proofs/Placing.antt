@@ -1,10 +1,10 @@
 -- The places of the resources that nodes use.
 use Rattle.std.proofs.Common.{◌≡◌, ◌≤◌, ◌<◌, ℕ, zero, suc, ◌+◌, Bool, true, false, ◌&&◌, List, [], ◌∷◌, ◌++◌, Option, Some, None, sym, refl, ap, ◌∙◌, subst, append_assoc, arith, length, ltb, if◌then◌else◌}
-use Rattle.std.specs.Prelude.{is_some, nat_lt, replicate, slice_index_or, slice_set}
+use Rattle.std.specs.Prelude.{is_some, nat_lt, slice_index_or}
 use Rattle.std.specs.List.{All}
 use Rattle.std.proofs.lemmas.Bool.{cond_both, ltb-true}
 use Rattle.std.proofs.lemmas.List.{append-nil}
-use Rattle.std.proofs.lemmas.List.Elements.{All-nil, All-cons, All-head, All-tail, All-append}
+use Rattle.std.proofs.lemmas.List.Elements.{All-nil, All-cons, All-head, All-append}
 use Rattle.sn_mem.specs.declared.extents.Extent.{Extent}
 use Rattle.sn_mem.specs.Layout.{audio_place, control_place}
 use Rattle.sn_mem.specs.declared.buffers.BufferPlace.{BufferPlace}
@@ -124,16 +124,3 @@ used_ends buffers used all =
     (all_listed Ends buffer 1024 (λ n. all_used Ends (used (resources.Buffer n)) (place_of buffers (resources.Buffer n)) (place_ends buffers (resources.Buffer n) all))))
 
 -- ---- buffers that are set
-
-pub none_end : (count : ℕ) → All Ends (live_places (replicate count None))
-unfolding live_places
-none_end zero = All-nil Ends
-none_end (suc n) = none_end n
-
-pub set_ends : (buffers : List (Option BufferPlace)) (n : ℕ) (p : Option BufferPlace) → All Ends (live_places buffers) → All Ends (place_extents p) → All Ends (live_places (slice_set buffers n p))
-unfolding live_places
-set_ends [] n p all one = All-nil Ends
-set_ends (b ∷ bs) zero p all one = All-append Ends (place_extents p) (live_places bs) one (all_parts Ends (place_extents b) (live_places bs) all).1
-set_ends (b ∷ bs) (suc n) p all one =
-    let parts = all_parts Ends (place_extents b) (live_places bs) all in
-    All-append Ends (place_extents b) (live_places (slice_set bs n p)) parts.0 (set_ends bs n p parts.1 one)

@@ -16,6 +16,3 @@ pub use merging::canonical;
 pub use nodes::is_kept;
 pub use resource::{Access, Bank, Resource};
 pub use units::{index_of, used_span};
-
-#[cfg(test)]
-mod tests;

@@ -68,6 +68,7 @@ pub fn found_at<'a>(
     if !is_reached(tree, node) {
         return Ok(found);
     }
+    // A hint for the proof alone: a tree has at most 4,096 nodes, so no count of nodes overflows.
     let _nodes = tree.len();
     let mut skipped = 0;
     for member in tree.members(node.id) {

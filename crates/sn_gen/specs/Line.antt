@@ -6,7 +6,7 @@ use Rattle.sn_mem.specs.Blocks.{sample, sample_in, word_for}
 use Rattle.sn_mem.specs.Done.{ended}
 use Rattle.sn_gen.specs.declared.line.Sweep.{Sweep}
 
--- the done word, the next frame, which is 0 only before the first one, start and end, and the number of frames
+-- the done word, the next frame, which is 0 only before the first frame, start and end, and the number of frames
 abbrev pub sweep_in : List ℕ → Sweep
 sweep_in ws = record { done = slice_index ws 0; frame = slice_index ws 1 % 4294967296; start = sample_in (slice_index ws 2); end = sample_in (slice_index ws 3); frames = slice_index ws 4 % 4294967296 }
 

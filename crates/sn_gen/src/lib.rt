@@ -13,6 +13,3 @@ mod phasor;
 
 pub use block::run;
 pub use laws::line_is_straight;
-
-#[cfg(test)]
-mod tests;

@@ -10,7 +10,7 @@ use sn_mem::{Blocks, Recurrence, Stored, ended, sample_of, word_of};
 pub(crate) struct Sweep {
     /// The done word, 0 until the end.
     pub done: u64,
-    /// The next frame, up to the number of frames. It is 0 only before the first one.
+    /// The next frame, up to the number of frames, or 1 where that is 0. It is 0 only before the first frame.
     pub frame: u32,
     /// The first sample.
     pub start: i32,

@@ -15,6 +15,3 @@ pub use laws::{
 };
 pub use nodes::{Running, Voice};
 pub use stages::plan;
-
-#[cfg(test)]
-mod tests;

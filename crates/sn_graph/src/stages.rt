@@ -65,6 +65,7 @@ fn plan_without(alloc: Global, stage: &Stage, clashing: &NamedGroups<'_>) -> Res
     ensures few { IfOk result (λ plan. length plan < count stage.now.tree.attached) }
     ensures race_free { AreDisjoint stage.now.buffers (live_held stage.now.tree.attached) → AreListed stage.now.buffers clashing.now (subtree (pos 0) stage.now.tree.attached) → IfOk result IsRaceFree }
 {
+    // Hints for the proof alone: a tree has at most 4,096 nodes, their ids are distinct, and its root is a group.
     let _count = stage.tree.len();
     stage.tree.ids_are_distinct();
     stage.tree.root_is_a_group();

@@ -11,10 +11,9 @@ use Rattle.sn_mem.specs.declared.buffers.BufferPlace.{BufferPlace}
 use Rattle.sn_mem.specs.Words.{MayWrite, writes}
 use Rattle.sn_mem.specs.Blocks.{window, put, sample, word_for}
 use Rattle.sn_mem.proofs.Steps.{length-put}
-use Rattle.sn_mem.proofs.Tables.{length-table}
 use Rattle.sn_mem.proofs.Windows.{apart_put}
 use Rattle.sn_io.specs.Positions.{indexed}
-use Rattle.sn_io.specs.BufferUnits.{is_buffer_unit, chosen, usable, set_frame, set_at, scattered, signals_from, play_frames, record_frames}
+use Rattle.sn_io.specs.BufferUnits.{chosen, usable, set_frame, set_at, scattered, signals_from, play_frames, record_frames}
 use Rattle.sn_io.specs.BuffersOverWords.{usable_place, place_frames, set_word, onto_buffer, buffer_unit_over}
 use Rattle.sn_io.specs.Conditions.{IsWholeIfSome, MayWriteBuffer, MayReachBuffer, AreWithin}
 use Rattle.sn_io.proofs.Bounds.{indexed_within, record_within}
@@ -51,16 +50,6 @@ buffer_unit_long kinds.BufRd now n places ws at len inputs = refl
 buffer_unit_long kinds.BufWr now n places ws at len inputs = onto_long inputs 2 (indexed (place_frames (usable_place (signals_from 2 inputs) inputs places)) inputs) (usable_place (signals_from 2 inputs) inputs places) ws
 buffer_unit_long kinds.BufFrames now n places ws at len inputs = refl
 buffer_unit_long _ now n places ws at len inputs = refl
-
--- a unit gives as many outputs as its line names
-pub buffer_outputs_long : (k : Kind) (now : Now) (n : ℕ) (places : List (Option BufferPlace)) (ws : List ℕ) (at len : ℕ) (inputs : List (List ℤ)) → is_buffer_unit k ≡ true → (row_of k).least ≤ n → n ≤ (row_of k).most → length (buffer_unit_over k now n places ws at len inputs).1 ≡ n
-unfolding row_of buffer_unit_over
-buffer_outputs_long kinds.PlayBuf now n places ws at len inputs is low high = length-table _ n
-buffer_outputs_long kinds.RecordBuf now n places ws at len inputs is low high = omega arith
-buffer_outputs_long kinds.BufRd now n places ws at len inputs is low high = length-table _ n
-buffer_outputs_long kinds.BufWr now n places ws at len inputs is low high = omega arith
-buffer_outputs_long kinds.BufFrames now n places ws at len inputs is low high = omega arith
-buffer_outputs_long _ now n places ws at len inputs is low high = absurd cc
 
 -- ---- words that may not be written
 

@@ -51,10 +51,6 @@ scattered_meets R f g inputs first frames channels os (suc k) s t all step r =
 
 -- ---- one sample
 
-one_put : (ws : List ℕ) (a x : ℕ) → put ws a (x ∷ []) ≡ set ws a x
-unfolding put
-one_put ws a x = refl
-
 one_set : (ws : List ℕ) (e : Extent) (j : ℕ) (x : ℤ) → j < e.len → e.at + e.len ≤ length ws → samples_of (set_word e.at ws j x) e ≡ set_sample (samples_of ws e) j x
 unfolding put
 one_set ws e j x lt inside =

@@ -14,4 +14,3 @@ pub mod BufferMeaning
 pub mod BufferKeeping
 pub mod Standing
 mod BufferRuns
-pub mod BufferPlain

@@ -22,11 +22,6 @@ walk_step {S} step s t u y inputs k ys lt e f =
     let d : ◌≡◌ {A = S × List (Option ℕ)} ((step t inputs k).0, take k ys ++ (step t inputs k).1 ∷ []) (walk step s inputs (k + 1)) = ap (λ (r : S × List (Option ℕ)). ((step r.0 inputs k).0, r.1 ++ (step r.0 inputs k).1 ∷ [])) e ∙ sym (walk_more step s inputs k) in
     a ∙ (b ∙ d)
 
-pub walk_done : {S : Type 0} (step : S → List (List ℤ) → ℕ → S × Option ℕ) (s s' t : S) (inputs : List (List ℤ)) (k : ℕ) (ys : List (Option ℕ)) → k ≡ 64 → length ys ≡ 64 → s ≡ s' → ◌≡◌ {A = S × List (Option ℕ)} (t, take k ys) (walk step s inputs k) → ◌≡◌ {A = S × List (Option ℕ)} (t, ys) (walk step s' inputs 64)
-walk_done {S} step s s' t inputs k ys last long e i =
-    let a : ◌≡◌ {A = S × List (Option ℕ)} (t, ys) (t, take k ys) = ap (λ (zs : List (Option ℕ)). (t, zs)) (sym (ap (λ m. take m ys) (last ∙ sym long) ∙ take-length ys)) in
-    a ∙ (i ∙ (ap (λ n. walk step s inputs n) last ∙ ap (λ (s : S). walk step s inputs 64) e))
-
 pub long_set : {A : Type 0} (ys : List A) (k : ℕ) (y : A) (n : ℕ) → length ys ≡ n → length (set ys k y) ≡ n
 long_set ys k y n e = length-set ys k y ∙ e
 

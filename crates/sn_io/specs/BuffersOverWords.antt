@@ -1,4 +1,4 @@
--- The same over memory words.
+-- The units on buffers, as what they do to the memory words.
 use Rattle.std.specs.Prelude.{ℕ, ◌+◌, List, [], ◌∷◌, replicate, Option, Some, None, ℤ, pos, slice_set}
 use Rattle.std.specs.Option.{option_map}
 use Rattle.sn_fixed.specs.Fixed.{sat}

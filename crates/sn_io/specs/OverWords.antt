@@ -1,4 +1,4 @@
--- The same over memory words.
+-- The units on buses and the triggers, as what they do to the memory words.
 use Rattle.std.specs.Prelude.{ℕ, ◌+◌, ◌*◌, ◌==◌, Bool, true, false, ◌&&◌, cond, List, [], Option, Some, None, ℤ, pos, ◌+ℤ◌, slice_index, slice_index_or, slice_set}
 use Rattle.sn_fixed.specs.Fixed.{sat}
 use Rattle.sn_def.specs.declared.kind.Kind.{Kind}

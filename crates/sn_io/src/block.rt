@@ -61,7 +61,10 @@ fn run_kind<P: Port>(
 /// `state`.
 ///
 /// The inputs are those of its row in their order. `outputs` comes with as many blocks as the unit
-/// has outputs, and these take the place of what it held.
+/// has outputs, and these take the place of what it held. No unit asks `_places`: where each bus lies is fixed.
+///
+/// `words` and `outputs` say what it does over the memory words, as the walk of a block is said; the clauses behind them say it of buses
+/// and of state.
 pub fn run<P: Port>(
     kind: Kind,
     now: &Now,

@@ -182,6 +182,9 @@ fn run_kind<P: Port>(
 /// The inputs are those of its row in their order. `outputs` comes with as many blocks as the unit
 /// has outputs, and these take the place of what it held. Where the state and the buffers are
 /// apart, it changes no word but those of its state and of the buffer that it writes.
+///
+/// `words` and `outputs` say what it does over the memory words, as the walk of a block is said; the clauses behind them say it of buffers
+/// and of state.
 pub fn run_buffer_unit<P: Port>(
     kind: Kind,
     now: &Now,

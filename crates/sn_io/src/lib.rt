@@ -14,8 +14,3 @@ mod triggers;
 
 pub use block::run;
 pub use buffers::run_buffer_unit;
-
-#[cfg(test)]
-mod buffer_tests;
-#[cfg(test)]
-mod tests;

@@ -1,9 +1,9 @@
 -- Extents and the words in them, and what a change of other words leaves of the buffers.
-use Rattle.std.proofs.Common.{◌≡◌, ◌≤◌, ◌<◌, ◌+◌, ◌⊎◌, inl, inr, ℕ, zero, suc, ℤ, Bool, true, false, List, [], ◌∷◌, ◌++◌, map, replicate, get_or, Option, Some, None, refl, ap, sym, subst, arith, All}
+use Rattle.std.proofs.Common.{◌≡◌, ◌≤◌, ◌<◌, ◌+◌, ◌⊎◌, inl, inr, ℕ, ℤ, Bool, true, false, List, [], ◌∷◌, ◌++◌, map, get_or, Option, Some, None, refl, ap, arith, All}
 use Rattle.std.specs.Prelude.{if◌then◌else◌}
 use Rattle.std.specs.Option.{option_map}
 use Rattle.std.proofs.lemmas.Bool.Decides.{leb_tells}
-use Rattle.std.proofs.lemmas.List.Elements.{All-nil, All-cons, All-head, All-tail}
+use Rattle.std.proofs.lemmas.List.Elements.{All-head, All-tail}
 use Rattle.sn_mem.specs.declared.extents.Extent.{Extent}
 use Rattle.sn_mem.specs.declared.buffers.BufferPlace.{BufferPlace}
 use Rattle.sn_mem.specs.Words.{covers}
@@ -115,15 +115,3 @@ pub part_apart : (a b : Extent) (ps : List (Option BufferPlace)) → a.at ≤ b.
 part_apart a b ps low high are = record { each = are.each; apart = λ x. omega (arith, are.apart x, part_overlaps a b x low high) }
 
 -- ---- no buffers
-
-none_may : (n : ℕ) → All MayBePlace (replicate n None)
-none_may zero = All-nil MayBePlace
-none_may (suc n) = All-cons MayBePlace None (replicate n None) tt (none_may n)
-
-none_overlap : (n x : ℕ) → overlaps x (live_places (replicate n None)) ≡ 0
-unfolding live_places
-none_overlap zero x = refl
-none_overlap (suc n) x = none_overlap n x
-
-pub none_apart : (state : Extent) (ps : List (Option BufferPlace)) → ps ≡ replicate 1024 None → AreApart state ps
-none_apart state ps is = subst (AreApart state) (sym is) (record { each = none_may 1024; apart = λ x. omega (arith, few (covers state x), none_overlap 1024 x) })

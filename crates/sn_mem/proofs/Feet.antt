@@ -1,9 +1,8 @@
 -- What a run of words that may be written allows.
-use Rattle.std.proofs.Common.{◌≡◌, ◌≤◌, ◌<◌, ℕ, ◌+◌, ◌-◌, true, false, subst, sym, arith}
+use Rattle.std.proofs.Common.{◌≡◌, ◌≤◌, ◌<◌, ℕ, ◌+◌, ◌-◌, true, subst, sym, arith}
 use Rattle.std.proofs.lemmas.Bool.{or_left}
 use Rattle.sn_mem.specs.declared.extents.Foot.{Foot}
-use Rattle.sn_mem.proofs.Meetings.{covered}
-use Rattle.sn_mem.specs.Words.{covers, writes, touches, has, everything, MayWrite, MayRead}
+use Rattle.sn_mem.specs.Words.{writes, touches, has, MayWrite, MayRead}
 
 pub may_write : (f f' : Foot) (at n j : ℕ) → MayWrite f at n → f' ≡ f → at ≤ j → j < at + n → writes f' j ≡ true
 may_write f f' at n j may e low high =
@@ -25,10 +24,3 @@ may_read f f' at n j may e low high =
 
 pub read_part : (f f' : Foot) (at n at' n' : ℕ) → MayRead f at n → f' ≡ f → at ≤ at' → at' + n' ≤ at + n → MayRead f' at' n'
 read_part f f' at n at' n' may e low high = let b : at + n < 4294967296 = may.below in record { below = omega arith; each = λ i lt. may_read f f' at n (at' + i) may e (omega arith) (omega arith) }
-
--- everything may be written
-pub plain_may_write : (n at k : ℕ) → at + k ≤ n → n < 4294967296 → MayWrite (everything n) at k
-plain_may_write n at k le low = record { below = omega arith; each = λ i lt. or_left (covers (record { at = 0; len = n }) (at + i)) false (covered (record { at = 0; len = n }) (at + i) (omega arith) (omega arith)) }
-
-pub plain_may_read : (n at k : ℕ) → at + k ≤ n → n < 4294967296 → MayRead (everything n) at k
-plain_may_read n at k le low = record { below = omega arith; each = λ i lt. or_left (has (everything n).writes (at + i)) (has (everything n).reads (at + i)) ((plain_may_write n at k le low).each i lt) }

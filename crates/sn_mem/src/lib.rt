@@ -10,7 +10,6 @@ mod extents;
 mod framed;
 mod places;
 mod plain;
-mod pointwise;
 mod port;
 mod recurrence;
 mod runs;
@@ -27,13 +26,9 @@ pub use extents::{Extent, Extents, Foot};
 pub use framed::{Framed, FramedRest};
 pub use places::Places;
 pub use plain::PlainPort;
-pub use pointwise::{Pointwise, push_pointwise};
 pub use port::Port;
 pub use recurrence::{Recurrence, run_recurrence};
 pub use runs::{load_words, store_words};
 pub use samples::{sample_of, word_of};
 pub use scratch::{Scratch, Values};
 pub use stored::Stored;
-
-#[cfg(test)]
-mod tests;

@@ -90,6 +90,7 @@ fn tree_message(
 fn are_few(tree: &Tree<Held>)
     ensures { count tree.now.attached ≤ 4096 }
 {
+    // The proof takes the law from the length.
     let _ = tree.len();
 }
 

@@ -132,7 +132,7 @@ fn fault_of(tree: &Tree<Held>, node: &NodeId, new: &NewNode) -> Option<TreeFault
 pub fn refusal(tree: &Tree<Held>, node: &NodeId, new: &NewNode) -> Option<Reason>
     ensures { result ≡ node_refusal (Some node.now.id) new.now.action new.now.target tree.now.attached }
 {
-    // A tree has at most 4,096 nodes, so there is room for one more in the place of another.
+    // A hint for the proof alone: a tree has at most 4,096 nodes, so there is room for one more in the place of another.
     let _nodes = tree.len();
     reason_against_new(is_known(new), fault_of(tree, node, new))
 }

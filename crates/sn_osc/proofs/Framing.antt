@@ -1,5 +1,5 @@
 -- Frames that are taken one after another are the first of a stream.
-use Rattle.std.proofs.Common.{◌≡◌, ℕ, ℤ, suc, ◌+◌, ◌-◌, ◌<◌, ◌≤◌, Bool, true, false, not, cond, ltb, List, [], ◌∷◌, ◌++◌, length, map, take, drop, Option, Some, None, Result, Ok, Err, OnErr, refl, sym, ap, subst, ◌∙◌, append_assoc, append-nil, take_all, get_or, add-one, arith, IsTrue, length-append}
+use Rattle.std.proofs.Common.{◌≡◌, ℕ, ℤ, suc, ◌+◌, ◌-◌, ◌<◌, ◌≤◌, Bool, true, false, not, cond, ltb, List, [], ◌∷◌, ◌++◌, length, map, take, drop, Some, Result, Ok, Err, OnErr, refl, sym, ap, subst, ◌∙◌, append_assoc, append-nil, take_all, get_or, add-one, arith, IsTrue, length-append}
 use Rattle.std.specs.Int.{w32, from_be_bytes, cast_signed}
 use Rattle.std.proofs.lemmas.Bool.{ltb-false, le-ltb}
 use Rattle.std.proofs.lemmas.List.{take-append-drop, take-append-le, drop_at, length-drop}
@@ -10,7 +10,7 @@ use Rattle.sn_osc.specs.Bytes.{frame_bytes}
 use Rattle.sn_osc.specs.Reading.{int_in, size_in}
 use Rattle.sn_osc.specs.Frames.{cut, bad_size, frame, is_frame_size, first_frame}
 use Rattle.sn_osc.specs.Framing.{Framing}
-use Rattle.sn_osc.specs.Framed.{fed_with, Next, NextWhole, HasNoFrame, joined, StandAt, AreFirst, packet_of, joined_pieces}
+use Rattle.sn_osc.specs.Framed.{fed_with, Next, HasNoFrame, joined, StandAt, AreFirst, packet_of, joined_pieces}
 use Rattle.sn_osc.proofs.Frames.{kept_after}
 use Rattle.sn_osc.proofs.Streams.{no_more, frame_len, same_split, frame_first, cut_is_not_frame, bad_is_not_frame}
 
@@ -19,10 +19,6 @@ none_at_cut bytes e packet rest size parts = cut_is_not_frame (first_frame bytes
 
 pub none_at_bad : (bytes : List ℕ) (n : ℤ) → first_frame bytes ≡ bad_size n → HasNoFrame bytes
 none_at_bad bytes n e packet rest size parts = bad_is_not_frame (first_frame bytes) n packet rest e (frame_first packet rest bytes size parts)
-
-pub next_or_none : (old new : Framing) (o : Option Frame) → Next old new (Ok o) → NextWhole old new (Ok o)
-next_or_none old new None h = (none_at_cut old.kept h.0, h.1)
-next_or_none old new (Some f) h = h
 
 -- what is kept behind a frame that is taken
 pub taken_from : (all items bytes front after : List ℕ) (given : ℕ) → all ≡ items → bytes ≡ front → IsTrue (is_frame_size (length front)) → take (length all - given) (drop given all) ≡ frame_bytes front ++ after
@@ -54,9 +50,6 @@ takes_one stream fs f old new h n =
       stand = stand_more 0 fs f h.stand n.0 place;
       count = n.2 ∙ h.count;
     }
-
-pub less_kept : (f : Frame) (old new : Framing) → Next old new (Ok (Some f)) → length new.kept < length old.kept
-less_kept f old new n = omega (arith, ap length n.1, frame_len f.bytes.bytes new.kept)
 
 -- ---- one piece more
 

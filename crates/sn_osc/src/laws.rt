@@ -2,7 +2,7 @@
 ghost use Rattle.std.specs.Prelude.{◌≡◌, ◌≤◌, ◌<◌, ◌^◌, ◌*◌, ◌++◌, ◌↔◌, IsTrue, slice_index, List, [], ℕ, ℤ, Ok, length, map};
 ghost use Rattle.sn_osc.specs.Shape.{Argument, MessageShape, Shape, arguments};
 ghost use Rattle.sn_osc.specs.Bytes.{message_bytes, packet_bytes, frame_bytes};
-ghost use Rattle.sn_osc.specs.Frames.{frame, bad_size, is_frame_size, first_frame};
+ghost use Rattle.sn_osc.specs.Frames.{Frames, StreamFaultAt, frame, bad_size, is_frame_size, first_frame};
 ghost use Rattle.sn_osc.specs.Framing.{Framing};
 ghost use Rattle.sn_osc.specs.Framed.{AreFirst, HasNoFrame, packet_of};
 ghost use Rattle.sn_osc.specs.Grammar.{Spells, IsSpellable};
@@ -11,6 +11,7 @@ ghost use Rattle.sn_osc.specs.Faults.{FirstFault};
 ghost use Rattle.sn_osc.specs.Unpacking.{Unpacked, AreWholeFrames, unpacked, joined_to};
 ghost use Rattle.sn_osc.specs.declared.fault.PacketFault.{PacketFault};
 ghost use Rattle.sn_osc.specs.declared.fault.PacketKind.{PacketKind};
+ghost use Rattle.sn_osc.specs.declared.fault.StreamFault.{StreamFault};
 ghost use Rattle.sn_osc.specs.declared.frame.Frame.{Frame};
 
 /// Each packet has one spelling.
@@ -79,4 +80,15 @@ pub fn joined_frames()
 pub fn whole_frames()
     ensures all { (bytes : List ℕ) → ((i : ℕ) → slice_index bytes i < 256) → AreWholeFrames bytes (unpacked bytes) }
     ensures only { (bytes : List ℕ) (u : Unpacked) → ((i : ℕ) → slice_index bytes i < 256) → AreWholeFrames bytes u → unpacked bytes ≡ u }
+{}
+
+/// A stream is the frames of one list of packets at most.
+pub fn one_list_of_packets()
+    ensures { (xs ys : List Shape) (stream : List ℕ) → Frames xs stream → Frames ys stream → xs ≡ ys }
+{}
+
+/// A stream has one first fault at most, and none where it is the frames of packets.
+pub fn one_fault_of_a_stream()
+    ensures one { (stream : List ℕ) (m n p q : ℕ) (a b : StreamFault) → StreamFaultAt stream m p a → StreamFaultAt stream n q b → (m ≡ n) × (p ≡ q) × (a ≡ b) }
+    ensures none { (stream : List ℕ) (xs : List Shape) (n p : ℕ) (a : StreamFault) → Frames xs stream → StreamFaultAt stream n p a → ⊥ }
 {}

@@ -11,8 +11,6 @@ mod lengths;
 mod packet;
 mod reading;
 mod spelling;
-#[cfg(test)]
-mod tests;
 
 pub use decoding::decode;
 pub use encoding::encode;
@@ -21,7 +19,8 @@ pub use frame::{Frame, NoFrame, Unframed, first_frame};
 pub use framer::{Framer, frames_of};
 pub use laws::{
     bad_for_good, decoded_again, first_fault, four_bytes_each, frame_found, frame_stands,
-    joined_frames, no_fault, no_prefix, one_framing, one_packet, one_spelling, whole_frames,
+    joined_frames, no_fault, no_prefix, one_fault_of_a_stream, one_framing, one_list_of_packets,
+    one_packet, one_spelling, whole_frames,
 };
 pub use packet::{Arg, Args, Body, Bundle, Elements, Message, Packet};
 pub use spelling::spellable;

@@ -16,7 +16,7 @@ fn has_no_null(s: &[u8]) -> bool
     s.iter().all(|byte| *byte != 0)
 }
 
-/// Each number of 32 bits has a spelling.
+/// Each number of 32 bits has a spelling, so this is true of all. The definition asks it of numbers that may be larger.
 fn is_int(n: i32) -> bool
     ensures { result ≡ fits_int n }
 {

@@ -3,8 +3,6 @@
 
 mod pcm;
 mod settings;
-#[cfg(test)]
-mod tests;
 mod wav;
 
 pub use pcm::{frames, pcm_length};

@@ -99,12 +99,3 @@ times_disjoint from to es a b h some others differ x one other =
     (λ (more : j.0 < i.0). omega (arith, laid_out_order from to es j.0 i.0 a h more i.1, ap (λ (e : Extent). e.at) (here a), ap (λ (e : Extent). e.len) (there a), ap (λ (e : Extent). e.at) (there a)))
     apart)
     (cases_order i.0 j.0)
-
--- An extent that stands somewhere is counted.
-pub times_at : (e : Extent) (xs : List Extent) (k : ℕ) (d : Extent) → k < length xs → e.at ≡ (get_or xs k d).at → e.len ≡ (get_or xs k d).len → 0 < times e xs
-unfolding times
-times_at e [] k d lt at len = absurd (omega arith)
-times_at e (x ∷ xs) zero d lt at len =
-    let one : (if same_extent e x then 1 else 0) ≡ 1 = ap {B = ℕ} (λ b. if b then 1 else 0) (and_from (eqb e.at x.at) (eqb e.len x.len) (eq-eqb e.at x.at at) (eq-eqb e.len x.len len)) in
-    omega (arith, one)
-times_at e (x ∷ xs) (suc k) d lt at len = omega (arith, times_at e xs k d (omega arith) at len)

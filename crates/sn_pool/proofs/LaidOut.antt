@@ -1,14 +1,14 @@
 -- Lists of extents laid out one after the other.
-use Rattle.std.proofs.Common.{◌≡◌, ℕ, ◌+◌, ◌<◌, ◌≤◌, List, [], ◌∷◌, length, get_or, drop, sym, ap, ◌∙◌, subst, arith, add-one, drop-cons, zero, suc, refl, eqb, leb, ltb, AllPairs, Ok, Err, Result, Contains, MatchResult, ⊎_elim}
+use Rattle.std.proofs.Common.{◌≡◌, ℕ, ◌+◌, ◌<◌, ◌≤◌, List, [], ◌∷◌, length, get_or, drop, sym, ap, ◌∙◌, subst, arith, add-one, drop-cons, zero, suc, refl, eqb, Ok, Err, Result, Contains, MatchResult, ⊎_elim}
 use Rattle.std.specs.List.{remove}
 use Rattle.std.specs.List.Sorted.{IsSearchInRange, IsBinarySearchResult, IsNonDecreasingBy}
 use Rattle.std.specs.Ordering.{nat_cmp, ordering_index}
 use Rattle.std.proofs.lemmas.Cmp.{ranked}
 use Rattle.std.proofs.lemmas.List.Sorted.{IsNonDecreasingBy-from_default}
-use Rattle.std.proofs.lemmas.Bool.{and_parts, ltb-true, leb-true, and_from, and_left, cond-true, cond-false, cond_both, eq-eqb, ne_eqb, cases_order, cases_lt}
+use Rattle.std.proofs.lemmas.Bool.{and_from, and_left, cond-true, cond-false, cond_both, eq-eqb, ne_eqb, cases_order, cases_lt}
 use Rattle.std.proofs.lemmas.Bool.Decides.{nat_tests}
 use Rattle.sn_mem.specs.declared.extents.Extent.{Extent}
-use Rattle.sn_pool.specs.Pools.{AreLaidOut, AreDisjoint, same_extent, without_extent}
+use Rattle.sn_pool.specs.Pools.{AreLaidOut, same_extent, without_extent}
 use Rattle.sn_pool.specs.Gaps.{words_of}
 
 -- What is at i, and what comes after it.
@@ -55,14 +55,6 @@ laid_out_order from to [] i j d h lt within = absurd (omega arith)
 laid_out_order from to (e ∷ es) i zero d h lt within = absurd (omega arith)
 laid_out_order from to (e ∷ es) zero (suc j) d h lt within = (laid_out_at (e.at + e.len) to es j d h.2 (omega arith)).0
 laid_out_order from to (e ∷ es) (suc i) (suc j) d h lt within = laid_out_order (e.at + e.len) to es i j d h.2 (omega arith) (omega arith)
-
-pub laid_out_disjoint : (from to : ℕ) (es : List Extent) → AreLaidOut from to es → AllPairs AreDisjoint es
-laid_out_disjoint from to es h = λ i j d lt within x one other.
-    let a = get_or es i d in
-    let b = get_or es j d in
-    let ends = ltb-true x (a.at + a.len) (and_parts (leb a.at x) (ltb x (a.at + a.len)) one).1 in
-    let begins = leb-true b.at x (and_parts (leb b.at x) (ltb x (b.at + b.len)) other).0 in
-    omega (arith, ends, begins, laid_out_order from to es i j d h lt within)
 
 pub laid_out_without : (from to : ℕ) (es : List Extent) (x : Extent) → AreLaidOut from to es → AreLaidOut from to (without_extent x es)
 laid_out_without from to [] x h = h

@@ -4,8 +4,6 @@
 mod gaps;
 mod places;
 mod pool;
-#[cfg(test)]
-mod tests;
 
 pub use places::{POOL_BASE, buses_lie_apart};
 pub use pool::{Mark, Pool, Untaken};

@@ -202,18 +202,4 @@ impl Pool {
     {
         let _ = &self.live;
     }
-
-    /// Whether the extent is live, for tests that have lost sight of it.
-    #[cfg(test)]
-    #[tactic(auto, using(crate::proofs::Counts::times_at))]
-    pub fn is_live(&self, extent: Extent) -> bool
-        ensures { result ≡ true → 0 < times extent self.now.live }
-    {
-        for other in &self.live {
-            if extent.at == other.at && extent.len == other.len {
-                return true;
-            }
-        }
-        false
-    }
 }

@@ -3,7 +3,7 @@ use Rattle.std.proofs.Common.{◌≡◌, ◌≤◌, ◌<◌, ◌+◌, ℕ, zero,
 use Rattle.std.specs.List.{slice_get}
 use Rattle.std.proofs.lemmas.List.{drop-drop, length-drop}
 use Rattle.sn_ports.specs.Octets.{Octets}
-use Rattle.sn_ports.specs.Links.{LinkEvent, bytes, with_rest, IsFront, KeepsEvents, GivesWhatFits, events_left, event_of}
+use Rattle.sn_ports.specs.Links.{LinkEvent, bytes, ticks, with_rest, IsFront, KeepsEvents, GivesWhatFits, AreLeft, events_left, event_of}
 use Rattle.sn_ports.specs.declared.links.Event.{Event}
 use Rattle.sn_ports.specs.declared.links.Event.TheVariants as event
 use Rattle.sn_ports.specs.declared.links.Fed.TheVariants as fed
@@ -35,9 +35,6 @@ none_given : (es : List Event) → events_left 0 es ≡ map event_of es
 none_given [] = refl
 none_given (event.Bytes t ∷ es) = refl
 none_given (event.Ticks n ∷ es) = refl
-
-abbrev at_bytes : ℕ → Octets → List Event → List LinkEvent
-at_bytes given t es = events_left given (event.Bytes t ∷ es)
 
 -- part of the bytes of an event is given
 pub front_given : (es : List Event) (at given n : ℕ) (t : Octets) (into : List ℕ) → slice_get es at ≡ Some (event.Bytes t) → n < length (drop given t.bytes)
@@ -75,3 +72,14 @@ pub what_fits : (es : List Event) (at given n room : ℕ) (t : Octets) → slice
 what_fits es at given n room t is fits =
     let here : drop at es ≡ event.Bytes t ∷ drop (at + 1) es = from_event es at (event.Bytes t) is in
     subst (λ (l : List Event). GivesWhatFits (events_left given l) room (fed.Bytes n)) (sym here) fits
+
+-- blocks are given
+pub ticks_given : (es : List Event) (at given n : ℕ) → slice_get es at ≡ Some (event.Ticks n) → AreLeft given (drop at es)
+    → events_left given (drop at es) ≡ ticks n ∷ events_left given (drop (at + 1) es)
+ticks_given es at given n is left =
+    let here : drop at es ≡ event.Ticks n ∷ drop (at + 1) es = from_event es at (event.Ticks n) is in
+    let first : AreLeft given (event.Ticks n ∷ drop (at + 1) es) = subst (λ (l : List Event). AreLeft given l) here left in
+    let none : given ≡ 0 = first.0 in
+    let others : events_left given (drop (at + 1) es) ≡ map event_of (drop (at + 1) es) =
+    ap (λ (g : ℕ). events_left g (drop (at + 1) es)) none ∙ none_given (drop (at + 1) es) in
+    ap (events_left given) here ∙ ap (λ (l : List LinkEvent). ticks n ∷ l) (sym others)

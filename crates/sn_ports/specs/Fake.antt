@@ -22,6 +22,6 @@ pub record Kept : Type 0 where
 abbrev pub counted : ℕ → ℕ → ℕ
 counted bits n = min (n + 1) (2 ^ bits - 1)
 
--- the next call is one of those that fail
+-- The next call is one of those that fail. The count of calls ends at 2^32 - 1, so that number stands for all later calls.
 abbrev pub FailsNext : List ℕ → ℕ → Type 0
 FailsNext fails calls = Contains fails calls

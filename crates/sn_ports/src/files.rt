@@ -6,6 +6,7 @@ ghost use Rattle.sn_ports.specs.Fake.{counted};
 ghost use Rattle.sn_ports.specs.Transfer.{WritesSome};
 
 use crate::failed::Failed;
+use crate::failing::told;
 use crate::traits::{Sink, Source};
 use std::io::{Read, Write};
 
@@ -38,13 +39,7 @@ impl<R: Read> Source for FileSource<R> {
         ensures faults { OnErr result (self.new.faults ≡ counted 64 self.old.faults) }
         ensures unfailed { OnOk result (self.new.faults ≡ self.old.faults) }
     {
-        match self.inner.read(into) {
-            Ok(count) => Ok(count),
-            Err(_) => {
-                self.faults = self.faults.saturating_add(1);
-                Err(Failed)
-            }
-        }
+        told(self.inner.read(into), &mut self.faults)
     }
 }
 
@@ -91,11 +86,7 @@ impl<W: Write> Sink for FileSink<W> {
                 self.faults = self.faults.saturating_add(1);
                 Err(Failed)
             }
-            Ok(count) => Ok(count),
-            Err(_) => {
-                self.faults = self.faults.saturating_add(1);
-                Err(Failed)
-            }
+            answer => told(answer, &mut self.faults),
         }
     }
 }

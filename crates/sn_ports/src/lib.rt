@@ -4,6 +4,7 @@
 mod calls;
 mod digits;
 mod failed;
+mod failing;
 mod files;
 mod gate;
 mod links;
@@ -26,6 +27,3 @@ pub use sending::send_all;
 pub use text::{Text, Word};
 pub use traits::{Sink, Source};
 pub use transfer::{fill, write_all};
-
-#[cfg(test)]
-mod tests;

@@ -7,6 +7,7 @@ ghost use Rattle.sn_ports.specs.Transfer.{WritesSome};
 
 use crate::calls::Calls;
 use crate::failed::{Failed, NoMemory};
+use crate::failing::Failing;
 use crate::text::Text;
 use crate::traits::{Sink, Source};
 use std::alloc::Global;
@@ -20,15 +21,13 @@ pub struct MemorySource {
     bytes: Text,
     at: usize,
     piece: u32,
-    fails: Calls,
-    calls: u32,
-    faults: u64,
+    failing: Failing,
 }
 
 impl Model for MemorySource {
     ghost Value = { Played };
 
-    ghost view = { λ s. record { left = drop s.at s.bytes.bytes; piece = s.piece; fails = s.fails; calls = s.calls; faults = s.faults } };
+    ghost view = { λ s. record { left = drop s.at s.bytes.bytes; piece = s.piece; fails = s.failing.fails; calls = s.failing.calls; faults = s.failing.faults } };
 
     ghost invariant = { λ s. (1 ≤ s.piece) × (s.at ≤ length s.bytes.bytes) };
 }
@@ -43,9 +42,7 @@ impl MemorySource {
             bytes,
             at: 0,
             piece,
-            fails,
-            calls: 0,
-            faults: 0,
+            failing: Failing::new(fails),
         }
     }
 
@@ -53,17 +50,7 @@ impl MemorySource {
     pub fn faults(&self) -> u64
         ensures { result ≡ self.now.faults }
     {
-        self.faults
-    }
-
-    /// Counts a call, and answers whether it fails.
-    fn begins(&mut self) -> bool
-        ensures fails { IsTrue result ↔ FailsNext self.old.fails self.old.calls }
-        ensures counts { self.new ≡ record self.old { calls = counted 32 self.old.calls } }
-    {
-        let call = self.calls;
-        self.calls = call.saturating_add(1);
-        self.fails.contains(call)
+        self.failing.faults
     }
 }
 
@@ -85,9 +72,8 @@ impl Source for MemorySource {
         ensures faults { OnErr result (self.new.faults ≡ counted 64 self.old.faults) }
         ensures unfailed { OnOk result (self.new.faults ≡ self.old.faults) }
     {
-        if self.begins() {
-            self.faults = self.faults.saturating_add(1);
-            return Err(Failed);
+        if self.failing.begins() {
+            return Err(self.failing.fail());
         }
         let left = &self.bytes.as_slice()[self.at..];
         let count = left.len().min(self.piece as usize).min(into.len());
@@ -106,15 +92,13 @@ pub struct MemorySink {
     bytes: Text,
     capacity: u32,
     piece: u32,
-    fails: Calls,
-    calls: u32,
-    faults: u64,
+    failing: Failing,
 }
 
 impl Model for MemorySink {
     ghost Value = { Kept };
 
-    ghost view = { λ s. record { taken = s.bytes.bytes; capacity = s.capacity; piece = s.piece; fails = s.fails; calls = s.calls; faults = s.faults } };
+    ghost view = { λ s. record { taken = s.bytes.bytes; capacity = s.capacity; piece = s.piece; fails = s.failing.fails; calls = s.failing.calls; faults = s.failing.faults } };
 
     ghost invariant = { λ s. (1 ≤ s.piece) × (length s.bytes.bytes ≤ s.capacity) × (s.capacity ≤ length s.bytes.bytes + s.bytes.spare) };
 }
@@ -131,9 +115,7 @@ impl MemorySink {
             bytes,
             capacity,
             piece,
-            fails,
-            calls: 0,
-            faults: 0,
+            failing: Failing::new(fails),
         })
     }
 
@@ -148,17 +130,7 @@ impl MemorySink {
     pub fn faults(&self) -> u64
         ensures { result ≡ self.now.faults }
     {
-        self.faults
-    }
-
-    /// Counts a call, and answers whether it is one of those that fail.
-    fn begins(&mut self) -> bool
-        ensures fails { IsTrue result ↔ FailsNext self.old.fails self.old.calls }
-        ensures counts { self.new ≡ record self.old { calls = counted 32 self.old.calls } }
-    {
-        let call = self.calls;
-        self.calls = call.saturating_add(1);
-        self.fails.contains(call)
+        self.failing.faults
     }
 }
 
@@ -182,9 +154,8 @@ impl Sink for MemorySink {
         ensures unfailed { OnOk result (self.new.faults ≡ self.old.faults) }
     {
         let room = self.capacity as usize - self.bytes.len();
-        if self.begins() || room == 0 {
-            self.faults = self.faults.saturating_add(1);
-            return Err(Failed);
+        if self.failing.begins() || room == 0 {
+            return Err(self.failing.fail());
         }
         let count = piece.len().min(self.piece as usize).min(room);
         self.bytes.append_within(&piece[..count]);

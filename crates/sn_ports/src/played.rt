@@ -7,6 +7,7 @@ ghost use Rattle.sn_ports.specs.Transfer.{WritesSome};
 
 use crate::calls::Calls;
 use crate::failed::{Failed, NoMemory};
+use crate::failing::Failing;
 use crate::links::{Event, Events, Fed, Link};
 use crate::text::Text;
 use std::alloc::Global;
@@ -25,9 +26,7 @@ pub struct PlayedLink {
     given: usize,
     sent: Text,
     capacity: u32,
-    fails: Calls,
-    calls: u32,
-    faults: u64,
+    failing: Failing,
 }
 
 impl Model for PlayedLink {
@@ -36,7 +35,7 @@ impl Model for PlayedLink {
 
     ghost Value = { PlayedEvents };
 
-    ghost view = { λ l. record { left = events_left l.given (drop l.at l.events.items); sent = l.sent.bytes; capacity = l.capacity; fails = l.fails; calls = l.calls; faults = l.faults } };
+    ghost view = { λ l. record { left = events_left l.given (drop l.at l.events.items); sent = l.sent.bytes; capacity = l.capacity; fails = l.failing.fails; calls = l.failing.calls; faults = l.failing.faults } };
 
     ghost invariant = { λ l. (l.at ≤ length l.events.items) × AreLeft l.given (drop l.at l.events.items) × (length l.sent.bytes ≤ l.capacity) × (l.capacity ≤ length l.sent.bytes + l.sent.spare) };
 }
@@ -65,9 +64,7 @@ impl PlayedLink {
             given: 0,
             sent,
             capacity,
-            fails,
-            calls: 0,
-            faults: 0,
+            failing: Failing::new(fails),
         })
     }
 
@@ -82,17 +79,7 @@ impl PlayedLink {
     pub fn faults(&self) -> u64
         ensures { result ≡ self.now.faults }
     {
-        self.faults
-    }
-
-    /// Counts a call, and answers whether it is one of those that fail.
-    fn begins(&mut self) -> bool
-        ensures fails { IsTrue result ↔ FailsNext self.old.fails self.old.calls }
-        ensures counts { self.new ≡ record self.old { calls = counted 32 self.old.calls } }
-    {
-        let call = self.calls;
-        self.calls = call.saturating_add(1);
-        self.fails.contains(call)
+        self.failing.faults
     }
 }
 
@@ -118,9 +105,8 @@ impl Link for PlayedLink {
         ensures faults { OnErr result (self.new.faults ≡ counted 64 self.old.faults) }
         ensures unfailed { OnOk result (self.new.faults ≡ self.old.faults) }
     {
-        if self.begins() {
-            self.faults = self.faults.saturating_add(1);
-            return Err(Failed);
+        if self.failing.begins() {
+            return Err(self.failing.fail());
         }
         match self.events.get(self.at) {
             None => Ok(Fed::End),
@@ -158,9 +144,8 @@ impl Link for PlayedLink {
         ensures unfailed { OnOk result (self.new.faults ≡ self.old.faults) }
     {
         let room = self.capacity as usize - self.sent.len();
-        if self.begins() || piece.len() > room {
-            self.faults = self.faults.saturating_add(1);
-            return Err(Failed);
+        if self.failing.begins() || piece.len() > room {
+            return Err(self.failing.fail());
         }
         self.sent.append_within(piece);
         Ok(piece.len())

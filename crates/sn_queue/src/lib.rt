@@ -5,8 +5,6 @@
 mod entry;
 mod messages;
 mod queue;
-#[cfg(test)]
-mod tests;
 mod time;
 
 pub use entry::{Entry, Unput};

@@ -44,13 +44,6 @@ each_begins_trans (t ∷ ts) [] vs p q = absurd p
 each_begins_trans (t ∷ ts) (u ∷ us) [] p q = absurd q
 each_begins_trans (t ∷ ts) (u ∷ us) (v ∷ vs) p q = (begins_trans t u v p.0 q.0, each_begins_trans ts us vs p.1 q.1)
 
--- there are as many clients
-pub each_begins_length : (ts us : List (List ℕ)) → EachBegins ts us → length us ≡ length ts
-each_begins_length [] [] p = refl
-each_begins_length [] (u ∷ us) p = absurd p
-each_begins_length (t ∷ ts) [] p = absurd p
-each_begins_length (t ∷ ts) (u ∷ us) p = ap suc (each_begins_length ts us p.1)
-
 -- the frame of a reply comes behind what each client had
 pub frame_behind : (client : ℕ) (r : ReplyShape) (ts : List (List ℕ)) → EachBegins ts (with_frame client r ts)
 frame_behind client r [] = tt

@@ -1,5 +1,5 @@
 -- Lengths of messages, and replies that can be sent.
-use Rattle.std.proofs.Common.{◌≡◌, ◌≤◌, ◌<◌, ℤ, ℕ, zero, suc, ◌+◌, ◌-◌, ◌*◌, ◌^◌, ◌%◌, Bool, true, false, not, ◌&&◌, List, [], ◌∷◌, ◌++◌, length, map, take, replicate, refl, ap, subst, ◌∙◌, arith, length-append}
+use Rattle.std.proofs.Common.{◌≡◌, ◌≤◌, ◌<◌, ℕ, zero, suc, ◌+◌, ◌-◌, ◌*◌, ◌^◌, ◌%◌, Bool, true, false, not, ◌&&◌, List, [], ◌∷◌, ◌++◌, length, map, take, replicate, refl, ap, subst, ◌∙◌, arith, length-append}
 use Rattle.std.specs.Prelude.{codes, ◌==◌}
 use Rattle.std.specs.List.{list_all}
 use Rattle.std.specs.Fmt.{decimal}
@@ -8,13 +8,13 @@ use Rattle.std.proofs.lemmas.Fmt.{decimal_is_IsNumeral, length-decimal-le}
 use Rattle.std.proofs.lemmas.List.{length-map, length-replicate}
 use Rattle.std.proofs.lemmas.Grind.{common_steps}
 use Rattle.std.proofs.lemmas.List.Folds.{list_all-append}
-use Rattle.sn_osc.specs.Shape.{Argument, int, string, BodyShape, arguments, MessageShape}
-use Rattle.sn_osc.specs.Bytes.{begins_with, is_body, body_bytes, string_bytes, argument_bytes, arguments_bytes, tags_bytes, tag_of, has_no_null, is_argument, fits_int}
+use Rattle.sn_osc.specs.Shape.{Argument, string, BodyShape, arguments, MessageShape}
+use Rattle.sn_osc.specs.Bytes.{begins_with, is_body, body_bytes, string_bytes, argument_bytes, arguments_bytes, tags_bytes, tag_of, has_no_null, is_argument}
 use Rattle.sn_osc.proofs.Encoded.{four_each}
 use Rattle.sn_reply.specs.Replies.{ReplyShape}
 use Rattle.sn_reply.specs.Failing.{definition_line}
 use Rattle.sn_reply.specs.Sending.{IsSendable, IsAnswerable, AllSendable, IsShortText}
-use Rattle.sn_reply.specs.Answering.{IsShort, AreShort, IsAddress}
+use Rattle.sn_reply.specs.Answering.{AreShort, IsAddress}
 
 -- ---- tests
 
@@ -92,10 +92,6 @@ sendable-fail address text words clean short = record {
 
 -- ---- lists of replies
 
-pub all-push : (rs : List ReplyShape) (r : ReplyShape) → AllSendable rs → IsSendable r.message → AllSendable (rs ++ r ∷ [])
-all-push [] r all one = (one, tt)
-all-push (x ∷ rs) r all one = (all.0, all-push rs r all.1 one)
-
 pub all-take : (n : ℕ) (rs : List ReplyShape) → AllSendable rs → AllSendable (take n rs)
 all-take zero rs all = tt
 all-take (suc n) [] all = tt
@@ -125,16 +121,6 @@ pub short-arguments_of : (m : MessageShape) (xs : List Argument) → m.body ≡ 
 short-arguments_of m xs is a = short-arguments m.address xs (subst (λ (b : BodyShape). IsAnswerable (record { address = m.address; body = b })) is a)
 
 -- ---- replies of numbers and short names
-
-pub short-int : (n : ℤ) → fits_int n ≡ true → IsShort (int n)
-short-int n fits = record { valid = fits; short = omega arith }
-
-pub short-string : (s : List ℕ) → has_no_null s ≡ true → length s < 60 → IsShort (string s)
-short-string s clean few = record { valid = clean; short = omega (arith, few, length-string_bytes s) }
-
-pub short-push : (xs : List Argument) (x : Argument) → AreShort xs → IsShort x → AreShort (xs ++ x ∷ [])
-short-push [] x all one = (one, tt)
-short-push (y ∷ ys) x all one = (all.0, short-push ys x all.1 one)
 
 all-valid : (xs : List Argument) → AreShort xs → list_all is_argument xs ≡ true
 all-valid [] all = refl

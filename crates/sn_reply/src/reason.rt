@@ -23,7 +23,7 @@ pub enum Reason {
     NoSuchDefinition,
     /// No control bus has the number.
     Bus,
-    /// No buffer has the number.
+    /// The number is none of 0 to 1,023, or no buffer has it where one is asked for.
     Buffer,
     /// A sample's index lies outside the buffer.
     SampleIndex,
@@ -33,7 +33,7 @@ pub enum Reason {
     TooManyNodes,
     /// The text of a definition has a fault in the line with this number.
     DefinitionLine(u32),
-    /// The control is read once, when a synth begins, and can't follow a bus.
+    /// The control numbers a bus or a buffer for a unit, so it can't follow a bus.
     IndexControl,
     /// As many entries wait as may.
     QueueFull,

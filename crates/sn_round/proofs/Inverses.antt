@@ -87,9 +87,6 @@ pub record Inverts (jobs : List Job) (k : ℕ) (rest : List Job) (lists : List (
   pub long : length lists ≡ length jobs
   pub each : (j : ℕ) → j < length jobs → get_or lists j [] ++ successors_from k rest j ≡ successors jobs j
 
-pub inverts_none : (jobs : List Job) (lists : List (List ℕ)) → length lists ≡ length jobs → ((j : ℕ) → get_or lists j [] ≡ []) → Inverts jobs 0 jobs lists
-inverts_none jobs lists long none = record { long = long; each = λ j l. ap (λ (xs : List ℕ). xs ++ successors jobs j) (none j) }
-
 pub inverts_next : (jobs : List Job) (k : ℕ) (x : Job) (rest : List Job) (lists : List (List ℕ)) → All (λ p. p < length jobs) x.before → ((j : ℕ) → times j x.before ≤ 1) → Inverts jobs k (x ∷ rest) lists → Inverts jobs (k + 1) rest (put_in_each k x.before lists)
 unfolding only_if
 inverts_next jobs k x rest lists in_range once i = record {

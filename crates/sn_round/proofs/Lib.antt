@@ -2,4 +2,3 @@ pub mod Scripting
 pub mod Orders
 pub mod Inverses
 pub mod Following
-pub mod Rising

@@ -14,6 +14,3 @@ pub use laws::{
 };
 pub use plan::Plan;
 pub use work::Work;
-
-#[cfg(test)]
-mod tests;

@@ -1,5 +1,5 @@
 -- A connection that is served, event after event, to its end.
-use Rattle.std.proofs.Common.{◌≡◌, ◌⊎◌, inl, inr, ℕ, ◌<◌, Bool, false, Result, Ok, Err, IfErr, List, [], ◌∷◌, ◌++◌, length, take, drop, Option, Some, None, refl, sym, ap, subst, ◌∙◌, append-nil, arith}
+use Rattle.std.proofs.Common.{◌≡◌, ◌⊎◌, inl, inr, ℕ, ◌<◌, Bool, false, Result, Ok, Err, List, [], ◌∷◌, ◌++◌, length, take, drop, Option, Some, None, refl, sym, ap, subst, ◌∙◌, append-nil, arith}
 use Rattle.std.specs.Prelude.{if◌then◌else◌}
 use Rattle.std.specs.Io.KnownBytes.{Appends, Keeps}
 use Rattle.std.specs.Result.{IsErrAnd}
@@ -14,13 +14,13 @@ use Rattle.sn_pcm.specs.Pcm.{pcm}
 use Rattle.sn_engine.specs.Running.{Running, opened}
 use Rattle.sn_server.specs.declared.ended.Ended.{Ended}
 use Rattle.sn_server.specs.declared.ended.Ended.TheVariants.{Quit, NoMemory, Closed, Cut, BadFrame, LinkFault, SoundFault, Worn}
-use Rattle.sn_server.specs.Play.{Session}
+use Rattle.sn_render.specs.Play.{Session}
 use Rattle.sn_server.specs.PlayEvents.{Live, Over, Course, going, ended, event, is_worn, worn, unless_worn, after_event, after_events, at_end, closing, closed, beginning, over_events, play_events, bytes_in}
-use Rattle.sn_server.specs.Fronts.{TakesBetween}
-use Rattle.sn_server.specs.Served.{TakesEach, WhileOpen, IsCutShort, ByEnd, IsServed, Served, AtClose}
-use Rattle.sn_server.specs.Serving.{engine_of, framer_of, IsLive, IsReady, HasEnded, GoesOn, IsCut, Follows, StaysOpen, IsWornOut, HasLeft, TookEvent, EndsBy, IsStepCut, Took, IsServing}
+use Rattle.sn_server.specs.Served.{TakesBetween, TakesEach, WhileOpen, IsCutShort, ByEnd, IsServed, Served, AtClose}
+use Rattle.sn_server.specs.Serving.{engine_of, framer_of, IsLive, IsReady, HasEnded, GoesOn, IsCut, Follows, IsWornOut, HasLeft, TookEvent, EndsBy, IsStepCut, Took, IsServing}
 use Rattle.sn_server.proofs.JoiningLemmas.{some_left, events_both}
-use Rattle.sn_server.proofs.GrowingLemmas.{grows_not, grows_end, live_end}
+use Rattle.sn_render.proofs.GrowingLemmas.{grows_not}
+use Rattle.sn_server.proofs.GrowingLemmas.{grows_end, live_end}
 use Rattle.sn_server.proofs.ServingLemmas.{by_end, by_end_so, worn_is, worn_out, cut_here}
 use Rattle.sn_server.proofs.TakenLemmas.{IsClosing, whole_end}
 
@@ -145,21 +145,6 @@ none_at_close LinkFault left_old left_new none = tt
 none_at_close SoundFault left_old left_new none = tt
 none_at_close (Worn n blocks) left_old left_new none = tt
 
--- an end before the last event
-open_close : (how : Ended) (left_old left_new : Option (List LinkEvent)) → StaysOpen how → AtClose how left_old left_new
-open_close Closed left_old left_new stays = absurd stays
-open_close (Cut kept) left_old left_new stays = absurd stays
-open_close Quit left_old left_new stays = tt
-open_close NoMemory left_old left_new stays = tt
-open_close (BadFrame size) left_old left_new stays = tt
-open_close LinkFault left_old left_new stays = tt
-open_close SoundFault left_old left_new stays = tt
-open_close (Worn n blocks) left_old left_new stays = tt
-
-pub open_at_close : (r : Result (Unit {0}) Ended) (left_old left_new : Option (List LinkEvent)) → IfErr r StaysOpen → IfErr r (λ how. AtClose how left_old left_new)
-open_at_close (Ok x) left_old left_new stays = tt
-open_at_close (Err how) left_old left_new stays = open_close how left_old left_new stays
-
 -- it was worn out before an event was asked for
 pub took_worn : (s : Settings) (left_old : Option (List LinkEvent)) (sound_old sound_new sent_old sent_new : Option (List ℕ)) (v : Live) (e : Running) (f : Framing) (r : Result (Unit {0}) Ended) (how : Ended) → IsErrAnd r (λ k. k ≡ how)
     → IsLive s sound_old sound_new sent_old sent_new v e f → IsWornOut e f how → Took s left_old left_old sound_old sound_new sent_old sent_new v e f r
@@ -177,10 +162,6 @@ took_worn s left_old sound_old sound_new sent_old sent_new v e f (Err k) how sam
       sound = live.sound;
       sent = live.sent;
     })
-
-pub worn_close : (r : Result (Unit {0}) Ended) (left_old : Option (List LinkEvent)) (e : Running) (f : Framing) (how : Ended) → IsErrAnd r (λ k. k ≡ how) → IsWornOut e f how → IfErr r (λ k. AtClose k left_old left_old)
-worn_close (Ok x) left_old e f how same w = absurd same
-worn_close (Err k) left_old e f how same w = subst (λ (k : Ended). AtClose k left_old left_old) (sym (same ∙ w.numbers)) tt
 
 -- ---- event after event
 
@@ -286,19 +267,6 @@ serves_to s base left_old left_mid left_new sound_old sound_mid sound_new sent_o
     })
     (cut_short s base left_old left_mid left_new sound_old sound_mid sound_new sent_old sent_mid sent_new e f i)
     given_end
-
-later_close : (left_old left_mid left_new : Option (List LinkEvent)) (P : List LinkEvent → List LinkEvent → Type 0) → Known left_old left_mid P → Known left_mid left_new (λ old new. new ≡ []) → Known left_old left_new (λ old new. new ≡ [])
-later_close left_old left_mid left_new P k none = known_both left_old left_mid left_new P (λ old new. new ≡ []) (λ old new. new ≡ []) (λ a b c p q. q) k none
-
-pub closes_later : (how : Ended) (left_old left_mid left_new : Option (List LinkEvent)) (P : List LinkEvent → List LinkEvent → Type 0) → Known left_old left_mid P → AtClose how left_mid left_new → AtClose how left_old left_new
-closes_later Closed left_old left_mid left_new P k none = later_close left_old left_mid left_new P k none
-closes_later (Cut kept) left_old left_mid left_new P k none = later_close left_old left_mid left_new P k none
-closes_later Quit left_old left_mid left_new P k none = tt
-closes_later NoMemory left_old left_mid left_new P k none = tt
-closes_later (BadFrame size) left_old left_mid left_new P k none = tt
-closes_later LinkFault left_old left_mid left_new P k none = tt
-closes_later SoundFault left_old left_mid left_new P k none = tt
-closes_later (Worn n blocks) left_old left_mid left_new P k none = tt
 
 -- the room for bytes stays as long
 pub as_long : (len : ℕ) (items new : List ℕ) → len ≡ length items → length new ≡ length items → length (take len (new ++ drop (length new) items)) ≡ length items

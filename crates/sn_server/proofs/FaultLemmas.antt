@@ -1,14 +1,10 @@
--- Steps in which nothing failed.
-use Rattle.std.proofs.Common.{◌≡◌, ◌∙◌, ℕ, Result, Ok, Err, subst, sym}
+-- Facts of ends and answers at which nothing failed.
+use Rattle.std.proofs.Common.{◌≡◌, Result, Ok, Err, subst, sym}
 use Rattle.std.specs.Result.{IsErrAnd}
 use Rattle.sn_server.specs.declared.ended.Ended.{Ended}
-use Rattle.sn_server.specs.Faults.{NothingFailed, UnlessFault}
+use Rattle.sn_server.specs.Faults.{UnlessFault}
 use Rattle.sn_server.specs.Served.{WhereGiven}
 use Rattle.sn_server.proofs.ServingLemmas.{by_end_so}
-
--- nothing failed in two steps
-pub none_failed : (a b c d e f : ℕ) → NothingFailed a b d e → NothingFailed b c e f → NothingFailed a c d f
-none_failed a b c d e f one other = (other.0 ∙ one.0, other.1 ∙ one.1)
 
 -- a fact at an end gives another
 pub given_so : (how : Ended) (P Q : Type 0) → (P → Q) → WhereGiven how P → WhereGiven how Q

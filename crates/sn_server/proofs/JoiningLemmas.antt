@@ -11,7 +11,7 @@ use Rattle.sn_osc.proofs.Framing.{bad_stays}
 use Rattle.sn_osc.proofs.UnpackingLemmas.{unpacked_joined, unpack_bad}
 use Rattle.sn_engine.specs.Boundary.{quits_at}
 use Rattle.sn_pcm.specs.declared.settings.Settings.{Settings}
-use Rattle.sn_server.specs.Play.{Session, boundary}
+use Rattle.sn_render.specs.Play.{Session, boundary}
 use Rattle.sn_server.specs.declared.ended.Ended.TheVariants.{Quit, BadFrame}
 use Rattle.sn_server.specs.PlayEvents.{Live, Over, Course, going, ended, ends, arrive_one, arrive_each, keep, receive, receive_all, is_worn, worn, unless_worn, after_tick, tick, after_event, after_events, at_end, beginning, over_events, bytes_in}
 

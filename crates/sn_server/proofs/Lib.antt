@@ -1,9 +1,4 @@
-pub mod StreamLemmas
-pub mod GoingLemmas
 pub mod GrowingLemmas
-pub mod ArrivingLemmas
-pub mod CutLemmas
-pub mod OutcomeLemmas
 pub mod JoiningLemmas
 pub mod TakenLemmas
 pub mod ServingLemmas

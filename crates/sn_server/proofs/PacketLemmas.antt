@@ -88,9 +88,6 @@ pub record IsTaking (e0 : Running) (f0 : Framing) (e : Running) (f : Framing) : 
   pub block : e.block ≡ e0.block
   pub puts : e.waiting.puts + length f.kept ≤ e0.waiting.puts + length f0.kept
 
-pub begins_taking : (e : Running) (f : Framing) → e.standing ≡ Settled → IsTaking e f e f
-begins_taking e f settled = record { engine = refl; rest = refl; fed = refl; settled = settled; block = refl; puts = omega arith }
-
 takes_one : (e0 e1 e2 : Running) (f0 f1 f2 : Framing) (packet : List ℕ) → IsTaking e0 f0 e1 f1 → IsTrue (is_frame_size (length packet)) → f1.kept ≡ frame_bytes packet ++ f2.kept → f2.fed ≡ f1.fed
     → e2 ≡ with_packet (read packet) e1 → e2.waiting.puts ≤ e1.waiting.puts + length packet → IsTaking e0 f0 e2 f2
 takes_one e0 e1 e2 f0 f1 f2 packet i size parts fed is puts =

@@ -27,16 +27,17 @@ use Rattle.sn_engine.specs.Refusing.{bad_packet}
 use Rattle.sn_engine.specs.Running.{Running, at_boundary, with_block, with_settled, turn_settled, flow_at, flow_of}
 use Rattle.sn_engine.specs.declared.standing.Flow.{Flow}
 use Rattle.sn_engine.specs.declared.standing.Flow.TheVariants as flows
-use Rattle.sn_server.specs.Going.{to_first, after_block}
-use Rattle.sn_server.specs.Play.{Session, boundary}
+use Rattle.sn_render.specs.Going.{to_first, after_block}
+use Rattle.sn_render.specs.Play.{Session, boundary}
 use Rattle.sn_server.specs.declared.ended.Ended.{Ended}
 use Rattle.sn_server.specs.declared.ended.Ended.TheVariants.{Quit, NoMemory, Closed, Cut, BadFrame, LinkFault, SoundFault, Worn}
 use Rattle.sn_server.specs.PlayEvents.{Live, Course, ended, ends, arrive_one, arrive_each, keep, receive, is_worn, worn, after_tick, tick, at_end}
-use Rattle.sn_server.specs.Fronts.{TakesFront, TakesBetween}
-use Rattle.sn_server.specs.Served.{ByEnd, WhereGiven}
+use Rattle.sn_render.specs.Fronts.{TakesFront}
+use Rattle.sn_server.specs.Served.{TakesBetween, ByEnd, WhereGiven}
 use Rattle.sn_server.specs.Serving.{engine_of, framer_of, with_packet, with_packets, IsBad, IsLive, IsReady, HasEnded, GoesOn, IsCut, Follows, IsTickEnd, IsTicked, after_flow, IsTickPart, HasQuit, IsWornOut, HasLeft}
-use Rattle.sn_server.proofs.GoingLemmas.{pcm-append}
-use Rattle.sn_server.proofs.GrowingLemmas.{begins_same, begins_more, begins_under, takes_none, Grows, grows_both, block_grows, tick_grows, receive_end, receive_grows}
+use Rattle.sn_render.proofs.GoingLemmas.{pcm-append}
+use Rattle.sn_render.proofs.GrowingLemmas.{begins_same, begins_more, begins_under, takes_none, Grows, grows_both, block_grows}
+use Rattle.sn_server.proofs.GrowingLemmas.{tick_grows, receive_end, receive_grows}
 use Rattle.sn_server.proofs.JoiningLemmas.{not_worn}
 
 abbrev pub saying : List ℕ → Running → Running

@@ -1,9 +1,3 @@
-pub mod Stream
-pub mod Play
-pub mod Arriving
-pub mod Fronts
-pub mod Going
-pub mod Outcomes
 pub mod PlayEvents
 pub mod Served
 pub mod Faults

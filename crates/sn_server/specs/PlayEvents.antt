@@ -15,7 +15,7 @@ use Rattle.sn_engine.specs.Entries.{entries_of}
 use Rattle.sn_engine.specs.Refusing.{bad_packet}
 use Rattle.sn_server.specs.declared.ended.Ended.{Ended}
 use Rattle.sn_server.specs.declared.ended.Ended.TheVariants.{Quit, Closed, Cut, BadFrame, Worn}
-use Rattle.sn_server.specs.Play.{Session, boundary, play_block, settle}
+use Rattle.sn_render.specs.Play.{Session, boundary, play_block, settle}
 use Rattle.sn_osc.specs.Unpacking.{Unpacked, unpacked}
 
 -- a connection that goes on: what is played, the number of the next block, the bytes of an unfinished frame, and how many bytes came

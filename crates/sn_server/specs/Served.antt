@@ -2,11 +2,15 @@
 use Rattle.std.specs.Prelude.{◌≡◌, ◌≤◌, ℕ, false, List, [], ◌∷◌, ◌++◌, length, Option}
 use Rattle.std.specs.Io.KnownBytes.{Appends}
 use Rattle.sn_ports.specs.Links.{LinkEvent, Takes, Known}
+use Rattle.sn_ports.specs.Transfer.{Before}
 use Rattle.sn_pcm.specs.declared.settings.Settings.{Settings}
-use Rattle.sn_server.specs.Fronts.{TakesBetween}
 use Rattle.sn_server.specs.declared.ended.Ended.{Ended}
 use Rattle.sn_server.specs.declared.ended.Ended.TheVariants.{Quit, NoMemory, Closed, Cut, BadFrame, LinkFault, SoundFault, Worn}
 use Rattle.sn_server.specs.PlayEvents.{Course, going, ended, is_worn, after_event, beginning, play_events}
+
+-- what was taken begins with some bytes, and others begin with it
+abbrev pub TakesBetween : Option (List ℕ) → Option (List ℕ) → List ℕ → List ℕ → Type 0
+TakesBetween old new least most = (taken : List ℕ) × Appends old new taken × Before least taken × Before taken most
 
 -- events, or fronts of their bytes, are taken one after another
 abbrev pub TakesEach : List LinkEvent → List LinkEvent → List LinkEvent → Type 0

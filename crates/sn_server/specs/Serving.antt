@@ -19,10 +19,10 @@ use Rattle.sn_engine.specs.declared.standing.Flow.TheVariants as flows
 use Rattle.sn_engine.specs.declared.standing.Standing.TheVariants.{Settled}
 use Rattle.sn_server.specs.declared.ended.Ended.{Ended}
 use Rattle.sn_server.specs.declared.ended.Ended.TheVariants.{Quit, NoMemory, Closed, Cut, BadFrame, LinkFault, SoundFault, Worn}
-use Rattle.sn_server.specs.Fronts.{TakesFront, TakesBetween}
-use Rattle.sn_server.specs.Going.{to_first, after_block}
+use Rattle.sn_render.specs.Fronts.{TakesFront}
+use Rattle.sn_render.specs.Going.{to_first, after_block}
 use Rattle.sn_server.specs.PlayEvents.{Live, Over, Course, going, ended, is_worn, after_event, after_events, at_end, beginning}
-use Rattle.sn_server.specs.Served.{TakesEach, WhileOpen, ByEnd}
+use Rattle.sn_server.specs.Served.{TakesBetween, TakesEach, WhileOpen, ByEnd}
 
 -- ---- how far it has come
 

@@ -3,7 +3,8 @@ ghost use Rattle.std.specs.Prelude.{◌≡◌, ◌⊎◌, ◌≤◌, ◌<◌, �
 ghost use Rattle.sn_ports.specs.Causes.{Rose};
 ghost use Rattle.sn_ports.specs.Links.{LinkEvent};
 ghost use Rattle.sn_pcm.specs.declared.settings.Settings.{Settings};
-ghost use Rattle.sn_server.specs.Faults.{NothingFailed, UnlessFault};
+ghost use Rattle.sn_render.specs.Faults.{NothingFailed};
+ghost use Rattle.sn_server.specs.Faults.{UnlessFault};
 ghost use Rattle.sn_server.specs.PlayEvents.{Live, bytes_in, closing, play_events};
 ghost use Rattle.sn_server.specs.Served.{Served, AtClose, WhereGiven};
 ghost use Rattle.sn_server.specs.Serving.{IsLive, IsReady, HasLeft, Took};
@@ -11,12 +12,12 @@ ghost use Rattle.sn_server.specs.declared.ended.Ended.{Ended};
 
 use crate::ended::Ended;
 use crate::receiving::receive;
-use crate::stream::room;
 use crate::ticking::{MOST, check_worn, ticks};
 use sn_engine::Engine;
 use sn_osc::Framer;
 use sn_pcm::Settings;
 use sn_ports::{Fed, Gate, Link, Sink};
+use sn_render::room;
 use std::alloc::Global;
 use std::thread::Threads;
 

@@ -1,5 +1,5 @@
 -- Synths that are paused and freed.
-use Rattle.std.proofs.Common.{◌≡◌, ◌≤◌, ◌<◌, ◌+◌, ◌*◌, ℕ, ℤ, pos, negsuc, Bool, true, false, not, List, [], ◌∷◌, ◌++◌, length, Option, Some, None, refl, ap, sym, subst, ◌∙◌, arith, length-append, append_assoc}
+use Rattle.std.proofs.Common.{◌≡◌, ◌≤◌, ◌<◌, ◌+◌, ◌*◌, ℕ, ℤ, pos, negsuc, Bool, true, false, not, ◌||◌, true≢false, List, [], ◌∷◌, ◌++◌, length, Option, Some, None, refl, ap, sym, subst, ◌∙◌, arith, length-append, append_assoc}
 use Rattle.std.specs.Prelude.{if◌then◌else◌}
 use Rattle.std.specs.Ordering.{int_eq}
 use Rattle.std.proofs.lemmas.List.{append-nil}
@@ -152,17 +152,22 @@ no_act n g stage outs same = record {
 abbrev by_tests : Ending → NodeView → Turn → Bool → Bool → Bool → Turn
 by_tests e view t first second root = if first then paused_at e.node view t else if second then (if root then t else freed_at e.node view t) else t
 
-pub act_first : (e : Ending) (view : NodeView) (t : Turn) → int_eq e.action (pos 1) ≡ true → acted_at e (Some view) t ≡ paused_at e.node view t
-act_first e view t is = ap (λ b. by_tests e view t b (int_eq e.action (pos 2)) (int_eq e.node (pos 0))) is
-
 pub act_other : (e : Ending) (view : NodeView) (t : Turn) → int_eq e.action (pos 1) ≡ false → int_eq e.action (pos 2) ≡ false → acted_at e (Some view) t ≡ t
 act_other e view t is other = ap (λ b. by_tests e view t b (int_eq e.action (pos 2)) (int_eq e.node (pos 0))) is ∙ ap (λ b. by_tests e view t false b (int_eq e.node (pos 0))) other
 
 pub act_root : (e : Ending) (view : NodeView) (t : Turn) → int_eq e.action (pos 1) ≡ false → int_eq e.action (pos 2) ≡ true → int_eq e.node (pos 0) ≡ true → acted_at e (Some view) t ≡ t
 act_root e view t is second root = ap (λ b. by_tests e view t b (int_eq e.action (pos 2)) (int_eq e.node (pos 0))) is ∙ ap (λ b. by_tests e view t false b (int_eq e.node (pos 0))) second ∙ ap (λ b. by_tests e view t false true b) root
 
-pub act_second : (e : Ending) (view : NodeView) (t : Turn) → int_eq e.action (pos 1) ≡ false → int_eq e.action (pos 2) ≡ true → int_eq e.node (pos 0) ≡ false → acted_at e (Some view) t ≡ freed_at e.node view t
-act_second e view t is second root = ap (λ b. by_tests e view t b (int_eq e.action (pos 2)) (int_eq e.node (pos 0))) is ∙ ap (λ b. by_tests e view t false b (int_eq e.node (pos 0))) second ∙ ap (λ b. by_tests e view t false true b) root
+neither : (a b : Bool) → (a || b) ≡ false → (a ≡ false) × (b ≡ false)
+neither true b e = absurd (true≢false e)
+neither false true e = absurd (true≢false e)
+neither false false e = (refl, refl)
+
+pub act_none : (e : Ending) (o : Option NodeView) (t : Turn) → (int_eq e.action (pos 1) || int_eq e.action (pos 2)) ≡ false → acted_at e o t ≡ t
+act_none e None t off = refl
+act_none e (Some view) t off =
+    let both = neither (int_eq e.action (pos 1)) (int_eq e.action (pos 2)) off in
+    act_other e view t both.0 both.1
 
 pub acted_there : (e : Ending) (stage : Stage) (o : Option NodeView) → o ≡ view_of e.node stage.tree.attached → (words : List ℕ) (replies : List ReplyShape) → acted e (turn_of stage words replies) ≡ acted_at e o (turn_of stage words replies)
 acted_there e stage o is words replies =

@@ -1,6 +1,5 @@
 pub mod Sending
 pub mod Reading
-pub mod Holding
 pub mod Few
 pub mod Acted
 pub mod Settled

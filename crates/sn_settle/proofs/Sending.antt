@@ -1,7 +1,7 @@
 -- What is sent to a client where events are told one after the other.
-use Rattle.std.proofs.Common.{◌≡◌, ◌≢◌, ◌≤◌, ◌<◌, ◌+◌, ◌*◌, ◌==◌, ⊎_elim, ℕ, zero, suc, Bool, true, false, List, [], ◌∷◌, ◌++◌, length, get_or, set, refl, ap, sym, subst, ◌∙◌, arith, length-append, length-set, get_or-set_same, get_or-set_other, append_assoc}
+use Rattle.std.proofs.Common.{◌≡◌, ◌≢◌, ◌≤◌, ◌<◌, ◌+◌, ◌*◌, ◌==◌, ℕ, zero, suc, Bool, true, false, List, [], ◌∷◌, ◌++◌, length, get_or, refl, ap, sym, subst, ◌∙◌, arith, length-append, append_assoc}
 use Rattle.std.specs.Prelude.{if◌then◌else◌}
-use Rattle.std.proofs.lemmas.Bool.{cases_eq, eqb-true, eq-eqb}
+use Rattle.std.proofs.lemmas.Bool.{eqb-true, eq-eqb}
 use Rattle.std.proofs.lemmas.List.{append-nil}
 use Rattle.sn_ports.specs.Octets.{Octets}
 use Rattle.sn_osc.specs.Bytes.{message_bytes, frame_bytes}
@@ -79,23 +79,6 @@ pub record AreFirst (flags : List Bool) (event : Notice) (old new : List Octets)
 
 pub first_none : (flags : List Bool) (event : Notice) (outs : List Octets) → AreFirst flags event outs outs 0
 first_none flags event outs = record { clients = refl; told = λ k lt. absurd (omega (arith, lt)); same = λ k from. refl }
-
-pub first_next : (flags : List Bool) (event : Notice) (old new : List Octets) (client : ℕ) (o : Octets) → client < length old → AreFirst flags event old new client
-    → o.bytes ≡ (out_of new client).bytes ++ frame_if event (get_or flags client false) → (out_of new client).spare ≤ o.spare + 48 → AreFirst flags event old (set new client o) (client + 1)
-first_next flags event old new client o within first bytes room = record {
-  clients = length-set new client o ∙ first.clients;
-  told = λ k lt. ⊎_elim
-      (λ (e : k ≡ client). subst (λ n. IsOne flags event n (out_of old n) (out_of (set new client o) n)) (sym e) (
-      let was = first.same client (omega arith) in
-      let is : out_of (set new client o) client ≡ o = get_or-set_same new client o _ (omega (arith, within, first.clients)) in
-      record {
-        bytes = ap (λ (x : Octets). x.bytes) is ∙ bytes ∙ ap (λ (x : Octets). x.bytes ++ frame_if event (get_or flags client false)) was;
-        room = omega (arith, room, ap (λ (x : Octets). x.spare) is, ap (λ (x : Octets). x.spare) was);
-      }))
-      (λ (ne : k ≢ client). subst (IsOne flags event k (out_of old k)) (sym (get_or-set_other new client k o _ (λ e. ne e))) (first.told k (omega (arith, lt, ne))))
-      (cases_eq k client);
-  same = λ k from. get_or-set_other new client k o _ (λ e. omega (arith, from, e)) ∙ first.same k (omega (arith, from));
-}
 
 pub first_all : (flags : List Bool) (event : Notice) (old new : List Octets) (client : ℕ) → length old ≤ client → AreFirst flags event old new client → AreTold flags (event ∷ []) old new
 first_all flags event old new client all first = record {

@@ -1,5 +1,5 @@
 //! Done actions: synths that are paused and freed.
-ghost use Rattle.std.specs.Prelude.{◌≡◌, ◌≤◌, ◌*◌, ℕ, pos, List, length, true, false, None, Some};
+ghost use Rattle.std.specs.Prelude.{◌≡◌, ◌≤◌, ◌*◌, ◌||◌, ℕ, pos, List, length, true, false, None, Some};
 ghost use Rattle.std.specs.Ordering.{int_eq};
 ghost use Rattle.sn_tree.specs.Trees.{holds, view_of};
 ghost use Rattle.sn_tree.specs.Steps.{running, detached};
@@ -95,6 +95,7 @@ fn act_here(stage: &mut Stage, ending: &Ending, view: &NodeView, outs: &mut [Tex
     if ending.action != 2 {
         return;
     }
+    // The root is a group, so no ending names it. What follows asks for another node.
     if ending.node == 0 {
         return;
     }
@@ -108,13 +109,23 @@ fn view_of(tree: &Tree<Held>, ending: &Ending) -> Option<NodeView>
     tree.node(ending.node)
 }
 
-/// Does what a unit's end asks for.
+/// Whether a unit's end asks for anything.
+fn asks(ending: &Ending) -> bool
+    ensures { result ≡ (int_eq ending.now.action (pos 1) || int_eq ending.now.action (pos 2)) }
+{
+    ending.action == 1 || ending.action == 2
+}
+
+/// Does what a unit's end asks for. The node is sought only if something is asked.
 fn act(stage: &mut Stage, ending: &Ending, outs: &mut [Text])
     requires pictures { (words : List ℕ) × Pictures stage.old words }
     requires clients { length outs.old ≤ 4 }
     requires room { HaveRoom 48 outs.old }
     ensures { IsActed 1 (acted ending.now) stage.old stage.new outs.old outs.new }
 {
+    if !asks(ending) {
+        return;
+    }
     let Some(view) = view_of(&stage.tree, ending) else {
         return;
     };

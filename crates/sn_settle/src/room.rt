@@ -47,6 +47,7 @@ pub fn settling_room(stage: &Stage) -> u32
     ensures few { result ≤ 2097152 }
 {
     let mut room = 0;
+    // A hint for the proof alone: a tree has at most 4,096 nodes, so the sum fits.
     let _nodes = stage.tree.len();
     for visit in stage.tree.walk() {
         room += held_room(visit.payload);

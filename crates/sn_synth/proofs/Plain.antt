@@ -1,14 +1,13 @@
 -- Where all words of the buses may be written, a synth may play.
-use Rattle.std.proofs.Common.{◌≡◌, ◌≤◌, ◌<◌, ℕ, zero, suc, ◌+◌, List, [], ◌∷◌, pos, ◌+ℤ◌, Option, Some, None, get_or, replicate, sym, subst, arith, All}
+use Rattle.std.proofs.Common.{◌≡◌, ℕ, zero, suc, ◌+◌, List, [], ◌∷◌, pos, ◌+ℤ◌, Option, Some, None, get_or, arith, All}
 use Rattle.std.proofs.lemmas.Bool.{or_left}
-use Rattle.std.proofs.lemmas.List.Elements.{All-nil, All-cons, All-head, All-tail}
+use Rattle.std.proofs.lemmas.List.Elements.{All-head, All-tail}
 use Rattle.sn_def.specs.declared.control.Control.{Control as SynthControl}
 use Rattle.sn_def.specs.Definition.{Definition}
 use Rattle.sn_mem.specs.declared.extents.Foot.{Foot}
 use Rattle.sn_mem.specs.declared.buffers.BufferPlace.{BufferPlace}
-use Rattle.sn_mem.specs.Words.{everything, has, MayWrite}
+use Rattle.sn_mem.specs.Words.{has, MayWrite}
 use Rattle.sn_mem.specs.Buses.{audio_number}
-use Rattle.sn_mem.proofs.Feet.{plain_may_write}
 use Rattle.sn_io.specs.Channels.{control_number}
 use Rattle.sn_io.specs.BufferUnits.{numbered}
 use Rattle.sn_io.specs.Conditions.{MayReadControl, MayReadBuffer, MayWriteBuffer}
@@ -47,14 +46,3 @@ may_play f places d controls may each = λ k e lt.
       plays = λ is. read_too f (place_of places controls (get_or d.units k e)) (writes_place f (control_number index) places each);
       records = λ is. writes_place f (control_number index) places each;
     }
-
--- so over words that are all one owner's, with no buffers
-pub plain_may_follow : (n : ℕ) (d : Definition) (controls : List SynthControl) → 10368 ≤ n → n < 4294967296 → AreControlsOf d controls → MayFollow (everything n) controls
-plain_may_follow n d controls long low are = may_follow (everything n) d controls (plain_may_write n 0 10368 (omega arith) low) are
-
-no_buffers : (f : Foot) (n : ℕ) → All (MayWriteBuffer f) (replicate n None)
-no_buffers f zero = All-nil (MayWriteBuffer f)
-no_buffers f (suc n) = All-cons (MayWriteBuffer f) None (replicate n None) tt (no_buffers f n)
-
-pub plain_may_play : (n : ℕ) (places : List (Option BufferPlace)) (d : Definition) (controls : List SynthControl) → 10368 ≤ n → n < 4294967296 → places ≡ replicate 1024 None → MayPlayAll (everything n) places controls d
-plain_may_play n places d controls long low none = may_play (everything n) places d controls (plain_may_write n 0 10368 (omega arith) low) (subst (All (MayWriteBuffer (everything n))) (sym none) (no_buffers (everything n) 1024))

@@ -1,4 +1,4 @@
--- The same over memory words.
+-- A block of a synth, as what it does to the memory words.
 use Rattle.std.specs.Prelude.{ℕ, ◌+◌, List, [], ◌++◌, Option, ℤ, if◌then◌else◌}
 use Rattle.std.specs.List.{fold}
 use Rattle.sn_def.specs.declared.control.Control.{Control as SynthControl}

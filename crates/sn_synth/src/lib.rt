@@ -8,6 +8,3 @@ mod units;
 
 pub use controls::control_value;
 pub use synth::run_synth;
-
-#[cfg(test)]
-mod tests;

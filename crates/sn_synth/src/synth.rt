@@ -19,6 +19,9 @@ use sn_mem::{Buffers, Extent, Port, Scratch};
 /// A control that follows a control bus is read from it once, before the first unit. The state of
 /// the units lies in the words of `state`, which has `def.state_words(now.rate)` words, none of
 /// them a bus's or a buffer's. It refuses nothing and takes no memory.
+///
+/// `words` says what it does over the memory words, as the walk of a block is said; the clauses behind it say it of buses, buffers and
+/// state.
 pub fn run_synth<P: Port>(
     port: &mut P,
     def: &Def,

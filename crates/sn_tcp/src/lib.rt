@@ -5,8 +5,6 @@ mod laws;
 mod line;
 mod link;
 mod pace;
-#[cfg(test)]
-mod tests;
 
 pub use laws::blocks_come_due;
 pub use link::TcpLink;

@@ -1,5 +1,6 @@
 //! A socket and a clock.
-ghost use Rattle.std.specs.Prelude.{◌≡◌, ◌<◌, ◌^◌, IfOk, IfSome, length};
+ghost use Rattle.std.specs.Prelude.{◌≡◌, ◌<◌, ◌^◌, IfOk, IfSome, is_some, length, not, pos};
+ghost use Rattle.std.specs.Ordering.{int_eq};
 ghost use Rattle.std.specs.Io.{WritesAtMost};
 ghost use Rattle.std.specs.Io.KnownBytes.{WriteAppends};
 ghost use Rattle.sn_ports.specs.Links.{FeedsWithin, IsFed};
@@ -25,6 +26,13 @@ pub(crate) struct Line<S, C> {
     pace: Pace,
     /// Blocks were given last, so that the socket has its turn.
     listens: bool,
+}
+
+/// Whether the system tells of something: bytes, the end of the connection, or that it was reset.
+fn is_ready(told: i16) -> bool
+    ensures { result ≡ not (int_eq told (pos 0)) }
+{
+    told != 0
 }
 
 impl<S: Read + Write + OpenStream + AsRawFd + Drop, C: Clock + Drop> Line<S, C> {
@@ -55,8 +63,8 @@ impl<S: Read + Write + OpenStream + AsRawFd + Drop, C: Clock + Drop> Line<S, C> 
         Ok(now.saturating_sub(self.start).as_nanos())
     }
 
-    /// Asks the system whether something can be read within so many nanoseconds.
-    fn is_readable(&self, nanos: u64) -> io::Result<bool> {
+    /// Asks the system what comes within so many nanoseconds.
+    fn polled(&self, nanos: u64) -> io::Result<i16> {
         let mut asked = [pollfd {
             fd: self.socket.as_raw_fd(),
             events: POLLIN,
@@ -64,11 +72,30 @@ impl<S: Read + Write + OpenStream + AsRawFd + Drop, C: Clock + Drop> Line<S, C> 
         }];
         let millis = i32::try_from(whole_millis(nanos)).unwrap_or(i32::MAX);
         if poll(&mut asked, millis) >= 0 {
-            return Ok(asked[0].revents != 0);
+            return Ok(asked[0].revents);
         }
         match io::Error::from_raw_os_error(os::errno()) {
-            error if error.kind() == io::ErrorKind::Interrupted => Ok(false),
+            error if error.kind() == io::ErrorKind::Interrupted => Ok(0),
             error => Err(error),
+        }
+    }
+
+    /// Reads the socket where the system tells of something: bytes, the end, or else nothing.
+    fn hear(&mut self, told: i16, into: &mut [u8]) -> io::Result<Option<Fed>>
+        requires room { 0 < length into.old }
+        ensures reads { IfOk result (λ fed. is_some fed ≡ not (int_eq told (pos 0))) }
+        ensures bound { IfOk result (λ fed. IfSome fed (IsFed into.new)) }
+        ensures heard { MayHear (S.remaining self.old.socket) (S.remaining self.new.socket) result into.new }
+        ensures rate { self.new.pace.rate ≡ self.old.pace.rate }
+        ensures given { MayGive self.old.pace.given self.new.pace.given result }
+    {
+        if !is_ready(told) {
+            return Ok(None);
+        }
+        self.listens = false;
+        match self.socket.read(into)? {
+            0 => Ok(Some(Fed::End)),
+            count => Ok(Some(Fed::Bytes(count))),
         }
     }
 
@@ -80,14 +107,8 @@ impl<S: Read + Write + OpenStream + AsRawFd + Drop, C: Clock + Drop> Line<S, C> 
         ensures rate { self.new.pace.rate ≡ self.old.pace.rate }
         ensures given { MayGive self.old.pace.given self.new.pace.given result }
     {
-        if !self.is_readable(nanos)? {
-            return Ok(None);
-        }
-        self.listens = false;
-        match self.socket.read(into)? {
-            0 => Ok(Some(Fed::End)),
-            count => Ok(Some(Fed::Bytes(count))),
-        }
+        let told = self.polled(nanos)?;
+        self.hear(told, into)
     }
 
     /// Listens without a wait, where the socket has its turn.

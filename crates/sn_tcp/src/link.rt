@@ -18,9 +18,9 @@ use std::time::Clock;
 /// A link over a TCP connection. As a link it tells no content. Where the socket tells its bytes, those that `next` gives are a front of what
 /// the socket had left, and those that `send` counts are what the socket took. Each call that fails is counted.
 ///
-/// How it works, which the contracts of its `Pace` carry in part: bytes come as soon as the socket has them, and blocks when the clock says
-/// that they are due, block k after k * 64 / rate seconds. It waits in the socket up to the time of the next block, in whole milliseconds.
-/// After a pause the blocks that are due come 1,024 at a time, and the bytes that came take turns with them.
+/// How it works, which the contracts of its `Pace` carry in part: blocks come when the clock says that they are due, block k after
+/// k * 64 / rate seconds. Until the next one is due, it waits for bytes, in whole milliseconds, and gives those that the socket has. After a
+/// pause the blocks that are due come 1,024 at a time, and bytes take turns with them.
 #[derive(Drop)]
 pub struct TcpLink<S, C> {
     line: Line<S, C>,

@@ -14,8 +14,6 @@ mod saved;
 mod scratch;
 mod search;
 mod tally;
-#[cfg(test)]
-mod tests;
 mod tree;
 mod views;
 mod walk;

@@ -97,7 +97,8 @@ impl<P: Drop> Tree<P> {
         }
     }
 
-    /// Puts a new node at a spot, which runs. A refusal changes nothing and hands the payload back.
+    /// Puts a new node, which runs, at a spot. Any number that no attached node has may be its id, -1 too, which stands for no node in a
+    /// `NodeView`. A refusal changes nothing and hands the payload back.
     pub fn insert(
         &mut self,
         id: i32,
@@ -246,8 +247,8 @@ impl<P: Drop> Tree<P> {
         Ok(())
     }
 
-    /// Opens a journal with room for so many calls of `detach`, `attach`, `move_to` and `set_run`. After want of memory the
-    /// tree is as it was.
+    /// Opens a journal with room for so many calls of `replace`, `detach`, `attach`, `move_to` and `set_run`. After want of memory
+    /// the tree is as it was.
     pub fn begin(&mut self, steps: u32) -> Result<(), NoMemory>
         requires closed { self.old.journal ≡ None }
         ensures ok { OnOk result (IsOpened steps self.old self.new) }

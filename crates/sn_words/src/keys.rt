@@ -13,7 +13,7 @@ pub(crate) enum Key {
     Channels,
     /// Bits of a sample in the sound.
     Bits,
-    /// Workers that share a block.
+    /// The number of workers.
     Workers,
     /// Words of 8 bytes in the pool.
     Memory,

@@ -7,8 +7,6 @@ mod laws;
 mod lines;
 mod render;
 mod serve;
-#[cfg(test)]
-mod tests;
 
 pub use laws::{chosen_port, chosen_settings, defaults_stand, first_bad_word};
 pub use lines::BadWord;

@@ -4,7 +4,6 @@ use Rattle.sn_mem.specs.Buses.{AudioBus, control_buses}
 use Rattle.sn_mem.proofs.BusLaws.{audio_same}
 use Rattle.sn_reply.specs.Replies.{ReplyShape}
 use Rattle.sn_tree.specs.Trees.{Nodes, with_payloads}
-use Rattle.sn_world.specs.declared.defs.Defs.{Defs}
 use Rattle.sn_world.specs.declared.stage.Stage.{Stage}
 use Rattle.sn_world.specs.Nodes.{Content, content_of}
 use Rattle.sn_mem.specs.Buffers.{Buffer, buffers_of}
@@ -22,23 +21,6 @@ pictured_again stage us ws len p = record {
   base = p.base;
   bounded = p.bounded;
   fits = omega (arith, p.fits, len);
-  synths = p.synths;
-  buffers = p.buffers;
-  live = p.live;
-  apart = p.apart;
-  attached = p.attached;
-  settled = p.settled;
-  closed = p.closed;
-}
-
--- and so are other definitions
-pub pictured_with : (stage : Stage) (defs : Defs) (ws : List ℕ) → Pictures stage ws → Pictures (record stage { defs = defs }) ws
-pictured_with stage defs ws p = record {
-  rate = p.rate;
-  rate_fits = p.rate_fits;
-  base = p.base;
-  bounded = p.bounded;
-  fits = p.fits;
   synths = p.synths;
   buffers = p.buffers;
   live = p.live;

@@ -1,5 +1,5 @@
 -- Replies that begin with others.
-use Rattle.std.proofs.Common.{◌≡◌, List, [], ◌∷◌, ◌++◌, take, length, refl, ap, sym, ◌∙◌}
+use Rattle.std.proofs.Common.{◌≡◌, List, [], ◌∷◌, ◌++◌, refl, ap, sym, ◌∙◌}
 use Rattle.std.proofs.lemmas.List.{append-nil}
 use Rattle.sn_reply.specs.Replies.{ReplyShape}
 use Rattle.sn_world.specs.Answers.{Continues}
@@ -16,10 +16,3 @@ continues_then xs ys zs p q = (p.0 ++ q.0, q.1 ∙ ap (λ (rs : List ReplyShape)
 
 pub continues_more : (xs ys zs more : List ReplyShape) → Continues xs ys → zs ≡ ys ++ more → Continues xs zs
 continues_more xs ys zs more p is = continues_then xs ys zs p (more, is)
-
-taken : (xs more : List ReplyShape) → take (length xs) (xs ++ more) ≡ xs
-taken [] more = refl
-taken (x ∷ xs) more = ap (λ (rs : List ReplyShape). x ∷ rs) (taken xs more)
-
-pub take_continues : (xs ys : List ReplyShape) → Continues xs ys → take (length xs) ys ≡ xs
-take_continues xs ys p = ap (λ (rs : List ReplyShape). take (length xs) rs) p.1 ∙ taken xs p.0

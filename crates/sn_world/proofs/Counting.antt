@@ -1,5 +1,5 @@
 -- The extents of nodes, counted by weights, and by the words that they have.
-use Rattle.std.proofs.Common.{◌≡◌, ◌≤◌, ◌<◌, ◌+◌, ◌||◌, ⊎_elim, ℕ, ℤ, Bool, true, false, List, [], ◌∷◌, ◌++◌, length, refl, ap, sym, ◌∙◌, arith}
+use Rattle.std.proofs.Common.{◌≡◌, ◌≤◌, ◌<◌, ◌+◌, ◌||◌, ⊎_elim, ℕ, ℤ, Bool, true, false, List, [], ◌∷◌, ◌++◌, refl, ap, sym, ◌∙◌, arith}
 use Rattle.std.specs.Prelude.{if◌then◌else◌, nat_le, nat_lt}
 use Rattle.std.specs.Ordering.{int_eq}
 use Rattle.std.proofs.lemmas.Bool.{cond_both, and_parts, or_cases, or_left, or_right, leb-true, ltb-true}
@@ -13,9 +13,8 @@ use Rattle.sn_tree.specs.declared.node.Action.TheVariants.{Head, Tail, Before, A
 use Rattle.sn_tree.specs.Trees.{Label, Nodes, none, node, count, holds, joined, beside, put, leaf, subtree, without}
 use Rattle.sn_world.specs.declared.stage.Held.{Held}
 use Rattle.sn_world.specs.declared.stage.Held.TheVariants as held
-use Rattle.sn_world.specs.declared.stage.Stage.{Stage}
-use Rattle.sn_mem.specs.Buffers.{live_places, overlaps}
-use Rattle.sn_world.specs.Pictures.{held_extents, live_held, amount, Pictures}
+use Rattle.sn_mem.specs.Buffers.{overlaps}
+use Rattle.sn_world.specs.Pictures.{held_extents, live_held, amount}
 
 third : (p q r : Bool) → (p || (q || r)) ≡ true → p ≡ false → q ≡ false → r ≡ true
 third false false r h e f = h
@@ -87,22 +86,6 @@ unfolding times amount
 times-amount e [] = refl
 times-amount e (y ∷ ys) = omega (arith, times-amount e ys)
 
-pub length-amount : (es : List Extent) → length es ≡ amount (λ e. 1) es
-unfolding amount
-length-amount [] = refl
-length-amount (e ∷ es) = omega (arith, length-amount es)
-
-pub overlaps-put : (action : Action) (target : ℤ) (new t : Nodes Held) (x : ℕ) → holds target t ≡ true → overlaps x (live_held (put action target new t)) ≡ overlaps x (live_held new) + overlaps x (live_held t)
-overlaps-put action target new t x there =
-    omega (arith, amount-put (λ e. if covers e x then 1 else 0) action target new t there, overlaps-amount x (live_held (put action target new t)), overlaps-amount x (live_held new), overlaps-amount x (live_held t))
-
-pub times-put : (action : Action) (target : ℤ) (new t : Nodes Held) (e : Extent) → holds target t ≡ true → times e (live_held (put action target new t)) ≡ times e (live_held new) + times e (live_held t)
-times-put action target new t e there =
-    omega (arith, amount-put (λ y. if same_extent e y then 1 else 0) action target new t there, times-amount e (live_held (put action target new t)), times-amount e (live_held new), times-amount e (live_held t))
-
-pub times-leaf : (id : ℤ) (kind : NodeKind) (h : Held) (e : Extent) → times e (live_held (leaf id kind h)) ≡ times e (held_extents h)
-times-leaf id kind h e = omega (arith, amount-leaf (λ y. if same_extent e y then 1 else 0) id kind h, times-amount e (live_held (leaf id kind h)), times-amount e (held_extents h))
-
 few_own : (h : Held) → amount (λ e. 1) (held_extents h) ≤ 1
 unfolding amount
 few_own held.Group = omega arith
@@ -161,7 +144,3 @@ pub times-append : (e : Extent) (es fs : List Extent) → times e (es ++ fs) ≡
 unfolding times
 times-append e [] fs = omega arith
 times-append e (y ∷ ys) fs = omega (arith, times-append e ys fs)
-
--- the words that are live in the pool are those of the synths and of the buffers
-pub live_words : (stage : Stage) (ws : List ℕ) → Pictures stage ws → (x : ℕ) → has stage.pool.live x ≡ has (live_held stage.tree.attached ++ live_places stage.buffers) x
-live_words stage ws p x = has-same stage.pool.live (live_held stage.tree.attached ++ live_places stage.buffers) (λ e some. p.live e some ∙ sym (times-append e (live_held stage.tree.attached) (live_places stage.buffers))) x

@@ -20,9 +20,6 @@ own_group h e is = ap (times e) is
 one : (b : Bool) → b ≡ true → ◌≡◌ {A = ℕ} (if b then 1 else 0) 1
 one b e = ap (λ (c : Bool). let n : ℕ = if c then 1 else 0 in n) e
 
-zero : (b : Bool) → b ≡ false → ◌≡◌ {A = ℕ} (if b then 1 else 0) 0
-zero b e = ap (λ (c : Bool). let n : ℕ = if c then 1 else 0 in n) e
-
 pub own_synth : (h : Held) (e state : Extent) → held_extents h ≡ state ∷ [] → times e (held_extents h) ≡ (if same_extent e state then 1 else 0)
 unfolding times
 own_synth h e state is = ap (times e) is ∙ omega arith

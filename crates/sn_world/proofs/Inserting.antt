@@ -8,7 +8,7 @@ use Rattle.sn_mem.specs.Words.{covers, has}
 use Rattle.sn_mem.specs.Buses.{AudioBus, ControlBus}
 use Rattle.sn_mem.proofs.BusLaws.{audio_same, control_same}
 use Rattle.sn_mem.specs.declared.buffers.BufferPlace.{BufferPlace}
-use Rattle.sn_pool.specs.Pools.{with_extent, times}
+use Rattle.sn_pool.specs.Pools.{times}
 use Rattle.sn_pool.specs.Regions.{are_free, first_free, least_place}
 use Rattle.sn_tree.specs.declared.node.NodeKind.{NodeKind}
 use Rattle.sn_tree.specs.declared.node.Action.{Action}
@@ -23,11 +23,10 @@ use Rattle.sn_world.specs.Buffers.{AreBuffers}
 use Rattle.sn_world.specs.Definitions.{Definitions, definitions_of}
 use Rattle.sn_world.specs.Nodes.{Content, content_of, extents_of, live_in}
 use Rattle.sn_world.specs.Pictures.{held_extents, live_held, IsHeld, AreHeld, Pictures}
-use Rattle.sn_world.specs.World.{World, world_of, live_of}
+use Rattle.sn_world.specs.World.{World, world_of}
 use Rattle.sn_world.specs.NewNodes.{left_by, gone_by}
 use Rattle.sn_mem.proofs.BufferWords.{overlaps-append, AgreesOn, same_buffers}
 use Rattle.sn_world.proofs.Walking.{parts_of, held_from}
-use Rattle.sn_world.proofs.BufferLaws.{live_buffers-of}
 use Rattle.sn_world.proofs.Replacing.{overlaps-left, times-left, overlaps-placed, times-placed, held-left, same_placed}
 
 -- ---- words in extents
@@ -39,19 +38,6 @@ has-overlaps (e ∷ es) x = at (covers e x) (has-overlaps es x)
     at : (b : Bool) → has es x ≡ nat_lt 0 (overlaps x es) → (b || has es x) ≡ nat_lt 0 ((if b then 1 else 0) + overlaps x es)
     at true rest = sym (lt-ltb 0 (1 + overlaps x es) (omega arith))
     at false rest = rest ∙ ap (nat_lt 0) (omega arith)
-
-or_swap : (a b c : Bool) → (a || (b || c)) ≡ (b || (a || c))
-or_swap true true c = refl
-or_swap true false c = refl
-or_swap false true c = refl
-or_swap false false c = refl
-
-pub has-with_extent : (e : Extent) (es : List Extent) (x : ℕ) → has (with_extent e es) x ≡ (covers e x || has es x)
-has-with_extent e [] x = refl
-has-with_extent e (y ∷ ys) x =
-    cond_both (nat_lt e.at y.at) (e ∷ y ∷ ys) (y ∷ with_extent e ys) (λ zs. has zs x ≡ (covers e x || (covers y x || has ys x)))
-    (λ _. refl)
-    (λ _. ap (λ b. covers y x || b) (has-with_extent e ys x) ∙ or_swap (covers y x) (covers e x) (has ys x))
 
 -- the least place rests on which words are live
 are_free-same : (es fs : List Extent) → ((x : ℕ) → has es x ≡ has fs x) → (p n : ℕ) → are_free es p n ≡ are_free fs p n
@@ -76,10 +62,6 @@ own_extents (held.Synth def controls state) ws = refl
 pub live_in-payloads : (t : Nodes Held) (ws : List ℕ) → live_in (with_payloads (content_of ws) t) ≡ live_held t
 live_in-payloads none ws = refl
 live_in-payloads (node l below after) ws = λ i. own_extents l.payload ws i ++ (live_in-payloads below ws i ++ live_in-payloads after ws i)
-
--- the words of all synths and of all buffers
-pub live_of-stage : (stage : Stage) (ws : List ℕ) → live_of (world_of stage ws) ≡ live_held stage.tree.attached ++ live_places stage.buffers
-live_of-stage stage ws = λ i. live_in-payloads stage.tree.attached ws i ++ live_buffers-of stage.buffers ws i
 
 module _ (rate : ℕ) (region : Extent) where
   held-joined : (s t : Nodes Held) → AreHeld rate region s → AreHeld rate region t → AreHeld rate region (joined s t)

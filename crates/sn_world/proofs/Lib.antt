@@ -3,6 +3,7 @@ pub mod RunLemmas
 pub mod RunsRead
 pub mod ControlRunsRead
 pub mod StepLaws
+pub mod SampleFolds
 pub mod Continuing
 pub mod Meanings
 pub mod Counting
@@ -21,5 +22,6 @@ pub mod OwnWords
 pub mod SettleLaws
 pub mod SettleWalks
 pub mod HeldIds
+pub mod MapFolds
 pub mod ChosenIds
 pub mod ChoosingLaws

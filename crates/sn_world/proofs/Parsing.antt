@@ -1,6 +1,6 @@
 -- Repetitions read one after the other.
-use Rattle.std.proofs.Common.{◌≡◌, ◌≤◌, ◌-◌, ◌+◌, ℕ, List, [], ◌∷◌, ◌++◌, length, map, take, drop, get_or, Option, Some, None, refl, ap, arith, append_assoc}
-use Rattle.std.proofs.lemmas.List.{take_all, length-map}
+use Rattle.std.proofs.Common.{◌≡◌, ◌≤◌, ◌-◌, ◌+◌, ℕ, List, [], ◌∷◌, ◌++◌, length, map, Option, Some, None, refl, ap, arith, append_assoc}
+use Rattle.std.proofs.lemmas.List.{length-map}
 use Rattle.sn_osc.specs.declared.packet.Arg.{Arg}
 use Rattle.sn_osc.specs.Shape.{Argument, argument_of}
 use Rattle.std.specs.Prelude.{IfSome}
@@ -14,27 +14,6 @@ after found (Some rs) = Some (found ++ rs)
 pub after-another : {R : Type 0} (found : List R) (r : R) (o : Option (List R)) → after (found ++ r ∷ []) o ≡ after found (another (Some r) o)
 after-another found r None = refl
 after-another found r (Some rs) = ap Some (append_assoc found (r ∷ []) rs)
-
-pub after-nil : {R : Type 0} (o : Option (List R)) → after [] o ≡ o
-after-nil None = refl
-after-nil (Some rs) = refl
-
-pub pairs-step : {R : Type 0} (p : Argument → Argument → Option R) (args : List Arg) (x y : Arg) (o : Option R) → 2 ≤ length args → x ≡ get_or args 0 x → y ≡ get_or args 1 y → p (argument_of x) (argument_of y) ≡ o
-    → pairs p (map argument_of args) ≡ another o (pairs p (map argument_of (take (length args - 2) (drop 2 args))))
-pairs-step p [] x y o two is-x is-y read = absurd (omega arith)
-pairs-step p (a ∷ []) x y o two is-x is-y read = absurd (omega arith)
-pairs-step p (a ∷ b ∷ rest) x y o two is-x is-y read =
-    let whole : take (length (a ∷ b ∷ rest) - 2) rest ≡ rest = take_all _ rest (omega arith) in
-    rw (whole, ← is-x, ← is-y, read) refl
-
-pub triples-step : {R : Type 0} (p : Argument → Argument → Argument → Option R) (args : List Arg) (x y z : Arg) (o : Option R) → 3 ≤ length args → x ≡ get_or args 0 x → y ≡ get_or args 1 y → z ≡ get_or args 2 z → p (argument_of x) (argument_of y) (argument_of z) ≡ o
-    → triples p (map argument_of args) ≡ another o (triples p (map argument_of (take (length args - 3) (drop 3 args))))
-triples-step p [] x y z o three is-x is-y is-z read = absurd (omega arith)
-triples-step p (a ∷ []) x y z o three is-x is-y is-z read = absurd (omega arith)
-triples-step p (a ∷ b ∷ []) x y z o three is-x is-y is-z read = absurd (omega arith)
-triples-step p (a ∷ b ∷ c ∷ rest) x y z o three is-x is-y is-z read =
-    let whole : take (length (a ∷ b ∷ c ∷ rest) - 3) rest ≡ rest = take_all _ rest (omega arith) in
-    rw (whole, ← is-x, ← is-y, ← is-z, read) refl
 
 -- one argument left over
 pub pairs-one : {R : Type 0} (p : Argument → Argument → Option R) (args : List Arg) → 1 ≤ length args → length args ≤ 1 → pairs p (map argument_of args) ≡ None

@@ -51,10 +51,6 @@ joined r None t = refl
 joined r (Some vs) None = refl
 joined r (Some vs) (Some t) = refl
 
-nothing : (r : Option Run) → option_map runs_of (with_run r None) ≡ None
-nothing None = refl
-nothing (Some r) = refl
-
 -- the first two arguments, and those behind them
 abbrev pub behind_two : List Arg → List Arg
 behind_two args = take (length args - 2) (drop 2 args)

@@ -32,6 +32,7 @@ pub mod Queries
 pub mod TreeQueries
 pub mod SynthQueries
 pub mod Mappings
+pub mod Folds
 pub mod Moving
 pub mod NodeOrder
 pub mod Commands

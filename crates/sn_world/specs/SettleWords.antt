@@ -1,4 +1,4 @@
--- The same over the memory words.
+-- What happens after a block, as what it reads of the memory words and does to them.
 use Rattle.std.specs.Prelude.{ℕ, ◌+◌, ℤ, Option, Some, None, if◌then◌else◌, List, [], ◌∷◌, ◌++◌}
 use Rattle.sn_def.specs.declared.unit.Unit.{Unit as UnitLine}
 use Rattle.sn_def.specs.Defs.{definition_of}

@@ -138,7 +138,8 @@ paused_at id view t =
 abbrev pub freed_at : ℤ → NodeView → Turn → Turn
 freed_at id view t = told_all (notice.End (place_of id view) ∷ []) (record t { world = record t.world { nodes = without id t.world.nodes } })
 
--- Action 1 pauses and action 2 frees. Nothing is done with a synth that is there no more, and never with the root.
+-- Action 1 pauses and action 2 frees. Nothing is done with a synth that is there no more. The root is a group, so no
+-- ending names it.
 abbrev pub acted_at : Ending → Option NodeView → Turn → Turn
 acted_at e None t = t
 acted_at e (Some view) t =

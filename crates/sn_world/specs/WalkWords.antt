@@ -1,4 +1,4 @@
--- The same over the memory words.
+-- The walk of a block, as what it does to the memory words.
 use Rattle.std.specs.Prelude.{ℕ, ℤ, List, [], ◌∷◌, Option}
 use Rattle.sn_def.specs.Defs.{definition_of}
 use Rattle.sn_mem.specs.declared.buffers.BufferPlace.{BufferPlace}

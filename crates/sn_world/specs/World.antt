@@ -12,9 +12,9 @@ use Rattle.sn_world.specs.Nodes.{Content, content_of, live_in}
 use Rattle.sn_mem.specs.Buffers.{Buffer, buffers_of}
 use Rattle.sn_world.specs.Buffers.{live_buffers}
 
--- The tree of nodes, the definitions, the 128 audio buses, the 1,024 control buses, and what is at each of the 1,024 numbers of buffers; for each client whether it is notified of what
--- happens to nodes; the id that is chosen next, where one is left; and, which nothing changes, the frames a second and the words from
--- which the pool gives.
+-- The tree of nodes, the definitions, the 128 audio buses, the 1,024 control buses, and what is at each of the 1,024 numbers of buffers.
+-- `notify` tells of each client whether it is told what happens to nodes. `next_id` is the id that is chosen next, if one is left.
+-- Nothing changes the last two: the frames a second, and the words from which the pool gives.
 pub record World : Type 0 where
   pub nodes : Nodes Content
   pub definitions : Definitions

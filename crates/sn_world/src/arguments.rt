@@ -1,4 +1,4 @@
-//! Arguments that repeat: what one, two or three of them say, one after the other.
+//! Arguments that repeat: a value is read from one, two or three of them, and then the next.
 ghost use Rattle.std.specs.Prelude.{◌≡◌, map, IfOk};
 ghost use Rattle.std.specs.Option.{option_map};
 ghost use Rattle.sn_osc.specs.Shape.{argument_of};
@@ -13,7 +13,7 @@ use sn_osc::Arg;
 use sn_ports::NoMemory;
 use std::alloc::Global;
 
-/// What one argument says.
+/// A value that is read from one argument.
 pub trait Single: Drop {
     ghost use Rattle.std.specs.Prelude.{Option, ◌≡◌};
     ghost use Rattle.sn_osc.specs.Shape.{Argument, argument_of};
@@ -25,7 +25,7 @@ pub trait Single: Drop {
         ensures { result ≡ from_one (argument_of first.now) };
 }
 
-/// What two arguments say.
+/// A value that is read from two arguments.
 pub trait Pair: Drop {
     ghost use Rattle.std.specs.Prelude.{Option, ◌≡◌};
     ghost use Rattle.sn_osc.specs.Shape.{Argument, argument_of};
@@ -37,7 +37,7 @@ pub trait Pair: Drop {
         ensures { result ≡ from_two (argument_of first.now) (argument_of second.now) };
 }
 
-/// What three arguments say.
+/// A value that is read from three arguments.
 pub trait Triple: Drop {
     ghost use Rattle.std.specs.Prelude.{Option, ◌≡◌};
     ghost use Rattle.sn_osc.specs.Shape.{Argument, argument_of};

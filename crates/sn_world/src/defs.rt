@@ -58,7 +58,7 @@ impl Defs {
     pub fn remove(&mut self, name: &[u8])
         ensures { definitions_of self.new ≡ finite.remove (definitions_of self.old) name.now }
     {
-        // Tells that no name is there twice.
+        // A hint for the proof alone: no name is there twice.
         let _ = self.items.len();
         self.items.remove(name);
     }

@@ -37,6 +37,7 @@ fn end_node(pool: &mut Pool, held: Held)
     ensures live { (e : Extent) → 1 ≤ e.len → times e pool.old.live ≡ times e (held_extents held) + times e pool.new.live }
     ensures room { room_of pool.old.journal ≤ amount (λ e. 1) (held_extents held) + room_of pool.new.journal }
     ensures mark { mark_of pool.new.journal ≡ mark_of pool.old.journal }
+    ensures saved { saved_of pool.new.journal ≡ saved_of pool.old.journal }
     ensures region { pool.new.region ≡ pool.old.region }
 {
     give_back(pool, &held);
@@ -50,6 +51,7 @@ pub fn end_freed(tree: &mut Tree<Held>, pool: &mut Pool)
     ensures tree { tree.new ≡ record tree.old { detached = none } }
     ensures live { (e : Extent) → 1 ≤ e.len → times e pool.old.live ≡ times e (live_held tree.old.detached) + times e pool.new.live }
     ensures mark { mark_of pool.new.journal ≡ mark_of pool.old.journal }
+    ensures saved { saved_of pool.new.journal ≡ saved_of pool.old.journal }
     ensures region { pool.new.region ≡ pool.old.region }
 {
     while let Some(held) = tree.free() {

@@ -31,7 +31,10 @@ pub use emptying::{DeepFree, FreeAll};
 pub use endings::{Ending, Endings};
 pub use flags::Flags;
 pub use freed::{end_freed, give_back};
-pub use laws::{control_runs_are_read, value_runs_are_read};
+pub use laws::{
+    control_runs_are_read, controls_are_mapped_in_turn, most_completions_are_deepest,
+    samples_change_in_turn, value_runs_are_read,
+};
 pub use names::Names;
 pub use node_repetition::{NodeMove, NodeQuery, RunFlag};
 pub use notices::{NodeEvent, event_message, notify};

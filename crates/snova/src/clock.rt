@@ -9,6 +9,14 @@ use std::time::{Clock, Duration};
 /// Seconds from 1900 to 1970.
 const TO_1970: u64 = 2_208_988_800;
 
+/// A reading of the clock, and its time tag.
+#[derive(Clone, Copy)]
+pub(crate) struct Reading {
+    since_1970: Duration,
+    pub(crate) tag: u64,
+    ghost tag_is: { tag ≡ time_tag (as_nanos since_1970) },
+}
+
 /// So long after 1970 as a time tag: the seconds since 1900 above, and their fraction below. The seconds begin again every 2^32.
 fn time_tag(since_1970: Duration) -> u64
     ensures { result ≡ time_tag (as_nanos since_1970) }
@@ -19,6 +27,10 @@ fn time_tag(since_1970: Duration) -> u64
 }
 
 /// The time now.
-pub(crate) fn now<H: Clock>(rt: &H) -> io::Result<u64> {
-    Ok(time_tag(rt.since_1970()?))
+pub(crate) fn now<C: Clock>(clock: &C) -> io::Result<Reading> {
+    let since_1970 = clock.since_1970()?;
+    Ok(Reading {
+        since_1970,
+        tag: time_tag(since_1970),
+    })
 }

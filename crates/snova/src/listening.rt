@@ -1,36 +1,61 @@
 //! A connection at a port is served.
-ghost use Rattle.std.specs.Prelude.{◌<◌, ◌^◌, length};
+ghost use Rattle.std.specs.Prelude.{◌≡◌, ◌<◌, ◌^◌, length, Ok, IfOk};
+ghost use Rattle.sn_words.specs.Choices.{numbers};
+ghost use Rattle.sn_words.specs.Serving.{serve_words_of};
 
 use crate::clock::now;
+use crate::exit::Exit;
 use crate::serving::{Served, serve};
 use sn_ports::{Calls, FileSink, MemorySink, NoMemory, Open, PlayedLink, Word};
-use sn_server::Ended;
 use sn_tcp::TcpLink;
-use sn_words::ServeWords;
-use std::net::{Ipv4Addr, Net, OpenListener, TcpListener};
+use sn_words::{ServeWords, serve_words};
+use std::io::{Read, Write};
+use std::net::{Ipv4Addr, Net, OpenListener, OpenStream, TcpListener};
+use std::os::fd::AsRawFd;
 use std::rt::{Clock, Files};
 use std::thread::Threads;
 use std::{fs, io};
 
-/// Serves the first connection that comes to the port of this machine, and writes the sound to a file.
-pub(crate) fn serve_on_port<H: Files + Clock + Net + AllocGlobal + Threads + Sync>(
+/// A link over a socket, at the rate of the settings.
+fn link_over<S: Read + Write + OpenStream + AsRawFd + Drop, C: Clock + Drop>(
+    socket: S,
+    clock: C,
+    chosen: &ServeWords,
+) -> io::Result<TcpLink<S, C>>
+    ensures { IfOk result (λ link. link.line.pace.rate ≡ chosen.now.settings.rate) }
+{
+    TcpLink::new(socket, clock, chosen.settings.rate)
+}
+
+/// Serves the first connection that comes to the port of this machine, and writes the sound to a file, for words that
+/// choose these settings and this port.
+fn serve_on_port<H: Files + Clock + Net + AllocGlobal + Threads + Sync>(
     rt: &H,
     words: &[Word],
     chosen: &ServeWords,
     sound: &str,
 ) -> io::Result<Served>
-    requires { length words.now < 2 ^ 32 }
+    requires room { length words.now < 2 ^ 32 }
+    requires accepted { serve_words_of words.now ≡ Ok (record { settings = numbers chosen.now.settings; port = chosen.now.port }) }
 {
     let listener = TcpListener::bind(rt, (Ipv4Addr::LOCALHOST, chosen.port))?;
     let mut sound = FileSink::new(fs::create(rt, sound)?);
     let (stream, _) = listener.accept()?;
     let base = now(rt)?;
-    let mut link = TcpLink::new(stream, rt, chosen.settings.rate)?;
-    Ok(serve(rt, rt.alloc(), words, base, &mut link, &mut sound, &Open))
+    let mut link = link_over(stream, rt, chosen)?;
+    Ok(serve(
+        rt,
+        rt.alloc(),
+        words,
+        base.tag,
+        &mut link,
+        &mut sound,
+        &Open,
+    ))
 }
 
 /// Serves nothing, for words that are refused.
-pub(crate) fn serve_on_nothing<H: AllocGlobal + Threads + Sync>(
+fn serve_on_nothing<H: AllocGlobal + Threads + Sync>(
     rt: &H,
     words: &[Word],
 ) -> Result<Served, NoMemory>
@@ -42,26 +67,19 @@ pub(crate) fn serve_on_nothing<H: AllocGlobal + Threads + Sync>(
     Ok(serve(rt, alloc, words, 0, &mut link, &mut sound, &Open))
 }
 
-fn report_ended(rt: &impl Print, how: Ended) -> io::Result<()> {
-    match how {
-        Ended::Quit => println!(rt; "quit"),
-        Ended::NoMemory => println!(rt; "no memory"),
-        Ended::Closed => println!(rt; "closed"),
-        Ended::Cut { kept } => println!(rt; "cut after {kept} bytes"),
-        Ended::BadFrame { size } => println!(rt; "bad frame size {size}"),
-        Ended::LinkFault => println!(rt; "link fault"),
-        Ended::SoundFault => println!(rt; "sound fault"),
-        Ended::Worn {
-            bytes: _,
-            blocks: _,
-        } => println!(rt; "worn out"),
-    }
-}
-
-/// Prints what came of serving.
-pub(crate) fn report_served(rt: &impl Print, served: Served) -> io::Result<()> {
-    match served {
-        Served::BadWords { index } => println!(rt; "bad word {index}"),
-        Served::Ran(how) => report_ended(rt, how),
+/// Serves a connection at the port that the words name. Where they are refused nothing is opened.
+pub(crate) fn serve_port<H: Files + Clock + Net + AllocGlobal + Threads + Sync>(
+    rt: &H,
+    args: &[String],
+    words: &[Word],
+) -> Result<Exit, NoMemory>
+    requires { length words.now < 2 ^ 32 }
+{
+    match (serve_words(words), args) {
+        (Ok(chosen), [.., sound]) => match serve_on_port(rt, words, &chosen, sound.as_str()) {
+            Ok(served) => Ok(Exit::Served(served)),
+            Err(_) => Ok(Exit::NotOpened),
+        },
+        _ => Ok(Exit::Served(serve_on_nothing(rt, words)?)),
     }
 }

@@ -2,9 +2,8 @@ ghost use Rattle.std.specs.Prelude.{◌≡◌, ◌⊎◌, ◌<◌, ◌^◌, ◌�
 ghost use Rattle.std.specs.Io.KnownBytes.{Keeps};
 ghost use Rattle.sn_ports.specs.Causes.{Rose};
 ghost use Rattle.sn_pcm.specs.declared.settings.Settings.{Settings};
-ghost use Rattle.sn_server.specs.Faults.{NothingFailed};
-ghost use Rattle.sn_server.specs.Outcomes.{Played, IsAnswer, HasAnswer, TakesStream, Writes};
-ghost use Rattle.sn_server.specs.declared.outcome.Outcome.{Outcome};
+ghost use Rattle.sn_render.specs.Outcomes.{Played, IsAnswer, HasAnswer, TakesStream, Writes};
+ghost use Rattle.sn_render.specs.declared.outcome.Outcome.{Outcome};
 ghost use Rattle.sn_words.specs.Words.{settings_of};
 ghost use Rattle.snova.specs.Headline.{AreChosen, ByWords};
 
@@ -43,9 +42,10 @@ pub fn run<H: Threads + Sync, S: Source, O: Sink, R: Sink, G: Gate>(
     ensures sound { result ≡ Outcome.SoundFault → Rose (O.faults sound.old) (O.faults sound.new) }
     ensures reply { result ≡ Outcome.ReplyFault → Rose (R.faults replies.old) (R.faults replies.new) }
 
-    // Where it was done nothing failed.
-    ensures unfailed { (n : ℕ) → result ≡ Outcome.Done n → (S.faults source.new ≡ S.faults source.old)
-        × NothingFailed (O.faults sound.old) (O.faults sound.new) (R.faults replies.old) (R.faults replies.new) }
+    // None of the three failed but where its fault is the answer.
+    ensures source_unfailed { (result ≡ Outcome.ReadFault) ⊎ (S.faults source.new ≡ S.faults source.old) }
+    ensures sound_unfailed { (result ≡ Outcome.SoundFault) ⊎ (O.faults sound.new ≡ O.faults sound.old) }
+    ensures replies_unfailed { (result ≡ Outcome.ReplyFault) ⊎ (R.faults replies.new ≡ R.faults replies.old) }
 
     // Where the words choose settings, the answer is one that the stream has by them; and where no count rises, it is the one that
     // the stream has, or want of memory.

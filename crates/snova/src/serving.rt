@@ -3,7 +3,7 @@ ghost use Rattle.std.specs.Io.KnownBytes.{Keeps};
 ghost use Rattle.sn_ports.specs.Causes.{Rose};
 ghost use Rattle.sn_ports.specs.Links.{LinkEvent, KeepsEvents};
 ghost use Rattle.sn_pcm.specs.declared.settings.Settings.{Settings};
-ghost use Rattle.sn_server.specs.Faults.{NothingFailed};
+ghost use Rattle.sn_render.specs.Faults.{NothingFailed};
 ghost use Rattle.sn_server.specs.PlayEvents.{bytes_in, play_events};
 ghost use Rattle.sn_server.specs.Served.{AtClose, Served as GivesEnd, WhereGiven};
 ghost use Rattle.sn_server.specs.declared.ended.Ended.{Ended};
@@ -69,9 +69,10 @@ pub fn serve<H: Threads + Sync, L: Link, O: Sink, G: Gate>(
         → (Rose (L.faults link.old) (L.faults link.new) → ⊥) → (Rose (O.faults sound.old) (O.faults sound.new) → ⊥)
         → (result ≡ Served.Ran (play_events s base events).ending) ⊎ (result ≡ Served.Ran Ended.NoMemory)) }
 
-    // Where the words are refused nothing was taken, sent or written.
+    // Where the words are refused nothing was taken, sent or written, and nothing failed.
     ensures untouched { (i : ℕ) → result ≡ Served.BadWords i
-        → KeepsEvents (L.left link.old) (L.left link.new) × Keeps (L.sent link.old) (L.sent link.new) × Keeps (O.taken sound.old) (O.taken sound.new) }
+        → KeepsEvents (L.left link.old) (L.left link.new) × Keeps (L.sent link.old) (L.sent link.new) × Keeps (O.taken sound.old) (O.taken sound.new)
+        × NothingFailed (L.faults link.old) (L.faults link.new) (O.faults sound.old) (O.faults sound.new) }
 {
     match serve_words(words) {
         Ok(chosen) => {

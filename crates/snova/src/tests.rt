@@ -1,89 +1,57 @@
+ghost use Rattle.std.specs.Prelude.{◌<◌, ◌^◌, IfOk, vec_len};
+
+use crate::clock::now;
+use crate::exit::Exit;
+use crate::files::render_files;
 use crate::running::run;
 use crate::serving::{Served, serve};
-use crate::{Course, as_words, render_files};
-use sn_osc::PacketKind;
-use sn_ports::{
-    Calls, Event, Fed, Link, MemorySink, MemorySource, NoMemory, Open, PlayedLink, Text, Word,
-};
-use sn_server::{Ended, Outcome, StreamFault};
-use std::fs;
+use sn_ports::{Calls, Event, MemorySink, MemorySource, NoMemory, Open, PlayedLink, Text, Word};
+use sn_server::{Ended, Outcome};
+use std::rt::Files;
 use std::test::Fail;
 use std::thread::Threads;
-
-/// A bundle at one second with `/c_get 3`, with its size.
-const QUESTION: [u8; 40] = [
-    0, 0, 0, 0x24, 0x23, 0x62, 0x75, 0x6e, 0x64, 0x6c, 0x65, 0, 0, 0, 0, 1, 0, 0, 0, 0, 0, 0, 0,
-    0x10, 0x2f, 0x63, 0x5f, 0x67, 0x65, 0x74, 0, 0, 0x2c, 0x69, 0, 0, 0, 0, 0, 3,
-];
-
-/// `/c_set 3 0`, with its size.
-const ANSWER: [u8; 24] = [
-    0, 0, 0, 0x14, 0x2f, 0x63, 0x5f, 0x73, 0x65, 0x74, 0, 0, 0x2c, 0x69, 0x69, 0, 0, 0, 0, 3, 0, 0,
-    0, 0,
-];
-
-/// The header of 750 blocks of two channels of 16 bits at 48,000 frames a second.
-const HEADER: [u8; 44] = [
-    0x52, 0x49, 0x46, 0x46, 0x24, 0xee, 0x02, 0x00, 0x57, 0x41, 0x56, 0x45, 0x66, 0x6d, 0x74, 0x20,
-    0x10, 0, 0, 0, 1, 0, 2, 0, 0x80, 0xbb, 0, 0, 0, 0xee, 0x02, 0, 4, 0, 0x10, 0, 0x64, 0x61, 0x74,
-    0x61, 0, 0xee, 0x02, 0,
-];
+use std::time::{Clock, Duration};
+use std::{fs, io};
 
 /// `/sync 7`, with its size.
-const SYNC: [u8; 20] = [
-    0, 0, 0, 16, 47, 115, 121, 110, 99, 0, 0, 0, 44, 105, 0, 0, 0, 0, 0, 7,
-];
+const SYNC: [u8; 20] = *b"\0\0\0\x10/sync\0\0\0,i\0\0\0\0\0\x07";
 
 /// `/synced 7`, with its size.
-const SYNCED: [u8; 20] = [
-    0, 0, 0, 16, 47, 115, 121, 110, 99, 101, 100, 0, 44, 105, 0, 0, 0, 0, 0, 7,
-];
+const SYNCED: [u8; 20] = *b"\0\0\0\x10/synced\0,i\0\0\0\0\0\x07";
 
-/// `/sync 7`, and a packet that begins with `A`.
-const SECOND_BAD: [u8; 28] = [
-    0, 0, 0, 16, 47, 115, 121, 110, 99, 0, 0, 0, 44, 105, 0, 0, 0, 0, 0, 7, 0, 0, 0, 4, 65, 0, 0, 0,
-];
+/// `/quit`, with its size.
+const QUIT: [u8; 16] = *b"\0\0\0\x0c/quit\0\0\0,\0\0\0";
 
-/// A bundle without messages, due at boundary 16,777,216.
-const LONG_SOUND: [u8; 20] = [
-    0, 0, 0, 16, 35, 98, 117, 110, 100, 108, 101, 0, 0, 0, 87, 97, 159, 15, 179, 139,
-];
-
-/// A bundle without messages, due at boundary 2,796,203 of 96,000 frames a second.
-const LONG_FINE_SOUND: [u8; 20] = [
-    0, 0, 0, 16, 35, 98, 117, 110, 100, 108, 101, 0, 0, 0, 7, 72, 34, 165, 52, 145,
-];
-
-/// `[0: /d_recv tone, /s_new tone 1000 0 0]`, and an empty bundle at boundary 1.
-const TONE: [u8; 188] = [
-    0, 0, 0, 164, 35, 98, 117, 110, 100, 108, 101, 0, 0, 0, 0, 0, 0, 0, 0, 0, 0, 0, 0, 104, 47,
-    100, 95, 114, 101, 99, 118, 0, 44, 98, 0, 0, 0, 0, 0, 86, 115, 110, 111, 118, 97, 32, 49, 10,
-    100, 101, 102, 32, 116, 111, 110, 101, 10, 99, 111, 110, 116, 114, 111, 108, 32, 102, 114, 101,
-    113, 32, 52, 52, 48, 48, 48, 48, 10, 99, 111, 110, 116, 114, 111, 108, 32, 111, 117, 116, 32,
-    48, 10, 97, 32, 61, 32, 83, 105, 110, 79, 115, 99, 32, 102, 114, 101, 113, 32, 48, 10, 79, 117,
-    116, 46, 97, 114, 32, 111, 117, 116, 32, 97, 10, 101, 110, 100, 10, 0, 0, 0, 0, 0, 36, 47, 115,
-    95, 110, 101, 119, 0, 0, 44, 115, 105, 105, 105, 0, 0, 0, 116, 111, 110, 101, 0, 0, 0, 0, 0, 0,
-    3, 232, 0, 0, 0, 0, 0, 0, 0, 0, 0, 0, 0, 16, 35, 98, 117, 110, 100, 108, 101, 0, 0, 0, 0, 0, 0,
-    87, 97, 160,
-];
-
-/// `/done /d_recv`.
-const RECEIVED: [u8; 24] = [
-    0, 0, 0, 20, 47, 100, 111, 110, 101, 0, 0, 0, 44, 115, 0, 0, 47, 100, 95, 114, 101, 99, 118, 0,
-];
+/// `/done /quit`, with its size.
+const DONE_QUIT: [u8; 24] = *b"\0\0\0\x14/done\0\0\0,s\0\0/quit\0\0\0";
 
 /// What a run over memory came to.
 #[derive(Drop)]
 struct Ran {
     outcome: Outcome,
+    source: MemorySource,
     sound: MemorySink,
     replies: MemorySink,
 }
 
-fn words<H: AllocGlobal>(rt: &H, texts: &[&str]) -> Result<Vec<Word>, NoMemory> {
+/// What serving over memory came to.
+#[derive(Drop)]
+struct Talk {
+    served: Served,
+    link: PlayedLink,
+    sound: MemorySink,
+}
+
+/// Fewer than 2^32 words.
+fn words<H: AllocGlobal>(rt: &H, texts: &[&str]) -> Result<Vec<Word>, NoMemory>
+    ensures { IfOk result (λ words. vec_len words < 2 ^ 32) }
+{
     let mut words = Vec::new(rt.alloc());
     for text in texts {
         words.push(Text::from_slice(rt.alloc(), text.as_bytes())?)?;
+    }
+    if u32::try_from(words.len()).is_err() {
+        return Err(NoMemory);
     }
     Ok(words)
 }
@@ -92,24 +60,17 @@ fn calls<H: AllocGlobal>(rt: &H, numbers: &[u32]) -> Result<Calls, NoMemory> {
     Ok(Calls::from_vec(Vec::from_slice(rt.alloc(), numbers)?))
 }
 
-/// Runs a stream that is read in pieces, with the calls of the source and of the two sinks that fail.
-fn run_by<H: AllocGlobal + Threads + Sync>(
+/// Runs `/sync 7` by these words. Of each object these calls fail.
+fn run_words<H: AllocGlobal + Threads + Sync>(
     rt: &H,
     texts: &[&str],
-    stream: &[u8],
-    piece: u32,
-    fails: [&[u32]; 3],
+    fails: &[u32],
 ) -> Result<Ran, NoMemory> {
     let alloc = rt.alloc();
-    let [read_fails, sound_fails, reply_fails] = fails;
     let words = words(rt, texts)?;
-    if u32::try_from(words.len()).is_err() {
-        return Err(NoMemory);
-    }
-    let bytes = Text::from_slice(alloc, stream)?;
-    let mut source = MemorySource::new(bytes, piece.max(1), calls(rt, read_fails)?);
-    let mut sound = MemorySink::new(alloc, 1000000, 1000, calls(rt, sound_fails)?)?;
-    let mut replies = MemorySink::new(alloc, 1000000, 7, calls(rt, reply_fails)?)?;
+    let mut source = MemorySource::new(Text::from_slice(alloc, &SYNC)?, 3, calls(rt, fails)?);
+    let mut sound = MemorySink::new(alloc, 100, 100, calls(rt, fails)?)?;
+    let mut replies = MemorySink::new(alloc, 100, 7, calls(rt, fails)?)?;
     let outcome = run(
         rt,
         alloc,
@@ -121,256 +82,143 @@ fn run_by<H: AllocGlobal + Threads + Sync>(
     );
     Ok(Ran {
         outcome,
+        source,
         sound,
         replies,
     })
 }
 
-/// The same with the words `render a b c`.
-fn played<H: AllocGlobal + Threads + Sync>(
+/// Serves `/quit` and one block by these words. Of each object these calls fail.
+fn serve_words<H: AllocGlobal + Threads + Sync>(
     rt: &H,
-    stream: &[u8],
-    piece: u32,
-    fails: [&[u32]; 3],
-) -> Result<Ran, NoMemory> {
-    run_by(rt, &["render", "a", "b", "c"], stream, piece, fails)
+    texts: &[&str],
+    fails: &[u32],
+) -> Result<Talk, NoMemory> {
+    let alloc = rt.alloc();
+    let words = words(rt, texts)?;
+    let packet = Event::Bytes(Text::from_slice(alloc, &QUIT)?);
+    let events = vec![in alloc; packet, Event::Ticks(1)]?;
+    let mut link = PlayedLink::new(alloc, events, 100, calls(rt, fails)?)?;
+    let mut sound = MemorySink::new(alloc, 100, 100, calls(rt, fails)?)?;
+    let served = serve(rt, alloc, &words, 0, &mut link, &mut sound, &Open);
+    Ok(Talk {
+        served,
+        link,
+        sound,
+    })
 }
 
 #[test]
-fn a_bundle_at_one_second(rt: HostRuntime) -> Result<(), Fail> {
-    for piece in [1, 7, 65536] {
-        let ran = played(&rt, &QUESTION, piece, [&[], &[], &[]])?;
-        assert_eq!(rt; ran.outcome, Outcome::Done { blocks: 750 });
-        let sound = ran.sound.taken();
-        assert_eq!(rt; sound.len(), 192044);
-        assert!(rt; sound.starts_with(&HEADER));
-        assert!(rt; sound.iter().skip(44).all(|b| *b == 0));
-        assert_eq!(rt; ran.replies.taken(), ANSWER.as_slice());
-    }
-    Ok(())
-}
-
-#[test]
-fn an_empty_stream_is_a_header(rt: HostRuntime) -> Result<(), Fail> {
-    let ran = played(&rt, &[], 1, [&[], &[], &[]])?;
+fn a_stream_is_run(rt: HostRuntime) -> Result<(), Fail> {
+    let ran = run_words(&rt, &["render", "a", "b", "c"], &[])?;
     assert_eq!(rt; ran.outcome, Outcome::Done { blocks: 0 });
     assert_eq!(rt; ran.sound.taken().len(), 44);
     assert!(rt; ran.sound.taken().starts_with(b"RIFF\x24\0\0\0WAVE"));
-    assert_eq!(rt; ran.replies.taken().len(), 0);
-    Ok(())
-}
-
-#[test]
-fn a_message_is_answered(rt: HostRuntime) -> Result<(), Fail> {
-    let ran = played(&rt, &SYNC, 3, [&[], &[], &[]])?;
-    assert_eq!(rt; ran.outcome, Outcome::Done { blocks: 0 });
     assert_eq!(rt; ran.replies.taken(), SYNCED.as_slice());
     Ok(())
 }
 
-#[test]
-fn streams_that_are_refused(rt: HostRuntime) -> Result<(), Fail> {
-    let bad = |packet, place, fault| Outcome::BadStream {
-        packet,
-        place,
-        fault,
-    };
-    let start = StreamFault::Packet(PacketKind::Start);
-    let cases: [(&[u8], Outcome); 4] = [
-        (&[0, 0, 0, 6, 1], bad(0, 0, StreamFault::FrameSize)),
-        (&SYNC[..12], bad(0, 0, StreamFault::FrameCut)),
-        (&SECOND_BAD, bad(1, 24, start)),
-        (&LONG_SOUND, Outcome::LongSound { blocks: 16777216 }),
-    ];
-    for (stream, outcome) in cases {
-        let ran = played(&rt, stream, 5, [&[], &[], &[]])?;
-        assert_eq!(rt; ran.outcome, outcome);
-        assert_eq!(rt; ran.sound.taken().len(), 0);
-        assert_eq!(rt; ran.replies.taken().len(), 0);
-    }
-    Ok(())
-}
-
-#[test]
-fn a_long_stream_is_refused(rt: HostRuntime) -> Result<(), Fail> {
-    let stream = vec![in rt.alloc(); 0; 16777217]?;
-    let ran = played(&rt, &stream, 1000000, [&[], &[], &[]])?;
-    assert_eq!(rt; ran.outcome, Outcome::LongStream { bytes: 16777217 });
-    assert_eq!(rt; ran.sound.taken().len(), 0);
-    assert_eq!(rt; ran.replies.taken().len(), 0);
-    Ok(())
-}
-
-/// What comes of a run in which these calls fail.
-fn fault_of<H: AllocGlobal + Threads + Sync>(
-    rt: &H,
-    fails: [&[u32]; 3],
-) -> Result<Outcome, NoMemory> {
-    let ran = played(rt, &QUESTION, 16, fails)?;
-    Ok(ran.outcome)
-}
-
-#[test]
-fn a_source_that_fails(rt: HostRuntime) -> Result<(), Fail> {
-    assert_eq!(rt; fault_of(&rt, [&[0], &[], &[]])?, Outcome::ReadFault);
-    assert_eq!(rt; fault_of(&rt, [&[1], &[], &[]])?, Outcome::ReadFault);
-    Ok(())
-}
-
-#[test]
-fn a_sink_for_sound_that_fails(rt: HostRuntime) -> Result<(), Fail> {
-    assert_eq!(rt; fault_of(&rt, [&[], &[0], &[]])?, Outcome::SoundFault);
-    // The header, and what one call takes of the first blocks.
-    let ran = played(&rt, &QUESTION, 16, [&[], &[2], &[]])?;
-    assert_eq!(rt; ran.outcome, Outcome::SoundFault);
-    assert_eq!(rt; ran.sound.taken().len(), 1044);
-    Ok(())
-}
-
-#[test]
-fn a_sink_for_replies_that_fails(rt: HostRuntime) -> Result<(), Fail> {
-    assert_eq!(rt; fault_of(&rt, [&[], &[], &[0]])?, Outcome::ReplyFault);
-    assert_eq!(rt; fault_of(&rt, [&[], &[], &[1]])?, Outcome::ReplyFault);
-    Ok(())
-}
-
-/// What comes of the words, over one stream.
-fn outcome_of<H: AllocGlobal + Threads + Sync>(
-    rt: &H,
-    texts: &[&str],
-    stream: &[u8],
-) -> Result<Outcome, NoMemory> {
-    let ran = run_by(rt, texts, stream, 9, [&[], &[], &[]])?;
-    Ok(ran.outcome)
-}
-
+/// Any call of the source or of a sink would be counted, since each fails at its first.
 #[test]
 fn words_that_are_refused(rt: HostRuntime) -> Result<(), Fail> {
-    assert_eq!(rt;
-        outcome_of(&rt, &[], &QUESTION)?,
-        Outcome::BadWords { index: 0 }
-    );
-    let few = ["render", "a", "b"];
-    assert_eq!(rt;
-        outcome_of(&rt, &few, &QUESTION)?,
-        Outcome::BadWords { index: 3 }
-    );
-    Ok(())
-}
-
-#[test]
-fn settings_that_are_refused(rt: HostRuntime) -> Result<(), Fail> {
-    let rate = ["render", "rate=44000", "a", "b", "c"];
-    assert_eq!(rt;
-        outcome_of(&rt, &rate, &QUESTION)?,
-        Outcome::BadWords { index: 1 }
-    );
-    let twice = ["render", "bits=16", "bits=24", "a", "b", "c"];
-    assert_eq!(rt;
-        outcome_of(&rt, &twice, &QUESTION)?,
-        Outcome::BadWords { index: 2 }
-    );
-    Ok(())
-}
-
-#[test]
-fn words_choose_the_settings(rt: HostRuntime) -> Result<(), Fail> {
-    let slow = ["render", "rate=44100", "a", "b", "c"];
-    assert_eq!(rt;
-        outcome_of(&rt, &slow, &QUESTION)?,
-        Outcome::Done { blocks: 689 }
-    );
-    let fine = [
-        "render",
-        "rate=96000",
-        "channels=8",
-        "bits=24",
-        "a",
-        "b",
-        "c",
+    let rows: [(&[&str], u32); 4] = [
+        (&[], 0),
+        (&["render", "a", "b"], 3),
+        (&["render", "rate=44000", "a", "b", "c"], 1),
+        (&["render", "bits=16", "bits=24", "a", "b", "c"], 2),
     ];
-    let outcome = outcome_of(&rt, &fine, &LONG_FINE_SOUND)?;
-    assert_eq!(rt; outcome, Outcome::LongSound { blocks: 2796203 });
-    Ok(())
-}
-
-#[test]
-fn a_synth_is_heard(rt: HostRuntime) -> Result<(), Fail> {
-    let words = ["render", "channels=1", "a", "b", "c"];
-    let ran = run_by(&rt, &words, &TONE, 50, [&[], &[], &[]])?;
-    assert_eq!(rt; ran.outcome, Outcome::Done { blocks: 1 });
-    let sound = ran.sound.taken();
-    assert_eq!(rt; sound.len(), 172);
-    assert!(rt; sound.iter().skip(44).take(4).eq([0, 0, 0x79, 0x07].iter()));
-    assert_eq!(rt; ran.replies.taken(), RECEIVED.as_slice());
-    Ok(())
-}
-
-#[test]
-fn sound_and_replies_go_into_the_files_that_are_named(rt: HostRuntime) -> Result<(), Fail> {
-    let mut args = Vec::new(rt.alloc());
-    for word in ["render", "stream", "heard", "told"] {
-        args.push(String::from_str(rt.alloc(), word)?)?;
-    }
-    let words = as_words(&rt, &args)?;
-    assert!(rt; words.len() < 10);
-    fs::write(&rt, "stream", SYNC.as_slice())?;
-    let course = render_files(&rt, &args, &words)?;
-    assert!(rt; matches!(course, Course::Rendered(Outcome::Done { blocks: 0 })));
-    let heard = fs::read(&rt, "heard")?;
-    assert_eq!(rt; heard.len(), 44);
-    assert!(rt; heard.starts_with(b"RIFF\x24\0\0\0WAVE"));
-    let told = fs::read(&rt, "told")?;
-    assert_eq!(rt; told.as_slice(), SYNCED.as_slice());
-    Ok(())
-}
-
-#[test]
-fn commands_are_not_written_over(rt: HostRuntime) -> Result<(), Fail> {
-    fs::write(&rt, "kept", SYNC.as_slice())?;
-    for (sound, replies) in [("heard", "kept"), ("kept", "told")] {
-        let mut args = Vec::new(rt.alloc());
-        for word in ["render", "kept", sound, replies] {
-            args.push(String::from_str(rt.alloc(), word)?)?;
-        }
-        let words = as_words(&rt, &args)?;
-        assert!(rt; words.len() < 10);
-        let course = render_files(&rt, &args, &words)?;
-        assert!(rt; matches!(course, Course::NotOpened));
-        let kept = fs::read(&rt, "kept")?;
-        assert_eq!(rt; kept.as_slice(), SYNC.as_slice());
+    for (texts, index) in rows {
+        let ran = run_words(&rt, texts, &[0])?;
+        assert_eq!(rt; ran.outcome, Outcome::BadWords { index });
+        let faults = [
+            ran.source.faults(),
+            ran.sound.faults(),
+            ran.replies.faults(),
+        ];
+        assert_eq!(rt; faults, [0, 0, 0]);
     }
     Ok(())
 }
 
 #[test]
 fn a_connection_is_served(rt: HostRuntime) -> Result<(), Fail> {
-    let alloc = rt.alloc();
-    let packet = Event::Bytes(Text::from_slice(alloc, &SYNC)?);
-    let events = vec![in alloc; packet, Event::Ticks(1)]?;
-    let mut link = PlayedLink::new(alloc, events, 1000, calls(&rt, &[])?)?;
-    let mut sound = MemorySink::new(alloc, 1000, 100, calls(&rt, &[])?)?;
-    let words = words(&rt, &["serve", "5000", "out"])?;
-    assert!(rt; words.len() < 10);
-    let served = serve(&rt, alloc, &words, 0, &mut link, &mut sound, &Open);
-    assert_eq!(rt; served, Served::Ran(Ended::Closed));
-    assert_eq!(rt; link.sent(), SYNCED.as_slice());
-    assert_eq!(rt; sound.taken().len(), 256);
-    assert!(rt; sound.taken().iter().all(|b| *b == 0));
+    let talk = serve_words(&rt, &["serve", "5000", "out"], &[])?;
+    assert_eq!(rt; talk.served, Served::Ran(Ended::Quit));
+    assert_eq!(rt; talk.link.sent(), DONE_QUIT.as_slice());
+    assert_eq!(rt; talk.sound.taken().len(), 0);
     Ok(())
 }
 
 #[test]
 fn a_port_that_is_refused(rt: HostRuntime) -> Result<(), Fail> {
-    let alloc = rt.alloc();
-    let packet = Event::Bytes(Text::from_slice(alloc, &SYNC)?);
-    let events = vec![in alloc; packet]?;
-    let mut link = PlayedLink::new(alloc, events, 1000, calls(&rt, &[])?)?;
-    let mut sound = MemorySink::new(alloc, 1000, 100, calls(&rt, &[])?)?;
-    let words = words(&rt, &["serve", "0", "out"])?;
-    assert!(rt; words.len() < 10);
-    let served = serve(&rt, alloc, &words, 0, &mut link, &mut sound, &Open);
-    assert_eq!(rt; served, Served::BadWords { index: 1 });
-    assert_eq!(rt; link.next(&mut [0; 32]), Ok(Fed::Bytes(20)));
+    let talk = serve_words(&rt, &["serve", "0", "out"], &[0])?;
+    assert_eq!(rt; talk.served, Served::BadWords { index: 1 });
+    assert_eq!(rt; [talk.link.faults(), talk.sound.faults()], [0, 0]);
+    Ok(())
+}
+
+/// Renders by these words, over files.
+fn rendered<H: Files + AllocGlobal + Threads + Sync>(
+    rt: &H,
+    texts: [&str; 4],
+) -> Result<Exit, NoMemory> {
+    let mut args = Vec::new(rt.alloc());
+    for text in texts {
+        args.push(String::from_str(rt.alloc(), text)?)?;
+    }
+    let words = words(rt, &texts)?;
+    render_files(rt, &args, &words)
+}
+
+#[test]
+fn files_are_those_that_are_named(rt: HostRuntime) -> Result<(), Fail> {
+    fs::write(&rt, "stream", SYNC.as_slice())?;
+    let exit = rendered(&rt, ["render", "stream", "heard", "told"])?;
+    assert!(rt; matches!(exit, Exit::Rendered(Outcome::Done { blocks: 0 })));
+    assert_eq!(rt; fs::read(&rt, "heard")?.len(), 44);
+    assert_eq!(rt; fs::read(&rt, "told")?.as_slice(), SYNCED.as_slice());
+    Ok(())
+}
+
+#[test]
+fn no_file_is_written_over_another(rt: HostRuntime) -> Result<(), Fail> {
+    fs::write(&rt, "kept", SYNC.as_slice())?;
+    for (sound, replies) in [("other", "kept"), ("kept", "other"), ("other", "other")] {
+        let exit = rendered(&rt, ["render", "kept", sound, replies])?;
+        assert!(rt; matches!(exit, Exit::NotOpened), "{sound} {replies}");
+        assert!(rt; fs::read(&rt, "other").is_err());
+    }
+    assert_eq!(rt; fs::read(&rt, "kept")?.as_slice(), SYNC.as_slice());
+    Ok(())
+}
+
+#[test]
+fn words_that_are_refused_make_no_file(rt: HostRuntime) -> Result<(), Fail> {
+    let exit = rendered(&rt, ["draw", "none", "unheard", "untold"])?;
+    assert!(rt; matches!(exit, Exit::Rendered(Outcome::BadWords { index: 0 })));
+    assert!(rt; fs::read(&rt, "unheard").is_err());
+    assert!(rt; fs::read(&rt, "untold").is_err());
+    Ok(())
+}
+
+/// A clock that stands still.
+#[derive(Clone, Copy)]
+struct Stopped(Duration);
+
+impl Clock for Stopped {
+    fn monotonic(&self) -> io::Result<Duration> {
+        Ok(self.0)
+    }
+
+    fn since_1970(&self) -> io::Result<Duration> {
+        Ok(self.0)
+    }
+}
+
+/// Half a second after the beginning of 1970.
+#[test]
+fn the_base_is_the_time_of_the_clock(rt: HostRuntime) -> Result<(), Fail> {
+    let clock = Stopped(Duration::new(0, 500_000_000));
+    assert_eq!(rt; now(&clock)?.tag, (2_208_988_800 << 32) + (1 << 31));
     Ok(())
 }

@@ -1,5 +1,6 @@
-use Rattle.std.proofs.Common.{◌<◌, ◌≤◌, length}
+use Rattle.std.proofs.Common.{◌<◌, ◌≤◌, length, sym}
 use Rattle.std.proofs.lemmas.Result.{err_from_is_err_and}
+use Rattle.sn_def.specs.declared.fault.Refused.TheVariants as refused
 use Rattle.sn_def.specs.Answers.{texts}
 use Rattle.sn_def.proofs.Fielding.{text_there, as_many}
 use Rattle.sn_def.proofs.InputLoop.{goes_on, ends, is_done}
@@ -10,13 +11,13 @@ returns-in_err-input c =
     let p = err_from_is_err_and c.from_residual.result c.from_residual.ensures.1 in
     let fields = c.args.fields.now in
     let lt : c.loop-at.at < length (texts fields) = rw (as_many fields) c.loop-at-test.true in
-    rw (p.1, p.2) (ends _ c.args.draft.now c.args.marks.now c.loop-at.inputs.items (texts fields) c.loop-at.at _ lt (rw (text_there fields c.loop-at.at, ← c.mark_at.ensures) c.in_err-input.ensures) c.loop-at.invariant)
+    rw (p.1, p.2) (ends (refused.Because _) c.args.draft.now c.args.marks.now c.loop-at.inputs.items (texts fields) c.loop-at.at _ lt (rw (text_there fields c.loop-at.at, ← c.mark_at.ensures) (sym c.in_err-input.ensures)) c.loop-at.invariant)
 
 pub loop-at-preserved : goal.loop-at-preserved
 loop-at-preserved c =
     let fields = c.args.fields.now in
     let lt : c.loop-at.at < length (texts fields) = rw (as_many fields) c.loop-at-test.true in
-    rw c.in_ok-push.ensures.items (goes_on c.args.draft.now c.args.marks.now c.loop-at.inputs.items (texts fields) c.loop-at.at _ _ lt (rw (text_there fields c.loop-at.at, ← c.mark_at.ensures) c.in_ok-input.ensures) c.loop-at.invariant)
+    rw c.in_ok-push.ensures.items (goes_on c.args.draft.now c.args.marks.now c.loop-at.inputs.items (texts fields) c.loop-at.at _ _ lt (rw (text_there fields c.loop-at.at, ← c.mark_at.ensures) (sym c.in_ok-input.ensures)) c.loop-at.invariant)
 
 pub returns : goal.returns
 returns c =

@@ -1,9 +1,9 @@
-use Rattle.std.proofs.Common.{rules, ◌≡◌, ◌<◌, sym, ap, ◌∙◌}
+use Rattle.std.proofs.Common.{rules, ◌≡◌, ◌<◌, ◌-◌, sym, ap, ◌∙◌}
 use Rattle.sn_osc.specs.Shape.{message_of}
 use Rattle.sn_world.specs.World.{turn_of}
 use Rattle.sn_world.specs.Answers.{next_told}
 use Rattle.sn_engine.specs.Boundary.{Acted, act_message, asked_by}
-use Rattle.sn_engine.proofs.CompletionLemmas.{one_completed, all_done}
+use Rattle.sn_engine.proofs.CompletionLemmas.{one_completed, all_done, none_carried}
 use Rattle.sn_engine.proofs.acting.act_message.Goals as goal
 
 pub loop-preserved : goal.loop-preserved
@@ -33,5 +33,15 @@ returns-clause-acts g c =
 pub returns-clause-asked : goal.returns-clause-asked
 returns-clause-asked g c =
     let last : c.loop.counter ≡ 8 = search rules in
-    c.asked_by.ensures ∙ ap (λ (a : Acted). asked_by a.next) (all_done c.loop.counter c.args.from (record { turn = turn_of c.loop.stage (g.P.Port.words c.loop.port) c.loop.replies; next = next_told c.loop.handled })
+    c.asked_by-2.ensures ∙ ap (λ (a : Acted). asked_by a.next) (all_done c.loop.counter c.args.from (record { turn = turn_of c.loop.stage (g.P.Port.words c.loop.port) c.loop.replies; next = next_told c.loop.handled })
     (act_message c.args.from (message_of c.args.message.now) (turn_of c.args.stage.now (g.P.Port.words c.args.port.now) c.args.replies.now)) last c.loop.invariant.acts)
+
+pub returns-then-not-carries-clause-acts : goal.returns-then-not-carries-clause-acts
+returns-then-not-carries-clause-acts g c =
+    let last : Acted = record { turn = turn_of c.loop.stage (g.P.Port.words c.loop.port) c.loop.replies; next = next_told c.loop.handled } in
+    ap (λ (a : Acted). a.turn) (sym (none_carried (8 - c.loop.counter) c.args.from last (search rules)) ∙ c.loop.invariant.acts)
+
+pub returns-then-not-carries-clause-asked : goal.returns-then-not-carries-clause-asked
+returns-then-not-carries-clause-asked g c =
+    let last : Acted = record { turn = turn_of c.loop.stage (g.P.Port.words c.loop.port) c.loop.replies; next = next_told c.loop.handled } in
+    c.asked_by.ensures ∙ ap (λ (a : Acted). asked_by a.next) (sym (none_carried (8 - c.loop.counter) c.args.from last (search rules)) ∙ c.loop.invariant.acts)

@@ -1,16 +1,21 @@
-use Rattle.std.proofs.Common.{◌≡◌, ◌+◌, ◌*◌, ◌%◌, ◌∙◌, ap, subst, sym, rules}
+use Rattle.std.proofs.Common.{◌≡◌, ◌+◌, ◌*◌, ◌%◌, ◌∙◌, ap, subst, sym, rules, true, false}
 use Rattle.std.specs.Prelude.{FitsSigned, slice_index}
 use Rattle.std.specs.Int.{w32}
 use Rattle.std.proofs.lemmas.Int.{to_z-of_z}
 use borrow.Author.Gap.{read_sfits}
 use Rattle.sn_mem.specs.Blocks.{sample_in}
-use Rattle.sn_engine.proofs.HearingLemmas.{heard_written}
+use Rattle.sn_engine.proofs.HearingLemmas.{heard_written, heard_unwritten}
 use Rattle.sn_engine.proofs.walking.heard.Goals as goal
 
+pub returns-then-not-written-clause-sample : goal.returns-then-not-written-clause-sample
+returns-then-not-written-clause-sample g c = λ b is.
+    let off : c.args.written ≡ false = search rules in
+    sym (heard_unwritten (g.P.Port.words c.args.port.now) c.args.bus b c.args.frame c.args.written off is)
+
 pub returns-clause-sample : goal.returns-clause-sample
-returns-clause-sample g c =
+returns-clause-sample g c = λ b is.
     let words = g.P.Port.words c.args.port.now in
-    let fits : FitsSigned w32 c.sample_of.result = subst (FitsSigned w32) (sym c.sample_of.ensures) (read_sfits w32 (c.load-2.result % 4294967296)) in
-    let written : slice_index words (65 * c.args.bus) ≡ c.args.block + 1 = search rules in
-    let word : c.load-2.result ≡ slice_index words (65 * c.args.bus + 1 + c.args.frame) = search rules in
-    to_z-of_z w32 c.sample_of.result fits ∙ c.sample_of.ensures ∙ ap sample_in word ∙ sym (heard_written words c.args.bus c.args.block c.args.frame c.requires.frame written)
+    let fits : FitsSigned w32 c.sample_of.result = subst (FitsSigned w32) (sym c.sample_of.ensures) (read_sfits w32 (c.load.result % 4294967296)) in
+    let on : c.args.written ≡ true = search rules in
+    let word : c.load.result ≡ slice_index words (65 * c.args.bus + 1 + c.args.frame) = search rules in
+    to_z-of_z w32 c.sample_of.result fits ∙ c.sample_of.ensures ∙ ap sample_in word ∙ sym (heard_written words c.args.bus b c.args.frame c.args.written c.requires.frame on is)

@@ -1,7 +1,8 @@
 use Rattle.std.proofs.Common.{◌∙◌, length, ap, le_refl, arith, refl}
 use Rattle.sn_server.proofs.EventLemmas.{begins_serving, begins_ready, serves_on, serves_to, serves_nothing, as_long}
-use Rattle.sn_server.specs.Faults.{NothingFailed}
-use Rattle.sn_server.proofs.FaultLemmas.{none_failed, given_so}
+use Rattle.sn_render.specs.Faults.{NothingFailed}
+use Rattle.sn_render.proofs.FaultLemmas.{none_failed}
+use Rattle.sn_server.proofs.FaultLemmas.{given_so}
 use Rattle.sn_server.proofs.serving.serve.Goals as goal
 
 pub returns-in_default-clause-served : goal.returns-in_default-clause-served

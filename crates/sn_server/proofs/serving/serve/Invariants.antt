@@ -1,7 +1,7 @@
 -- The events that were taken so far give what was written, and each takes bytes or blocks of those that may come.
 use Rattle.std.proofs.Common.{◌≡◌, ◌≤◌, ◌+◌, ◌-◌, ◌^◌, length}
 use Rattle.sn_server.specs.Serving.{IsReady, IsServing}
-use Rattle.sn_server.specs.Faults.{NothingFailed}
+use Rattle.sn_render.specs.Faults.{NothingFailed}
 use Rattle.sn_server.proofs.serving.serve.Given as goal
 
 abbrev pub invariant-loop-how : goal.invariant-loop-how

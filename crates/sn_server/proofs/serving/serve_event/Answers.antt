@@ -1,6 +1,6 @@
 use Rattle.sn_server.proofs.EventLemmas.{took_worn}
 use Rattle.std.proofs.Common.{refl}
-use Rattle.sn_server.specs.Faults.{NothingFailed}
+use Rattle.sn_render.specs.Faults.{NothingFailed}
 use Rattle.sn_server.proofs.FaultLemmas.{unless_err}
 use Rattle.sn_server.proofs.ServingLemmas.{given}
 use Rattle.sn_server.proofs.serving.serve_event.Goals as goal

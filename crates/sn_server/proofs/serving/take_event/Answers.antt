@@ -1,8 +1,9 @@
 use Rattle.std.proofs.Common.{take, ◌≡◌, ◌∙◌, refl}
 use Rattle.sn_ports.specs.Links.{bytes, ticks, Takes}
 use Rattle.sn_server.proofs.EventLemmas.{known_kept, live_kept, took_event, took_none, none_taken, none_at_close, fed_bytes, fed_ticks, fed_end}
-use Rattle.sn_server.specs.Faults.{NothingFailed}
-use Rattle.sn_server.proofs.FaultLemmas.{none_failed, unless_so}
+use Rattle.sn_render.specs.Faults.{NothingFailed}
+use Rattle.sn_render.proofs.FaultLemmas.{none_failed}
+use Rattle.sn_server.proofs.FaultLemmas.{unless_so}
 use Rattle.sn_server.proofs.ServingLemmas.{given}
 use Rattle.sn_server.proofs.serving.take_event.Goals as goal
 

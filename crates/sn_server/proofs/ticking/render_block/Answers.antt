@@ -1,10 +1,10 @@
 use Rattle.std.proofs.Common.{◌≡◌, ℕ, List, length, ap, subst, ◌∙◌, refl}
 use Rattle.sn_engine.specs.Running.{Running, with_block, with_settled}
-use Rattle.sn_server.specs.Going.{to_first}
-use Rattle.sn_server.specs.Fronts.{TakesFront}
+use Rattle.sn_render.specs.Going.{to_first}
+use Rattle.sn_render.specs.Fronts.{TakesFront}
 use Rattle.sn_server.proofs.ServingLemmas.{block_alone}
-use Rattle.sn_server.proofs.GrowingLemmas.{takes_none}
-use Rattle.sn_server.specs.Faults.{NothingFailed}
+use Rattle.sn_render.proofs.GrowingLemmas.{takes_none}
+use Rattle.sn_render.specs.Faults.{NothingFailed}
 use Rattle.sn_server.proofs.FaultLemmas.{given_so, unless_so, unless_err}
 use Rattle.sn_server.proofs.ticking.render_block.Goals as goal
 

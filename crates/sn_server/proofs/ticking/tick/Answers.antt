@@ -1,6 +1,6 @@
 use Rattle.std.proofs.Common.{length, ap, sym, ◌∙◌, ◌≡◌, refl}
 use Rattle.sn_server.proofs.ServingLemmas.{boundary_alone, none_part, quit_part, block_part}
-use Rattle.sn_server.specs.Faults.{NothingFailed}
+use Rattle.sn_render.specs.Faults.{NothingFailed}
 use Rattle.sn_server.proofs.FaultLemmas.{given_so, unless_err}
 use Rattle.sn_server.proofs.ticking.tick.Goals as goal
 

@@ -3,9 +3,10 @@ use Rattle.sn_ports.proofs.LinkLemmas.{keeps_events-trans}
 use Rattle.sn_server.specs.PlayEvents.{tick}
 use Rattle.sn_server.proofs.EventLemmas.{known_same}
 use Rattle.sn_server.proofs.ServingLemmas.{ticks_on, ticked_ready, ticked_block, all_ticked, worn_tick, ended_tick, follows_err, given}
-use Rattle.sn_server.proofs.GrowingLemmas.{grows_not}
-use Rattle.sn_server.specs.Faults.{NothingFailed}
-use Rattle.sn_server.proofs.FaultLemmas.{none_failed, given_so, unless_err}
+use Rattle.sn_render.proofs.GrowingLemmas.{grows_not}
+use Rattle.sn_render.specs.Faults.{NothingFailed}
+use Rattle.sn_render.proofs.FaultLemmas.{none_failed}
+use Rattle.sn_server.proofs.FaultLemmas.{given_so, unless_err}
 use Rattle.sn_server.proofs.ticking.ticks.Goals as goal
 
 pub returns-in_err-check_worn-clause-follows : goal.returns-in_err-check_worn-clause-follows

@@ -5,7 +5,7 @@ use Rattle.sn_ports.specs.Links.{KeepsEvents}
 use Rattle.sn_server.specs.PlayEvents.{Live, tick}
 use Rattle.sn_server.specs.Serving.{IsLive, IsReady}
 use Rattle.sn_server.proofs.ServingLemmas.{IsTicking}
-use Rattle.sn_server.specs.Faults.{NothingFailed}
+use Rattle.sn_render.specs.Faults.{NothingFailed}
 use Rattle.sn_server.proofs.ticking.ticks.Given as goal
 
 abbrev pub invariant-loop-number : goal.invariant-loop-number

@@ -28,6 +28,7 @@ loop-held-preserved c = record {
       (omega (arith, first_amount (λ e. 1) c.loop-held.tree.detached c.in-Some.held c.in-Some.ensures.value, ap (λ (t : NodeTree Held). amount (λ e. 1) (live_held t.detached)) c.in-Some.ensures.rest))
       c.end_node.ensures.mark c.end_node.ensures.room c.loop-held.invariant.room;
   mark = c.end_node.ensures.mark ∙ c.loop-held.invariant.mark;
+  saved = c.end_node.ensures.saved ∙ c.loop-held.invariant.saved;
   region = c.end_node.ensures.region ∙ c.loop-held.invariant.region;
 }
 

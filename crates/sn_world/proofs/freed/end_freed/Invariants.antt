@@ -1,7 +1,7 @@
 -- What was freed and is still detached, and the words that are still live.
 use Rattle.std.proofs.Common.{◌≡◌, ◌≤◌, ◌+◌}
 use Rattle.sn_mem.specs.declared.extents.Extent.{Extent}
-use Rattle.sn_pool.specs.Pools.{times, mark_of}
+use Rattle.sn_pool.specs.Pools.{times, mark_of, saved_of}
 use Rattle.sn_tree.specs.Trees.{count}
 use Rattle.sn_world.specs.Freed.{HasRoomFor}
 use Rattle.sn_world.specs.Pictures.{live_held, amount}
@@ -14,6 +14,7 @@ invariant-loop-held l = record {
   live : (e : Extent) → 1 ≤ e.len → times e l.fn.pool.live + times e (live_held l.tree.detached) ≡ times e (live_held l.fn.tree.detached) + times e l.pool.live;
   room : HasRoomFor (amount (λ e. 1) (live_held l.tree.detached)) l.pool.journal;
   mark : mark_of l.pool.journal ≡ mark_of l.fn.pool.journal;
+  saved : saved_of l.pool.journal ≡ saved_of l.fn.pool.journal;
   region : l.pool.region ≡ l.fn.pool.region;
 }
 

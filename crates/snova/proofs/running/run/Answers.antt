@@ -1,5 +1,5 @@
-use Rattle.std.proofs.Common.{subst}
-use Rattle.sn_server.specs.Outcomes.{Writes}
+use Rattle.std.proofs.Common.{inr, refl, subst}
+use Rattle.sn_render.specs.Outcomes.{Writes}
 use Rattle.snova.proofs.ByWordsLemmas.{by_words}
 use Rattle.snova.proofs.running.run.Goals as goal
 
@@ -12,8 +12,23 @@ returns-in-Ok-clause-answer g c = by_words c.args.words.now c.in-Ok.chosen _ c.i
 pub returns-in-Ok-clause-complete : goal.returns-in-Ok-clause-complete
 returns-in-Ok-clause-complete g c = by_words c.args.words.now c.in-Ok.chosen _ c.in-Ok.ensures.ok c.render.ensures.complete
 
-pub returns-in-Ok-clause-unfailed : goal.returns-in-Ok-clause-unfailed
-returns-in-Ok-clause-unfailed g c = c.render.ensures.unfailed
+pub returns-in-Ok-clause-source_unfailed : goal.returns-in-Ok-clause-source_unfailed
+returns-in-Ok-clause-source_unfailed g c = c.render.ensures.source_unfailed
+
+pub returns-in-Ok-clause-sound_unfailed : goal.returns-in-Ok-clause-sound_unfailed
+returns-in-Ok-clause-sound_unfailed g c = c.render.ensures.sound_unfailed
+
+pub returns-in-Ok-clause-replies_unfailed : goal.returns-in-Ok-clause-replies_unfailed
+returns-in-Ok-clause-replies_unfailed g c = c.render.ensures.replies_unfailed
+
+pub returns-in-Err-clause-source_unfailed : goal.returns-in-Err-clause-source_unfailed
+returns-in-Err-clause-source_unfailed g c = inr refl
+
+pub returns-in-Err-clause-sound_unfailed : goal.returns-in-Err-clause-sound_unfailed
+returns-in-Err-clause-sound_unfailed g c = inr refl
+
+pub returns-in-Err-clause-replies_unfailed : goal.returns-in-Err-clause-replies_unfailed
+returns-in-Err-clause-replies_unfailed g c = inr refl
 
 pub returns-in-Ok-clause-written : goal.returns-in-Ok-clause-written
 returns-in-Ok-clause-written g c = by_words c.args.words.now c.in-Ok.chosen _ c.in-Ok.ensures.ok c.render.ensures.written

@@ -1,6 +1,6 @@
 use Rattle.std.proofs.Common.{◌≡◌}
 use Rattle.sn_pcm.specs.declared.settings.Settings.{Settings}
-use Rattle.sn_server.specs.Faults.{NothingFailed}
+use Rattle.sn_render.specs.Faults.{NothingFailed}
 use Rattle.sn_server.specs.Served.{AtClose, Served, WhereGiven}
 use Rattle.sn_server.specs.declared.ended.Ended.{Ended}
 use Rattle.snova.proofs.ServeLemmas.{of_end, chosen_end, by_chosen, either_end}

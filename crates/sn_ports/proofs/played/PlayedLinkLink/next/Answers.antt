@@ -1,11 +1,11 @@
-use Rattle.std.proofs.Common.{◌≡◌, ◌<◌, ◌≤◌, ◌-◌, ◌+◌, List, ℕ, Some, length, take, drop, min, refl, ap, ◌∙◌, arith, subst, take_all, get_or}
+use Rattle.std.proofs.Common.{◌≡◌, ◌<◌, ◌≤◌, ◌-◌, ◌+◌, List, ℕ, ◌∷◌, Some, length, take, drop, min, refl, ap, ◌∙◌, arith, subst, take_all, get_or}
 use Rattle.std.specs.List.{slice_get}
 use Rattle.std.proofs.lemmas.List.{length-drop}
 use Rattle.std.proofs.lemmas.Option.{slice_get_read}
-use Rattle.sn_ports.specs.Links.{IsFront, GivesWhatFits, events_left}
+use Rattle.sn_ports.specs.Links.{ticks, IsFront, GivesWhatFits, events_left}
 use Rattle.sn_ports.specs.declared.links.Event.TheVariants as event
 use Rattle.sn_ports.specs.declared.links.Fed.TheVariants as fed
-use Rattle.sn_ports.proofs.LinkLemmas.{front_given, all_given, what_fits}
+use Rattle.sn_ports.proofs.LinkLemmas.{front_given, all_given, what_fits, ticks_given}
 use Rattle.sn_ports.proofs.played.PlayedLinkLink.next.Goals as goal
 
 -- what is left of a text
@@ -22,7 +22,7 @@ returns-then-count-left-clause-events c =
     let i = c.self.inside in
     let n = c.give-count.result in
     let t = c.in-Some-Bytes.text in
-    let is = ap (λ l. l.left) c.self.view_is ∙ ap (λ l. l.left) c.begins.ensures.counts in
+    let is = ap (λ l. l.left) c.self.view_is in
     let at : slice_get i.events.items i.at ≡ Some (event.Bytes t) =
     subst (λ es. slice_get es i.at ≡ Some (event.Bytes t)) c.deref.ensures.value
     (here_is c.deref.result.now i.at c.in-Some-Bytes.field-0.now (event.Bytes t) c.in-Some-Bytes.ensures.lookup.3.0 c.in-Some-Bytes.ensures.lookup.1 c.in-Some-Bytes.field-0-is) in
@@ -37,7 +37,7 @@ returns-else-count-left-clause-events c =
     let i = c.self.inside in
     let n = c.give-count.result in
     let t = c.in-Some-Bytes.text in
-    let is = ap (λ l. l.left) c.self.view_is ∙ ap (λ l. l.left) c.begins.ensures.counts in
+    let is = ap (λ l. l.left) c.self.view_is in
     let at : slice_get i.events.items i.at ≡ Some (event.Bytes t) =
     subst (λ es. slice_get es i.at ≡ Some (event.Bytes t)) c.deref.ensures.value
     (here_is c.deref.result.now i.at c.in-Some-Bytes.field-0.now (event.Bytes t) c.in-Some-Bytes.ensures.lookup.3.0 c.in-Some-Bytes.ensures.lookup.1 c.in-Some-Bytes.field-0-is) in
@@ -53,7 +53,7 @@ returns-then-count-left-clause-given c =
     let n = c.give-count.result in
     let t = c.in-Some-Bytes.text in
     let room = length c.give-count.new.into in
-    let is = ap (λ l. l.left) c.self.view_is ∙ ap (λ l. l.left) c.begins.ensures.counts in
+    let is = ap (λ l. l.left) c.self.view_is in
     let at : slice_get i.events.items i.at ≡ Some (event.Bytes t) =
     subst (λ es. slice_get es i.at ≡ Some (event.Bytes t)) c.deref.ensures.value
     (here_is c.deref.result.now i.at c.in-Some-Bytes.field-0.now (event.Bytes t) c.in-Some-Bytes.ensures.lookup.3.0 c.in-Some-Bytes.ensures.lookup.1 c.in-Some-Bytes.field-0-is) in
@@ -66,9 +66,20 @@ returns-else-count-left-clause-given c =
     let n = c.give-count.result in
     let t = c.in-Some-Bytes.text in
     let room = length c.give-count.new.into in
-    let is = ap (λ l. l.left) c.self.view_is ∙ ap (λ l. l.left) c.begins.ensures.counts in
+    let is = ap (λ l. l.left) c.self.view_is in
     let at : slice_get i.events.items i.at ≡ Some (event.Bytes t) =
     subst (λ es. slice_get es i.at ≡ Some (event.Bytes t)) c.deref.ensures.value
     (here_is c.deref.result.now i.at c.in-Some-Bytes.field-0.now (event.Bytes t) c.in-Some-Bytes.ensures.lookup.3.0 c.in-Some-Bytes.ensures.lookup.1 c.in-Some-Bytes.field-0-is) in
     let fits = c.give-count.ensures.count ∙ ap (λ (r : List ℕ). min (length r) room) (rest_of c.as_slice.result.now t.bytes i.given c.as_slice.ensures) in
     subst (λ o. GivesWhatFits o room (fed.Bytes n)) is (what_fits i.events.items i.at i.given n room t at fits)
+
+pub returns-in-Some-Ticks-clause-events : goal.returns-in-Some-Ticks-clause-events
+returns-in-Some-Ticks-clause-events c =
+    let i = c.self.inside in
+    let n = c.in-Some-Ticks.count in
+    let is = ap (λ l. l.left) c.self.view_is in
+    let at : slice_get i.events.items i.at ≡ Some (event.Ticks n) =
+    subst (λ es. slice_get es i.at ≡ Some (event.Ticks n)) c.deref.ensures.value
+    (here_is c.deref.result.now i.at c.in-Some-Ticks.field-0.now (event.Ticks n) c.in-Some-Ticks.ensures.lookup.3.0 c.in-Some-Ticks.ensures.lookup.1 c.in-Some-Ticks.field-0-is) in
+    let given = ticks_given i.events.items i.at i.given n at c.self.invariant.1 in
+    subst (λ o. o ≡ ticks n ∷ events_left i.given (drop (i.at + 1) i.events.items)) is given

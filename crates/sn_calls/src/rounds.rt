@@ -1,0 +1,154 @@
+//! Rows of plans of rounds.
+ghost use Rattle.std.specs.Prelude.{◌≡◌, ◌<◌, ◌≤◌, ◌+◌, ℕ, true, IfOk, OnOk, length};
+ghost use Rattle.std.specs.List.{All};
+ghost use Rattle.sn_round.specs.Jobs.{AreJobs, times};
+
+use crate::line::{Answer, Line, Rows, Unanswered, number, said};
+use sn_mem::{Extent, Extents, Foot};
+use sn_ports::NoMemory;
+use sn_round::{Ids, Job, Jobs, Plan};
+use std::alloc::Global;
+use std::mem;
+
+/// Jobs, and the plan of them.
+#[derive(Drop)]
+pub struct RoundRows {
+    alloc: Global,
+    jobs: Vec<Job>,
+    plan: Plan,
+}
+
+#[tactic(auto, using(crate::proofs::Rising::no_jobs_are))]
+fn no_jobs(alloc: Global) -> Vec<Job>
+    ensures { AreJobs result.items }
+{
+    Vec::new(alloc)
+}
+
+impl RoundRows {
+    /// No jobs.
+    pub fn new(alloc: Global) -> Result<RoundRows, NoMemory>
+        ensures { IfOk result (λ rows. AreJobs rows.jobs.items) }
+    {
+        Ok(RoundRows {
+            alloc,
+            jobs: no_jobs(alloc),
+            plan: Plan::new(alloc, no_jobs(alloc))?,
+        })
+    }
+}
+
+/// Whether numbers rise, from one on and below another.
+fn rise(from: u32, end: u32, numbers: &[u32]) -> bool
+    ensures from { result ≡ true → All (λ n. from ≤ n) numbers.now }
+    ensures below { result ≡ true → All (λ n. n < end) numbers.now }
+    ensures once { result ≡ true → (n : ℕ) → times n numbers.now ≤ 1 }
+{
+    match numbers {
+        [] => true,
+        [first, rest @ ..] => from <= *first && *first < end && rise(*first + 1, end, rest),
+    }
+}
+
+/// The numbers as predecessors.
+fn predecessors(alloc: Global, numbers: &[u32]) -> Result<Jobs, NoMemory>
+    ensures { IfOk result (λ jobs. jobs ≡ numbers.now) }
+{
+    let mut jobs = Jobs::new(alloc);
+    for number in numbers {
+        jobs.push(*number)?;
+    }
+    Ok(jobs)
+}
+
+fn ids(alloc: Global, numbers: &[u32]) -> Result<Ids, Unanswered> {
+    let mut ids = Ids::new(alloc);
+    for number in numbers {
+        let id = i32::try_from(*number).map_err(|_| Unanswered::NoRow)?;
+        ids.push(id)?;
+    }
+    Ok(ids)
+}
+
+/// What writes the ten words from a place on.
+fn foot(alloc: Global, at: u32) -> Result<Foot, NoMemory> {
+    let mut writes = Extents::new(alloc);
+    writes.push(Extent { at, len: 10 })?;
+    Ok(Foot {
+        reads: Extents::new(alloc),
+        writes,
+    })
+}
+
+/// Puts a job at the end, where its predecessors stand before it.
+#[tactic(auto, using(crate::proofs::Rising::jobs_more))]
+fn put(alloc: Global, jobs: &mut Vec<Job>, synths: Ids, before: &[u32]) -> Result<bool, NoMemory>
+    requires jobs { AreJobs jobs.old.items }
+    ensures jobs { AreJobs jobs.new.items }
+{
+    if jobs.len() > 1000 || !rise(0, jobs.len() as u32, before) {
+        return Ok(false);
+    }
+    let at = jobs.len() as u32 * 10;
+    let job = Job {
+        synths,
+        foot: foot(alloc, at)?,
+        before: predecessors(alloc, before)?,
+    };
+    jobs.push(job)?;
+    Ok(true)
+}
+
+/// A job by its synths and its predecessors.
+fn put_job(alloc: Global, jobs: &mut Vec<Job>, line: &mut Line<'_>) -> Answer
+    requires { AreJobs jobs.old.items }
+    ensures { AreJobs jobs.new.items }
+{
+    let synths = ids(alloc, &line.naturals(alloc)?)?;
+    let before = line.naturals(alloc)?;
+    let is_put = put(alloc, jobs, synths, &before)?;
+    said(alloc, if is_put { "ok" } else { "not before it" })
+}
+
+/// The synths, predecessors and successors of a job, and the extents that it writes.
+fn job_said(alloc: Global, plan: &Plan, job: u32) -> Answer {
+    if job >= plan.jobs() {
+        return Err(Unanswered::NoRow);
+    }
+    let synths = plan.synths(job).as_slice();
+    let before = plan.predecessors(job).as_slice();
+    let after = plan.successors(job).as_slice();
+    let mut out = format!(in alloc; "{synths:?} {before:?} {after:?}")?;
+    for extent in plan.foot(job).writes.as_slice() {
+        out.push_str(format!(in alloc; " {}+{}", extent.at, extent.len)?.as_str())?;
+    }
+    Ok(out)
+}
+
+impl RoundRows {
+    fn call(&mut self, verb: &str, line: &mut Line<'_>) -> Answer
+        requires { AreJobs self.old.jobs.items }
+        ensures { AreJobs self.new.jobs.items }
+    {
+        let alloc = self.alloc;
+        match verb {
+            "job" => put_job(alloc, &mut self.jobs, line),
+            "plan" => {
+                let jobs = mem::replace(&mut self.jobs, no_jobs(alloc));
+                self.plan = Plan::new(alloc, jobs)?;
+                number(alloc, i128::from(self.plan.jobs()))
+            }
+            "planned" => job_said(alloc, &self.plan, line.natural()?),
+            _ => Err(Unanswered::NoRow),
+        }
+    }
+}
+
+impl Rows for RoundRows {
+    ghost ready = { λ rows. AreJobs rows.jobs.items };
+
+    fn answer(&mut self, line: &mut Line<'_>) -> Answer {
+        let verb = line.word();
+        self.call(verb, line)
+    }
+}

@@ -1,0 +1,13 @@
+-- The engine plays on what the session would.
+use Rattle.std.proofs.Common.{◌≤◌, ◌-◌}
+use Rattle.sn_render.specs.Going.{IsGoing}
+use Rattle.sn_render.specs.Faults.{NothingFailed}
+use Rattle.sn_render.proofs.rendering.render_blocks.Given as goal
+
+abbrev pub invariant-loop-number : goal.invariant-loop-number
+invariant-loop-number g l = record {
+  going : IsGoing l.fn.engine.settings l.fn.engine l.blocks (l.blocks - l.number) (g.O.Sink.taken l.fn.sound) (g.O.Sink.taken l.sound) (g.R.Sink.taken l.fn.replies) (g.R.Sink.taken l.replies) l.engine;
+  sound_later : g.O.Sink.faults l.fn.sound ≤ g.O.Sink.faults l.sound;
+  reply_later : g.R.Sink.faults l.fn.replies ≤ g.R.Sink.faults l.replies;
+  still : NothingFailed (g.O.Sink.faults l.fn.sound) (g.O.Sink.faults l.sound) (g.R.Sink.faults l.fn.replies) (g.R.Sink.faults l.replies);
+}

@@ -1,0 +1,9 @@
+-- Offering the packets that are left gives what offering all of them gave at first.
+use Rattle.std.proofs.Common.{map}
+use Rattle.sn_osc.specs.Shape.{shape}
+use Rattle.sn_render.specs.Play.{arrive}
+use Rattle.sn_render.proofs.ArrivingLemmas.{IsOffering}
+use Rattle.sn_render.proofs.running.offer_all.Given as goal
+
+abbrev pub invariant-loop-packet : goal.invariant-loop-packet
+invariant-loop-packet l = IsOffering (map shape l.packet-iterator.rest.items) (record l.fn.engine { waiting = arrive (map shape l.fn.packets.items) l.fn.engine.waiting }) l.engine

@@ -1,0 +1,101 @@
+-- What each outcome of a run says.
+use Rattle.std.specs.Prelude.{◌≡◌, ◌⊎◌, ◌<◌, ◌≤◌, ◌+◌, ℕ, List, length, Option, IfSome, ⊤}
+use Rattle.std.specs.Io.KnownBytes.{Appends, Consumes, IsAtEnd, Keeps}
+use Rattle.sn_osc.specs.Shape.{Shape}
+use Rattle.sn_pcm.specs.declared.settings.Settings.{Settings}
+use Rattle.sn_pcm.specs.Sound.{data_len}
+use Rattle.sn_render.specs.declared.outcome.Outcome.{Outcome}
+use Rattle.sn_render.specs.declared.outcome.Outcome.TheVariants.{Done, NoMemory, BadWords, BadStream, LongStream, LongSound, ReadFault, SoundFault, ReplyFault}
+use Rattle.sn_osc.specs.Frames.{Frames, StreamFaultAt}
+use Rattle.sn_render.specs.Fronts.{TakesFront}
+use Rattle.sn_render.specs.Play.{last_of, sound_of, replies_of}
+
+-- the sound of so many blocks can't stand in a WAV header
+abbrev pub IsTooLong : Settings → ℕ → Type 0
+IsTooLong s blocks = 4294967295 < 36 + data_len s blocks
+
+-- The answer that the bytes of a stream have: it is too long, or has a first fault, or its sound is too long, or it is played.
+abbrev pub HasAnswer : Settings → List ℕ → Outcome → Type 0
+HasAnswer s bytes (LongStream n) = (n ≡ 16777217) × (16777216 < length bytes)
+HasAnswer s bytes (BadStream packet place fault) = (length bytes ≤ 16777216) × StreamFaultAt bytes packet place fault
+HasAnswer s bytes (LongSound n) = (length bytes ≤ 16777216) × ((packets : List Shape) × Frames packets bytes × (n ≡ last_of s packets) × IsTooLong s n)
+HasAnswer s bytes (Done n) = (length bytes ≤ 16777216) × ((packets : List Shape) × Frames packets bytes × (n ≡ last_of s packets) × (IsTooLong s n → ⊥))
+HasAnswer s bytes NoMemory = ⊥
+HasAnswer s bytes (BadWords i) = ⊥
+HasAnswer s bytes ReadFault = ⊥
+HasAnswer s bytes SoundFault = ⊥
+HasAnswer s bytes ReplyFault = ⊥
+
+-- an outcome of one of these four kinds is the stream's answer, where the source tells its bytes
+abbrev pub IsAnswer : Settings → Option (List ℕ) → Outcome → Type 0
+IsAnswer s stream (LongStream n) = IfSome stream (λ bytes. HasAnswer s bytes (LongStream n))
+IsAnswer s stream (BadStream packet place fault) = IfSome stream (λ bytes. HasAnswer s bytes (BadStream packet place fault))
+IsAnswer s stream (LongSound n) = IfSome stream (λ bytes. HasAnswer s bytes (LongSound n))
+IsAnswer s stream (Done n) = IfSome stream (λ bytes. HasAnswer s bytes (Done n))
+IsAnswer s stream NoMemory = Unit {0}
+IsAnswer s stream (BadWords i) = ⊥
+IsAnswer s stream ReadFault = Unit {0}
+IsAnswer s stream SoundFault = IfSome stream (λ bytes. (n : ℕ) × HasAnswer s bytes (Done n))
+IsAnswer s stream ReplyFault = IfSome stream (λ bytes. (n : ℕ) × HasAnswer s bytes (Done n))
+
+-- The stream is the frames of some packets, which give so many blocks, and each sink took what they give. Each is said where it is told.
+abbrev pub Played : Settings → Option (List ℕ) → ℕ → Option (List ℕ) → Option (List ℕ) → Option (List ℕ) → Option (List ℕ) → Type 0
+Played s stream blocks sound_old sound_new replies_old replies_new = IfSome stream (λ bytes. (packets : List Shape) × Frames packets bytes
+    × (blocks ≡ last_of s packets) × Appends sound_old sound_new (sound_of s packets) × Appends replies_old replies_new (replies_of s packets))
+
+-- packets whose frames are the bytes of a stream, where they are told, and these are not too many
+pub record ArePacketsOf (stream : Option (List ℕ)) (packets : List Shape) : Type 0 where
+  pub bytes : List ℕ
+  pub told : IfSome stream (λ xs. bytes ≡ xs)
+  pub size : length bytes ≤ 16777216
+  pub frames : Frames packets bytes
+
+-- an outcome of a stream that has no packets, or from which none came
+abbrev pub IsUnplayed : Outcome → Type 0
+IsUnplayed NoMemory = ⊤
+IsUnplayed (BadStream packet place fault) = ⊤
+IsUnplayed (LongStream n) = ⊤
+IsUnplayed ReadFault = ⊤
+IsUnplayed (Done n) = ⊥
+IsUnplayed (BadWords i) = ⊥
+IsUnplayed (LongSound n) = ⊥
+IsUnplayed SoundFault = ⊥
+IsUnplayed ReplyFault = ⊥
+
+-- A stream of packets whose sound isn't too long, and a front of what they give in each sink.
+pub record PlayedPart (s : Settings) (stream sound_old sound_new replies_old replies_new : Option (List ℕ)) : Type 0 where
+  pub packets : List Shape
+  pub given : ArePacketsOf stream packets
+  pub short : IsTooLong s (last_of s packets) → ⊥
+  pub sound : TakesFront sound_old sound_new (sound_of s packets)
+  pub replies : TakesFront replies_old replies_new (replies_of s packets)
+
+-- What the sinks took at each answer but `Done`: nothing where the stream, its length or the words are refused, or the source failed; a front of
+-- what the packets give where a sink failed; and where memory ran out nothing, or such a front.
+abbrev pub Writes : Settings → Option (List ℕ) → Outcome → Option (List ℕ) → Option (List ℕ) → Option (List ℕ) → Option (List ℕ) → Type 0
+Writes s stream (Done n) sound_old sound_new replies_old replies_new = Unit {0}
+Writes s stream (LongStream n) sound_old sound_new replies_old replies_new = Keeps sound_old sound_new × Keeps replies_old replies_new
+Writes s stream (BadStream packet place fault) sound_old sound_new replies_old replies_new = Keeps sound_old sound_new × Keeps replies_old replies_new
+Writes s stream (LongSound n) sound_old sound_new replies_old replies_new = Keeps sound_old sound_new × Keeps replies_old replies_new
+Writes s stream ReadFault sound_old sound_new replies_old replies_new = Keeps sound_old sound_new × Keeps replies_old replies_new
+Writes s stream (BadWords i) sound_old sound_new replies_old replies_new = Keeps sound_old sound_new × Keeps replies_old replies_new
+Writes s stream SoundFault sound_old sound_new replies_old replies_new = PlayedPart s stream sound_old sound_new replies_old replies_new
+Writes s stream ReplyFault sound_old sound_new replies_old replies_new = PlayedPart s stream sound_old sound_new replies_old replies_new
+Writes s stream NoMemory sound_old sound_new replies_old replies_new = (Keeps sound_old sound_new × Keeps replies_old replies_new) ⊎ PlayedPart s stream sound_old sound_new replies_old replies_new
+
+-- so many bytes were taken
+abbrev pub Takes : ℕ → Option (List ℕ) → Option (List ℕ) → Type 0
+Takes n old new = (front : List ℕ) × Consumes old new front × (length front ≡ n)
+
+-- What is taken of the stream: all of it; of one that is too long as many bytes as show it; of one on which the source failed a front of fewer;
+-- nothing where the words are refused; and where memory ran out nothing, or all of a stream that isn't too long.
+abbrev pub TakesStream : Outcome → Option (List ℕ) → Option (List ℕ) → Type 0
+TakesStream (Done n) old new = IsAtEnd new
+TakesStream (BadStream packet place fault) old new = IsAtEnd new
+TakesStream (LongSound n) old new = IsAtEnd new
+TakesStream (LongStream n) old new = Takes n old new
+TakesStream ReadFault old new = (front : List ℕ) × Consumes old new front × (length front ≤ 16777216)
+TakesStream SoundFault old new = IsAtEnd new
+TakesStream ReplyFault old new = IsAtEnd new
+TakesStream NoMemory old new = Keeps old new ⊎ (IsAtEnd new × IfSome old (λ bytes. length bytes ≤ 16777216))
+TakesStream (BadWords i) old new = Keeps old new

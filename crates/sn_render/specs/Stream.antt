@@ -1,0 +1,25 @@
+-- What decoding a stream answers.
+use Rattle.std.specs.Prelude.{◌≡◌, ℕ, List, Result, Ok, Err}
+use Rattle.sn_osc.specs.declared.fault.StreamFault.{StreamFault}
+use Rattle.sn_osc.specs.Shape.{Shape}
+use Rattle.sn_render.specs.declared.stream.BadFrame.{BadFrame}
+use Rattle.sn_render.specs.declared.stream.Unframed.{Unframed}
+use Rattle.sn_render.specs.declared.stream.Unframed.TheVariants as unframed
+
+-- a fact for a refused stream
+abbrev pub IfBad : {X : Type 0} → Result X Unframed → (BadFrame → Type 0) → Type 0
+IfBad (Ok x) P = Unit {0}
+IfBad (Err unframed.NoMemory) P = Unit {0}
+IfBad (Err (unframed.Bad f)) P = P f
+
+-- the answer is these packets, or want of memory
+abbrev pub IsFound : {X : Type 0} → (X → List Shape) → Result X Unframed → List Shape → Type 0
+IsFound view (Ok x) xs = view x ≡ xs
+IsFound view (Err unframed.NoMemory) xs = Unit {0}
+IsFound view (Err (unframed.Bad f)) xs = ⊥
+
+-- the answer is this fault, or want of memory
+abbrev pub IsRefused : {X : Type 0} → Result X Unframed → ℕ → ℕ → StreamFault → Type 0
+IsRefused (Ok x) number place fault = ⊥
+IsRefused (Err unframed.NoMemory) number place fault = Unit {0}
+IsRefused (Err (unframed.Bad f)) number place fault = (f.packet ≡ number) × (f.place ≡ place) × (f.fault ≡ fault)

@@ -1,0 +1,12 @@
+//! Bytes in, bytes out: a stream of commands is read, decoded and played, and what comes of it is written to two sinks.
+#![tactic(auto)]
+
+mod outcome;
+mod rendering;
+mod running;
+mod stream;
+
+pub use outcome::Outcome;
+pub use running::render;
+pub use sn_osc::StreamFault;
+pub use stream::room;

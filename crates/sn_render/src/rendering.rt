@@ -1,0 +1,163 @@
+ghost use Rattle.std.specs.Prelude.{◌≡◌, ◌<◌, ◌≤◌, ◌^◌, length, OnErr, OnOk};
+ghost use Rattle.sn_ports.specs.Causes.{Rose};
+ghost use Rattle.sn_render.specs.Fronts.{TakesFront, TakeFronts};
+ghost use Rattle.sn_render.specs.Going.{IsAtBoundary, IsBlock, IsEnd, IsEnded, IsWritten, after_block, to_first, whole_replies, whole_sound};
+ghost use Rattle.sn_engine.specs.Running.{at_boundary};
+ghost use Rattle.sn_render.specs.Faults.{NoneElseFailed};
+ghost use Rattle.sn_engine.specs.declared.standing.Standing.TheVariants.{Settled};
+ghost use Rattle.sn_render.specs.declared.rendering.Stop.TheVariants as stops;
+
+use sn_engine::Engine;
+use sn_ports::{Gate, NoMemory, Sink};
+use std::alloc::{AllocError, Global};
+use std::thread::Threads;
+
+/// How many bytes are gathered before they are written.
+const PIECE: usize = 16384;
+
+/// Why a run stopped before its end.
+#[derive(Clone, Copy, Debug, PartialEq, Eq)]
+pub enum Stop {
+    NoMemory,
+    SoundFault,
+    ReplyFault,
+}
+
+impl From<AllocError> for Stop {
+    ghost from_gives = { λ _ e. e ≡ stops.NoMemory };
+
+    fn from(_: AllocError) -> Self {
+        Stop::NoMemory
+    }
+}
+
+impl From<NoMemory> for Stop {
+    ghost from_gives = { λ _ e. e ≡ stops.NoMemory };
+
+    fn from(_: NoMemory) -> Self {
+        Stop::NoMemory
+    }
+}
+
+/// Writes the sound that was gathered, where it has `least` bytes.
+fn write_sound<O: Sink>(engine: &mut Engine, least: usize, sink: &mut O) -> Result<(), Stop>
+    ensures written { OnOk result (IsWritten engine.old.sound engine.new.sound (O.taken sink.old) (O.taken sink.new)) }
+    ensures front { OnErr result (TakesFront (O.taken sink.old) (O.taken sink.new) engine.old.sound) }
+    ensures kept { OnOk result (engine.new ≡ record engine.old { sound = engine.new.sound }) }
+    ensures memory { result ≡ Err Stop.NoMemory → ⊥ }
+    ensures reply { result ≡ Err Stop.ReplyFault → ⊥ }
+    ensures cause { result ≡ Err Stop.SoundFault → Rose (O.faults sink.old) (O.faults sink.new) }
+    ensures later { O.faults sink.old ≤ O.faults sink.new }
+    ensures unfailed { OnOk result (O.faults sink.new ≡ O.faults sink.old) }
+{
+    if engine.sound_len() < least {
+        return Ok(());
+    }
+    match engine.drain_sound(sink) {
+        Ok(()) => Ok(()),
+        Err(_) => Err(Stop::SoundFault),
+    }
+}
+
+/// Writes the replies that were gathered, where they have `least` bytes.
+fn write_replies<R: Sink>(engine: &mut Engine, least: usize, sink: &mut R) -> Result<(), Stop>
+    requires alone { length engine.old.replies ≡ 1 }
+    ensures written { OnOk result (IsWritten (to_first engine.old.replies) (to_first engine.new.replies) (R.taken sink.old) (R.taken sink.new)) }
+    ensures front { OnErr result (TakesFront (R.taken sink.old) (R.taken sink.new) (to_first engine.old.replies)) }
+    ensures alone { length engine.new.replies ≡ 1 }
+    ensures kept { OnOk result (engine.new ≡ record engine.old { replies = engine.new.replies }) }
+    ensures memory { result ≡ Err Stop.NoMemory → ⊥ }
+    ensures sound { result ≡ Err Stop.SoundFault → ⊥ }
+    ensures cause { result ≡ Err Stop.ReplyFault → Rose (R.faults sink.old) (R.faults sink.new) }
+    ensures later { R.faults sink.old ≤ R.faults sink.new }
+    ensures unfailed { OnOk result (R.faults sink.new ≡ R.faults sink.old) }
+{
+    if engine.replies_len(0) < least {
+        return Ok(());
+    }
+    match engine.drain_replies(0, sink) {
+        Ok(()) => Ok(()),
+        Err(_) => Err(Stop::ReplyFault),
+    }
+}
+
+/// A boundary, its block and its settling, and what of the bytes is enough for a piece.
+fn render_block<H: Threads + Sync, O: Sink, R: Sink, G: Gate>(
+    rt: &H,
+    alloc: Global,
+    engine: &mut Engine,
+    sound: &mut O,
+    replies: &mut R,
+    gate: &G,
+) -> Result<(), Stop>
+    requires block { engine.old.block < 2 ^ 62 }
+    requires settled { engine.old.standing ≡ Settled }
+    requires alone { length engine.old.replies ≡ 1 }
+    ensures block { OnOk result (IsBlock (O.taken sound.old) (O.taken sound.new) (R.taken replies.old) (R.taken replies.new) engine.old engine.new) }
+    ensures fronts { OnErr result (TakeFronts (O.taken sound.old) (O.taken sound.new) (R.taken replies.old) (R.taken replies.new) (after_block engine.old).sound (to_first (after_block engine.old).replies)) }
+    ensures sound { result ≡ Err Stop.SoundFault → Rose (O.faults sound.old) (O.faults sound.new) }
+    ensures reply { result ≡ Err Stop.ReplyFault → Rose (R.faults replies.old) (R.faults replies.new) }
+    ensures sound_later { O.faults sound.old ≤ O.faults sound.new }
+    ensures reply_later { R.faults replies.old ≤ R.faults replies.new }
+    ensures unfailed { NoneElseFailed result (O.faults sound.old) (O.faults sound.new) (R.faults replies.old) (R.faults replies.new) }
+{
+    engine.boundary(alloc)?;
+    engine.blocks(rt, 1, gate);
+    engine.settle();
+    write_sound(engine, PIECE, sound)?;
+    write_replies(engine, PIECE, replies)?;
+    Ok(())
+}
+
+/// The boundary after the last block, and all bytes that are still to be written.
+fn render_end<O: Sink, R: Sink>(
+    alloc: Global,
+    engine: &mut Engine,
+    sound: &mut O,
+    replies: &mut R,
+) -> Result<(), Stop>
+    requires settled { engine.old.standing ≡ Settled }
+    requires alone { length engine.old.replies ≡ 1 }
+    ensures end { OnOk result (IsEnd (O.taken sound.old) (O.taken sound.new) (R.taken replies.old) (R.taken replies.new) engine.old) }
+    ensures fronts { OnErr result (TakeFronts (O.taken sound.old) (O.taken sound.new) (R.taken replies.old) (R.taken replies.new) engine.old.sound (to_first (at_boundary engine.old).replies)) }
+    ensures sound { result ≡ Err Stop.SoundFault → Rose (O.faults sound.old) (O.faults sound.new) }
+    ensures reply { result ≡ Err Stop.ReplyFault → Rose (R.faults replies.old) (R.faults replies.new) }
+    ensures sound_later { O.faults sound.old ≤ O.faults sound.new }
+    ensures reply_later { R.faults replies.old ≤ R.faults replies.new }
+    ensures unfailed { NoneElseFailed result (O.faults sound.old) (O.faults sound.new) (R.faults replies.old) (R.faults replies.new) }
+{
+    engine.boundary(alloc)?;
+    match engine.drain_sound(sound) {
+        Ok(()) => {}
+        Err(_) => return Err(Stop::SoundFault),
+    }
+    match engine.drain_replies(0, replies) {
+        Ok(()) => Ok(()),
+        Err(_) => Err(Stop::ReplyFault),
+    }
+}
+
+/// Renders so many blocks, and the boundary after the last one.
+pub fn render_blocks<H: Threads + Sync, O: Sink, R: Sink, G: Gate>(
+    rt: &H,
+    alloc: Global,
+    blocks: u64,
+    mut engine: Engine,
+    sound: &mut O,
+    replies: &mut R,
+    gate: &G,
+) -> Result<(), Stop>
+    requires begun { engine.block ≡ 0 }
+    requires stands { IsAtBoundary engine.settings engine }
+    requires blocks { blocks < 2 ^ 62 }
+    ensures ended { OnOk result (IsEnded engine.settings engine blocks (O.taken sound.old) (O.taken sound.new) (R.taken replies.old) (R.taken replies.new)) }
+    ensures fronts { OnErr result (TakeFronts (O.taken sound.old) (O.taken sound.new) (R.taken replies.old) (R.taken replies.new) (whole_sound engine.settings engine blocks) (whole_replies engine.settings engine blocks)) }
+    ensures sound { result ≡ Err Stop.SoundFault → Rose (O.faults sound.old) (O.faults sound.new) }
+    ensures reply { result ≡ Err Stop.ReplyFault → Rose (R.faults replies.old) (R.faults replies.new) }
+    ensures unfailed { NoneElseFailed result (O.faults sound.old) (O.faults sound.new) (R.faults replies.old) (R.faults replies.new) }
+{
+    for number in 0..blocks {
+        render_block(rt, alloc, &mut engine, sound, replies, gate)?;
+    }
+    render_end(alloc, &mut engine, sound, replies)
+}

@@ -1,0 +1,161 @@
+ghost use Rattle.std.specs.Prelude.{◌≡◌, ◌≤◌, ◌<◌, ◌+◌, ◌++◌, List, ℕ, length, map, IfOk, IfSome, OnOk, IsTrue};
+ghost use Rattle.std.specs.Io.KnownBytes.{Consumes, IsAtEnd, Keeps};
+ghost use Rattle.sn_ports.specs.Causes.{Rose};
+ghost use Rattle.sn_osc.specs.Shape.{Shape, shape};
+ghost use Rattle.sn_osc.specs.Grammar.{Spells};
+ghost use Rattle.sn_osc.specs.Bytes.{frame_bytes};
+ghost use Rattle.sn_osc.specs.declared.fault.StreamFault.{StreamFault};
+ghost use Rattle.sn_osc.specs.Frames.{is_frame_size, Frames, first_frame, instead, FrameFault, StreamFaultAt};
+ghost use Rattle.sn_render.specs.declared.stream.Unframed.TheVariants as unframed;
+ghost use Rattle.sn_render.specs.Faults.{UnlessFailed};
+ghost use Rattle.sn_render.specs.Outcomes.{Takes};
+ghost use Rattle.sn_render.specs.Stream.{IfBad, IsFound, IsRefused};
+
+use sn_osc::{Elements, NoFrame, Packet, StreamFault, Undecoded, decode, first_frame};
+use sn_ports::{NoMemory, Source, fill};
+use std::alloc::{AllocError, AllocFailed, Global};
+
+/// The most bytes of a stream.
+const MOST_BYTES: usize = 16777216;
+
+/// The first frame that is at fault.
+#[derive(Clone, Copy, Debug, PartialEq, Eq)]
+pub struct BadFrame {
+    /// The number of its packet, from 0.
+    pub packet: u32,
+    /// The place of the fault, in bytes of the stream.
+    pub place: u64,
+    /// What is at fault.
+    pub fault: StreamFault,
+}
+
+/// Why a stream gave no packets.
+#[derive(Clone, Copy, Debug, PartialEq, Eq)]
+pub enum Unframed {
+    NoMemory,
+    Bad(BadFrame),
+}
+
+impl<T: Drop> From<AllocFailed<T>> for Unframed {
+    ghost from_gives = { λ _ e. e ≡ unframed.NoMemory };
+
+    fn from(_: AllocFailed<T>) -> Self {
+        Unframed::NoMemory
+    }
+}
+
+/// Why a stream was not read.
+#[derive(Clone, Copy, Debug, PartialEq, Eq)]
+pub enum Unread {
+    NoMemory,
+    /// The stream has more bytes than may be.
+    TooLong,
+    /// The source failed.
+    Failed,
+}
+
+/// So many bytes to write over.
+pub fn room(alloc: Global, len: usize) -> Result<Vec<u8>, AllocError>
+    ensures { IfOk result (λ v. length v.items ≡ len) }
+{
+    vec![in alloc; 0; len]
+}
+
+/// Reads a stream to its end.
+///
+/// `TooLong` comes where 16,777,217 bytes were taken, and `Failed` only where the source's count of faults rose and fewer were taken. Nothing
+/// was taken where memory ran out.
+pub fn read_stream<S: Source>(alloc: Global, source: &mut S) -> Result<Vec<u8>, Unread>
+    ensures bytes { IfOk result (λ v. IfSome (S.left source.old) (λ xs. v.items ≡ xs)) }
+    ensures end { OnOk result (IsAtEnd (S.left source.new)) }
+    ensures size { IfOk result (λ v. length v.items ≤ 16777216) }
+    ensures too_long { result ≡ Err Unread.TooLong → IfSome (S.left source.old) (λ xs. 16777216 < length xs) }
+    ensures front { result ≡ Err Unread.TooLong → Takes 16777217 (S.left source.old) (S.left source.new) }
+    ensures some { result ≡ Err Unread.Failed → (given : List ℕ) × Consumes (S.left source.old) (S.left source.new) given × (length given ≤ 16777216) }
+    ensures none { result ≡ Err Unread.NoMemory → Keeps (S.left source.old) (S.left source.new) }
+    ensures failed { result ≡ Err Unread.Failed → Rose (S.faults source.old) (S.faults source.new) }
+    ensures unfailed { UnlessFailed result (S.faults source.new ≡ S.faults source.old) }
+{
+    let Ok(mut bytes) = room(alloc, MOST_BYTES + 1) else {
+        return Err(Unread::NoMemory);
+    };
+    let Ok(count) = fill(source, &mut bytes) else {
+        return Err(Unread::Failed);
+    };
+    if count > MOST_BYTES {
+        return Err(Unread::TooLong);
+    }
+    bytes.truncate(count);
+    Ok(bytes)
+}
+
+/// What is wrong where no whole frame stands.
+fn fault_of(none: NoFrame) -> StreamFault
+    ensures { (bytes : List ℕ) (at : ℕ) → 0 < length bytes → first_frame bytes ≡ instead none → FrameFault at bytes at result }
+{
+    match none {
+        NoFrame::Cut => StreamFault::FrameCut,
+        NoFrame::BadSize(_) => StreamFault::FrameSize,
+    }
+}
+
+/// The first packet, and the bytes behind its frame. The bytes begin at the place `at` of the stream.
+fn first_packet(
+    alloc: Global,
+    number: u32,
+    at: u64,
+    bytes: &[u8],
+) -> Result<(Packet, &[u8]), Unframed>
+    requires some { 0 < length bytes.now }
+    requires short { at + length bytes.now ≤ 16777216 }
+    ensures found { IfOk result (λ x. (front : List ℕ) × IsTrue (is_frame_size (length front)) × Spells (shape x.0) front × (bytes.now ≡ frame_bytes front ++ x.1.now)) }
+    ensures number { IfBad result (λ f. f.packet ≡ number) }
+    ensures fault { IfBad result (λ f. FrameFault at bytes.now f.place f.fault) }
+{
+    let (frame, rest) = match first_frame(bytes) {
+        Ok(parts) => parts,
+        Err(none) => return Err(Unframed::Bad(BadFrame {
+            packet: number,
+            place: at,
+            fault: fault_of(none),
+        })),
+    };
+    match decode(alloc, frame) {
+        Ok(packet) => Ok((packet, rest)),
+        Err(Undecoded::NoMemory) => Err(Unframed::NoMemory),
+        Err(Undecoded::Bad(fault)) => Err(Unframed::Bad(BadFrame {
+            packet: number,
+            place: at + 4 + u64::from(fault.place),
+            fault: StreamFault::Packet(fault.kind),
+        })),
+    }
+}
+
+/// Decodes frame after frame.
+fn decode_frames(alloc: Global, bytes: &[u8]) -> Result<Elements, Unframed>
+    requires { length bytes.now ≤ 16777216 }
+    ensures found { IfOk result (λ v. Frames (map shape v.items) bytes.now) }
+    ensures bad { IfBad result (λ f. StreamFaultAt bytes.now f.packet f.place f.fault) }
+{
+    let mut packets = Vec::new(alloc);
+    let mut rest = bytes;
+    while !rest.is_empty() {
+        let at = (bytes.len() - rest.len()) as u64;
+        let number = packets.len() as u32;
+        let (packet, after) = first_packet(alloc, number, at, rest)?;
+        packets.push(packet)?;
+        rest = after;
+    }
+    Ok(packets)
+}
+
+/// The packets of a stream, or its first fault. Each is the answer exactly where it is there, but for want of memory.
+pub fn decode_stream(alloc: Global, bytes: &[u8]) -> Result<Elements, Unframed>
+    requires { length bytes.now ≤ 16777216 }
+    ensures found { IfOk result (λ v. Frames (map shape v.items) bytes.now) }
+    ensures bad { IfBad result (λ f. StreamFaultAt bytes.now f.packet f.place f.fault) }
+    ensures only_found { (xs : List Shape) → Frames xs bytes.now → IsFound (λ v. map shape v.items) result xs }
+    ensures only_bad { (number place : ℕ) (fault : StreamFault) → StreamFaultAt bytes.now number place fault → IsRefused result number place fault }
+{
+    decode_frames(alloc, bytes)
+}

@@ -1,0 +1,8 @@
+//! Tests of the calls on stages that no program reaches: plans and feet. They stand above all crates that they try, so that each is
+//! proved once.
+#![tactic(auto)]
+
+#[cfg(test)]
+mod feet;
+#[cfg(test)]
+mod plans;

@@ -1,0 +1,407 @@
+//! The plans of stages.
+ghost use Rattle.std.specs.Prelude.{◌≡◌, ◌+◌, ◌&&◌, true, None, nat_lt};
+ghost use Rattle.std.specs.List.{All, list_all};
+ghost use Rattle.sn_world.specs.Pictures.{held_extents, live_held};
+ghost use Rattle.sn_foot.specs.Canonical.{Ends};
+
+use sn_clash::clashes;
+use sn_def::{Control, Controls, read};
+use sn_graph::plan;
+use sn_mem::Extent;
+use sn_ports::NoMemory;
+use sn_round::Plan;
+use sn_tree::{Action, NodeKind, Spot, Tally, Tree};
+use sn_world::{Held, Stage};
+use std::alloc::{AllocError, Global};
+use std::sync::Arc;
+use std::test::Fail;
+
+/// Audio bus 100 is heard, and the bus of a control is written.
+const TONE: &[u8] = b"snova 1\ndef tone\ncontrol out 0\na = In.ar 100\nOut.ar out a\nend\n";
+
+fn ends(held: &Held) -> bool
+    ensures { result ≡ list_all (λ e. nat_lt (e.at + e.len) 4294967296) (held_extents held.now) }
+{
+    match held {
+        Held::Group => true,
+        Held::Synth { state, .. } => (state.at as u64 + state.len as u64) < 4_294_967_296,
+    }
+}
+
+/// Whether the states so far have their places among the words.
+#[derive(Drop)]
+struct Ending {
+    all: bool,
+}
+
+impl Tally<Held> for Ending {
+    ghost with_one = { λ t held. record { all = t.all && list_all (λ e. nat_lt (e.at + e.len) 4294967296) (held_extents held) } };
+
+    fn add(&mut self, held: &Held) {
+        let here = ends(held);
+        self.all = self.all && here;
+    }
+}
+
+/// Whether the states of all nodes have their places among the words.
+pub fn all_end(tree: &Tree<Held>) -> bool
+    ensures { result ≡ true → All Ends (live_held tree.now.attached) }
+{
+    let mut ending = Ending { all: true };
+    tree.tally(&mut ending);
+    ending.all
+}
+
+/// The plan of the nodes, or nothing where a state ends behind the words. There are no buffers.
+fn planned(alloc: Global, tree: Tree<Held>) -> Result<Option<Plan>, NoMemory> {
+    if !all_end(&tree) {
+        return Ok(None);
+    }
+    let mut stage = Stage::new(alloc, 48_000, 0, 0)?;
+    stage.tree = tree;
+    let found = clashes(alloc, &stage)?;
+    Ok(Some(plan(alloc, &stage, found.as_slice())?))
+}
+
+/// A synth that writes an audio bus, with two words of state from word `at` on.
+fn tone(alloc: Global, bus: i32, at: u32) -> Result<Option<Held>, AllocError> {
+    let Ok(def) = read(alloc, TONE) else {
+        return Ok(None);
+    };
+    let mut controls = Vec::new(alloc);
+    controls.push(Control {
+        value: bus,
+        bus: None,
+    })?;
+    Ok(Some(Held::Synth {
+        def: Arc::new(alloc, def)?,
+        controls: Controls::from_vec(controls),
+        state: Extent { at, len: 2 },
+    }))
+}
+
+/// Puts a node at the tail of a group.
+pub fn put(tree: &mut Tree<Held>, id: i32, kind: NodeKind, target: i32, held: Held) -> bool
+    requires closed { tree.old.journal ≡ None }
+    ensures closed { tree.new.journal ≡ None }
+{
+    let spot = Spot {
+        action: Action::Tail,
+        target,
+    };
+    tree.insert(id, kind, spot, held).is_ok()
+}
+
+/// What a node is. A tone has the bus that it writes.
+#[derive(Clone, Copy)]
+enum Sort {
+    Group,
+    Parallel,
+    Tone(u8),
+}
+
+/// A node with its id, in a group.
+#[derive(Clone, Copy)]
+struct Node(u8, Sort, u8);
+
+/// Puts a node at the tail of its group. A tone has two words of state behind those of the tones with lower ids.
+fn put_node(alloc: Global, tree: &mut Tree<Held>, node: Node) -> Result<bool, AllocError>
+    requires closed { tree.old.journal ≡ None }
+    ensures closed { tree.new.journal ≡ None }
+{
+    let Node(id, sort, group) = node;
+    let id = i32::from(id);
+    let group = i32::from(group);
+    match sort {
+        Sort::Group => Ok(put(tree, id, NodeKind::Group, group, Held::Group)),
+        Sort::Parallel => Ok(put(tree, id, NodeKind::Parallel, group, Held::Group)),
+        Sort::Tone(bus) => match tone(alloc, i32::from(bus), 20_000 + 2 * id as u32)? {
+            Some(held) => Ok(put(tree, id, NodeKind::Synth, group, held)),
+            None => Ok(false),
+        },
+    }
+}
+
+fn pause(tree: &mut Tree<Held>, id: u8) -> bool
+    requires closed { tree.old.journal ≡ None }
+    ensures closed { tree.new.journal ≡ None }
+{
+    tree.set_run(i32::from(id), false).is_ok()
+}
+
+/// Nodes, each put at the tail of its group, and the paused ones among them.
+#[derive(Drop)]
+struct Shape<'a> {
+    nodes: &'a [Node],
+    paused: &'a [u8],
+}
+
+fn tree_of(alloc: Global, shape: &Shape<'_>) -> Result<Option<Tree<Held>>, NoMemory> {
+    let mut tree = Tree::new(alloc, Held::Group)?;
+    let mut all = true;
+    for node in shape.nodes {
+        all = put_node(alloc, &mut tree, *node)? && all;
+    }
+    for id in shape.paused {
+        all = pause(&mut tree, *id) && all;
+    }
+    if all { Ok(Some(tree)) } else { Ok(None) }
+}
+
+fn plan_of(alloc: Global, shape: &Shape<'_>) -> Result<Option<Plan>, NoMemory> {
+    match tree_of(alloc, shape)? {
+        Some(tree) => planned(alloc, tree),
+        None => Ok(None),
+    }
+}
+
+/// Whether these are the jobs: the synths of each, and its predecessors.
+fn are(plan: &Plan, wanted: &[(&[i32], &[u32])]) -> bool {
+    let mut same = plan.jobs() as usize == wanted.len();
+    for job in 0..plan.jobs() {
+        same = match wanted.get(job as usize) {
+            Some((synths, before)) => {
+                same && plan.synths(job).as_slice() == *synths
+                    && plan.predecessors(job).as_slice() == *before
+            }
+            None => false,
+        };
+    }
+    same
+}
+
+#[derive(Drop)]
+struct Case<'a> {
+    shape: Shape<'a>,
+    jobs: &'a [(&'a [i32], &'a [u32])],
+}
+
+/// A member of a parallel group is paused.
+const PAUSED: Shape<'_> = Shape {
+    nodes: &[
+        Node(50, Sort::Parallel, 0),
+        Node(1, Sort::Tone(1), 50),
+        Node(2, Sort::Tone(2), 50),
+        Node(3, Sort::Tone(3), 0),
+        Node(4, Sort::Tone(4), 0),
+    ],
+    paused: &[1],
+};
+
+/// Three members of a parallel group, and what follows it.
+const THREE: Case<'_> = Case {
+    shape: Shape {
+        nodes: &[
+            Node(50, Sort::Parallel, 0),
+            Node(1, Sort::Tone(16), 50),
+            Node(2, Sort::Tone(17), 50),
+            Node(3, Sort::Tone(18), 50),
+            Node(9, Sort::Tone(19), 0),
+        ],
+        paused: &[],
+    },
+    jobs: &[
+        (&[1], &[]),
+        (&[2], &[]),
+        (&[3], &[]),
+        (&[], &[0, 1, 2]),
+        (&[9], &[3]),
+    ],
+};
+
+/// The three members write one bus.
+const ONE_BUS: Case<'_> = Case {
+    shape: Shape {
+        nodes: &[
+            Node(50, Sort::Parallel, 0),
+            Node(1, Sort::Tone(16), 50),
+            Node(2, Sort::Tone(16), 50),
+            Node(3, Sort::Tone(16), 50),
+            Node(9, Sort::Tone(19), 0),
+        ],
+        paused: &[],
+    },
+    jobs: &[(&[1, 2, 3], &[]), (&[9], &[0])],
+};
+
+/// Eight members beside each other, then a synth and a group without one, then a synth.
+const EIGHT: Case<'_> = Case {
+    shape: Shape {
+        nodes: &[
+            Node(50, Sort::Parallel, 0),
+            Node(1, Sort::Tone(1), 50),
+            Node(2, Sort::Tone(2), 50),
+            Node(3, Sort::Tone(3), 50),
+            Node(4, Sort::Tone(4), 50),
+            Node(5, Sort::Tone(5), 50),
+            Node(6, Sort::Tone(6), 50),
+            Node(7, Sort::Tone(7), 50),
+            Node(8, Sort::Tone(8), 50),
+            Node(51, Sort::Group, 0),
+            Node(9, Sort::Tone(9), 51),
+            Node(52, Sort::Group, 51),
+            Node(53, Sort::Group, 52),
+            Node(10, Sort::Tone(10), 0),
+        ],
+        paused: &[],
+    },
+    jobs: &[
+        (&[1], &[]),
+        (&[2], &[]),
+        (&[3], &[]),
+        (&[4], &[]),
+        (&[5], &[]),
+        (&[6], &[]),
+        (&[7], &[]),
+        (&[8], &[]),
+        (&[], &[0, 1, 2, 3, 4, 5, 6, 7]),
+        (&[9], &[8]),
+        (&[10], &[9]),
+    ],
+};
+
+/// An empty group between parallel groups.
+const EMPTY: Case<'_> = Case {
+    shape: Shape {
+        nodes: &[
+            Node(50, Sort::Parallel, 0),
+            Node(1, Sort::Tone(1), 50),
+            Node(2, Sort::Tone(2), 50),
+            Node(51, Sort::Group, 0),
+            Node(52, Sort::Parallel, 0),
+            Node(3, Sort::Tone(3), 52),
+            Node(4, Sort::Tone(4), 52),
+            Node(5, Sort::Tone(5), 52),
+        ],
+        paused: &[],
+    },
+    jobs: &[
+        (&[1], &[]),
+        (&[2], &[]),
+        (&[], &[0, 1]),
+        (&[3], &[2]),
+        (&[4], &[2]),
+        (&[5], &[2]),
+        (&[], &[3, 4, 5]),
+    ],
+};
+
+/// A parallel group inside a parallel group.
+const INNER: Case<'_> = Case {
+    shape: Shape {
+        nodes: &[
+            Node(50, Sort::Parallel, 0),
+            Node(51, Sort::Parallel, 50),
+            Node(1, Sort::Tone(1), 51),
+            Node(2, Sort::Tone(2), 51),
+            Node(3, Sort::Tone(3), 50),
+        ],
+        paused: &[],
+    },
+    jobs: &[
+        (&[1], &[]),
+        (&[2], &[]),
+        (&[], &[0, 1]),
+        (&[3], &[]),
+        (&[], &[2, 3]),
+    ],
+};
+
+/// Members of the inner one clash.
+const INNER_CLASH: Case<'_> = Case {
+    shape: Shape {
+        nodes: &[
+            Node(50, Sort::Parallel, 0),
+            Node(51, Sort::Parallel, 50),
+            Node(1, Sort::Tone(1), 51),
+            Node(2, Sort::Tone(1), 51),
+            Node(3, Sort::Tone(3), 50),
+        ],
+        paused: &[],
+    },
+    jobs: &[(&[1, 2], &[]), (&[3], &[]), (&[], &[0, 1])],
+};
+
+/// The inner one clashes with the member after it, which writes what it writes.
+const OUTER_CLASH: Case<'_> = Case {
+    shape: Shape {
+        nodes: &[
+            Node(50, Sort::Parallel, 0),
+            Node(51, Sort::Parallel, 50),
+            Node(1, Sort::Tone(1), 51),
+            Node(2, Sort::Tone(2), 51),
+            Node(3, Sort::Tone(2), 50),
+        ],
+        paused: &[],
+    },
+    jobs: &[(&[1], &[]), (&[2], &[]), (&[], &[0, 1]), (&[3], &[2])],
+};
+
+/// A member that clashes with another is paused, and so is a group of which two members would clash.
+const PAUSED_CLASH: Case<'_> = Case {
+    shape: Shape {
+        nodes: &[
+            Node(50, Sort::Parallel, 0),
+            Node(1, Sort::Tone(1), 50),
+            Node(2, Sort::Tone(1), 50),
+            Node(3, Sort::Tone(3), 50),
+            Node(51, Sort::Parallel, 0),
+            Node(4, Sort::Tone(4), 51),
+            Node(5, Sort::Tone(4), 51),
+            Node(6, Sort::Tone(6), 0),
+        ],
+        paused: &[1, 51],
+    },
+    jobs: &[(&[2], &[]), (&[3], &[]), (&[], &[0, 1]), (&[6], &[2])],
+};
+
+#[test]
+fn jobs_stand_before_those_that_follow_them(rt: HostRuntime) -> Result<(), Fail> {
+    let paused = Case {
+        shape: PAUSED,
+        jobs: &[(&[2], &[]), (&[3, 4], &[0])],
+    };
+    let cases = [
+        THREE,
+        ONE_BUS,
+        EIGHT,
+        EMPTY,
+        INNER,
+        INNER_CLASH,
+        OUTER_CLASH,
+        PAUSED_CLASH,
+        paused,
+    ];
+    for case in &cases {
+        let plan = plan_of(rt.alloc(), &case.shape)?;
+        let Some(plan) = plan else {
+            assert!(rt; false);
+            return Ok(());
+        };
+        assert!(rt; are(&plan, case.jobs));
+    }
+    Ok(())
+}
+
+/// Whether these are the extents, by their first words and their numbers of words.
+pub fn lie(extents: &[Extent], wanted: &[(u32, u32)]) -> bool {
+    let mut same = extents.len() == wanted.len();
+    for (extent, (at, len)) in extents.iter().zip(wanted) {
+        same = same && extent.at == *at && extent.len == *len;
+    }
+    same
+}
+
+#[test]
+fn a_job_touches_what_its_synths_touch(rt: HostRuntime) -> Result<(), Fail> {
+    // Audio bus n has the words from 65 n on.
+    let plan = plan_of(rt.alloc(), &PAUSED)?;
+    let Some(plan) = plan else {
+        assert!(rt; false);
+        return Ok(());
+    };
+    assert_eq!(rt; plan.jobs(), 2);
+    assert!(rt; lie(plan.foot(1).reads.as_slice(), &[(6500, 65)]));
+    assert!(rt; lie(plan.foot(1).writes.as_slice(), &[(195, 130), (20006, 4)]));
+    Ok(())
+}

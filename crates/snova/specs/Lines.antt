@@ -1,0 +1,87 @@
+-- The lines that are printed, and the statuses.
+use Rattle.std.specs.Prelude.{ℕ, List, ◌++◌, codes, Option, Some, None}
+use Rattle.std.specs.Fmt.{decimal, signed_decimal}
+use Rattle.sn_osc.specs.declared.fault.PacketKind.{PacketKind}
+use Rattle.sn_osc.specs.declared.fault.PacketKind.TheVariants.{Size, Start, Unended, Padding, NoTags, ShortArgs, LongArgs, BlobSize, ElementSize, Head, NestedEarly, TooDeep}
+use Rattle.sn_osc.specs.declared.fault.StreamFault.{StreamFault}
+use Rattle.sn_osc.specs.declared.fault.StreamFault.TheVariants.{Packet, FrameSize, FrameCut}
+use Rattle.sn_render.specs.Statuses.{outcome_status}
+use Rattle.sn_render.specs.declared.outcome.Outcome.{Outcome}
+use Rattle.sn_render.specs.declared.outcome.Outcome.TheVariants as outcome
+use Rattle.sn_server.specs.declared.ended.Ended.{Ended}
+use Rattle.sn_server.specs.declared.ended.Ended.TheVariants as ends
+use Rattle.snova.specs.Connection.{served_status}
+use Rattle.snova.specs.declared.serving.Served.{Served}
+use Rattle.snova.specs.declared.serving.Served.TheVariants as served
+use Rattle.snova.specs.declared.exit.Exit.{Exit}
+use Rattle.snova.specs.declared.exit.Exit.TheVariants as exit
+
+-- the number by which a packet's fault is printed, after a P
+abbrev pub packet_number : PacketKind → ℕ
+packet_number Size = 1
+packet_number Start = 2
+packet_number Unended = 3
+packet_number Padding = 4
+packet_number NoTags = 5
+packet_number ShortArgs = 6
+packet_number LongArgs = 7
+packet_number BlobSize = 8
+packet_number ElementSize = 9
+packet_number Head = 10
+packet_number NestedEarly = 11
+packet_number TooDeep = 12
+
+-- the same of a stream's fault
+abbrev pub fault_number : StreamFault → ℕ
+fault_number (Packet kind) = packet_number kind
+fault_number FrameSize = 13
+fault_number FrameCut = 14
+
+abbrev pub bad_word_line : ℕ → List ℕ
+bad_word_line index = codes "bad word " ++ decimal index
+
+abbrev pub bad_stream_line : ℕ → ℕ → StreamFault → List ℕ
+bad_stream_line packet place fault =
+    codes "bad stream: packet " ++ decimal packet ++ codes ", byte " ++ decimal place ++ codes ", fault P" ++ decimal (fault_number fault)
+
+-- what is printed of a rendering
+abbrev pub outcome_line : Outcome → List ℕ
+outcome_line (outcome.Done blocks) = codes "done " ++ decimal blocks ++ codes " blocks"
+outcome_line outcome.NoMemory = codes "no memory"
+outcome_line (outcome.BadWords index) = bad_word_line index
+outcome_line (outcome.BadStream packet place fault) = bad_stream_line packet place fault
+outcome_line (outcome.LongStream bytes) = codes "stream over 16777216 bytes"
+outcome_line (outcome.LongSound blocks) = codes "sound too long: " ++ decimal blocks ++ codes " blocks"
+outcome_line outcome.ReadFault = codes "read fault"
+outcome_line outcome.SoundFault = codes "sound fault"
+outcome_line outcome.ReplyFault = codes "reply fault"
+
+-- what is printed of a connection
+abbrev pub end_line : Ended → List ℕ
+end_line ends.Quit = codes "quit"
+end_line ends.NoMemory = codes "no memory"
+end_line ends.Closed = codes "closed"
+end_line (ends.Cut kept) = codes "cut after " ++ decimal kept ++ codes " bytes"
+end_line (ends.BadFrame size) = codes "bad frame size " ++ signed_decimal size
+end_line ends.LinkFault = codes "link fault"
+end_line ends.SoundFault = codes "sound fault"
+end_line (ends.Worn bytes blocks) = codes "worn out"
+
+abbrev pub served_line : Served → List ℕ
+served_line (served.BadWords index) = bad_word_line index
+served_line (served.Ran how) = end_line how
+
+-- what is printed; of the usage nothing is said
+abbrev pub exit_line : Exit → Option (List ℕ)
+exit_line exit.Help = None
+exit_line exit.Version = Some (codes "snova 0.1.0")
+exit_line (exit.Rendered outcome) = Some (outcome_line outcome)
+exit_line (exit.Served served) = Some (served_line served)
+exit_line exit.NotOpened = Some (codes "cannot open")
+
+abbrev pub exit_status : Exit → ℕ
+exit_status exit.Help = 0
+exit_status exit.Version = 0
+exit_status (exit.Rendered outcome) = outcome_status outcome
+exit_status (exit.Served served) = served_status served
+exit_status exit.NotOpened = 9

@@ -1,0 +1,129 @@
+//! What came of the words: the line that is printed, and the status of the program.
+ghost use Rattle.std.specs.Prelude.{◌≡◌, Some};
+ghost use Rattle.std.specs.Fmt.{DisplaysOnOk};
+ghost use Rattle.snova.specs.Lines.{end_line, exit_line, exit_status, fault_number, outcome_line};
+
+use crate::serving::Served;
+use crate::usage::{USAGE, VERSION};
+use sn_osc::PacketKind;
+use sn_server::{Ended, Outcome, StreamFault};
+use std::fmt;
+
+/// The status where the words are refused.
+pub(crate) const BAD_WORDS: u8 = 2;
+
+/// The status where a file or a connection can't be opened.
+const CANNOT_OPEN: u8 = 9;
+
+/// What came of the words.
+#[derive(Clone, Copy)]
+pub(crate) enum Exit {
+    /// The usage was asked for.
+    Help,
+    /// The version was asked for.
+    Version,
+    /// A file of commands was rendered.
+    Rendered(Outcome),
+    /// A connection was served.
+    Served(Served),
+    /// A file could not be opened, no connection be taken at the port, or the clock not be read, or one
+    /// file would be written over another.
+    NotOpened,
+}
+
+impl Exit {
+    /// The status of the program.
+    pub(crate) fn status(&self) -> u8
+        ensures { result ≡ exit_status self.now }
+    {
+        match self {
+            Exit::Help | Exit::Version => 0,
+            Exit::Rendered(outcome) => outcome.status(),
+            Exit::Served(served) => served.status(),
+            Exit::NotOpened => CANNOT_OPEN,
+        }
+    }
+}
+
+/// The number by which a fault of a stream is printed, after a `P`.
+fn number_of(fault: StreamFault) -> u8
+    ensures { result ≡ fault_number fault }
+{
+    match fault {
+        StreamFault::Packet(PacketKind::Size) => 1,
+        StreamFault::Packet(PacketKind::Start) => 2,
+        StreamFault::Packet(PacketKind::Unended) => 3,
+        StreamFault::Packet(PacketKind::Padding) => 4,
+        StreamFault::Packet(PacketKind::NoTags) => 5,
+        StreamFault::Packet(PacketKind::ShortArgs) => 6,
+        StreamFault::Packet(PacketKind::LongArgs) => 7,
+        StreamFault::Packet(PacketKind::BlobSize) => 8,
+        StreamFault::Packet(PacketKind::ElementSize) => 9,
+        StreamFault::Packet(PacketKind::Head) => 10,
+        StreamFault::Packet(PacketKind::NestedEarly) => 11,
+        StreamFault::Packet(PacketKind::TooDeep) => 12,
+        StreamFault::FrameSize => 13,
+        StreamFault::FrameCut => 14,
+    }
+}
+
+/// Writes what came of a run.
+fn write_outcome<W: fmt::Write>(f: &mut fmt::Formatter<W>, outcome: Outcome) -> fmt::Result
+    ensures { DisplaysOnOk W.write_str_gives f.old result (Some (outcome_line outcome)) f.new }
+{
+    match outcome {
+        Outcome::Done { blocks } => write!(f, "done {blocks} blocks"),
+        Outcome::NoMemory => f.write_str("no memory"),
+        Outcome::BadWords { index } => write!(f, "bad word {index}"),
+        Outcome::BadStream {
+            packet,
+            place,
+            fault,
+        } => {
+            let number = number_of(fault);
+            write!(
+                f,
+                "bad stream: packet {packet}, byte {place}, fault P{number}"
+            )
+        }
+        Outcome::LongStream { bytes: _ } => f.write_str("stream over 16777216 bytes"),
+        Outcome::LongSound { blocks } => write!(f, "sound too long: {blocks} blocks"),
+        Outcome::ReadFault => f.write_str("read fault"),
+        Outcome::SoundFault => f.write_str("sound fault"),
+        Outcome::ReplyFault => f.write_str("reply fault"),
+    }
+}
+
+/// Writes how a connection ended.
+fn write_end<W: fmt::Write>(f: &mut fmt::Formatter<W>, how: Ended) -> fmt::Result
+    ensures { DisplaysOnOk W.write_str_gives f.old result (Some (end_line how)) f.new }
+{
+    match how {
+        Ended::Quit => f.write_str("quit"),
+        Ended::NoMemory => f.write_str("no memory"),
+        Ended::Closed => f.write_str("closed"),
+        Ended::Cut { kept } => write!(f, "cut after {kept} bytes"),
+        Ended::BadFrame { size } => write!(f, "bad frame size {size}"),
+        Ended::LinkFault => f.write_str("link fault"),
+        Ended::SoundFault => f.write_str("sound fault"),
+        Ended::Worn {
+            bytes: _,
+            blocks: _,
+        } => f.write_str("worn out"),
+    }
+}
+
+impl fmt::Display for Exit {
+    ghost output = { exit_line };
+
+    fn fmt<W: fmt::Write>(&self, f: &mut fmt::Formatter<W>) -> fmt::Result {
+        match self {
+            Exit::Help => f.write_str(USAGE),
+            Exit::Version => write!(f, "snova {VERSION}"),
+            Exit::Rendered(outcome) => write_outcome(f, *outcome),
+            Exit::Served(Served::BadWords { index }) => write!(f, "bad word {index}"),
+            Exit::Served(Served::Ran(how)) => write_end(f, *how),
+            Exit::NotOpened => f.write_str("cannot open"),
+        }
+    }
+}

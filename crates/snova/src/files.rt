@@ -1,0 +1,106 @@
+//! The files that the words of a rendering name.
+ghost use Rattle.std.specs.Prelude.{◌≡◌, ◌<◌, ◌^◌, length, IsTrue, IsOk};
+ghost use Rattle.sn_words.specs.Words.{settings_of};
+ghost use Rattle.snova.specs.Paths.{are_apart};
+
+use crate::exit::Exit;
+use crate::running::run;
+use sn_ports::{Calls, FileSink, FileSource, MemorySink, MemorySource, NoMemory, Open, Text, Word};
+use sn_server::Outcome;
+use sn_words::settings;
+use std::rt::Files;
+use std::thread::Threads;
+use std::{fs, io};
+
+/// Whether no two paths are spelled alike.
+fn are_apart(commands: &str, sound: &str, replies: &str) -> bool
+    ensures { result ≡ are_apart commands.now sound.now replies.now }
+{
+    commands != sound && commands != replies && sound != replies
+}
+
+/// Runs over the files at three paths, for words that choose settings.
+fn run_on_files<H: Files + AllocGlobal + Threads + Sync>(
+    rt: &H,
+    words: &[Word],
+    commands: &str,
+    sound: &str,
+    replies: &str,
+) -> io::Result<Outcome>
+    requires room { length words.now < 2 ^ 32 }
+    requires accepted { IsOk (settings_of words.now) }
+    requires apart { IsTrue (are_apart commands.now sound.now replies.now) }
+{
+    let mut source = FileSource::new(fs::open(rt, commands)?);
+    let mut sound = FileSink::new(fs::create(rt, sound)?);
+    let mut replies = FileSink::new(fs::create(rt, replies)?);
+    Ok(run(
+        rt,
+        rt.alloc(),
+        words,
+        &mut source,
+        &mut sound,
+        &mut replies,
+        &Open,
+    ))
+}
+
+/// Runs over nothing, for words that are refused.
+fn run_on_nothing<H: AllocGlobal + Threads + Sync>(
+    rt: &H,
+    words: &[Word],
+) -> Result<Outcome, NoMemory>
+    requires { length words.now < 2 ^ 32 }
+{
+    let alloc = rt.alloc();
+    let mut source = MemorySource::new(Text::new(alloc), 1, Calls::from_vec(Vec::new(alloc)));
+    let mut sound = MemorySink::new(alloc, 0, 1, Calls::from_vec(Vec::new(alloc)))?;
+    let mut replies = MemorySink::new(alloc, 0, 1, Calls::from_vec(Vec::new(alloc)))?;
+    Ok(run(
+        rt,
+        alloc,
+        words,
+        &mut source,
+        &mut sound,
+        &mut replies,
+        &Open,
+    ))
+}
+
+/// Renders the file at the first path, for words that choose settings. Two paths that are spelled alike are refused,
+/// since one file would be written over the other.
+fn render_paths<H: Files + AllocGlobal + Threads + Sync>(
+    rt: &H,
+    words: &[Word],
+    paths: [&str; 3],
+) -> Exit
+    requires room { length words.now < 2 ^ 32 }
+    requires accepted { IsOk (settings_of words.now) }
+{
+    let [commands, sound, replies] = paths;
+    if !are_apart(commands, sound, replies) {
+        return Exit::NotOpened;
+    }
+    match run_on_files(rt, words, commands, sound, replies) {
+        Ok(outcome) => Exit::Rendered(outcome),
+        Err(_) => Exit::NotOpened,
+    }
+}
+
+/// Renders the file that the words name. Where they are refused no file is opened.
+pub(crate) fn render_files<H: Files + AllocGlobal + Threads + Sync>(
+    rt: &H,
+    args: &[String],
+    words: &[Word],
+) -> Result<Exit, NoMemory>
+    requires { length words.now < 2 ^ 32 }
+{
+    match (settings(words), args) {
+        (Ok(_), [.., commands, sound, replies]) => Ok(render_paths(
+            rt,
+            words,
+            [commands.as_str(), sound.as_str(), replies.as_str()],
+        )),
+        _ => Ok(Exit::Rendered(run_on_nothing(rt, words)?)),
+    }
+}

@@ -6,6 +6,7 @@
 
 It waits up to ten seconds for the server, and exits with 1 if a command was refused.
 """
+import contextlib
 import socket
 import struct
 import sys
@@ -18,6 +19,8 @@ from replies import packets, shown
 # Seconds by which a bundle is sent ahead, and from 1900, as time tags count, to 1970, as the clock does.
 AHEAD = 0.2
 SINCE_1900 = 2208988800
+# The number of the `/sync` that is sent after the last line that was typed.
+LAST = 2**31 - 1
 
 
 def connect(port):
@@ -39,14 +42,22 @@ class Listener(threading.Thread):
 
     def __init__(self, connection):
         super().__init__(daemon=True)
-        self.connection, self.refused = connection, 0
+        self.connection, self.refused, self.answered = connection, 0, threading.Event()
 
     def run(self):
+        with contextlib.suppress(ConnectionError):
+            self.listen()
+        self.answered.set()
+
+    def listen(self):
         kept = b""
         while piece := self.connection.recv(65536):
             found, kept = packets(kept + piece)
             for packet in found:
                 line = shown(packet)
+                if line == f"/synced {LAST}":
+                    self.answered.set()
+                    continue
                 self.refused += line.startswith("/fail ")
                 print(line, flush=True)
 
@@ -63,28 +74,38 @@ def play(connection, name):
         connection.sendall(make.sized(make.bundle(tag, messages)))
 
 
-def type_lines(connection):
-    """Sends each line of the standard input as a message, and each definition by `/d_recv`."""
+def type_lines(connection, listener):
+    """Sends each line of the standard input as a message, and each definition by `/d_recv`.
+
+    If the connection is closed at once, the server may end before it answers; so the answers are waited for.
+    """
     lines = enumerate((line.rstrip("\n") for line in sys.stdin), 1)
     for _, line in lines:
         try:
             if line == "snova 1":
                 connection.sendall(make.sized(make.message("/d_recv", [make.definition(lines)])))
-            elif line.strip():
+            elif line.startswith("/"):
                 connection.sendall(make.sized(make.line_message(line)))
+            elif line and not line.startswith("#"):
+                raise make.BadLine(f"it is no message: {line}")
         except make.BadLine as bad:
             print(f"not sent: {bad}", file=sys.stderr)
+    connection.sendall(make.sized(make.message("/sync", [LAST])))
+    listener.answered.wait(10)
     connection.shutdown(socket.SHUT_WR)
 
 
 def main():
+    if len(sys.argv) not in (2, 3) or not sys.argv[1].isdecimal():
+        raise SystemExit(__doc__.strip())
     connection = connect(int(sys.argv[1]))
     listener = Listener(connection)
     listener.start()
     if sys.argv[2:]:
         play(connection, sys.argv[2])
     else:
-        type_lines(connection)
+        with contextlib.suppress(OSError):
+            type_lines(connection, listener)
     listener.join(10)
     return 1 if listener.refused else 0
 

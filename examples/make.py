@@ -4,10 +4,11 @@
     python3 examples/make.py            all pieces
     python3 examples/make.py NAME..     some of them
 
-A piece is read line by line. `at SECONDS` begins a bundle that acts at that time. A line that begins with `/` is a message. Its words
-are ints (`440000`), numbers with a point, which are samples in Q8.24 (`0.5` is 8388608), and names, which are strings. The lines from
-`snova 1` to `end` are a definition, sent by `/d_recv` in the bundle before it. Empty lines and lines that begin with `#` say nothing.
-The sound ends at the last `at`. A line that can't be read is told with its number, and no file is written.
+A piece is read line by line. `at SECONDS` begins a bundle that acts at that time; times never go down. A line that begins with `/` is a
+message. Its words are ints (`440000`), numbers with a point, which are samples in Q8.24 (`0.5` is 8388608), names, which are strings,
+with quotes or without, and blobs, as `#0aff`. The lines from `snova 1` to `end` are a definition, sent by `/d_recv` in the bundle before
+it. Empty lines and lines that begin with `#` say nothing. The sound ends at the last `at`. A line that can't be read is told with its
+number, and no file is written.
 """
 import math
 import re
@@ -59,13 +60,15 @@ def tag_at(seconds):
 
 
 def word(text):
-    """An int, or a string; a number with a point is a sample in Q8.24."""
+    """An int, a string or a blob; a number with a point is a sample in Q8.24."""
     if re.fullmatch(r"-?[0-9]+", text):
         value = int(text)
     elif re.fullmatch(r"-?[0-9]+\.[0-9]+", text):
         value = math.floor(Fraction(text) * ONE)
-    elif re.fullmatch(r"[A-Za-z_][A-Za-z0-9_]*", text):
-        return text
+    elif found := re.fullmatch(r'("?)([A-Za-z_][A-Za-z0-9_]*)\1', text):
+        return found[2]
+    elif re.fullmatch(r"#([0-9a-f]{2})*", text):
+        return bytes.fromhex(text[1:])
     else:
         raise BadLine(f"{text} is neither a number nor a name")
     if not -(2**31) <= value < 2**31:
@@ -105,6 +108,8 @@ def bundles(piece):
                 found[-1][1].append(message("/d_recv", [definition(lines)]))
             elif line.startswith("at "):
                 found.append((seconds_of(line[3:]), []))
+                if found[-1][0] < found[-2][0]:
+                    raise BadLine("it is before the time above it")
             elif line.startswith("/"):
                 found[-1][1].append(line_message(line))
             elif line and not line.startswith("#"):
@@ -119,6 +124,8 @@ def read(name):
     path = HERE / (name + ".txt")
     try:
         return bundles(path.read_text())
+    except FileNotFoundError:
+        raise SystemExit(f"there is no piece {name}; there are " + " ".join(all_names())) from None
     except (OSError, BadLine) as wrong:
         raise SystemExit(f"{path}: {wrong}") from None
 

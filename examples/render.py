@@ -1,10 +1,11 @@
 #!/usr/bin/env python3
 """Renders pieces of this directory to out/NAME.wav and out/NAME.replies, and prints the replies.
 
-    python3 examples/render.py NAME..
+    python3 examples/render.py [--unproved] NAME..
 
-If `snova` isn't built yet, the kit's `rt run` proves and builds it first, which takes long. It exits with 1 if a piece isn't rendered to
-its end, or if a command of it is refused.
+If `snova` isn't built yet, the kit's `rt run` proves and builds it first, which takes long. With --unproved the kit's `rt try` builds it
+for each piece, which takes a minute or two and proves nothing. It exits with 1 if a piece isn't rendered to its end, or if a command of
+it is refused.
 """
 import subprocess
 import sys
@@ -16,12 +17,18 @@ CRATE = make.HERE.parent / "crates" / "snova"
 BUILT = CRATE / "out" / "snova"
 
 
-def render(name):
+def program(is_proved):
+    """The words that run `snova`."""
+    if not is_proved:
+        return ["rt", "try", "--"]
+    return [str(BUILT)] if BUILT.exists() else ["rt", "run", "--"]
+
+
+def render(name, is_proved):
     """Whether a piece was rendered, and no command refused."""
     make.write(name)
     paths = [str(make.HERE / "out" / f"{name}.{end}") for end in ("osc", "wav", "replies")]
-    program = [str(BUILT)] if BUILT.exists() else ["rt", "run", "--"]
-    done = subprocess.run([*program, "render", *paths], cwd=CRATE)
+    done = subprocess.run([*program(is_proved), "render", *paths], cwd=CRATE)
     if done.returncode != 0:
         return False
     sys.argv[1:] = paths[2:]
@@ -29,10 +36,12 @@ def render(name):
 
 
 def main():
-    if not sys.argv[1:]:
+    is_proved = "--unproved" not in sys.argv[1:]
+    names = [word for word in sys.argv[1:] if word != "--unproved"]
+    if not names:
         print("which one? " + " ".join(make.all_names()), file=sys.stderr)
         return 2
-    return 0 if all([render(name) for name in sys.argv[1:]]) else 1
+    return 0 if all([render(name, is_proved) for name in names]) else 1
 
 
 if __name__ == "__main__":

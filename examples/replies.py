@@ -43,6 +43,8 @@ def shown(packet):
 
 
 def main():
+    if len(sys.argv) != 2:
+        raise SystemExit(__doc__.strip())
     found, left = packets(Path(sys.argv[1]).read_bytes())
     lines = [shown(packet) for packet in found]
     for line in lines:

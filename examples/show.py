@@ -1,16 +1,19 @@
 #!/usr/bin/python3
-"""Draws the wave and the spectrogram of each channel of a sound, and tells its peaks.
+"""Draws the wave and the spectrogram of each channel of a sound, and tells its length and its peaks.
 
-    examples/show.py SOUND.wav [PICTURE.png]
+    /usr/bin/python3 examples/show.py SOUND.wav [PICTURE.png]
 
-The picture is written beside the sound if no path is given. It needs numpy and matplotlib, as Debian's python3-numpy and
-python3-matplotlib have them; so the first line names Debian's Python.
+The picture is written beside the sound if no path is given. It needs numpy and matplotlib. Debian's python3-numpy and
+python3-matplotlib have them, for Debian's own Python.
 """
 import sys
 import wave
 
-import matplotlib
-import numpy
+try:
+    import matplotlib
+    import numpy
+except ImportError as missing:
+    raise SystemExit(f"{sys.executable} has no {missing.name}; /usr/bin/python3 has it with Debian's python3-{missing.name}") from None
 
 matplotlib.use("Agg")
 import matplotlib.pyplot as plot  # noqa: E402
@@ -46,6 +49,8 @@ def draw(path, picture):
 
 
 def main():
+    if len(sys.argv) not in (2, 3):
+        raise SystemExit(__doc__.strip())
     path = sys.argv[1]
     draw(path, sys.argv[2] if sys.argv[2:] else path.removesuffix(".wav") + ".png")
 

@@ -4,7 +4,8 @@
     python3 tools/check_pages.py
 
 Of units: their names, inputs and outputs, which inputs are numbers of buses or buffers and which literals, the words of state and the
-done action. Of commands: their addresses, which arguments each takes and which it refuses, and the reasons of `/fail` in their order.
+done action. Of commands: their addresses, which arguments each takes and which it refuses, the reasons of `/fail` in their order, and
+whether the line of each is a text of one packet that the code takes.
 """
 import itertools
 import re
@@ -15,12 +16,18 @@ from lib import specs as reading
 from lib.specs import Con, Int, Specs, Stuck, Thunk, World, apply, forced, listed, thunk
 
 ROOT = Path(__file__).resolve().parent.parent
+sys.path.append(str(ROOT / "outside"))
+
+import osc  # noqa: E402
+import scores  # noqa: E402
+
 UNITS, COMMANDS = ROOT / "docs/UNITS.md", ROOT / "docs/COMMANDS.md"
 WRONG = []
 # The place of a move is never in a synth, if the node goes just before or after its target.
 NEVER = {"/n_before": {"not a group"}, "/n_after": {"not a group"}}
 BEFORE_ALL = {"unknown command", "argument type", "arguments"}
 SAMPLES = {"int": Int(1), "string": "a", "blob": "b"}
+KINDS = {"i": "int", "s": "string", "b": "blob"}
 
 
 def wrong(text):
@@ -59,27 +66,19 @@ def unit_of_page(inputs, outputs, words):
     return {"inputs": marks, "signals": signals, "outputs": outputs, "words": words, "bank": bank, "done": done}
 
 
-def kinds_in(path, name):
-    """The kinds of which a function of specs/ says true."""
-    return re.findall(rf"^{name} kinds\.(\w+) = true", (ROOT / path).read_text(), re.M)
-
-
 def units_of_code():
     table = (ROOT / "crates/sn_def/src/table.rt").read_text()
-    row = re.compile(r'Kind::(\w+) =>\s*row!\(b"([^"]+)" \[([^\]]*)\] \+ (\d) => (\d)\.\.=(\d), Words::(\w+)(?:\((\d+)\))?\)')
-    banks = {}
-    for path, bank in (("BusUnits", "audio"), ("BusUnits", "control"), ("BufferUnits", "buffer")):
-        for verb in ("reads", "writes"):
-            for kind in kinds_in(f"crates/sn_io/specs/{path}.antt", f"{verb}_{bank}"):
-                banks[kind] = bank
-    settling = (ROOT / "crates/sn_world/specs/Settling.antt").read_text()
-    done = {kind: int(at) for kind, at in re.findall(r"^done_action kinds\.(\w+) inputs = literal_at inputs (\d)", settling, re.M)}
-    for kind, name, marks, signals, least, most, words, count in row.findall(table):
+    step = r"\s*\.\w+\((?:[^()]|\([^()]*\))*\)"
+    row = re.compile(rf'row!\(\w+ b"([^"]+)" \[([^\]]*)\] => (\d), (\w+)(?:\((\d+)\))?\)((?:{step})*)')
+    for name, marks, outputs, words, count, more in row.findall(table):
         marks = [mark for mark in marks.split(", ") if mark]
-        bank = banks.get(kind, "buffer" if "Index" in marks else None)
+        use = re.search(r"\.(reading|writing)\(\s*Bank::(\w+)", more)
+        done = re.search(r"Ends::Input\(\s*(\d)", more)
         yield name, {
-            "inputs": marks, "signals": int(signals), "outputs": least if least == most else f"{least} to {most}",
-            "words": count or {"Delay": "D + 2", "Comb": "E + 2"}[words], "bank": bank, "done": done.get(kind),
+            "inputs": marks, "signals": 8 if use and use[1] == "writing" else 0,
+            "outputs": "1 to 8" if use and use[1] == "reading" else outputs,
+            "words": count or {"Delay": "D + 2", "Comb": "E + 2"}[words],
+            "bank": use[2].lower() if use else "buffer" if "Index" in marks else None, "done": int(done[1]) if done else None,
         }
 
 
@@ -109,10 +108,11 @@ def words_of_page(text):
 
 
 def commands_of_page(text):
-    """Of each command its form and its reasons."""
+    """Of each command its form, its line and its reasons."""
     for address, form, body in re.findall(r"^### `(/\w+)`(.*)\n((?:(?!#).*\n)*)", text, re.M):
+        line = re.search(r"^- Line: `(.*)`$", body, re.M)
         refused = re.search(r"^- Refused: (.*(?:\n  .*)*)$", body, re.M)
-        yield address, form.split(), re.findall(r"`([^`]+)`", refused.group(1)) if refused else []
+        yield address, form.split(), line and line.group(1), re.findall(r"`([^`]+)`", refused.group(1)) if refused else []
 
 
 def parts(form):
@@ -262,8 +262,20 @@ def shown(given):
     return " ".join(str(value.of) if isinstance(value, Int) else kind for kind, value in given) or "no arguments"
 
 
-def check_command(code, words, address, form, reasons):
+def check_line(code, address, line):
+    stream, count = scores.scored(f"{line}\n".encode())
+    if stream is None or count != 1:
+        wrong(f"{address}: its line is no text of one packet")
+        return
+    message = osc.packets_of(stream)[0]
+    given = [(KINDS[tag], Int(value) if tag == "i" else value.decode("latin-1")) for tag, value in message.body]
+    if message.address.decode() != address or not code.accepts(address, given):
+        wrong(f"{address}: the code refuses its line")
+
+
+def check_command(code, words, address, form, line, reasons):
     compare(f"{address}, reasons", reasons, code.reasons(address))
+    check_line(code, address, line)
     form = parts(form)
     allowed = list(arguments_of(form, words))
     kinds = {tuple(kind for kind, _ in given) for given in allowed}
@@ -299,9 +311,9 @@ def check_commands():
     text = COMMANDS.read_text()
     code, words = Code(), words_of_page(text)
     page = list(commands_of_page(text))
-    compare("the commands", sorted(address for address, _, _ in page), sorted(code.addresses()))
-    for address, form, reasons in page:
-        check_command(code, words, address, form, reasons)
+    compare("the commands", sorted(address for address, *_ in page), sorted(code.addresses()))
+    for each in page:
+        check_command(code, words, *each)
     variants = re.findall(r"^    (\w+)(?:\(u32\))?,$", (ROOT / "crates/sn_reply/src/reason.rt").read_text(), re.M)
     listed_reasons = re.findall(r"^\| `([^`]+)` \| ", text[text.index("## All reasons"):], re.M)
     compare("all reasons", sorted(listed_reasons), sorted(code.texts.get(name) for name in variants))

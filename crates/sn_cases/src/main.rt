@@ -4,10 +4,12 @@
 mod bytes;
 mod case;
 mod ending;
+mod engine;
 mod script;
 mod serving;
 mod trial;
 
+use engine::engine_tells;
 use script::read_cases;
 use std::process::ExitCode;
 use std::rt::Files;
@@ -57,7 +59,13 @@ fn run_file<H: Files + Print + AllocGlobal + Threads + Sync>(
 }
 
 fn main(rt: HostRuntime) -> io::Result<ExitCode> {
-    let mut is_well = true;
+    let mut is_well = engine_tells(&rt).unwrap_or(false);
+    let told = if is_well {
+        "as it should"
+    } else {
+        "another state"
+    };
+    println!(rt; "what an engine tells of itself: {told}")?;
     for path in env::args(&rt)?.skip(1) {
         is_well = run_file(&rt, path.as_str())? && is_well;
     }

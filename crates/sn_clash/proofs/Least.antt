@@ -5,8 +5,8 @@ use Rattle.std.specs.List.{filter, list_any}
 use Rattle.std.proofs.lemmas.Bool.{and_parts, cases_eq, cases_lt, eq-eqb, eqb-true, ne_eqb, lt-ltb, ltb-true, ltb-false, and_from, or_cases, or_from, or_left, or_parts, or_right}
 use Rattle.std.proofs.Math.Bool.{or_assoc, or-false, and-false}
 use Rattle.sn_mem.specs.declared.buffers.BufferPlace.{BufferPlace}
-use Rattle.sn_foot.specs.declared.resource.Access.{Access}
-use Rattle.sn_foot.specs.declared.resource.Access.TheVariants.{Read, Write}
+use Rattle.sn_def.specs.declared.table.Access.{Access}
+use Rattle.sn_def.specs.declared.table.Access.TheVariants.{Read, Write}
 use Rattle.sn_foot.specs.declared.resource.Resource.{Resource}
 use Rattle.sn_foot.specs.declared.resource.Resource.TheVariants.{Audio, Control, Buffer}
 use Rattle.sn_clash.specs.declared.uses.Use.{Use}

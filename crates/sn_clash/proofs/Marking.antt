@@ -5,8 +5,8 @@ use Rattle.std.proofs.lemmas.Bool.{and_parts, cases_eq, eq-eqb, ne_eqb, ltb-true
 use Rattle.std.proofs.Math.Bool.{or_assoc, or-false, or-true, and-false, and-or_distrib_left}
 use Rattle.std.proofs.lemmas.List.{length-set, get_or-set_same, get_or-set_other}
 use Rattle.sn_mem.specs.declared.buffers.BufferPlace.{BufferPlace}
-use Rattle.sn_foot.specs.declared.resource.Access.{Access}
-use Rattle.sn_foot.specs.declared.resource.Access.TheVariants.{Read, Write}
+use Rattle.sn_def.specs.declared.table.Access.{Access}
+use Rattle.sn_def.specs.declared.table.Access.TheVariants.{Read, Write}
 use Rattle.sn_foot.specs.declared.resource.Resource.{Resource}
 use Rattle.sn_foot.specs.declared.resource.Resource.TheVariants.{Audio, Control, Buffer}
 use Rattle.sn_foot.specs.Footprints.{Footprint, is_there}

@@ -13,10 +13,10 @@ use Rattle.sn_io.specs.BufferUnits.{reads_buffer, writes_buffer}
 use Rattle.sn_synth.specs.Conditions.{index_of}
 use Rattle.sn_world.specs.declared.stage.Held.{Held}
 use Rattle.sn_world.specs.declared.stage.Held.TheVariants as held
-use Rattle.sn_foot.specs.declared.resource.Access.{Access}
-use Rattle.sn_foot.specs.declared.resource.Access.TheVariants.{Read, Write}
-use Rattle.sn_foot.specs.declared.resource.Bank.{Bank}
-use Rattle.sn_foot.specs.declared.resource.Bank.TheVariants.{Audio, Control, Buffer}
+use Rattle.sn_def.specs.declared.table.Access.{Access}
+use Rattle.sn_def.specs.declared.table.Access.TheVariants.{Read, Write}
+use Rattle.sn_def.specs.declared.table.Bank.{Bank}
+use Rattle.sn_def.specs.declared.table.Bank.TheVariants.{Audio, Control, Buffer}
 use Rattle.sn_foot.specs.declared.resource.Resource.{Resource}
 use Rattle.sn_foot.specs.declared.resource.Resource.TheVariants as resources
 use Rattle.sn_foot.specs.Footprints.{follows, held_reads, held_writes, is_among, is_bus, is_number, is_there}

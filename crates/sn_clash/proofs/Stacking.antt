@@ -13,7 +13,7 @@ use Rattle.sn_tree.specs.Members.{tops, members as rows}
 use Rattle.sn_tree.specs.declared.members.Member.{Member as Row}
 use Rattle.sn_world.specs.declared.stage.Held.{Held}
 use Rattle.sn_foot.specs.declared.resource.Resource.{Resource}
-use Rattle.sn_foot.specs.declared.resource.Bank.TheVariants as banks
+use Rattle.sn_def.specs.declared.table.Bank.TheVariants as banks
 use Rattle.sn_foot.specs.Footprints.{Footprint, held_reads, held_writes}
 use Rattle.sn_clash.specs.declared.clash.Clash.{Clash}
 use Rattle.sn_clash.specs.declared.entry.Entry.{Entry}

@@ -1,7 +1,7 @@
 -- Marks of how resources are used, in a list by their places.
 use Rattle.std.specs.Prelude.{ℕ, ◌+◌, ◌*◌, ◌==◌, nat_lt, Bool, true, false, ◌&&◌, ◌||◌, if◌then◌else◌, List, [], ◌∷◌, slice_set, slice_index_or, Option, Some, None}
-use Rattle.sn_foot.specs.declared.resource.Access.{Access}
-use Rattle.sn_foot.specs.declared.resource.Access.TheVariants.{Read, Write}
+use Rattle.sn_def.specs.declared.table.Access.{Access}
+use Rattle.sn_def.specs.declared.table.Access.TheVariants.{Read, Write}
 use Rattle.sn_foot.specs.declared.resource.Resource.{Resource}
 use Rattle.sn_foot.specs.declared.resource.Resource.TheVariants.{Audio, Control, Buffer}
 use Rattle.sn_foot.specs.Footprints.{Footprint}

@@ -1,8 +1,8 @@
 -- What a list of uses says of resources.
 use Rattle.std.specs.Prelude.{◌==◌, Bool, true, false, ◌&&◌, List, [], ◌∷◌, Option, Some, None}
 use Rattle.std.specs.List.{list_any}
-use Rattle.sn_foot.specs.declared.resource.Access.{Access}
-use Rattle.sn_foot.specs.declared.resource.Access.TheVariants.{Read, Write}
+use Rattle.sn_def.specs.declared.table.Access.{Access}
+use Rattle.sn_def.specs.declared.table.Access.TheVariants.{Read, Write}
 use Rattle.sn_foot.specs.declared.resource.Resource.{Resource}
 use Rattle.sn_foot.specs.declared.resource.Resource.TheVariants.{Audio, Control, Buffer}
 use Rattle.sn_foot.specs.Footprints.{Footprint}

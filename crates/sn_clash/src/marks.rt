@@ -6,7 +6,8 @@ ghost use Rattle.sn_clash.specs.Using.{footprint_in};
 ghost use Rattle.sn_clash.specs.Marking.{mark_of, mark_use, mark_uses, marked_in, more, place, unmarked};
 
 use crate::uses::Use;
-use sn_foot::{Access, Resource};
+use sn_def::Access;
+use sn_foot::Resource;
 use sn_ports::NoMemory;
 use std::alloc::Global;
 use std::marker::Model;

@@ -9,7 +9,8 @@ ghost use Rattle.sn_clash.specs.Marking.{comes_before, first_hit, first_of, hits
 
 use crate::marks::{Mark, Marks};
 use crate::uses::Use;
-use sn_foot::{Access, Resource};
+use sn_def::Access;
+use sn_foot::Resource;
 use sn_mem::Buffers;
 
 /// Whether there is a buffer of a number.

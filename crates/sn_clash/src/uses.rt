@@ -1,5 +1,6 @@
 //! Uses of resources.
-use sn_foot::{Access, Resource};
+use sn_def::Access;
+use sn_foot::Resource;
 
 /// A resource, and how it is used.
 #[derive(Clone, Copy)]

@@ -1,13 +1,13 @@
 //! What nodes use by themselves.
 ghost use Rattle.std.specs.Prelude.{◌≡◌, ◌<◌, ◌+ℤ◌, ◌^◌, pos, OnOk};
 ghost use Rattle.sn_foot.specs.Marks.{resource};
-ghost use Rattle.sn_foot.specs.declared.resource.Access.TheVariants.{Read};
-ghost use Rattle.sn_foot.specs.declared.resource.Bank.TheVariants.{Control};
+ghost use Rattle.sn_def.specs.declared.table.Access.TheVariants.{Read};
+ghost use Rattle.sn_def.specs.declared.table.Bank.TheVariants.{Control};
 ghost use Rattle.sn_clash.specs.Putting.{number_at, put_access, put_bank, put_controls, put_held, put_number, put_span, put_units};
 
 use crate::uses::Use;
-use sn_def::{Control as SynthControl, Unit};
-use sn_foot::{Access, Bank, Resource, index_of, used_span};
+use sn_def::{Access, Bank, Control as SynthControl, Unit};
+use sn_foot::{Resource, index_of, used_span};
 use sn_ports::NoMemory;
 use sn_world::Held;
 

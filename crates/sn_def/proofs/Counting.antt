@@ -4,8 +4,6 @@ use Rattle.std.proofs.lemmas.Option.{unwrap_or-slice_get}
 use Rattle.std.proofs.lemmas.List.Quantifiers.{position-Some}
 use Rattle.std.proofs.lemmas.Int.{ints}
 use Rattle.sn_fixed.specs.Fixed.{frames_of}
-use Rattle.sn_def.specs.declared.kind.Kind.{Kind}
-use Rattle.sn_def.specs.declared.kind.Kind.TheVariants as kinds
 use Rattle.sn_def.specs.declared.table.Mark.{Mark}
 use Rattle.sn_def.specs.declared.table.Mark.TheVariants.{Signal, Index, Constant, Longest}
 use Rattle.sn_def.specs.declared.table.Words.{Words}
@@ -19,6 +17,7 @@ use Rattle.sn_def.specs.Reading.{mark_at, IsWritten}
 use Rattle.sn_def.specs.WellFormed.{IsAllowed, AreAllowed, UnitFits, UnitsFit}
 use Rattle.sn_def.specs.StateWords.{is_longest, literal_value, input_there, longest, words_of, unit_words, units_words, state_words}
 use Rattle.sn_def.proofs.Forming.{formed}
+use Rattle.sn_def.proofs.RowLaws.{few_fixed}
 
 -- frames of at most a minute
 frames_few : (v : ℤ) (rate : ℕ) → v ≤ℤ pos 60000 → rate ≤ 96000 → frames_of v rate ≤ 5760000
@@ -33,11 +32,6 @@ few_words : (words : Words) (frames : ℕ) → frames ≤ 5760000 → words_of w
 few_words (Fixed n) frames h i = omega arith
 few_words Delay frames h i = omega arith
 few_words Comb frames h i = omega arith
-
-few_fixed : (k : Kind) → words_of (row_of k).words 0 ≤ 7
-unfolding row_of
-few_fixed kinds.SinOsc = lit≤ tt
-few_fixed _ = lit≤ tt
 
 -- the input that a delay takes
 value_few : (c w : ℕ) (o : Option Input) → IfSome o (IsAllowed Longest c w) → literal_value o ≤ℤ pos 60000

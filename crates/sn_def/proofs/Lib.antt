@@ -10,6 +10,8 @@ mod KindNames
 mod Samples
 mod Standing
 pub mod Forming
+pub mod RowLaws
+pub mod Layouts
 mod Counting
 mod Distinct
 mod Lines

@@ -11,6 +11,9 @@ pub mod Parts
 pub mod Asked
 pub mod WellFormed
 pub mod StateWords
+pub mod Layout
+pub mod Facts
+pub mod Fitting
 pub mod Grammar
 pub mod Printing
 pub mod Faults

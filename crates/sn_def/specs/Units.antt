@@ -1,5 +1,6 @@
--- The table of units: name, inputs that a unit always has, signals that may follow them, fewest and most outputs, words of state.
-use Rattle.std.specs.Prelude.{ℕ, List, [], ◌∷◌, codes, find, Option}
+-- The table of units: family, name, inputs that a unit always has, outputs, words of state; and what a unit reads or writes, its done action,
+-- and whether it sends triggers.
+use Rattle.std.specs.Prelude.{ℕ, Bool, true, false, pos, List, [], ◌∷◌, codes, find, Option, Some, None}
 use Rattle.std.specs.Str.{bytes_eq}
 use Rattle.sn_def.specs.declared.kind.Kind.{Kind}
 use Rattle.sn_def.specs.declared.kind.Kind.TheVariants as kinds
@@ -7,66 +8,104 @@ use Rattle.sn_def.specs.declared.table.Mark.{Mark}
 use Rattle.sn_def.specs.declared.table.Mark.TheVariants.{Signal, Index, Constant, Longest}
 use Rattle.sn_def.specs.declared.table.Words.{Words}
 use Rattle.sn_def.specs.declared.table.Words.TheVariants.{Fixed, Delay, Comb}
+use Rattle.sn_def.specs.declared.table.Family.{Family}
+use Rattle.sn_def.specs.declared.table.Family.TheVariants as families
+use Rattle.sn_def.specs.declared.table.Access.TheVariants as accesses
+use Rattle.sn_def.specs.declared.table.Bank.{Bank}
+use Rattle.sn_def.specs.declared.table.Bank.TheVariants as banks
+use Rattle.sn_def.specs.declared.table.Use.{Use}
+use Rattle.sn_def.specs.declared.table.Ends.{Ends}
+use Rattle.sn_def.specs.declared.table.Ends.TheVariants as ends
 
 pub record UnitRow : Type 0 where
+  pub family : Family
   pub name : List ℕ
   pub inputs : List Mark
   pub signals : ℕ
   pub least : ℕ
   pub most : ℕ
   pub words : Words
+  pub uses : Option Use
+  pub ends : Ends
+  pub sends : Bool
 
-abbrev unit_row : List ℕ → List Mark → ℕ → ℕ → ℕ → Words → UnitRow
-unit_row name inputs signals least most words = record { name = name; inputs = inputs; signals = signals; least = least; most = most; words = words }
+-- a unit with so many outputs that reads and writes no bus and no buffer, does not end and sends nothing
+abbrev pub unit_row : Family → List ℕ → List Mark → ℕ → Words → UnitRow
+unit_row family name inputs outputs words = record {
+  family = family;
+  name = name;
+  inputs = inputs;
+  signals = 0;
+  least = outputs;
+  most = outputs;
+  words = words;
+  uses = None;
+  ends = ends.Never;
+  sends = false;
+}
+
+-- it reads a channel for each of its outputs, which may be up to 8
+abbrev pub reading : Bank → UnitRow → UnitRow
+reading bank row = record row { most = 8; uses = Some (record { access = accesses.Read; bank = bank }) }
+
+-- it writes a channel for each of the signals that follow its inputs, 1 to 8
+abbrev pub writing : Bank → UnitRow → UnitRow
+writing bank row = record row { signals = 8; uses = Some (record { access = accesses.Write; bank = bank }) }
+
+abbrev pub ending : Ends → UnitRow → UnitRow
+ending end row = record row { ends = end }
+
+abbrev pub sending : UnitRow → UnitRow
+sending row = record row { sends = true }
 
 unfoldable pub row_of : Kind → UnitRow
-row_of kinds.SinOsc = unit_row (codes "SinOsc") (Signal ∷ Signal ∷ []) 0 1 1 (Fixed 1)
-row_of kinds.LFSaw = unit_row (codes "LFSaw") (Signal ∷ Signal ∷ []) 0 1 1 (Fixed 1)
-row_of kinds.LFPulse = unit_row (codes "LFPulse") (Signal ∷ Signal ∷ Signal ∷ []) 0 1 1 (Fixed 1)
-row_of kinds.LFTri = unit_row (codes "LFTri") (Signal ∷ Signal ∷ []) 0 1 1 (Fixed 1)
-row_of kinds.Impulse = unit_row (codes "Impulse") (Signal ∷ []) 0 1 1 (Fixed 2)
-row_of kinds.WhiteNoise = unit_row (codes "WhiteNoise") [] 0 1 1 (Fixed 1)
-row_of kinds.Phasor = unit_row (codes "Phasor") (Signal ∷ Signal ∷ Signal ∷ Signal ∷ Signal ∷ []) 0 1 1 (Fixed 3)
-row_of kinds.Line = unit_row (codes "Line") (Signal ∷ Signal ∷ Signal ∷ Constant ∷ []) 0 1 1 (Fixed 5)
-row_of kinds.Linen = unit_row (codes "Linen") (Signal ∷ Signal ∷ Signal ∷ Signal ∷ Constant ∷ []) 0 1 1 (Fixed 7)
-row_of kinds.Add = unit_row (codes "Add") (Signal ∷ Signal ∷ []) 0 1 1 (Fixed 0)
-row_of kinds.Sub = unit_row (codes "Sub") (Signal ∷ Signal ∷ []) 0 1 1 (Fixed 0)
-row_of kinds.Mul = unit_row (codes "Mul") (Signal ∷ Signal ∷ []) 0 1 1 (Fixed 0)
-row_of kinds.MulAdd = unit_row (codes "MulAdd") (Signal ∷ Signal ∷ Signal ∷ []) 0 1 1 (Fixed 0)
-row_of kinds.Neg = unit_row (codes "Neg") (Signal ∷ []) 0 1 1 (Fixed 0)
-row_of kinds.Abs = unit_row (codes "Abs") (Signal ∷ []) 0 1 1 (Fixed 0)
-row_of kinds.Min = unit_row (codes "Min") (Signal ∷ Signal ∷ []) 0 1 1 (Fixed 0)
-row_of kinds.Max = unit_row (codes "Max") (Signal ∷ Signal ∷ []) 0 1 1 (Fixed 0)
-row_of kinds.Clip = unit_row (codes "Clip") (Signal ∷ Signal ∷ Signal ∷ []) 0 1 1 (Fixed 0)
-row_of kinds.Gt = unit_row (codes "Gt") (Signal ∷ Signal ∷ []) 0 1 1 (Fixed 0)
-row_of kinds.Lt = unit_row (codes "Lt") (Signal ∷ Signal ∷ []) 0 1 1 (Fixed 0)
-row_of kinds.Pan2 = unit_row (codes "Pan2") (Signal ∷ Signal ∷ Signal ∷ []) 0 2 2 (Fixed 0)
-row_of kinds.OnePole = unit_row (codes "OnePole") (Signal ∷ Signal ∷ []) 0 1 1 (Fixed 1)
-row_of kinds.Lag = unit_row (codes "Lag") (Signal ∷ Signal ∷ []) 0 1 1 (Fixed 2)
-row_of kinds.Integrator = unit_row (codes "Integrator") (Signal ∷ Signal ∷ []) 0 1 1 (Fixed 1)
-row_of kinds.Delay1 = unit_row (codes "Delay1") (Signal ∷ []) 0 1 1 (Fixed 1)
-row_of kinds.DelayN = unit_row (codes "DelayN") (Signal ∷ Longest ∷ Signal ∷ []) 0 1 1 Delay
-row_of kinds.CombN = unit_row (codes "CombN") (Signal ∷ Longest ∷ Signal ∷ Signal ∷ []) 0 1 1 Comb
-row_of kinds.SOS = unit_row (codes "SOS") (Signal ∷ Signal ∷ Signal ∷ Signal ∷ Signal ∷ Signal ∷ []) 0 1 1 (Fixed 4)
-row_of kinds.Latch = unit_row (codes "Latch") (Signal ∷ Signal ∷ []) 0 1 1 (Fixed 2)
-row_of kinds.Gate = unit_row (codes "Gate") (Signal ∷ Signal ∷ []) 0 1 1 (Fixed 1)
-row_of kinds.PulseCount = unit_row (codes "PulseCount") (Signal ∷ Signal ∷ []) 0 1 1 (Fixed 3)
-row_of kinds.Stepper = unit_row (codes "Stepper") (Signal ∷ Signal ∷ Signal ∷ Signal ∷ Signal ∷ Signal ∷ []) 0 1 1 (Fixed 4)
-row_of kinds.Inar = unit_row (codes "In.ar") (Index ∷ []) 0 1 8 (Fixed 0)
-row_of kinds.InFeedback = unit_row (codes "InFeedback") (Index ∷ []) 0 1 8 (Fixed 0)
-row_of kinds.Inkr = unit_row (codes "In.kr") (Index ∷ []) 0 1 8 (Fixed 0)
-row_of kinds.Outar = unit_row (codes "Out.ar") (Index ∷ []) 8 0 0 (Fixed 0)
-row_of kinds.ReplaceOut = unit_row (codes "ReplaceOut") (Index ∷ []) 8 0 0 (Fixed 0)
-row_of kinds.Outkr = unit_row (codes "Out.kr") (Index ∷ []) 8 0 0 (Fixed 0)
-row_of kinds.PlayBuf = unit_row (codes "PlayBuf") (Index ∷ Signal ∷ Signal ∷ Signal ∷ Signal ∷ Constant ∷ []) 0 1 8 (Fixed 4)
-row_of kinds.RecordBuf = unit_row (codes "RecordBuf") (Index ∷ Signal ∷ Signal ∷ Constant ∷ []) 8 0 0 (Fixed 2)
-row_of kinds.BufRd = unit_row (codes "BufRd") (Index ∷ Signal ∷ []) 0 1 8 (Fixed 0)
-row_of kinds.BufWr = unit_row (codes "BufWr") (Index ∷ Signal ∷ []) 8 0 0 (Fixed 0)
-row_of kinds.BufFrames = unit_row (codes "BufFrames") (Index ∷ []) 0 1 1 (Fixed 0)
-row_of kinds.SendTrig = unit_row (codes "SendTrig") (Signal ∷ Signal ∷ Signal ∷ []) 0 0 0 (Fixed 4)
-row_of kinds.DetectSilence = unit_row (codes "DetectSilence") (Signal ∷ Signal ∷ Signal ∷ Constant ∷ []) 0 1 1 (Fixed 2)
-row_of kinds.FreeSelf = unit_row (codes "FreeSelf") (Signal ∷ []) 0 0 0 (Fixed 1)
-row_of kinds.PauseSelf = unit_row (codes "PauseSelf") (Signal ∷ []) 0 0 0 (Fixed 1)
+row_of kinds.SinOsc = unit_row families.Generator (codes "SinOsc") (Signal ∷ Signal ∷ []) 1 (Fixed 1)
+row_of kinds.LFSaw = unit_row families.Generator (codes "LFSaw") (Signal ∷ Signal ∷ []) 1 (Fixed 1)
+row_of kinds.LFPulse = unit_row families.Generator (codes "LFPulse") (Signal ∷ Signal ∷ Signal ∷ []) 1 (Fixed 1)
+row_of kinds.LFTri = unit_row families.Generator (codes "LFTri") (Signal ∷ Signal ∷ []) 1 (Fixed 1)
+row_of kinds.Impulse = unit_row families.Generator (codes "Impulse") (Signal ∷ []) 1 (Fixed 2)
+row_of kinds.WhiteNoise = unit_row families.Generator (codes "WhiteNoise") [] 1 (Fixed 1)
+row_of kinds.Phasor = unit_row families.Generator (codes "Phasor") (Signal ∷ Signal ∷ Signal ∷ Signal ∷ Signal ∷ []) 1 (Fixed 3)
+row_of kinds.Line = ending (ends.Input 3) (unit_row families.Generator (codes "Line") (Signal ∷ Signal ∷ Signal ∷ Constant ∷ []) 1 (Fixed 5))
+row_of kinds.Linen = ending (ends.Input 4) (unit_row families.Generator (codes "Linen") (Signal ∷ Signal ∷ Signal ∷ Signal ∷ Constant ∷ []) 1 (Fixed 7))
+row_of kinds.Add = unit_row families.Arithmetic (codes "Add") (Signal ∷ Signal ∷ []) 1 (Fixed 0)
+row_of kinds.Sub = unit_row families.Arithmetic (codes "Sub") (Signal ∷ Signal ∷ []) 1 (Fixed 0)
+row_of kinds.Mul = unit_row families.Arithmetic (codes "Mul") (Signal ∷ Signal ∷ []) 1 (Fixed 0)
+row_of kinds.MulAdd = unit_row families.Arithmetic (codes "MulAdd") (Signal ∷ Signal ∷ Signal ∷ []) 1 (Fixed 0)
+row_of kinds.Neg = unit_row families.Arithmetic (codes "Neg") (Signal ∷ []) 1 (Fixed 0)
+row_of kinds.Abs = unit_row families.Arithmetic (codes "Abs") (Signal ∷ []) 1 (Fixed 0)
+row_of kinds.Min = unit_row families.Arithmetic (codes "Min") (Signal ∷ Signal ∷ []) 1 (Fixed 0)
+row_of kinds.Max = unit_row families.Arithmetic (codes "Max") (Signal ∷ Signal ∷ []) 1 (Fixed 0)
+row_of kinds.Clip = unit_row families.Arithmetic (codes "Clip") (Signal ∷ Signal ∷ Signal ∷ []) 1 (Fixed 0)
+row_of kinds.Gt = unit_row families.Arithmetic (codes "Gt") (Signal ∷ Signal ∷ []) 1 (Fixed 0)
+row_of kinds.Lt = unit_row families.Arithmetic (codes "Lt") (Signal ∷ Signal ∷ []) 1 (Fixed 0)
+row_of kinds.Pan2 = unit_row families.Arithmetic (codes "Pan2") (Signal ∷ Signal ∷ Signal ∷ []) 2 (Fixed 0)
+row_of kinds.OnePole = unit_row families.Filter (codes "OnePole") (Signal ∷ Signal ∷ []) 1 (Fixed 1)
+row_of kinds.Lag = unit_row families.Filter (codes "Lag") (Signal ∷ Signal ∷ []) 1 (Fixed 2)
+row_of kinds.Integrator = unit_row families.Filter (codes "Integrator") (Signal ∷ Signal ∷ []) 1 (Fixed 1)
+row_of kinds.Delay1 = unit_row families.Filter (codes "Delay1") (Signal ∷ []) 1 (Fixed 1)
+row_of kinds.DelayN = unit_row families.Filter (codes "DelayN") (Signal ∷ Longest ∷ Signal ∷ []) 1 Delay
+row_of kinds.CombN = unit_row families.Filter (codes "CombN") (Signal ∷ Longest ∷ Signal ∷ Signal ∷ []) 1 Comb
+row_of kinds.SOS = unit_row families.Filter (codes "SOS") (Signal ∷ Signal ∷ Signal ∷ Signal ∷ Signal ∷ Signal ∷ []) 1 (Fixed 4)
+row_of kinds.Latch = unit_row families.Filter (codes "Latch") (Signal ∷ Signal ∷ []) 1 (Fixed 2)
+row_of kinds.Gate = unit_row families.Filter (codes "Gate") (Signal ∷ Signal ∷ []) 1 (Fixed 1)
+row_of kinds.PulseCount = unit_row families.Filter (codes "PulseCount") (Signal ∷ Signal ∷ []) 1 (Fixed 3)
+row_of kinds.Stepper = unit_row families.Filter (codes "Stepper") (Signal ∷ Signal ∷ Signal ∷ Signal ∷ Signal ∷ Signal ∷ []) 1 (Fixed 4)
+row_of kinds.Inar = reading banks.Audio (unit_row families.Bus (codes "In.ar") (Index ∷ []) 1 (Fixed 0))
+row_of kinds.InFeedback = reading banks.Audio (unit_row families.Bus (codes "InFeedback") (Index ∷ []) 1 (Fixed 0))
+row_of kinds.Inkr = reading banks.Control (unit_row families.Bus (codes "In.kr") (Index ∷ []) 1 (Fixed 0))
+row_of kinds.Outar = writing banks.Audio (unit_row families.Bus (codes "Out.ar") (Index ∷ []) 0 (Fixed 0))
+row_of kinds.ReplaceOut = writing banks.Audio (unit_row families.Bus (codes "ReplaceOut") (Index ∷ []) 0 (Fixed 0))
+row_of kinds.Outkr = writing banks.Control (unit_row families.Bus (codes "Out.kr") (Index ∷ []) 0 (Fixed 0))
+row_of kinds.PlayBuf = ending (ends.Input 5) (reading banks.Buffer (unit_row families.Buffer (codes "PlayBuf") (Index ∷ Signal ∷ Signal ∷ Signal ∷ Signal ∷ Constant ∷ []) 1 (Fixed 4)))
+row_of kinds.RecordBuf = ending (ends.Input 3) (writing banks.Buffer (unit_row families.Buffer (codes "RecordBuf") (Index ∷ Signal ∷ Signal ∷ Constant ∷ []) 0 (Fixed 2)))
+row_of kinds.BufRd = reading banks.Buffer (unit_row families.Buffer (codes "BufRd") (Index ∷ Signal ∷ []) 1 (Fixed 0))
+row_of kinds.BufWr = writing banks.Buffer (unit_row families.Buffer (codes "BufWr") (Index ∷ Signal ∷ []) 0 (Fixed 0))
+row_of kinds.BufFrames = unit_row families.Buffer (codes "BufFrames") (Index ∷ []) 1 (Fixed 0)
+row_of kinds.SendTrig = sending (unit_row families.Trigger (codes "SendTrig") (Signal ∷ Signal ∷ Signal ∷ []) 0 (Fixed 4))
+row_of kinds.DetectSilence = ending (ends.Input 3) (unit_row families.Trigger (codes "DetectSilence") (Signal ∷ Signal ∷ Signal ∷ Constant ∷ []) 1 (Fixed 2))
+row_of kinds.FreeSelf = ending (ends.Always (pos 2)) (unit_row families.Trigger (codes "FreeSelf") (Signal ∷ []) 0 (Fixed 1))
+row_of kinds.PauseSelf = ending (ends.Always (pos 1)) (unit_row families.Trigger (codes "PauseSelf") (Signal ∷ []) 0 (Fixed 1))
 
 -- all kinds, in the order of the table
 abbrev pub every_kind : List Kind

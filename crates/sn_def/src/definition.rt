@@ -1,11 +1,15 @@
 //! Definitions, as they are kept.
-ghost use Rattle.std.specs.Prelude.{◌≡◌, ◌≤◌, List, map, length};
+ghost use Rattle.std.specs.Prelude.{◌≡◌, ◌<◌, ◌≤◌, List, map, length, IfOk, IfSome};
 ghost use Rattle.sn_def.specs.Params.{parameter_of};
 ghost use Rattle.sn_def.specs.Definition.{whole};
 ghost use Rattle.sn_def.specs.Reading.{IsWritten};
+ghost use Rattle.sn_def.specs.StateWords.{units_words};
+ghost use Rattle.sn_def.specs.Layout.{laid_out, words_at};
 
+use crate::layout::{UnitWords, laid_out, row_at, words_at};
 use crate::unit::Units;
-use sn_ports::Text;
+use sn_ports::{NoMemory, Text};
+use std::alloc::Global;
 use std::marker::Model;
 
 /// A control of a definition: its name, and the value that it has at first.
@@ -91,8 +95,67 @@ pub struct Def {
     pub units: Units,
     /// The names of the wires, at most 512, in the order of the text.
     pub wires: Names,
+    /// The words of each unit's state at 44,100 frames a second, at 48,000 and at 96,000.
+    low: Vec<UnitWords>,
+    middle: Vec<UnitWords>,
+    high: Vec<UnitWords>,
     pub ghost controls_bound: { length controls ≤ 128 },
     pub ghost units_bound: { length units ≤ 256 },
     pub ghost wires_bound: { length wires ≤ 512 },
     pub ghost written: { ∥ IsWritten (whole name.bytes controls units wires) ∥₁ },
+    ghost low_is: { low.items ≡ laid_out 44100 0 units },
+    ghost middle_is: { middle.items ≡ laid_out 48000 0 units },
+    ghost high_is: { high.items ≡ laid_out 96000 0 units },
+}
+
+impl Def {
+    /// The definition of these parts.
+    pub(crate) fn new(
+        alloc: Global,
+        name: Text,
+        controls: Params,
+        units: Units,
+        wires: Names,
+    ) -> Result<Self, NoMemory>
+        requires { IsWritten (whole name.bytes controls units wires) }
+        ensures { IfOk result (λ d. whole d.name.bytes d.controls d.units d.wires ≡ whole name.bytes controls units wires) }
+    {
+        let low = laid_out(alloc, units.as_slice(), 44100)?;
+        let middle = laid_out(alloc, units.as_slice(), 48000)?;
+        let high = laid_out(alloc, units.as_slice(), 96000)?;
+        Ok(Def {
+            name,
+            controls,
+            units,
+            wires,
+            low,
+            middle,
+            high,
+        })
+    }
+
+    /// The words of the unit of a number, if they are kept for this rate.
+    fn kept_words(&self, number: usize, rate: u32) -> Option<UnitWords>
+        ensures { IfSome result (λ w. w ≡ words_at rate self.now.units number) }
+    {
+        match rate {
+            44100 => row_at(&self.low, number),
+            48000 => row_at(&self.middle, number),
+            96000 => row_at(&self.high, number),
+            _ => None,
+        }
+    }
+
+    /// The words of state of the unit of a number, from 0, among those of all units, at `rate`
+    /// frames a second. They are kept for 44,100, 48,000 and 96,000, and worked out for any other
+    /// rate.
+    pub fn unit_words(&self, number: usize, rate: u32) -> UnitWords
+        requires { units_words rate self.now.units < 4294967296 }
+        ensures { result ≡ words_at rate self.now.units number }
+    {
+        match self.kept_words(number, rate) {
+            Some(words) => words,
+            None => words_at(self.units.as_slice(), number, rate),
+        }
+    }
 }

@@ -127,15 +127,16 @@ impl<'a> Draft<'a> {
     }
 
     /// The definition, once it has a unit and all its wires.
-    pub fn into_def(self) -> Def
+    pub fn into_def(self, alloc: Global) -> Result<Def, NoMemory>
         requires { IsWritten self }
-        ensures { definition_of result ≡ self.entry }
+        ensures { IfOk result (λ d. definition_of d ≡ self.entry) }
     {
-        Def {
-            name: self.name,
-            controls: Params::from_vec(self.controls),
-            units: Units::from_vec(self.units),
-            wires: Names::from_vec(self.wires),
-        }
+        Def::new(
+            alloc,
+            self.name,
+            Params::from_vec(self.controls),
+            Units::from_vec(self.units),
+            Names::from_vec(self.wires),
+        )
     }
 }

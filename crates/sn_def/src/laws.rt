@@ -2,6 +2,7 @@
 ghost use Rattle.std.specs.Prelude.{◌≡◌, ◌↔◌, ◌++◌, ℕ, List, [], Some};
 ghost use Rattle.sn_def.specs.declared.kind.Kind.{Kind};
 ghost use Rattle.sn_def.specs.Units.{row_of, kind_named};
+ghost use Rattle.sn_def.specs.Fitting.{RowFits};
 ghost use Rattle.sn_def.specs.Definition.{Definition};
 ghost use Rattle.sn_def.specs.Reading.{text_at, line_at, def_at, fault, IsWritten};
 ghost use Rattle.sn_def.specs.WellFormed.{IsWellFormed};
@@ -15,6 +16,11 @@ use sn_fixed::literal_bytes;
 /// Each kind has a name of its own: its row's.
 pub fn kinds_are_named()
     ensures { (k : Kind) → kind_named (row_of k).name ≡ Some k }
+{}
+
+/// Each row of the table fits: its index, what it uses, its words and its done action belong together.
+pub fn rows_fit()
+    ensures { (k : Kind) → RowFits (row_of k) }
 {}
 
 /// What some text defines is well formed.

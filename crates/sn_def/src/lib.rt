@@ -5,12 +5,14 @@ mod asked;
 mod control;
 mod definition;
 mod draft;
+mod facts;
 mod fault;
 mod fields;
 mod inputs;
 mod kind;
 mod known;
 mod laws;
+mod layout;
 mod line;
 mod lookup;
 mod parts;
@@ -23,13 +25,15 @@ mod wires;
 
 pub use control::{Control, Controls, Now};
 pub use definition::{Def, Names, Param, Params};
+pub use facts::{family_of, touches};
 pub use fault::{DefFault, DefKind, Unread};
 pub use kind::Kind;
 pub use laws::{
     first_fault_is_read, kinds_are_named, lines_are_judged, lines_are_read, no_prefix,
-    one_definition, written_is_well_formed,
+    one_definition, rows_fit, written_is_well_formed,
 };
+pub use layout::UnitWords;
 pub use printing::print;
-pub use table::{Mark, Row, Words, row_of};
+pub use table::{Access, Bank, Ends, Family, Mark, Row, Use, Words, row_of};
 pub use text::read;
 pub use unit::{Input, Inputs, Unit, Units};

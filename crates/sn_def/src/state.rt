@@ -51,7 +51,7 @@ fn words_of(words: Words, frames: u32) -> u32
     }
 }
 
-fn total_words(units: &[Unit], rate: u32) -> u32
+pub(crate) fn total_words(units: &[Unit], rate: u32) -> u32
     requires { units_words rate units.now < 4294967296 }
     ensures { result ≡ units_words rate units.now }
 {

@@ -1,6 +1,6 @@
 //! The table of units.
 ghost use Rattle.std.specs.Prelude.{◌≡◌};
-ghost use Rattle.sn_def.specs.Units.{row_of};
+ghost use Rattle.sn_def.specs.Units.{unit_row, reading, writing, ending, sending, row_of};
 ghost use Rattle.sn_def.specs.Rows.{row_seen};
 
 use crate::kind::Kind;
@@ -29,9 +29,69 @@ pub enum Words {
     Comb,
 }
 
+/// The families of units.
+#[derive(Clone, Copy, Debug)]
+pub enum Family {
+    /// Oscillators, noise, ramps and envelopes.
+    Generator,
+    /// Units without a state, from sample to sample.
+    Arithmetic,
+    /// Units whose output depends on earlier samples of their inputs.
+    Filter,
+    /// Units on audio and control buses.
+    Bus,
+    /// Units whose state words tell what is to be settled after a block.
+    Trigger,
+    /// Units on buffers.
+    Buffer,
+}
+
+/// How a resource is used.
+#[derive(Clone, Copy, Debug)]
+pub enum Access {
+    /// It is read.
+    Read,
+    /// It is written.
+    Write,
+}
+
+/// A sort of resources.
+#[derive(Clone, Copy, Debug)]
+pub enum Bank {
+    /// Audio buses.
+    Audio,
+    /// Control buses.
+    Control,
+    /// Buffers.
+    Buffer,
+}
+
+/// What a unit uses from its index on, which is its first input: the buses of its channels, or its
+/// buffer.
+#[derive(Clone, Copy, Debug)]
+pub struct Use {
+    /// How it uses them.
+    pub access: Access,
+    /// What they are.
+    pub bank: Bank,
+}
+
+/// Whether a unit ends, and its done action: 1 pauses its synth, 2 frees it, any other does nothing.
+#[derive(Clone, Copy, Debug)]
+pub enum Ends {
+    /// It does not end.
+    Never,
+    /// The action is the literal at the input of this number, from 0.
+    Input(u32),
+    /// The action is always this one.
+    Always(i32),
+}
+
 /// A row of the table of units.
 #[derive(Clone, Copy, Debug)]
 pub struct Row {
+    /// The family that the unit belongs to.
+    pub family: Family,
     /// The unit's name in the text.
     pub name: &'static [u8],
     /// The inputs that it always has.
@@ -44,6 +104,12 @@ pub struct Row {
     pub most: u32,
     /// The number of words of state.
     pub words: Words,
+    /// What the unit reads or writes, if anything.
+    pub uses: Option<Use>,
+    /// Whether the unit ends, and what it does then.
+    pub ends: Ends,
+    /// Whether the unit sends triggers.
+    pub sends: bool,
 }
 
 /// All kinds, in the order of the table.
@@ -97,79 +163,156 @@ pub(crate) const KINDS: [Kind; 47] = [
     Kind::PauseSelf,
 ];
 
-macro_rules! row {
-    ($name:literal [$($mark:ident),*] + $signals:literal => $least:literal..=$most:literal, $words:expr) => {
+/// A unit with so many outputs that reads and writes no bus and no buffer, does not end and sends
+/// nothing.
+fn unit_row(
+    family: Family,
+    name: &'static [u8],
+    inputs: &'static [Mark],
+    outputs: u32,
+    words: Words,
+) -> Row
+    ensures { row_seen result ≡ unit_row family name.now inputs.now outputs words }
+{
+    Row {
+        family,
+        name,
+        inputs,
+        signals: 0,
+        least: outputs,
+        most: outputs,
+        words,
+        uses: None,
+        ends: Ends::Never,
+        sends: false,
+    }
+}
+
+impl Row {
+    /// It reads a channel for each of its outputs, which may be up to 8.
+    fn reading(self, bank: Bank) -> Row
+        ensures { row_seen result ≡ reading bank (row_seen self) }
+    {
         Row {
-            name: $name,
-            inputs: &[$(Mark::$mark),*],
-            signals: $signals,
-            least: $least,
-            most: $most,
-            words: $words,
+            most: 8,
+            uses: Some(Use {
+                access: Access::Read,
+                bank,
+            }),
+            ..self
         }
+    }
+
+    /// It writes a channel for each of the signals that follow its inputs, 1 to 8.
+    fn writing(self, bank: Bank) -> Row
+        ensures { row_seen result ≡ writing bank (row_seen self) }
+    {
+        Row {
+            signals: 8,
+            uses: Some(Use {
+                access: Access::Write,
+                bank,
+            }),
+            ..self
+        }
+    }
+
+    fn ending(self, ends: Ends) -> Row
+        ensures { row_seen result ≡ ending ends (row_seen self) }
+    {
+        Row { ends, ..self }
+    }
+
+    fn sending(self) -> Row
+        ensures { row_seen result ≡ sending (row_seen self) }
+    {
+        Row {
+            sends: true,
+            ..self
+        }
+    }
+}
+
+macro_rules! row {
+    ($family:ident $name:literal [$($mark:ident),*] => $outputs:literal, $words:ident$(($count:literal))?) => {
+        unit_row(Family::$family, $name, &[$(Mark::$mark),*], $outputs, Words::$words$(($count))?)
     };
 }
 
-/// The unit's row: name, inputs, signals that may follow => outputs, words of state.
+/// The unit's row: family, name and inputs => outputs, words of state; and what it reads or writes,
+/// its done action, and whether it sends triggers.
 #[tactic(auto, unfolding(crate::specs::Units::row_of))]
 pub fn row_of(kind: Kind) -> Row
     ensures { row_seen result ≡ row_of kind }
 {
     match kind {
-        Kind::SinOsc => row!(b"SinOsc" [Signal, Signal] + 0 => 1..=1, Words::Fixed(1)),
-        Kind::LFSaw => row!(b"LFSaw" [Signal, Signal] + 0 => 1..=1, Words::Fixed(1)),
-        Kind::LFPulse => row!(b"LFPulse" [Signal, Signal, Signal] + 0 => 1..=1, Words::Fixed(1)),
-        Kind::LFTri => row!(b"LFTri" [Signal, Signal] + 0 => 1..=1, Words::Fixed(1)),
-        Kind::Impulse => row!(b"Impulse" [Signal] + 0 => 1..=1, Words::Fixed(2)),
-        Kind::WhiteNoise => row!(b"WhiteNoise" [] + 0 => 1..=1, Words::Fixed(1)),
+        Kind::SinOsc => row!(Generator b"SinOsc" [Signal, Signal] => 1, Fixed(1)),
+        Kind::LFSaw => row!(Generator b"LFSaw" [Signal, Signal] => 1, Fixed(1)),
+        Kind::LFPulse => row!(Generator b"LFPulse" [Signal, Signal, Signal] => 1, Fixed(1)),
+        Kind::LFTri => row!(Generator b"LFTri" [Signal, Signal] => 1, Fixed(1)),
+        Kind::Impulse => row!(Generator b"Impulse" [Signal] => 1, Fixed(2)),
+        Kind::WhiteNoise => row!(Generator b"WhiteNoise" [] => 1, Fixed(1)),
         Kind::Phasor =>
-            row!(b"Phasor" [Signal, Signal, Signal, Signal, Signal] + 0 => 1..=1, Words::Fixed(3)),
+            row!(Generator b"Phasor" [Signal, Signal, Signal, Signal, Signal] => 1, Fixed(3)),
         Kind::Line =>
-            row!(b"Line" [Signal, Signal, Signal, Constant] + 0 => 1..=1, Words::Fixed(5)),
+            row!(Generator b"Line" [Signal, Signal, Signal, Constant] => 1, Fixed(5)).ending(
+                Ends::Input(3),
+            ),
         Kind::Linen =>
-            row!(b"Linen" [Signal, Signal, Signal, Signal, Constant] + 0 => 1..=1, Words::Fixed(7)),
-        Kind::Add => row!(b"Add" [Signal, Signal] + 0 => 1..=1, Words::Fixed(0)),
-        Kind::Sub => row!(b"Sub" [Signal, Signal] + 0 => 1..=1, Words::Fixed(0)),
-        Kind::Mul => row!(b"Mul" [Signal, Signal] + 0 => 1..=1, Words::Fixed(0)),
-        Kind::MulAdd => row!(b"MulAdd" [Signal, Signal, Signal] + 0 => 1..=1, Words::Fixed(0)),
-        Kind::Neg => row!(b"Neg" [Signal] + 0 => 1..=1, Words::Fixed(0)),
-        Kind::Abs => row!(b"Abs" [Signal] + 0 => 1..=1, Words::Fixed(0)),
-        Kind::Min => row!(b"Min" [Signal, Signal] + 0 => 1..=1, Words::Fixed(0)),
-        Kind::Max => row!(b"Max" [Signal, Signal] + 0 => 1..=1, Words::Fixed(0)),
-        Kind::Clip => row!(b"Clip" [Signal, Signal, Signal] + 0 => 1..=1, Words::Fixed(0)),
-        Kind::Gt => row!(b"Gt" [Signal, Signal] + 0 => 1..=1, Words::Fixed(0)),
-        Kind::Lt => row!(b"Lt" [Signal, Signal] + 0 => 1..=1, Words::Fixed(0)),
-        Kind::Pan2 => row!(b"Pan2" [Signal, Signal, Signal] + 0 => 2..=2, Words::Fixed(0)),
-        Kind::OnePole => row!(b"OnePole" [Signal, Signal] + 0 => 1..=1, Words::Fixed(1)),
-        Kind::Lag => row!(b"Lag" [Signal, Signal] + 0 => 1..=1, Words::Fixed(2)),
-        Kind::Integrator => row!(b"Integrator" [Signal, Signal] + 0 => 1..=1, Words::Fixed(1)),
-        Kind::Delay1 => row!(b"Delay1" [Signal] + 0 => 1..=1, Words::Fixed(1)),
-        Kind::DelayN => row!(b"DelayN" [Signal, Longest, Signal] + 0 => 1..=1, Words::Delay),
-        Kind::CombN => row!(b"CombN" [Signal, Longest, Signal, Signal] + 0 => 1..=1, Words::Comb),
+            row!(Generator b"Linen" [Signal, Signal, Signal, Signal, Constant] => 1, Fixed(7)).ending(
+                Ends::Input(4),
+            ),
+        Kind::Add => row!(Arithmetic b"Add" [Signal, Signal] => 1, Fixed(0)),
+        Kind::Sub => row!(Arithmetic b"Sub" [Signal, Signal] => 1, Fixed(0)),
+        Kind::Mul => row!(Arithmetic b"Mul" [Signal, Signal] => 1, Fixed(0)),
+        Kind::MulAdd => row!(Arithmetic b"MulAdd" [Signal, Signal, Signal] => 1, Fixed(0)),
+        Kind::Neg => row!(Arithmetic b"Neg" [Signal] => 1, Fixed(0)),
+        Kind::Abs => row!(Arithmetic b"Abs" [Signal] => 1, Fixed(0)),
+        Kind::Min => row!(Arithmetic b"Min" [Signal, Signal] => 1, Fixed(0)),
+        Kind::Max => row!(Arithmetic b"Max" [Signal, Signal] => 1, Fixed(0)),
+        Kind::Clip => row!(Arithmetic b"Clip" [Signal, Signal, Signal] => 1, Fixed(0)),
+        Kind::Gt => row!(Arithmetic b"Gt" [Signal, Signal] => 1, Fixed(0)),
+        Kind::Lt => row!(Arithmetic b"Lt" [Signal, Signal] => 1, Fixed(0)),
+        Kind::Pan2 => row!(Arithmetic b"Pan2" [Signal, Signal, Signal] => 2, Fixed(0)),
+        Kind::OnePole => row!(Filter b"OnePole" [Signal, Signal] => 1, Fixed(1)),
+        Kind::Lag => row!(Filter b"Lag" [Signal, Signal] => 1, Fixed(2)),
+        Kind::Integrator => row!(Filter b"Integrator" [Signal, Signal] => 1, Fixed(1)),
+        Kind::Delay1 => row!(Filter b"Delay1" [Signal] => 1, Fixed(1)),
+        Kind::DelayN => row!(Filter b"DelayN" [Signal, Longest, Signal] => 1, Delay),
+        Kind::CombN => row!(Filter b"CombN" [Signal, Longest, Signal, Signal] => 1, Comb),
         Kind::SOS =>
-            row!(b"SOS" [Signal, Signal, Signal, Signal, Signal, Signal] + 0 => 1..=1, Words::Fixed(4)),
-        Kind::Latch => row!(b"Latch" [Signal, Signal] + 0 => 1..=1, Words::Fixed(2)),
-        Kind::Gate => row!(b"Gate" [Signal, Signal] + 0 => 1..=1, Words::Fixed(1)),
-        Kind::PulseCount => row!(b"PulseCount" [Signal, Signal] + 0 => 1..=1, Words::Fixed(3)),
+            row!(Filter b"SOS" [Signal, Signal, Signal, Signal, Signal, Signal] => 1, Fixed(4)),
+        Kind::Latch => row!(Filter b"Latch" [Signal, Signal] => 1, Fixed(2)),
+        Kind::Gate => row!(Filter b"Gate" [Signal, Signal] => 1, Fixed(1)),
+        Kind::PulseCount => row!(Filter b"PulseCount" [Signal, Signal] => 1, Fixed(3)),
         Kind::Stepper =>
-            row!(b"Stepper" [Signal, Signal, Signal, Signal, Signal, Signal] + 0 => 1..=1, Words::Fixed(4)),
-        Kind::Inar => row!(b"In.ar" [Index] + 0 => 1..=8, Words::Fixed(0)),
-        Kind::InFeedback => row!(b"InFeedback" [Index] + 0 => 1..=8, Words::Fixed(0)),
-        Kind::Inkr => row!(b"In.kr" [Index] + 0 => 1..=8, Words::Fixed(0)),
-        Kind::Outar => row!(b"Out.ar" [Index] + 8 => 0..=0, Words::Fixed(0)),
-        Kind::ReplaceOut => row!(b"ReplaceOut" [Index] + 8 => 0..=0, Words::Fixed(0)),
-        Kind::Outkr => row!(b"Out.kr" [Index] + 8 => 0..=0, Words::Fixed(0)),
+            row!(Filter b"Stepper" [Signal, Signal, Signal, Signal, Signal, Signal] => 1, Fixed(4)),
+        Kind::Inar => row!(Bus b"In.ar" [Index] => 1, Fixed(0)).reading(Bank::Audio),
+        Kind::InFeedback => row!(Bus b"InFeedback" [Index] => 1, Fixed(0)).reading(Bank::Audio),
+        Kind::Inkr => row!(Bus b"In.kr" [Index] => 1, Fixed(0)).reading(Bank::Control),
+        Kind::Outar => row!(Bus b"Out.ar" [Index] => 0, Fixed(0)).writing(Bank::Audio),
+        Kind::ReplaceOut => row!(Bus b"ReplaceOut" [Index] => 0, Fixed(0)).writing(Bank::Audio),
+        Kind::Outkr => row!(Bus b"Out.kr" [Index] => 0, Fixed(0)).writing(Bank::Control),
         Kind::PlayBuf =>
-            row!(b"PlayBuf" [Index, Signal, Signal, Signal, Signal, Constant] + 0 => 1..=8, Words::Fixed(4)),
+            row!(Buffer b"PlayBuf" [Index, Signal, Signal, Signal, Signal, Constant] => 1, Fixed(4))
+                .reading(Bank::Buffer)
+                .ending(Ends::Input(5)),
         Kind::RecordBuf =>
-            row!(b"RecordBuf" [Index, Signal, Signal, Constant] + 8 => 0..=0, Words::Fixed(2)),
-        Kind::BufRd => row!(b"BufRd" [Index, Signal] + 0 => 1..=8, Words::Fixed(0)),
-        Kind::BufWr => row!(b"BufWr" [Index, Signal] + 8 => 0..=0, Words::Fixed(0)),
-        Kind::BufFrames => row!(b"BufFrames" [Index] + 0 => 1..=1, Words::Fixed(0)),
-        Kind::SendTrig => row!(b"SendTrig" [Signal, Signal, Signal] + 0 => 0..=0, Words::Fixed(4)),
+            row!(Buffer b"RecordBuf" [Index, Signal, Signal, Constant] => 0, Fixed(2))
+                .writing(Bank::Buffer)
+                .ending(Ends::Input(3)),
+        Kind::BufRd => row!(Buffer b"BufRd" [Index, Signal] => 1, Fixed(0)).reading(Bank::Buffer),
+        Kind::BufWr => row!(Buffer b"BufWr" [Index, Signal] => 0, Fixed(0)).writing(Bank::Buffer),
+        Kind::BufFrames => row!(Buffer b"BufFrames" [Index] => 1, Fixed(0)),
+        Kind::SendTrig =>
+            row!(Trigger b"SendTrig" [Signal, Signal, Signal] => 0, Fixed(4)).sending(),
         Kind::DetectSilence =>
-            row!(b"DetectSilence" [Signal, Signal, Signal, Constant] + 0 => 1..=1, Words::Fixed(2)),
-        Kind::FreeSelf => row!(b"FreeSelf" [Signal] + 0 => 0..=0, Words::Fixed(1)),
-        Kind::PauseSelf => row!(b"PauseSelf" [Signal] + 0 => 0..=0, Words::Fixed(1)),
+            row!(Trigger b"DetectSilence" [Signal, Signal, Signal, Constant] => 1, Fixed(2)).ending(
+                Ends::Input(3),
+            ),
+        Kind::FreeSelf => row!(Trigger b"FreeSelf" [Signal] => 0, Fixed(1)).ending(Ends::Always(2)),
+        Kind::PauseSelf => row!(Trigger b"PauseSelf" [Signal] => 0, Fixed(1)).ending(Ends::Always(
+            1,
+        )),
     }
 }

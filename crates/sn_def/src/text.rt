@@ -153,7 +153,7 @@ fn read_lines(alloc: Global, text: &[u8]) -> Result<Def, Unread>
 {
     let lines = lines(alloc, text)?;
     let draft = title(alloc, &lines)?;
-    Ok(draft.into_def())
+    Ok(draft.into_def(alloc)?)
 }
 
 /// The definition that a text is, or the first line at which no valid text continues and what is

@@ -1,10 +1,12 @@
 -- Units without a state: the sample of a frame. 1.0 is 16777216.
-use Rattle.std.specs.Prelude.{ℕ, List, [], ◌∷◌, ℤ, pos, negsuc, neg_ℤ, ◌+ℤ◌, ◌-ℤ◌, ◌*ℤ◌, int_lt, unsigned_abs, cond, Bool, true, false}
+use Rattle.std.specs.Prelude.{ℕ, List, [], ◌∷◌, ℤ, pos, negsuc, neg_ℤ, ◌+ℤ◌, ◌-ℤ◌, ◌*ℤ◌, int_lt, unsigned_abs, cond, Bool}
 use Rattle.std.specs.Int.{int_max, int_min}
 use Rattle.sn_fixed.specs.Fixed.{floor, sat, mul as product}
 use Rattle.sn_mem.specs.Blocks.{sample, table}
 use Rattle.sn_def.specs.declared.kind.Kind.{Kind}
 use Rattle.sn_def.specs.declared.kind.Kind.TheVariants as kinds
+use Rattle.sn_def.specs.declared.table.Family.TheVariants as families
+use Rattle.sn_def.specs.Facts.{is_of}
 
 -- Add a b, Sub a b, Mul a b
 abbrev pub add : List (List ℤ) → ℕ → ℤ
@@ -61,19 +63,7 @@ abbrev pub pan_right : List (List ℤ) → ℕ → ℤ
 pan_right inputs k = product (product (sample inputs 0 k) (sample inputs 2 k)) (rightness (sample inputs 1 k))
 
 abbrev pub is_arithmetic : Kind → Bool
-is_arithmetic kinds.Add = true
-is_arithmetic kinds.Sub = true
-is_arithmetic kinds.Mul = true
-is_arithmetic kinds.MulAdd = true
-is_arithmetic kinds.Neg = true
-is_arithmetic kinds.Abs = true
-is_arithmetic kinds.Min = true
-is_arithmetic kinds.Max = true
-is_arithmetic kinds.Clip = true
-is_arithmetic kinds.Gt = true
-is_arithmetic kinds.Lt = true
-is_arithmetic kinds.Pan2 = true
-is_arithmetic _ = false
+is_arithmetic kind = is_of families.Arithmetic kind
 
 -- the output blocks
 unfoldable pub arithmetic : Kind → List (List ℤ) → List (List ℤ)

@@ -1,29 +1,20 @@
 -- What a unit of arithmetic or a filter makes of its state words and of its inputs' blocks: the state words after the block, and the output blocks.
-use Rattle.std.specs.Prelude.{ℕ, Bool, true, List, ℤ}
+use Rattle.std.specs.Prelude.{ℕ, Bool, ◌||◌, List, ℤ}
 use Rattle.sn_def.specs.declared.kind.Kind.{Kind}
 use Rattle.sn_def.specs.declared.kind.Kind.TheVariants as kinds
 use Rattle.sn_def.specs.declared.control.Now.{Now}
+use Rattle.sn_def.specs.declared.table.Family.TheVariants as families
+use Rattle.sn_def.specs.Facts.{is_of}
 use Rattle.sn_def.specs.Runs.{one_output}
 use Rattle.sn_mem.specs.Blocks.{recurrence}
-use Rattle.sn_filt.specs.Arithmetic.{is_arithmetic, arithmetic}
+use Rattle.sn_filt.specs.Arithmetic.{arithmetic}
 use Rattle.sn_filt.specs.Poles.{sample_of_words, sample_words, one_pole, integrator, delay1, lagged_in, lagged_words, lag}
 use Rattle.sn_filt.specs.Sections.{section_in, section_words, sos}
 use Rattle.sn_filt.specs.Rings.{delay_n, comb_n}
 use Rattle.sn_filt.specs.Held.{latched_in, latched_words, latch, gate, count_in, count_words, pulse_count, steps_in, steps_words, stepper}
 
 abbrev pub is_filter : Kind → Bool
-is_filter kinds.OnePole = true
-is_filter kinds.Lag = true
-is_filter kinds.Integrator = true
-is_filter kinds.Delay1 = true
-is_filter kinds.DelayN = true
-is_filter kinds.CombN = true
-is_filter kinds.SOS = true
-is_filter kinds.Latch = true
-is_filter kinds.Gate = true
-is_filter kinds.PulseCount = true
-is_filter kinds.Stepper = true
-is_filter kind = is_arithmetic kind
+is_filter kind = is_of families.Filter kind || is_of families.Arithmetic kind
 
 -- the state is one sample
 abbrev pub of_sample : (ℤ → List (List ℤ) → ℕ → ℤ × ℤ) → List ℕ → List (List ℤ) → List ℕ × List (List ℤ)

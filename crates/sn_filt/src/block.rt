@@ -13,6 +13,7 @@ use crate::poles::{Delay1, Integrator, Lag, OnePole};
 use crate::rings::{run_comb_n, run_delay_n};
 use crate::sections::SOS;
 use sn_def::{Kind, Now};
+use sn_fixed::TimeFrames;
 use sn_mem::{Blocks, Extent, Port, run_recurrence};
 
 /// Runs a unit of arithmetic or a filter for a block of 64 frames, with its state in the words of
@@ -43,7 +44,10 @@ pub fn run<P: Port>(
     let at = state.at;
     match kind {
         Kind::OnePole => run_recurrence(&OnePole, port, at, inputs, outputs),
-        Kind::Lag => run_recurrence(&Lag { rate }, port, at, inputs, outputs),
+        Kind::Lag => {
+            let frames = TimeFrames::new(rate);
+            run_recurrence(&Lag { frames }, port, at, inputs, outputs);
+        }
         Kind::Integrator => run_recurrence(&Integrator, port, at, inputs, outputs),
         Kind::Delay1 => run_recurrence(&Delay1, port, at, inputs, outputs),
         Kind::DelayN => run_delay_n(rate, port, state, inputs, outputs),

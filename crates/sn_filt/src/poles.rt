@@ -1,9 +1,9 @@
 //! Filters with one sample or two of memory.
-ghost use Rattle.std.specs.Prelude.{◌≡◌, ◌<◌, ◌≤ℤ◌, ◌-ℤ◌, pos, negsuc, unsigned_abs};
+ghost use Rattle.std.specs.Prelude.{◌≡◌, ◌≤ℤ◌, ◌-ℤ◌, pos, negsuc, unsigned_abs};
 ghost use Rattle.sn_filt.specs.Arithmetic.{clipped};
-ghost use Rattle.sn_filt.specs.Poles.{pole, nearer, lag_sample};
+ghost use Rattle.sn_filt.specs.Poles.{pole, lag_sample};
 
-use sn_fixed::{ONE, frames_of, line_at, mul_add, weighted};
+use sn_fixed::{ONE, TimeFrames, mul_add, nearer, weighted};
 use sn_mem::{Blocks, Recurrence, Stored, sample_of, word_of};
 
 /// The sample nearest to `x` from -1.0 to 1.0.
@@ -43,7 +43,7 @@ impl Recurrence for OnePole {
 
     ghost step = { λ _. one_pole };
 
-    fn next(&self, last: i32, inputs: &Blocks, frame: usize) -> (i32, i32) {
+    fn next(&mut self, last: i32, inputs: &Blocks, frame: usize) -> (i32, i32) {
         let y = pole(last, inputs.at(0, frame), clipped(inputs.at(1, frame)));
         (y, y)
     }
@@ -62,7 +62,7 @@ impl Recurrence for Integrator {
 
     ghost step = { λ _. integrator };
 
-    fn next(&self, last: i32, inputs: &Blocks, frame: usize) -> (i32, i32) {
+    fn next(&mut self, last: i32, inputs: &Blocks, frame: usize) -> (i32, i32) {
         let y = mul_add(inputs.at(1, frame), last, inputs.at(0, frame));
         (y, y)
     }
@@ -81,7 +81,7 @@ impl Recurrence for Delay1 {
 
     ghost step = { λ _. delay1 };
 
-    fn next(&self, last: i32, inputs: &Blocks, frame: usize) -> (i32, i32) {
+    fn next(&mut self, last: i32, inputs: &Blocks, frame: usize) -> (i32, i32) {
         (inputs.at(0, frame), last)
     }
 }
@@ -120,29 +120,24 @@ impl Stored for Lagged {
     }
 }
 
-/// The n-th part of the way from the last output to `x`.
-fn nearer(n: u32, last: i32, x: i32) -> i32
-    requires { 0 < n }
-    ensures { result ≡ nearer n last x }
-{
-    line_at(last, x, 1, n)
-}
-
-fn lag_sample(rate: u32, state: Lagged, x: i32, time: i32) -> i32
-    ensures { result ≡ lag_sample rate state x time }
-{
-    if state.begun {
-        nearer(frames_of(time, rate).max(1), state.last, x)
-    } else {
-        x
-    }
-}
-
 /// Lag x time
 #[derive(Clone, Copy)]
 pub(crate) struct Lag {
-    /// Frames a second.
-    pub rate: u32,
+    /// The frames of the last time.
+    pub frames: TimeFrames,
+}
+
+impl Lag {
+    fn sample(&mut self, state: Lagged, x: i32, time: i32) -> i32
+        ensures value { result ≡ lag_sample self.old.frames.rate state x time }
+        ensures rate { self.new.frames.rate ≡ self.old.frames.rate }
+    {
+        if state.begun {
+            nearer(state.last, x, self.frames.at(time).max(1))
+        } else {
+            x
+        }
+    }
 }
 
 impl Recurrence for Lag {
@@ -152,10 +147,10 @@ impl Recurrence for Lag {
 
     ghost arity = { λ _. 2 };
 
-    ghost step = { λ u. lag u.rate };
+    ghost step = { λ u. lag u.frames.rate };
 
-    fn next(&self, state: Lagged, inputs: &Blocks, frame: usize) -> (Lagged, i32) {
-        let last = lag_sample(self.rate, state, inputs.at(0, frame), inputs.at(1, frame));
+    fn next(&mut self, state: Lagged, inputs: &Blocks, frame: usize) -> (Lagged, i32) {
+        let last = self.sample(state, inputs.at(0, frame), inputs.at(1, frame));
         (Lagged { begun: true, last }, last)
     }
 }

@@ -1,16 +1,20 @@
 //! Delay lines: rings of samples in words.
 ghost use Rattle.std.specs.Prelude.{◌≡◌, ◌<◌, ◌≤◌, ◌+◌, ◌-◌, ◌∷◌, [], ℕ, ℤ, List, max, length, slice_index, slice_set};
 ghost use Rattle.sn_mem.specs.Words.{MayWrite};
-ghost use Rattle.sn_mem.specs.Blocks.{window, put, sample_in, word_for};
+ghost use Rattle.sn_fixed.specs.Fixed.{frames_of};
+ghost use Rattle.sn_mem.specs.Blocks.{window, put, sample, sample_in, word_for};
 ghost use Rattle.sn_filt.specs.Rings.{before, after, ringed, most_frames, delay_n, comb_n};
 
-use sn_fixed::{frames_of, mul_add};
+use sn_fixed::{TimeFrames, frames_of, mul_add};
 use sn_mem::{Blocks, Extent, Port, sample_of, word_of};
 
 /// A unit that hears what it kept some frames ago.
 trait Echo {
     /// The number of its inputs.
     ghost arity: { Self → ℕ };
+
+    /// Frames a second.
+    ghost rate: { Self → ℕ };
 
     /// The most frames.
     ghost most: { Self → ℕ };
@@ -21,15 +25,19 @@ trait Echo {
     /// From what was kept then: what is kept now, and the output.
     ghost step: { Self → ℤ → List (List ℤ) → ℕ → ℤ × ℤ };
 
-    fn reach(&self, inputs: &Blocks, frame: usize) -> u32
-        requires inputs { arity self.now ≤ length inputs.now }
-        requires frame { frame < 64 }
+    fn rate(&self) -> u32
+        ensures { result ≡ rate self.now };
+
+    /// By the frames of its time, which is its third input.
+    fn reach(&self, time: u32, inputs: &Blocks, frame: usize) -> u32
+        requires { time ≡ frames_of (sample inputs.now 2 frame) (rate self.now) }
         ensures value { result ≡ reach self.now inputs.now frame }
         ensures bound { result ≤ most self.now };
 
-    fn next(&self, old: i32, inputs: &Blocks, frame: usize) -> (i32, i32)
+    fn next(&self, old: i32, reached: u32, inputs: &Blocks, frame: usize) -> (i32, i32)
         requires inputs { arity self.now ≤ length inputs.now }
         requires frame { frame < 64 }
+        requires reached { reached ≡ reach self.now inputs.now frame }
         ensures { result ≡ step self.now old inputs.now frame };
 }
 
@@ -62,11 +70,13 @@ fn hear<U: Echo, P: Port>(
     port: &mut P,
     state: Extent,
     place: u32,
+    time: u32,
     inputs: &Blocks,
     frame: usize,
 ) -> i32
     requires inputs { U.arity unit.now ≤ length inputs.now }
     requires frame { frame < 64 }
+    requires time { time ≡ frames_of (sample inputs.now 2 frame) (U.rate unit.now) }
     requires size { U.most unit.now + 2 ≡ state.len }
     requires place { place < state.len - 1 }
     requires state { MayWrite (P.foot port.old) state.at state.len }
@@ -76,10 +86,10 @@ fn hear<U: Echo, P: Port>(
     ensures foot { P.foot port.new ≡ P.foot port.old }
     ensures rest { P.rest port.new ≡ P.rest port.old }
 {
-    let frames = unit.reach(inputs, frame);
+    let frames = unit.reach(time, inputs, frame);
     let past = before(state.len - 1, place, frames);
     let old = port.load(state.at + 1 + past);
-    let (kept, sample) = unit.next(sample_of(old), inputs, frame);
+    let (kept, sample) = unit.next(sample_of(old), frames, inputs, frame);
     port.store(state.at + 1 + place, word_of(kept));
     sample
 }
@@ -94,6 +104,7 @@ fn run_echo<U: Echo, P: Port>(
     outputs: &mut Blocks,
 )
     requires inputs { U.arity unit.now ≤ length inputs.now }
+    requires time { 3 ≤ length inputs.now }
     requires size { U.most unit.now + 2 ≡ state.len }
     requires state { MayWrite (P.foot port.old) state.at state.len }
     ensures words { P.words port.new ≡ put (P.words port.old) state.at (ringed (U.reach unit.now) (U.step unit.now) (window (P.words port.old) state.at state.len) inputs.now).0 }
@@ -103,9 +114,11 @@ fn run_echo<U: Echo, P: Port>(
 {
     let room = state.len - 1;
     let mut place = (port.load(state.at) % u64::from(room)) as u32;
+    let mut times = TimeFrames::new(unit.rate());
     let mut samples = [0i32; 64];
     for frame in 0..64 {
-        samples[frame] = hear(unit, port, state, place, inputs, frame);
+        let time = times.at(inputs.at(2, frame));
+        samples[frame] = hear(unit, port, state, place, time, inputs, frame);
         place = after(room, place);
     }
     outputs.clear();
@@ -125,24 +138,25 @@ impl Echo for DelayN {
 
     ghost arity = { λ _. 3 };
 
+    ghost rate = { λ u. u.rate };
+
     ghost most = { λ u. u.most };
 
     ghost reach = { λ u. delay_reach u.rate u.most };
 
     ghost step = { λ u. delay_step u.rate u.most };
 
-    fn reach(&self, inputs: &Blocks, frame: usize) -> u32 {
-        frames_of(inputs.at(2, frame), self.rate).min(self.most)
+    fn rate(&self) -> u32 {
+        self.rate
     }
 
-    fn next(&self, old: i32, inputs: &Blocks, frame: usize) -> (i32, i32) {
+    fn reach(&self, time: u32, _inputs: &Blocks, _frame: usize) -> u32 {
+        time.min(self.most)
+    }
+
+    fn next(&self, old: i32, reached: u32, inputs: &Blocks, frame: usize) -> (i32, i32) {
         let x = inputs.at(0, frame);
-        let y = if self.reach(inputs, frame) == 0 {
-            x
-        } else {
-            old
-        };
-        (x, y)
+        (x, if reached == 0 { x } else { old })
     }
 }
 
@@ -159,19 +173,23 @@ impl Echo for CombN {
 
     ghost arity = { λ _. 4 };
 
+    ghost rate = { λ u. u.rate };
+
     ghost most = { λ u. u.most };
 
     ghost reach = { λ u. comb_reach u.rate u.most };
 
     ghost step = { λ _. comb_step };
 
-    fn reach(&self, inputs: &Blocks, frame: usize) -> u32 {
-        frames_of(inputs.at(2, frame), self.rate)
-            .max(1)
-            .min(self.most)
+    fn rate(&self) -> u32 {
+        self.rate
     }
 
-    fn next(&self, old: i32, inputs: &Blocks, frame: usize) -> (i32, i32) {
+    fn reach(&self, time: u32, _inputs: &Blocks, _frame: usize) -> u32 {
+        time.max(1).min(self.most)
+    }
+
+    fn next(&self, old: i32, _reached: u32, inputs: &Blocks, frame: usize) -> (i32, i32) {
         (mul_add(inputs.at(3, frame), old, inputs.at(0, frame)), old)
     }
 }

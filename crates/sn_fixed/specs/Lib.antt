@@ -1,4 +1,6 @@
+pub mod Divisions
 pub mod Fixed
+pub mod Heights
 pub mod Laws
 pub mod Lines
 pub mod Literal

@@ -92,11 +92,20 @@ pub fn mul(a: i32, b: i32) -> i32
     sat(scaled(times(a, b)))
 }
 
+/// The product in the scale of samples, rounded down.
+#[tactic(auto, using(crate::proofs::Scales::scaled_small))]
+fn scaled_product(a: i32, b: i32) -> i64
+    ensures value { result ≡ floor (a *ℤ b) 16777216 }
+    ensures bound { unsigned_abs result ≤ 2 ^ 38 }
+{
+    scaled(times(a, b))
+}
+
 /// The sample nearest to the sum of a product and a sample. The product is brought to the scale of samples and rounded down first.
 pub fn mul_add(a: i32, b: i32, x: i32) -> i32
     ensures { result ≡ sat (floor (a *ℤ b) 16777216 +ℤ x) }
 {
-    sat_wide(added(scaled(times(a, b)), i64::from(x)))
+    sat(scaled_product(a, b) + i64::from(x))
 }
 
 /// The sample nearest to the sum of two products, which is brought to the scale of samples and rounded down first.

@@ -4,7 +4,7 @@ ghost use Rattle.std.specs.Int.{w32, w64};
 ghost use Rattle.sn_fixed.specs.Fixed.{floor};
 ghost use Rattle.sn_fixed.specs.Lines.{IsBetween, line_at};
 
-fn multiple(whole: i64, k: u32) -> i128
+pub(crate) fn multiple(whole: i64, k: u32) -> i128
     requires { unsigned_abs whole ≤ 2 ^ 33 }
     ensures { result ≡ whole *ℤ pos k }
 {
@@ -54,6 +54,17 @@ pub fn distance(start: i32, end: i32) -> i64
     i64::from(end) - i64::from(start)
 }
 
+/// One of `n` equal parts of the whole, rounded down.
+#[tactic(auto, using(crate::proofs::Portions::part_between))]
+pub(crate) fn part(whole: i64, n: u32) -> i64
+    requires whole { unsigned_abs whole ≤ 2 ^ 33 }
+    requires some { 0 < n }
+    ensures value { result ≡ floor whole n }
+    ensures between { IsBetween result whole }
+{
+    whole.div_euclid(i64::from(n))
+}
+
 /// The start moved by so much.
 pub(crate) fn moved(start: i32, by: i64) -> i32
     requires { FitsSigned w32 (start +ℤ by) }
@@ -70,4 +81,12 @@ pub fn line_at(start: i32, end: i32, k: u32, n: u32) -> i32
     ensures { result ≡ line_at start end k n }
 {
     moved(start, portion(distance(start, end), k, n))
+}
+
+/// The sample at the end of the first of `n` equal parts of the way from `start` to `end`, rounded down.
+pub fn nearer(start: i32, end: i32, n: u32) -> i32
+    requires { 0 < n }
+    ensures { result ≡ start +ℤ floor (end -ℤ start) n }
+{
+    moved(start, part(distance(start, end), n))
 }

@@ -7,7 +7,7 @@ use std::num::saturating_f64_to_u64;
 
 const TURN: i64 = 4_294_967_296;
 
-const HALF_TURN: u32 = 2_147_483_648;
+pub(crate) const HALF_TURN: u32 = 2_147_483_648;
 
 /// A quotient by 1000 times the rate, rounded down. The three rates are constants here, since a
 /// division by a constant is a product.
@@ -80,7 +80,7 @@ fn quotient(dividend: u64, divisor: u64, guess: u64) -> u64
 
 /// The height of the half wave at place `h` of 65,536.
 #[tactic(auto, using(crate::proofs::HalfWave::height_small))]
-fn height(h: u32) -> u32
+pub(crate) fn height(h: u32) -> u32
     requires { h ≤ 65536 }
     ensures value { result ≡ height h }
     ensures bound { result ≤ 16777216 }

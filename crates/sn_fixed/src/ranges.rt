@@ -5,13 +5,23 @@ ghost use Rattle.sn_fixed.specs.Ranges.{into_range};
 
 use crate::lines::moved;
 
+/// The remainder of `x` by the range. Within the range, and one range above it, that takes no division.
+#[tactic(auto, using(crate::proofs::Remainders::within, crate::proofs::Remainders::above))]
 fn remainder(x: i64, range: i64) -> i64
     requires { pos 0 <ℤ range }
     ensures value { result ≡ int_rem_euclid x range }
     ensures low { pos 0 ≤ℤ result }
     ensures high { result <ℤ range }
 {
-    x.rem_euclid(range)
+    if x < 0 {
+        x.rem_euclid(range)
+    } else if x < range {
+        x
+    } else if x - range < range {
+        x - range
+    } else {
+        x.rem_euclid(range)
+    }
 }
 
 fn above(low: i32, x: i64) -> i64

@@ -8,16 +8,17 @@ use Rattle.std.proofs.lemmas.List.{drop_all, take_all, append-nil, length-set, g
 use Rattle.sn_def.specs.declared.control.Control.{Control as SynthControl}
 use Rattle.sn_def.specs.declared.unit.Unit.{Unit as UnitLine}
 use Rattle.sn_def.specs.Defs.{definition_of}
+use Rattle.sn_def.specs.Facts.{touches}
 use Rattle.sn_synth.specs.Conditions.{index_of}
 use Rattle.sn_world.specs.declared.stage.Held.{Held}
 use Rattle.sn_world.specs.declared.stage.Held.TheVariants as held
 use Rattle.sn_foot.specs.declared.resource.Resource.{Resource}
-use Rattle.sn_foot.specs.declared.resource.Access.{Access}
-use Rattle.sn_foot.specs.declared.resource.Access.TheVariants.{Read, Write}
-use Rattle.sn_foot.specs.declared.resource.Bank.{Bank}
-use Rattle.sn_foot.specs.declared.resource.Bank.TheVariants.{Audio, Control, Buffer}
+use Rattle.sn_def.specs.declared.table.Access.{Access}
+use Rattle.sn_def.specs.declared.table.Access.TheVariants.{Read, Write}
+use Rattle.sn_def.specs.declared.table.Bank.{Bank}
+use Rattle.sn_def.specs.declared.table.Bank.TheVariants.{Audio, Control, Buffer}
 use Rattle.sn_foot.specs.Footprints.{is_number, is_among, is_bus, follows}
-use Rattle.sn_foot.specs.Marks.{resource, held_uses, unit_uses, touches, span, used_span, set_at, marked, by_units, set_bus, by_buses, by_controls, by_held, by_nodes, AreMarks}
+use Rattle.sn_foot.specs.Marks.{resource, held_uses, unit_uses, span, used_span, set_at, marked, by_units, set_bus, by_buses, by_controls, by_held, by_nodes, AreMarks}
 
 abbrev at : List Bool → ℕ → Bool
 at marks n = slice_index_or marks n false

@@ -11,8 +11,8 @@ use Rattle.sn_mem.specs.declared.buffers.BufferPlace.{BufferPlace}
 use Rattle.sn_mem.specs.Buffers.{live_places, place_extents}
 use Rattle.sn_foot.specs.declared.resource.Resource.{Resource}
 use Rattle.sn_foot.specs.declared.resource.Resource.TheVariants as resources
-use Rattle.sn_foot.specs.declared.resource.Bank.{Bank}
-use Rattle.sn_foot.specs.declared.resource.Bank.TheVariants.{Audio, Control, Buffer}
+use Rattle.sn_def.specs.declared.table.Bank.{Bank}
+use Rattle.sn_def.specs.declared.table.Bank.TheVariants.{Audio, Control, Buffer}
 use Rattle.sn_foot.specs.Canonical.{Ends}
 use Rattle.sn_foot.specs.Footprints.{buffer_words, is_there, place_of, listed, where_used, used_places}
 use Rattle.sn_foot.specs.Marks.{numbers, resource, AreMarks, bank_places}

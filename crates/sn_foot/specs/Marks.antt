@@ -3,21 +3,19 @@ use Rattle.std.specs.Prelude.{◌≡◌, ◌<◌, ℕ, zero, suc, ◌-◌, ℤ, 
 use Rattle.std.specs.List.{list_any}
 use Rattle.sn_mem.specs.declared.extents.Extent.{Extent}
 use Rattle.sn_mem.specs.declared.buffers.BufferPlace.{BufferPlace}
-use Rattle.sn_def.specs.declared.kind.Kind.{Kind}
 use Rattle.sn_def.specs.declared.control.Control.{Control as SynthControl}
 use Rattle.sn_def.specs.declared.unit.Unit.{Unit as UnitLine}
 use Rattle.sn_def.specs.Defs.{definition_of}
-use Rattle.sn_io.specs.BusUnits.{reads_audio, reads_control, writes_audio, writes_control}
-use Rattle.sn_io.specs.BufferUnits.{reads_buffer, writes_buffer}
+use Rattle.sn_def.specs.Facts.{touches}
 use Rattle.sn_synth.specs.Conditions.{index_of}
 use Rattle.sn_world.specs.declared.stage.Held.{Held}
 use Rattle.sn_world.specs.declared.stage.Held.TheVariants as held
 use Rattle.sn_foot.specs.declared.resource.Resource.{Resource}
 use Rattle.sn_foot.specs.declared.resource.Resource.TheVariants as resources
-use Rattle.sn_foot.specs.declared.resource.Access.{Access}
-use Rattle.sn_foot.specs.declared.resource.Access.TheVariants.{Read, Write}
-use Rattle.sn_foot.specs.declared.resource.Bank.{Bank}
-use Rattle.sn_foot.specs.declared.resource.Bank.TheVariants.{Audio, Control, Buffer}
+use Rattle.sn_def.specs.declared.table.Access.{Access}
+use Rattle.sn_def.specs.declared.table.Access.TheVariants.{Read, Write}
+use Rattle.sn_def.specs.declared.table.Bank.{Bank}
+use Rattle.sn_def.specs.declared.table.Bank.TheVariants.{Audio, Control, Buffer}
 use Rattle.sn_foot.specs.Footprints.{unit_reads, unit_writes, held_reads, held_writes, is_there, listed, place_of, where_used}
 
 -- how many numbers there are
@@ -39,16 +37,7 @@ abbrev pub unit_uses : Access → List SynthControl → UnitLine → Resource �
 unit_uses Read controls u r = unit_reads controls u r
 unit_uses Write controls u r = unit_writes controls u r
 
--- whether units of a kind use these
-abbrev pub touches : Access → Bank → Kind → Bool
-touches Read Audio kind = reads_audio kind
-touches Read Control kind = reads_control kind
-touches Read Buffer kind = reads_buffer kind
-touches Write Audio kind = writes_audio kind
-touches Write Control kind = writes_control kind
-touches Write Buffer kind = writes_buffer kind
-
--- how many of them such a unit uses, from its index on
+-- how many buses or buffers a unit uses that uses them so, from its index on
 abbrev pub span : Access → Bank → UnitLine → ℕ
 span Read Audio u = u.outputs
 span Read Control u = u.outputs

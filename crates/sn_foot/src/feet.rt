@@ -11,7 +11,7 @@ ghost use Rattle.sn_foot.specs.Footprints.{foot_at, foot_of, states_of};
 use crate::merging::canonical;
 use crate::nodes::{found_at, is_attached};
 use crate::places::used_places;
-use crate::resource::Access;
+use sn_def::Access;
 use sn_mem::{Buffers, Extent, Extents, Foot};
 use sn_ports::NoMemory;
 use sn_world::{Held, NodeId, Stage};

@@ -14,5 +14,5 @@ pub use feet::{Unfooted, foot_of, foot_of_nodes};
 pub use laws::{foot_has_its_words, one_canonical};
 pub use merging::canonical;
 pub use nodes::is_kept;
-pub use resource::{Access, Bank, Resource};
+pub use resource::Resource;
 pub use units::{index_of, used_span};

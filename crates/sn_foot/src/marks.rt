@@ -3,9 +3,8 @@ ghost use Rattle.std.specs.Prelude.{◌≡◌, ◌<◌, ◌+ℤ◌, ◌^◌, pos
 ghost use Rattle.std.specs.List.{list_any};
 ghost use Rattle.sn_foot.specs.Marks.{AreMarks, by_buses, by_controls, by_held, by_nodes, by_units, held_uses, marked, numbers, resource, set_at, set_bus};
 
-use crate::resource::{Access, Bank};
 use crate::units::{index_of, used_span};
-use sn_def::{Control, Unit};
+use sn_def::{Access, Bank, Control, Unit};
 use sn_ports::NoMemory;
 use sn_world::Held;
 use std::alloc::Global;

@@ -6,7 +6,7 @@ ghost use Rattle.sn_foot.specs.Marks.{bank_places, nodes_use, resource};
 ghost use Rattle.sn_foot.specs.declared.resource.Resource.TheVariants as resources;
 
 use crate::marks::marks;
-use crate::resource::{Access, Bank};
+use sn_def::{Access, Bank};
 use sn_mem::{BufferPlace, Buffers, Extent, Places};
 use sn_ports::NoMemory;
 use sn_world::Held;

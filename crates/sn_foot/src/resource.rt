@@ -10,23 +10,3 @@ pub enum Resource {
     /// A buffer, 0 to 1,023, that is allocated.
     Buffer(u32),
 }
-
-/// How a resource is used.
-#[derive(Clone, Copy)]
-pub enum Access {
-    /// It is read.
-    Read,
-    /// It is written.
-    Write,
-}
-
-/// A sort of resources.
-#[derive(Clone, Copy)]
-pub enum Bank {
-    /// Audio buses.
-    Audio,
-    /// Control buses.
-    Control,
-    /// Buffers.
-    Buffer,
-}

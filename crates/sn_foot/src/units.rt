@@ -1,80 +1,10 @@
 //! What a unit uses.
 ghost use Rattle.std.specs.Prelude.{◌≡◌, ◌<◌, ◌-◌, ◌^◌, length};
-ghost use Rattle.sn_io.specs.BusUnits.{reads_audio, reads_control, writes_audio, writes_control};
 ghost use Rattle.sn_synth.specs.Conditions.{index_of, index_value};
-ghost use Rattle.sn_foot.specs.declared.resource.Access.TheVariants.{Read, Write};
-ghost use Rattle.sn_foot.specs.declared.resource.Bank.TheVariants.{Audio};
-ghost use Rattle.sn_io.specs.BufferUnits.{reads_buffer, writes_buffer};
-ghost use Rattle.sn_foot.specs.Marks.{touches, span, used_span};
+ghost use Rattle.sn_def.specs.declared.table.Bank.TheVariants.{Audio};
+ghost use Rattle.sn_foot.specs.Marks.{span, used_span};
 
-use crate::resource::{Access, Bank};
-use sn_def::{Control, Input, Kind, Unit};
-
-fn reads_audio(kind: Kind) -> bool
-    ensures { result ≡ reads_audio kind }
-{
-    matches!(kind, Kind::Inar | Kind::InFeedback)
-}
-
-fn reads_control(kind: Kind) -> bool
-    ensures { result ≡ reads_control kind }
-{
-    matches!(kind, Kind::Inkr)
-}
-
-fn reads_buffer(kind: Kind) -> bool
-    ensures { result ≡ reads_buffer kind }
-{
-    matches!(kind, Kind::PlayBuf | Kind::BufRd)
-}
-
-fn writes_audio(kind: Kind) -> bool
-    ensures { result ≡ writes_audio kind }
-{
-    matches!(kind, Kind::Outar | Kind::ReplaceOut)
-}
-
-fn writes_control(kind: Kind) -> bool
-    ensures { result ≡ writes_control kind }
-{
-    matches!(kind, Kind::Outkr)
-}
-
-fn writes_buffer(kind: Kind) -> bool
-    ensures { result ≡ writes_buffer kind }
-{
-    matches!(kind, Kind::RecordBuf | Kind::BufWr)
-}
-
-fn reads(bank: Bank, kind: Kind) -> bool
-    ensures { result ≡ touches Read bank kind }
-{
-    match bank {
-        Bank::Audio => reads_audio(kind),
-        Bank::Control => reads_control(kind),
-        Bank::Buffer => reads_buffer(kind),
-    }
-}
-
-fn writes(bank: Bank, kind: Kind) -> bool
-    ensures { result ≡ touches Write bank kind }
-{
-    match bank {
-        Bank::Audio => writes_audio(kind),
-        Bank::Control => writes_control(kind),
-        Bank::Buffer => writes_buffer(kind),
-    }
-}
-
-/// Whether units of a kind use resources of a sort.
-fn touches(access: Access, bank: Bank, kind: Kind) -> bool
-    ensures { result ≡ touches access bank kind }
-{
-    match access {
-        Access::Read => reads(bank, kind),
-        Access::Write => writes(bank, kind),
-    }
-}
+use sn_def::{Access, Bank, Control, Input, Unit, touches};
 
 /// How many signals follow a unit's index.
 fn signals(unit: &Unit) -> usize

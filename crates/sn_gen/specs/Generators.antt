@@ -1,8 +1,10 @@
 -- What a generator makes of its state words and of its inputs' blocks: the state words after the block, and the output blocks.
-use Rattle.std.specs.Prelude.{ℕ, Bool, true, false, List, [], ℤ}
+use Rattle.std.specs.Prelude.{ℕ, Bool, List, [], ℤ}
 use Rattle.sn_def.specs.declared.kind.Kind.{Kind}
 use Rattle.sn_def.specs.declared.kind.Kind.TheVariants as kinds
 use Rattle.sn_def.specs.declared.control.Now.{Now}
+use Rattle.sn_def.specs.declared.table.Family.TheVariants as families
+use Rattle.sn_def.specs.Facts.{is_of}
 use Rattle.sn_def.specs.Runs.{one_output}
 use Rattle.sn_mem.specs.Blocks.{recurrence}
 use Rattle.sn_gen.specs.Phases.{phase_in, phase_words}
@@ -14,16 +16,7 @@ use Rattle.sn_gen.specs.Line.{sweep_in, sweep_words, line}
 use Rattle.sn_gen.specs.Linen.{envelope_in, envelope_words, linen}
 
 abbrev pub is_generator : Kind → Bool
-is_generator kinds.SinOsc = true
-is_generator kinds.LFSaw = true
-is_generator kinds.LFPulse = true
-is_generator kinds.LFTri = true
-is_generator kinds.Impulse = true
-is_generator kinds.WhiteNoise = true
-is_generator kinds.Phasor = true
-is_generator kinds.Line = true
-is_generator kinds.Linen = true
-is_generator _ = false
+is_generator kind = is_of families.Generator kind
 
 -- an oscillator's state is its phase
 abbrev pub oscillator : (ℕ → List (List ℤ) → ℕ → ℕ × ℤ) → List ℕ → List (List ℤ) → List ℕ × List (List ℤ)

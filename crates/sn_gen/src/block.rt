@@ -10,9 +10,11 @@ use crate::impulse::Impulse;
 use crate::line::Line;
 use crate::linen::Linen;
 use crate::noise::{WhiteNoise, seed};
-use crate::oscillators::{LFPulse, LFSaw, LFTri, SinOsc};
+use crate::oscillators::{LFPulse, LFSaw, LFTri, SinOsc, TableSinOsc};
+use crate::phases::PhaseStep;
 use crate::phasor::Phasor;
 use sn_def::{Kind, Now};
+use sn_fixed::{Heights, Slope};
 use sn_mem::{Blocks, Extent, Port, run_recurrence};
 
 /// Runs a generator for a block of 64 frames, with its state in the words of `state`.
@@ -39,19 +41,55 @@ pub fn run<P: Port>(
     ensures rest { P.rest port.new ≡ P.rest port.old }
 {
     let rate = now.rate;
+    let phase_step = PhaseStep::new(rate);
+    let slope = Slope::new();
     match kind {
-        Kind::SinOsc => run_recurrence(&SinOsc { rate }, port, state.at, inputs, outputs),
-        Kind::LFSaw => run_recurrence(&LFSaw { rate }, port, state.at, inputs, outputs),
-        Kind::LFPulse => run_recurrence(&LFPulse { rate }, port, state.at, inputs, outputs),
-        Kind::LFTri => run_recurrence(&LFTri { rate }, port, state.at, inputs, outputs),
-        Kind::Impulse => run_recurrence(&Impulse { rate }, port, state.at, inputs, outputs),
+        Kind::SinOsc => run_recurrence(&SinOsc { phase_step }, port, state.at, inputs, outputs),
+        Kind::LFSaw => run_recurrence(&LFSaw { phase_step }, port, state.at, inputs, outputs),
+        Kind::LFPulse => run_recurrence(&LFPulse { phase_step }, port, state.at, inputs, outputs),
+        Kind::LFTri => run_recurrence(&LFTri { phase_step }, port, state.at, inputs, outputs),
+        Kind::Impulse => run_recurrence(&Impulse { phase_step }, port, state.at, inputs, outputs),
         Kind::WhiteNoise => {
             let first = seed(now);
             run_recurrence(&WhiteNoise { first }, port, state.at, inputs, outputs);
         }
         Kind::Phasor => run_recurrence(&Phasor, port, state.at, inputs, outputs),
-        Kind::Line => run_recurrence(&Line { rate }, port, state.at, inputs, outputs),
-        Kind::Linen => run_recurrence(&Linen { rate }, port, state.at, inputs, outputs),
+        Kind::Line => run_recurrence(&Line { rate, slope }, port, state.at, inputs, outputs),
+        Kind::Linen => run_recurrence(&Linen { rate, slope }, port, state.at, inputs, outputs),
         _ => {}
+    }
+}
+
+/// Runs a generator for a block of 64 frames, as `run` does, with the sines from a table.
+#[tactic(auto, unfolding(crate::specs::Generators::generator, sn_def::specs::Units::row_of))]
+pub fn run_with<P: Port>(
+    heights: &Heights,
+    kind: Kind,
+    now: &Now,
+    port: &mut P,
+    state: Extent,
+    inputs: &Blocks,
+    outputs: &mut Blocks,
+)
+    requires kind { is_generator kind ≡ true }
+    requires rate { 0 < now.now.rate }
+    requires inputs { length (row_of kind).inputs ≤ length inputs.now }
+    requires size { (row_of kind).words ≡ Fixed state.len }
+    requires state { MayWrite (P.foot port.old) state.at state.len }
+    ensures words { P.words port.new ≡ put (P.words port.old) state.at (generator kind now.now (window (P.words port.old) state.at state.len) inputs.now).0 }
+    ensures outputs { outputs.new ≡ (generator kind now.now (window (P.words port.old) state.at state.len) inputs.now).1 }
+    ensures foot { P.foot port.new ≡ P.foot port.old }
+    ensures rest { P.rest port.new ≡ P.rest port.old }
+{
+    match kind {
+        Kind::SinOsc => {
+            let phase_step = PhaseStep::new(now.rate);
+            let unit = TableSinOsc {
+                phase_step,
+                heights,
+            };
+            run_recurrence(&unit, port, state.at, inputs, outputs);
+        }
+        _ => run(kind, now, port, state, inputs, outputs),
     }
 }

@@ -2,7 +2,8 @@
 ghost use Rattle.std.specs.Prelude.{◌≡◌, ◌<◌, ◌^◌};
 ghost use Rattle.sn_gen.specs.Impulse.{growth};
 
-use sn_fixed::{ONE, step_of};
+use crate::phases::PhaseStep;
+use sn_fixed::ONE;
 use sn_mem::{Blocks, Recurrence, Stored};
 
 /// The phase of an impulse generator, and whether an impulse is due.
@@ -39,21 +40,22 @@ impl Stored for Beat {
     }
 }
 
-/// The phase after a frame, before it wraps.
-fn growth(rate: u32, phase: u32, freq: i32) -> u64
-    requires { 0 < rate }
-    ensures value { result ≡ growth rate phase freq }
-    ensures bound { result < 2 ^ 33 }
-{
-    u64::from(phase) + u64::from(step_of(freq, rate))
-}
-
 /// Impulse freq
 #[derive(Clone, Copy)]
 pub(crate) struct Impulse {
-    /// Frames a second, at least 1.
-    pub rate: u32,
-    ghost some: { 0 < rate },
+    /// The step at the last frequency.
+    pub phase_step: PhaseStep,
+}
+
+impl Impulse {
+    /// The phase after a frame, before it wraps.
+    fn growth(&mut self, phase: u32, freq: i32) -> u64
+        ensures value { result ≡ growth self.old.phase_step.rate phase freq }
+        ensures bound { result < 2 ^ 33 }
+        ensures rate { self.new.phase_step.rate ≡ self.old.phase_step.rate }
+    {
+        u64::from(phase) + u64::from(self.phase_step.at(freq))
+    }
 }
 
 impl Recurrence for Impulse {
@@ -63,10 +65,10 @@ impl Recurrence for Impulse {
 
     ghost arity = { λ _. 1 };
 
-    ghost step = { λ u. impulse u.rate };
+    ghost step = { λ u. impulse u.phase_step.rate };
 
-    fn next(&self, beat: Beat, inputs: &Blocks, frame: usize) -> (Beat, i32) {
-        let phase = growth(self.rate, beat.phase, inputs.at(0, frame));
+    fn next(&mut self, beat: Beat, inputs: &Blocks, frame: usize) -> (Beat, i32) {
+        let phase = self.growth(beat.phase, inputs.at(0, frame));
         let after = Beat {
             phase: (phase % 4_294_967_296) as u32,
             due: phase >= 4_294_967_296,

@@ -11,5 +11,5 @@ mod oscillators;
 mod phases;
 mod phasor;
 
-pub use block::run;
+pub use block::{run, run_with};
 pub use laws::line_is_straight;

@@ -2,7 +2,7 @@
 ghost use Rattle.std.specs.Prelude.{◌≡◌, ◌<◌, ◌≤◌, length};
 ghost use Rattle.sn_gen.specs.Line.{begun, swept};
 
-use sn_fixed::{frames_of, line_at};
+use sn_fixed::{Slope, frames_of};
 use sn_mem::{Blocks, Recurrence, Stored, ended, sample_of, word_of};
 
 /// How far a line is.
@@ -72,11 +72,11 @@ fn begun(rate: u32, sweep: Sweep, inputs: &Blocks, frame: usize) -> Sweep
     }
 }
 
-fn swept(sweep: Sweep) -> (Sweep, i32)
+fn swept(slope: &mut Slope, sweep: Sweep) -> (Sweep, i32)
     ensures { result ≡ swept sweep }
 {
     if sweep.frame < sweep.frames {
-        let sample = line_at(sweep.start, sweep.end, sweep.frame, sweep.frames);
+        let sample = slope.forward(sweep.start, sweep.end, sweep.frame, sweep.frames);
         let frame = sweep.frame + 1;
         (Sweep { frame, ..sweep }, sample)
     } else {
@@ -98,6 +98,8 @@ fn swept(sweep: Sweep) -> (Sweep, i32)
 pub(crate) struct Line {
     /// Frames a second.
     pub rate: u32,
+    /// The line at its next frame.
+    pub slope: Slope,
 }
 
 impl Recurrence for Line {
@@ -109,7 +111,8 @@ impl Recurrence for Line {
 
     ghost step = { λ u. line u.rate };
 
-    fn next(&self, sweep: Sweep, inputs: &Blocks, frame: usize) -> (Sweep, i32) {
-        swept(begun(self.rate, sweep, inputs, frame))
+    fn next(&mut self, sweep: Sweep, inputs: &Blocks, frame: usize) -> (Sweep, i32) {
+        let sweep = begun(self.rate, sweep, inputs, frame);
+        swept(&mut self.slope, sweep)
     }
 }

@@ -2,7 +2,7 @@
 ghost use Rattle.std.specs.Prelude.{◌≡◌, ◌<◌, ◌≤◌, length};
 ghost use Rattle.sn_gen.specs.Linen.{stage_in, stage_word, gated, height, done_at, passed};
 
-use sn_fixed::{frames_of, line_at};
+use sn_fixed::{Slope, frames_of};
 use sn_mem::{Blocks, Recurrence, Stored, ended, sample_of, word_of};
 
 /// Where an envelope is.
@@ -121,16 +121,18 @@ fn gated(rate: u32, envelope: Envelope, inputs: &Blocks, frame: usize) -> Envelo
     }
 }
 
-fn height(envelope: Envelope) -> i32
+fn height(slope: &mut Slope, envelope: Envelope) -> i32
     ensures { result ≡ height envelope }
 {
     let frame = envelope.frame;
     let frames = envelope.frames;
     match envelope.stage {
         Stage::Waiting => 0,
-        Stage::Open if frame < frames => line_at(0, envelope.level, frame, frames),
+        Stage::Open if frame < frames => slope.forward(0, envelope.level, frame, frames),
         Stage::Open => envelope.level,
-        Stage::Released if frame < frames => line_at(0, envelope.top, frames - frame, frames),
+        Stage::Released if frame < frames => {
+            slope.backward(0, envelope.top, frames - frame, frames)
+        }
         Stage::Released => 0,
     }
 }
@@ -166,6 +168,8 @@ fn passed(envelope: Envelope, sample: i32) -> Envelope
 pub(crate) struct Linen {
     /// Frames a second.
     pub rate: u32,
+    /// The attack or the release at its next frame.
+    pub slope: Slope,
 }
 
 impl Recurrence for Linen {
@@ -177,9 +181,9 @@ impl Recurrence for Linen {
 
     ghost step = { λ u. linen u.rate };
 
-    fn next(&self, envelope: Envelope, inputs: &Blocks, frame: usize) -> (Envelope, i32) {
+    fn next(&mut self, envelope: Envelope, inputs: &Blocks, frame: usize) -> (Envelope, i32) {
         let envelope = gated(self.rate, envelope, inputs, frame);
-        let sample = height(envelope);
+        let sample = height(&mut self.slope, envelope);
         (passed(envelope, sample), sample)
     }
 }

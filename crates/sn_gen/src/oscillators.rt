@@ -3,8 +3,8 @@ ghost use Rattle.std.specs.Prelude.{◌≡◌, ◌<◌, ◌≤ℤ◌, pos, negsu
 ghost use Rattle.sn_fixed.specs.Fixed.{floor};
 ghost use Rattle.sn_gen.specs.Oscillators.{saw, pulse, triangle};
 
-use crate::phases::{grown, moved};
-use sn_fixed::{ONE, sine};
+use crate::phases::{PhaseStep, moved};
+use sn_fixed::{Heights, ONE, sine};
 use sn_mem::{Blocks, Recurrence};
 
 /// From -1.0 to 1.0, by the signed value of the phase.
@@ -48,9 +48,8 @@ fn triangle(phase: u32) -> i32
 /// SinOsc freq phase
 #[derive(Clone, Copy)]
 pub(crate) struct SinOsc {
-    /// Frames a second, at least 1.
-    pub rate: u32,
-    ghost some: { 0 < rate },
+    /// The step at the last frequency.
+    pub phase_step: PhaseStep,
 }
 
 impl Recurrence for SinOsc {
@@ -60,20 +59,46 @@ impl Recurrence for SinOsc {
 
     ghost arity = { λ _. 2 };
 
-    ghost step = { λ u. sin_osc u.rate };
+    ghost step = { λ u. sin_osc u.phase_step.rate };
 
-    fn next(&self, phase: u32, inputs: &Blocks, frame: usize) -> (u32, i32) {
+    fn next(&mut self, phase: u32, inputs: &Blocks, frame: usize) -> (u32, i32) {
         let q = moved(phase, inputs.at(1, frame));
-        (grown(self.rate, phase, inputs.at(0, frame)), sine(q))
+        (self.phase_step.grown(phase, inputs.at(0, frame)), sine(q))
+    }
+}
+
+/// SinOsc freq phase, by a table of heights
+#[derive(Clone, Copy)]
+pub(crate) struct TableSinOsc<'a> {
+    /// The step at the last frequency.
+    pub phase_step: PhaseStep,
+    /// The table from which sines are taken.
+    pub heights: &'a Heights,
+}
+
+impl<'a> Recurrence for TableSinOsc<'a> {
+    ghost use Rattle.sn_gen.specs.Oscillators.{sin_osc};
+
+    type State = u32;
+
+    ghost arity = { λ _. 2 };
+
+    ghost step = { λ u. sin_osc u.phase_step.rate };
+
+    fn next(&mut self, phase: u32, inputs: &Blocks, frame: usize) -> (u32, i32) {
+        let q = moved(phase, inputs.at(1, frame));
+        (
+            self.phase_step.grown(phase, inputs.at(0, frame)),
+            self.heights.sine(q),
+        )
     }
 }
 
 /// LFSaw freq phase
 #[derive(Clone, Copy)]
 pub(crate) struct LFSaw {
-    /// Frames a second, at least 1.
-    pub rate: u32,
-    ghost some: { 0 < rate },
+    /// The step at the last frequency.
+    pub phase_step: PhaseStep,
 }
 
 impl Recurrence for LFSaw {
@@ -83,20 +108,19 @@ impl Recurrence for LFSaw {
 
     ghost arity = { λ _. 2 };
 
-    ghost step = { λ u. lf_saw u.rate };
+    ghost step = { λ u. lf_saw u.phase_step.rate };
 
-    fn next(&self, phase: u32, inputs: &Blocks, frame: usize) -> (u32, i32) {
+    fn next(&mut self, phase: u32, inputs: &Blocks, frame: usize) -> (u32, i32) {
         let q = moved(phase, inputs.at(1, frame));
-        (grown(self.rate, phase, inputs.at(0, frame)), saw(q))
+        (self.phase_step.grown(phase, inputs.at(0, frame)), saw(q))
     }
 }
 
 /// LFPulse freq phase width
 #[derive(Clone, Copy)]
 pub(crate) struct LFPulse {
-    /// Frames a second, at least 1.
-    pub rate: u32,
-    ghost some: { 0 < rate },
+    /// The step at the last frequency.
+    pub phase_step: PhaseStep,
 }
 
 impl Recurrence for LFPulse {
@@ -106,12 +130,12 @@ impl Recurrence for LFPulse {
 
     ghost arity = { λ _. 3 };
 
-    ghost step = { λ u. lf_pulse u.rate };
+    ghost step = { λ u. lf_pulse u.phase_step.rate };
 
-    fn next(&self, phase: u32, inputs: &Blocks, frame: usize) -> (u32, i32) {
+    fn next(&mut self, phase: u32, inputs: &Blocks, frame: usize) -> (u32, i32) {
         let q = moved(phase, inputs.at(1, frame));
         (
-            grown(self.rate, phase, inputs.at(0, frame)),
+            self.phase_step.grown(phase, inputs.at(0, frame)),
             pulse(q, inputs.at(2, frame)),
         )
     }
@@ -120,9 +144,8 @@ impl Recurrence for LFPulse {
 /// LFTri freq phase
 #[derive(Clone, Copy)]
 pub(crate) struct LFTri {
-    /// Frames a second, at least 1.
-    pub rate: u32,
-    ghost some: { 0 < rate },
+    /// The step at the last frequency.
+    pub phase_step: PhaseStep,
 }
 
 impl Recurrence for LFTri {
@@ -132,10 +155,13 @@ impl Recurrence for LFTri {
 
     ghost arity = { λ _. 2 };
 
-    ghost step = { λ u. lf_tri u.rate };
+    ghost step = { λ u. lf_tri u.phase_step.rate };
 
-    fn next(&self, phase: u32, inputs: &Blocks, frame: usize) -> (u32, i32) {
+    fn next(&mut self, phase: u32, inputs: &Blocks, frame: usize) -> (u32, i32) {
         let q = moved(phase, inputs.at(1, frame));
-        (grown(self.rate, phase, inputs.at(0, frame)), triangle(q))
+        (
+            self.phase_step.grown(phase, inputs.at(0, frame)),
+            triangle(q),
+        )
     }
 }

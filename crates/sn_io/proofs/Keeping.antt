@@ -57,7 +57,7 @@ trigger_keeps k now f ws at n frames inputs j state size off =
     apart_put ws at j xs (⊎_elim (λ (l : j < at). inl l) (λ (h : at + n ≤ j). inr (omega (arith, long, h))) (off_run f at n j state off))
 
 pub bus_unit_keeps : (k : Kind) (now : Now) (f : Foot) (c : ℕ) (ws : List ℕ) (at n frames : ℕ) (inputs : List (List ℤ)) (j : ℕ) → MayWrite f at n → n ≡ words_of (row_of k).words frames → MayReach k f c inputs → writes f j ≡ false → get_or (bus_unit_over k now c ws at n inputs).0 j 0 ≡ get_or ws j 0
-unfolding bus_unit_over
+unfolding row_of bus_unit_over
 bus_unit_keeps kinds.Inar now f c ws at n frames inputs j state size may off = refl
 bus_unit_keeps kinds.InFeedback now f c ws at n frames inputs j state size may off = refl
 bus_unit_keeps kinds.Inkr now f c ws at n frames inputs j state size may off = refl

@@ -1,10 +1,14 @@
 -- What one unit on a buffer makes of a block.
-use Rattle.std.specs.Prelude.{ℕ, zero, suc, ◌+◌, ◌-◌, ◌*◌, ◌==◌, Bool, true, false, cond, List, [], ◌∷◌, length, replicate, Option, Some, None, ℤ, pos, slice_index_or, slice_set}
+use Rattle.std.specs.Prelude.{ℕ, zero, suc, ◌+◌, ◌-◌, ◌*◌, ◌==◌, Bool, cond, List, [], ◌∷◌, length, replicate, Option, Some, None, ℤ, pos, slice_index_or, slice_set}
 use Rattle.std.specs.Option.{option_map}
 use Rattle.sn_fixed.specs.Fixed.{sat}
 use Rattle.sn_def.specs.declared.kind.Kind.{Kind}
 use Rattle.sn_def.specs.declared.kind.Kind.TheVariants as kinds
 use Rattle.sn_def.specs.declared.control.Now.{Now}
+use Rattle.sn_def.specs.declared.table.Family.TheVariants as families
+use Rattle.sn_def.specs.declared.table.Access.TheVariants as accesses
+use Rattle.sn_def.specs.declared.table.Bank.TheVariants as banks
+use Rattle.sn_def.specs.Facts.{is_of, touches}
 use Rattle.sn_mem.specs.Blocks.{sample, table}
 use Rattle.sn_mem.specs.Buffers.{Buffer}
 use Rattle.sn_io.specs.Channels.{control_number}
@@ -17,22 +21,13 @@ pub record BufferBlock : Type 0 where
   pub buffers : List (Option Buffer)
 
 abbrev pub is_buffer_unit : Kind → Bool
-is_buffer_unit kinds.PlayBuf = true
-is_buffer_unit kinds.RecordBuf = true
-is_buffer_unit kinds.BufRd = true
-is_buffer_unit kinds.BufWr = true
-is_buffer_unit kinds.BufFrames = true
-is_buffer_unit _ = false
+is_buffer_unit kind = is_of families.Buffer kind
 
 abbrev pub reads_buffer : Kind → Bool
-reads_buffer kinds.PlayBuf = true
-reads_buffer kinds.BufRd = true
-reads_buffer _ = false
+reads_buffer kind = touches accesses.Read banks.Buffer kind
 
 abbrev pub writes_buffer : Kind → Bool
-writes_buffer kinds.RecordBuf = true
-writes_buffer kinds.BufWr = true
-writes_buffer _ = false
+writes_buffer kind = touches accesses.Write banks.Buffer kind
 
 -- ---- the buffer of a unit
 

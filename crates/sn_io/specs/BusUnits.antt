@@ -1,12 +1,16 @@
 -- What one unit on buses or triggers makes of a block.
-use Rattle.std.specs.Prelude.{ℕ, Bool, true, false, List, [], ℤ}
+use Rattle.std.specs.Prelude.{ℕ, Bool, true, false, ◌||◌, List, [], ℤ}
 use Rattle.sn_def.specs.declared.kind.Kind.{Kind}
 use Rattle.sn_def.specs.declared.kind.Kind.TheVariants as kinds
 use Rattle.sn_def.specs.declared.control.Now.{Now}
+use Rattle.sn_def.specs.declared.table.Family.TheVariants as families
+use Rattle.sn_def.specs.declared.table.Access.TheVariants as accesses
+use Rattle.sn_def.specs.declared.table.Bank.TheVariants as banks
+use Rattle.sn_def.specs.Facts.{is_of, touches}
 use Rattle.sn_mem.specs.Buses.{Buses}
 use Rattle.sn_io.specs.BusInputs.{audio_inputs, control_inputs}
 use Rattle.sn_io.specs.BusOutputs.{mixed, replaced, control_mixed, audio_outputs, control_outputs}
-use Rattle.sn_io.specs.Triggers.{is_trigger, trigger_block}
+use Rattle.sn_io.specs.Triggers.{trigger_block}
 
 -- after a unit's block: its state words, the blocks that it gives, and the buses
 pub record UnitBlock : Type 0 where
@@ -14,32 +18,24 @@ pub record UnitBlock : Type 0 where
   pub outputs : List (List ℤ)
   pub buses : Buses
 
+-- ---- units that read or write buses
+
 abbrev pub reads_audio : Kind → Bool
-reads_audio kinds.Inar = true
-reads_audio kinds.InFeedback = true
-reads_audio _ = false
+reads_audio kind = touches accesses.Read banks.Audio kind
 
 abbrev pub reads_control : Kind → Bool
-reads_control kinds.Inkr = true
-reads_control _ = false
+reads_control kind = touches accesses.Read banks.Control kind
 
 abbrev pub writes_audio : Kind → Bool
-writes_audio kinds.Outar = true
-writes_audio kinds.ReplaceOut = true
-writes_audio _ = false
+writes_audio kind = touches accesses.Write banks.Audio kind
 
 abbrev pub writes_control : Kind → Bool
-writes_control kinds.Outkr = true
-writes_control _ = false
+writes_control kind = touches accesses.Write banks.Control kind
+
+-- ---- units on buses, and triggers
 
 abbrev pub is_bus_unit : Kind → Bool
-is_bus_unit kinds.Inar = true
-is_bus_unit kinds.InFeedback = true
-is_bus_unit kinds.Inkr = true
-is_bus_unit kinds.Outar = true
-is_bus_unit kinds.ReplaceOut = true
-is_bus_unit kinds.Outkr = true
-is_bus_unit kind = is_trigger kind
+is_bus_unit kind = is_of families.Bus kind || is_of families.Trigger kind
 
 -- a unit that reads
 abbrev pub giving : List ℕ → List (List ℤ) → Buses → UnitBlock

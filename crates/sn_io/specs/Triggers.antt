@@ -1,10 +1,12 @@
 -- SendTrig, DetectSilence, FreeSelf and PauseSelf: units whose state words tell what is to be settled after a block.
-use Rattle.std.specs.Prelude.{ℕ, ◌+◌, ◌-◌, ◌%◌, ◌==◌, max, nat_lt, nat_le, Bool, true, false, not, ◌&&◌, cond, List, [], ◌∷◌, Option, Some, None, slice_index, ℤ, pos, int_lt, unsigned_abs}
+use Rattle.std.specs.Prelude.{ℕ, ◌+◌, ◌-◌, ◌%◌, ◌==◌, max, nat_lt, nat_le, Bool, false, not, ◌&&◌, cond, List, [], ◌∷◌, Option, Some, None, slice_index, ℤ, pos, int_lt, unsigned_abs}
 use Rattle.sn_fixed.specs.Fixed.{frames_of}
 use Rattle.sn_fixed.specs.Triggers.{rises}
 use Rattle.sn_def.specs.declared.kind.Kind.{Kind}
 use Rattle.sn_def.specs.declared.kind.Kind.TheVariants as kinds
 use Rattle.sn_def.specs.declared.control.Now.{Now}
+use Rattle.sn_def.specs.declared.table.Family.TheVariants as families
+use Rattle.sn_def.specs.Facts.{is_of}
 use Rattle.sn_def.specs.Runs.{one_output}
 use Rattle.sn_mem.specs.Blocks.{sample, sample_in, word_for, recurrence}
 use Rattle.sn_mem.specs.Done.{ended}
@@ -93,11 +95,7 @@ end_self s inputs k = (record { done = cond (int_lt (pos 0) (sample inputs 0 k))
 -- ---- blocks
 
 abbrev pub is_trigger : Kind → Bool
-is_trigger kinds.SendTrig = true
-is_trigger kinds.DetectSilence = true
-is_trigger kinds.FreeSelf = true
-is_trigger kinds.PauseSelf = true
-is_trigger _ = false
+is_trigger kind = is_of families.Trigger kind
 
 -- the state words after a block, and the output blocks
 unfoldable pub trigger_block : Kind → Now → List ℕ → List (List ℤ) → List ℕ × List (List ℤ)

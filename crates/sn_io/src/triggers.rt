@@ -7,7 +7,7 @@ ghost use Rattle.sn_mem.specs.Blocks.{window, put, recurred};
 ghost use Rattle.sn_io.specs.Triggers.{is_trigger, trigger_block, count_in, count_word, one_quieter, counted, is_quiet, is_silent, quieter};
 
 use sn_def::{Kind, Now};
-use sn_fixed::{ONE, frames_of, rises};
+use sn_fixed::{ONE, TimeFrames, rises};
 use sn_mem::{Blocks, Extent, Port, Recurrence, Stored, ended, run_recurrence, sample_of, word_of};
 
 /// What a unit has to report.
@@ -72,7 +72,7 @@ impl Recurrence for SendTrig {
 
     ghost step = { λ u. send_trig u.block };
 
-    fn next(&self, state: Sent, inputs: &Blocks, frame: usize) -> (Sent, i32) {
+    fn next(&mut self, state: Sent, inputs: &Blocks, frame: usize) -> (Sent, i32) {
         let trigger = inputs.at(0, frame);
         let this = self.block + 1;
         if rises(state.trigger, trigger) && state.rose != this {
@@ -166,22 +166,24 @@ fn counted(quiet: bool, count: Option<u32>) -> Option<u32>
 }
 
 /// Whether so many frames were quiet that the unit ends.
-fn is_silent(rate: u32, time: i32, count: Option<u32>) -> bool
-    ensures { result ≡ is_silent rate time count }
+fn is_silent(frames: &mut TimeFrames, time: i32, count: Option<u32>) -> bool
+    ensures value { result ≡ is_silent frames.old.rate time count }
+    ensures rate { frames.new.rate ≡ frames.old.rate }
 {
     match count {
         None => false,
-        Some(frames) => frames_of(time, rate).max(1) <= frames,
+        Some(quiet) => frames.at(time).max(1) <= quiet,
     }
 }
 
-fn quieter(rate: u32, state: Quiet, inputs: &Blocks, frame: usize) -> Quiet
+fn quieter(frames: &mut TimeFrames, state: Quiet, inputs: &Blocks, frame: usize) -> Quiet
     requires inputs { 3 ≤ length inputs.now }
     requires frame { frame < 64 }
-    ensures { result ≡ quieter rate state inputs.now frame }
+    ensures value { result ≡ quieter frames.old.rate state inputs.now frame }
+    ensures rate { frames.new.rate ≡ frames.old.rate }
 {
     let count = counted(is_quiet(inputs, frame), state.count);
-    let done = if is_silent(rate, inputs.at(2, frame), count) {
+    let done = if is_silent(frames, inputs.at(2, frame), count) {
         ended(state.done)
     } else {
         state.done
@@ -192,8 +194,8 @@ fn quieter(rate: u32, state: Quiet, inputs: &Blocks, frame: usize) -> Quiet
 /// DetectSilence x amp time done!
 #[derive(Clone, Copy)]
 pub(crate) struct DetectSilence {
-    /// Frames a second.
-    pub rate: u32,
+    /// The frames of the last time.
+    pub frames: TimeFrames,
 }
 
 impl Recurrence for DetectSilence {
@@ -203,10 +205,10 @@ impl Recurrence for DetectSilence {
 
     ghost arity = { λ _. 4 };
 
-    ghost step = { λ u. detect_silence u.rate };
+    ghost step = { λ u. detect_silence u.frames.rate };
 
-    fn next(&self, state: Quiet, inputs: &Blocks, frame: usize) -> (Quiet, i32) {
-        let after = quieter(self.rate, state, inputs, frame);
+    fn next(&mut self, state: Quiet, inputs: &Blocks, frame: usize) -> (Quiet, i32) {
+        let after = quieter(&mut self.frames, state, inputs, frame);
         (after, if after.done == 0 { 0 } else { ONE })
     }
 }
@@ -253,7 +255,7 @@ impl Recurrence for EndSelf {
 
     ghost step = { λ _. end_self };
 
-    fn next(&self, state: Ending, inputs: &Blocks, frame: usize) -> (Ending, i32) {
+    fn next(&mut self, state: Ending, inputs: &Blocks, frame: usize) -> (Ending, i32) {
         let done = if inputs.at(0, frame) > 0 {
             ended(state.done)
         } else {
@@ -302,12 +304,14 @@ pub(crate) fn run_trigger<P: Port>(
     ensures foot { P.foot port.new ≡ P.foot port.old }
     ensures rest { P.rest port.new ≡ P.rest port.old }
 {
-    let rate = now.rate;
     let block = now.block;
     let at = state.at;
     match kind {
         Kind::SendTrig => run_silent(&SendTrig { block }, port, at, inputs, outputs),
-        Kind::DetectSilence => run_recurrence(&DetectSilence { rate }, port, at, inputs, outputs),
+        Kind::DetectSilence => {
+            let frames = TimeFrames::new(now.rate);
+            run_recurrence(&DetectSilence { frames }, port, at, inputs, outputs);
+        }
         Kind::FreeSelf | Kind::PauseSelf => run_silent(&EndSelf, port, at, inputs, outputs),
         _ => {}
     }

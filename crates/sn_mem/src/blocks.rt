@@ -67,7 +67,8 @@ impl Blocks {
         requires { length self.old < 512 }
         ensures { self.new ≡ self.old ++ replicate 64 value ∷ [] }
     {
-        self.push(&[value; 64]);
+        self.items[self.used] = [value; 64];
+        self.used += 1;
     }
 
     /// Puts the blocks of another list at the end.

@@ -9,7 +9,10 @@ use crate::runs::{load_words, store_words};
 use crate::stored::Stored;
 
 /// A unit with one output, by its recurrence.
-pub trait Recurrence {
+///
+/// A unit may remember what it has computed, so as not to compute it again at the next frame. What it
+/// remembers ends with the block, and its step doesn't depend on it.
+pub trait Recurrence: Copy {
     type State: Stored;
 
     /// The number of its inputs.
@@ -18,11 +21,13 @@ pub trait Recurrence {
     /// From the state before a frame: the state after it, and the frame's sample.
     ghost step: { Self → Self.State → List (List ℤ) → ℕ → Self.State × ℤ };
 
-    /// One frame.
-    fn next(&self, state: Self::State, inputs: &Blocks, frame: usize) -> (Self::State, i32)
-        requires inputs { arity self.now ≤ length inputs.now }
+    /// One frame. The unit stays the same but for what it remembers.
+    fn next(&mut self, state: Self::State, inputs: &Blocks, frame: usize) -> (Self::State, i32)
+        requires inputs { arity self.old ≤ length inputs.now }
         requires frame { frame < 64 }
-        ensures { result ≡ step self.now state inputs.now frame };
+        ensures value { result ≡ step self.old state inputs.now frame }
+        ensures step { step self.new ≡ step self.old }
+        ensures arity { arity self.new ≡ arity self.old };
 }
 
 /// Runs a unit for a block, with its state in the words from `at` on.
@@ -44,9 +49,10 @@ pub fn run_recurrence<U: Recurrence, P: Port>(
     let words = &mut words[..U::State::size()];
     load_words(port, at, words);
     let mut state = U::State::load(words);
+    let mut running = *unit;
     let mut samples = [0i32; 64];
     for frame in 0..64 {
-        let (after, sample) = unit.next(state, inputs, frame);
+        let (after, sample) = running.next(state, inputs, frame);
         state = after;
         samples[frame] = sample;
     }

@@ -2,9 +2,11 @@
 ghost use Rattle.std.specs.Prelude.{◌≡◌, ◌<◌, ◌≤◌, ◌++◌, ◌∷◌, [], IfOk, length, pos, slice_index_or};
 
 use crate::blocks::Blocks;
+use sn_fixed::Heights;
 use sn_ports::NoMemory;
 use std::alloc::Global;
 use std::marker::Model;
+use std::sync::Arc;
 
 const MOST_VALUES: usize = 512;
 
@@ -59,7 +61,8 @@ impl Values {
     }
 }
 
-/// What a synth needs besides its port while it runs. What it holds between two runs means nothing.
+/// What a synth needs besides its port while it runs. What it holds between two runs means nothing,
+/// but for the heights, which never change.
 #[derive(Drop)]
 pub struct Scratch {
     /// The outputs of the units so far.
@@ -70,16 +73,29 @@ pub struct Scratch {
     pub outputs: Blocks,
     /// The values of the controls.
     pub values: Values,
+    /// The table from which sines are taken. Several scratches may share it.
+    pub heights: Arc<Heights, Global>,
 }
 
 impl Scratch {
     /// Room for all that a synth may need.
     pub fn new(alloc: Global) -> Result<Scratch, NoMemory> {
+        let heights = Heights::new(alloc)?;
+        Scratch::with_heights(alloc, Arc::new(alloc, heights)?)
+    }
+
+    /// Room for all that another synth may need at the same time, with the same heights.
+    pub fn beside(&self, alloc: Global) -> Result<Scratch, NoMemory> {
+        Scratch::with_heights(alloc, Arc::try_clone(&self.heights)?)
+    }
+
+    fn with_heights(alloc: Global, heights: Arc<Heights, Global>) -> Result<Scratch, NoMemory> {
         Ok(Scratch {
             wires: Blocks::new(alloc)?,
             inputs: Blocks::new(alloc)?,
             outputs: Blocks::new(alloc)?,
             values: Values::new(alloc)?,
+            heights,
         })
     }
 }

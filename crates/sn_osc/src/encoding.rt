@@ -72,7 +72,7 @@ fn tags_of(alloc: Global, arguments: &[Arg]) -> Result<Text, NoMemory>
 }
 
 /// A comma and the tags.
-fn behind_comma(alloc: Global, tags: &[u8]) -> Result<Text, NoMemory>
+fn with_comma(alloc: Global, tags: &[u8]) -> Result<Text, NoMemory>
     ensures { IfOk result (λ t. t.bytes ≡ 44 ∷ tags.now) }
 {
     let mut all = Text::from_slice(alloc, b",")?;
@@ -92,7 +92,7 @@ fn put_body(alloc: Global, out: &mut Text, body: &Body) -> Result<(), NoMemory>
             put_arguments(out, arguments.as_slice())
         }
         Body::Foreign { tags, rest } => {
-            let tags = behind_comma(alloc, tags.as_slice())?;
+            let tags = with_comma(alloc, tags.as_slice())?;
             put_string(out, tags.as_slice())?;
             out.append(rest.as_slice())
         }

@@ -194,10 +194,10 @@ fn tags(end: u32, bytes: &[u8]) -> Result<(&[u8], &[u8]), Undecoded>
         return Err(bad(PacketKind::NoTags, place(end, bytes)));
     }
     let (tagged, rest) = string(end, bytes)?;
-    Ok((behind_comma(tagged), rest))
+    Ok((after_comma(tagged), rest))
 }
 
-fn behind_comma(tagged: &[u8]) -> &[u8]
+fn after_comma(tagged: &[u8]) -> &[u8]
     ensures { result.now ≡ drop 1 tagged.now }
 {
     match tagged {

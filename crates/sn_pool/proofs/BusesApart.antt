@@ -1,19 +1,8 @@
 -- No word is in two buses.
-use Rattle.std.proofs.Common.{◌≡◌, ◌≢◌, ℕ, ◌+◌, ◌<◌, ◌≤◌, arith, leb, ltb, true}
-use Rattle.std.proofs.lemmas.Bool.{and_parts, ltb-true, leb-true}
-use Rattle.sn_mem.specs.declared.extents.Extent.{Extent}
-use Rattle.sn_mem.specs.Words.{covers}
+use Rattle.std.proofs.Common.{◌≢◌, ℕ, ◌+◌, ◌<◌, ◌≤◌, arith}
 use Rattle.sn_mem.specs.Layout.{audio_place, control_place}
 use Rattle.sn_pool.specs.Pools.{AreDisjoint}
-
-record IsWithin (e : Extent) (x : ℕ) : Type 0 where
-  pub low : e.at ≤ x
-  pub high : x < e.at + e.len
-
-within : (e : Extent) (x : ℕ) → covers e x ≡ true → IsWithin e x
-within e x h =
-    let parts = and_parts (leb e.at x) (ltb x (e.at + e.len)) h in
-    record { low = leb-true e.at x parts.0; high = ltb-true x (e.at + e.len) parts.1 }
+use Rattle.sn_pool.proofs.Runs.{within}
 
 pub audio_apart : (m n : ℕ) → m ≢ n → AreDisjoint (audio_place m) (audio_place n)
 audio_apart m n differ x one other =

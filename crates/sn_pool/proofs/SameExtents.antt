@@ -1,5 +1,5 @@
 -- Lists that count each extent alike have the same free words, in whatever order they stand.
-use Rattle.std.proofs.Common.{◌≡◌, ℕ, ◌-◌, ◌<◌, true, false, if◌then◌else◌, List, [], ◌∷◌, sym, ap, ◌∙◌, ⊎_elim, arith}
+use Rattle.std.proofs.Common.{◌≡◌, ℕ, ◌<◌, true, false, if◌then◌else◌, List, [], ◌∷◌, sym, ap, ◌∙◌, ⊎_elim, arith}
 use Rattle.std.proofs.lemmas.Bool.{or_left, or_right, or_cases, cases_Bool, false_from_ne_true, true≢false}
 use Rattle.sn_mem.specs.declared.extents.Extent.{Extent}
 use Rattle.sn_mem.specs.Words.{covers, has}

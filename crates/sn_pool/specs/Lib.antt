@@ -1,4 +1,9 @@
 pub mod Regions
 pub mod Pools
 pub mod Gaps
+pub mod Sorting
+pub mod Holes
+pub mod HolesKept
+pub mod RegionKept
+pub mod Changes
 pub mod Represents

@@ -18,6 +18,12 @@ pub record PoolState : Type 0 where
   pub live : List Extent
   pub journal : Option Journal
 
+-- A region's words, its live extents in the order of their places, and for how many there is room.
+pub record RegionState : Type 0 where
+  pub words : Extent
+  pub live : List Extent
+  pub room : ℕ
+
 -- Each extent has a word, begins where the one before it ends or later, and all lie between the two places.
 abbrev pub AreLaidOut : ℕ → ℕ → List Extent → Type 0
 AreLaidOut from to [] = from ≤ to

@@ -1,17 +1,18 @@
 //! The pool.
-ghost use Rattle.std.specs.Prelude.{◌≡◌, ◌≢◌, ◌<◌, ◌≤◌, ◌+◌, ◌^◌, ◌↔◌, if◌then◌else◌, [], IfOk, IfErr, IsErrOf, AllPairs, Some, None, true, ℕ, List, length, remove};
+ghost use Rattle.std.specs.Prelude.{◌≡◌, ◌≢◌, ◌<◌, ◌≤◌, ◌+◌, ◌^◌, ◌↔◌, ◌++◌, ◌∷◌, if◌then◌else◌, [], IfOk, IfErr, IfSome, OnOk, IsErrOf, AllPairs, Some, None, ℕ, List, length, vec_capacity};
 ghost use Rattle.sn_mem.specs.declared.extents.Extent.{Extent};
-ghost use Rattle.sn_pool.specs.Pools.{AreLaidOut, with_extent, without_extent, times, same_extent, mark_of, saved_of, HasRoom, one_given as one_given_of, LiesIn, AreDisjoint, GivesPlace};
-ghost use Rattle.sn_pool.specs.Represents.{journal_of};
+ghost use Rattle.sn_pool.specs.Pools.{with_extent, without_extent, times, same_extent, mark_of, saved_of, HasRoom, one_given as one_given_of, LiesIn, AreDisjoint, GivesPlace};
+ghost use Rattle.sn_pool.specs.Changes.{AreUndoable, IsUndoable, before_change, undone};
+ghost use Rattle.sn_pool.specs.Represents.{spent};
 ghost use Rattle.sn_pool.specs.declared.pool.Untaken.TheVariants.{NoMemory};
 ghost use Rattle.sn_pool.specs.Regions.{LeastPlace, IsLongestRun, count_free, least_place};
 
-use crate::gaps::{first_gap, free_words, longest_gap};
+use crate::changes::Change;
+use crate::region::Region;
 use sn_mem::Extent;
 use sn_ports::NoMemory;
-use std::alloc::{AllocFailed, Global};
+use std::alloc::Global;
 use std::marker::Model;
-use std::mem;
 
 /// Stands for an open journal. Only `begin` makes one, and `undo` or `commit` takes it.
 #[derive(Debug, Drop)]
@@ -28,10 +29,10 @@ pub enum Untaken {
     NoMemory,
 }
 
-impl<T: Drop> From<AllocFailed<T>> for Untaken {
+impl From<NoMemory> for Untaken {
     ghost from_gives = { λ _ e. e ≡ NoMemory };
 
-    fn from(_: AllocFailed<T>) -> Self {
+    fn from(_: NoMemory) -> Self {
         Untaken::NoMemory
     }
 }
@@ -43,22 +44,9 @@ struct OpenJournal {
     room: u32,
 }
 
-/// Where a live extent stands.
-fn index_of(live: &[Extent], extent: Extent) -> usize
-    requires laid_out { (from : ℕ) × (to : ℕ) × AreLaidOut from to live.now }
-    requires live { 0 < times extent live.now }
-    ensures within { result < length live.now }
-    ensures here { remove live.now result ≡ without_extent extent live.now }
-{
-    match live.binary_search_by_key(&extent.at, |other| other.at) {
-        Ok(index) => index,
-        Err(_) => unreachable!(),
-    }
-}
-
 /// The journal with room for one call fewer.
 fn one_given(journal: Option<OpenJournal>) -> Option<OpenJournal>
-    ensures { (saved : List Extent) → journal_of result saved ≡ one_given_of (journal_of journal saved) }
+    ensures { result ≡ spent journal }
 {
     match journal {
         Some(open) => Some(OpenJournal {
@@ -69,18 +57,70 @@ fn one_given(journal: Option<OpenJournal>) -> Option<OpenJournal>
     }
 }
 
+/// Undoes a change.
+fn undo_change(region: &mut Region, change: Change)
+    requires may { IsUndoable region.old.words region.old.live change }
+    requires room { length region.old.live < region.old.room }
+    ensures undone { region.new ≡ record region.old { live = before_change change region.old.live } }
+    ensures len { length region.new.live ≤ length region.old.live + 1 }
+{
+    match change {
+        Change::Taken(extent) => region.release(extent),
+        Change::Given(extent) => region.fill(extent),
+    }
+}
+
+/// Undoes the changes, the last first, and forgets them.
+fn undo_changes(region: &mut Region, changes: &mut Vec<Change>)
+    requires may { AreUndoable region.old.words changes.old.items region.old.live }
+    requires room { length region.old.live + length changes.old.items ≤ region.old.room }
+    ensures undone { region.new ≡ record region.old { live = undone changes.old.items region.old.live } }
+    ensures room { length region.new.live ≤ region.new.room }
+{
+    while let Some(change) = changes.pop() {
+        undo_change(region, change);
+    }
+}
+
+/// Writes a change down, if a journal is open. There is room for it.
+fn note(journal: Option<OpenJournal>, changes: &mut Vec<Change>, change: Change)
+    requires { IfSome journal (λ _. length changes.old.items < vec_capacity changes.old) }
+    ensures noted { IfSome journal (λ _. changes.new.items ≡ changes.old.items ++ change ∷ []) }
+    ensures room { vec_capacity changes.new ≡ vec_capacity changes.old }
+{
+    if journal.is_some() {
+        changes.push_reserved(change);
+    }
+}
+
+/// Makes room for one more live extent and for its change, beside what the open journal may still need.
+fn make_room(
+    region: &mut Region,
+    changes: &mut Vec<Change>,
+    journal: Option<OpenJournal>,
+) -> Result<(), NoMemory>
+    ensures words { region.new.words ≡ region.old.words }
+    ensures live { region.new.live ≡ region.old.live }
+    ensures changes { changes.new.items ≡ changes.old.items }
+    ensures room { OnOk result (length region.old.live + length changes.old.items + 2 ≤ region.new.room) }
+    ensures notes { OnOk result (IfSome journal (λ j. length changes.old.items + j.room + 1 ≤ vec_capacity changes.new)) }
+    ensures grows { (region.old.room ≤ region.new.room) × (vec_capacity changes.old ≤ vec_capacity changes.new) }
+{
+    let gives = journal.map_or(0, |open| open.room);
+    changes.reserve(gives as usize + 1)?;
+    region.reserve(changes.len() + 2)
+}
+
 /// The allocator of a region of words: it always gives the least place that is free.
 ///
 /// Contracts see its region, the live extents in the order of their places, and the open journal. The live extents lie in
 /// the region, have at least one word each, and no word is in two of them.
 #[derive(Drop)]
 pub struct Pool {
-    region: Extent,
-    // In the order of their places.
-    live: Vec<Extent>,
-    // Those that were live when the open journal began.
-    saved: Vec<Extent>,
+    region: Region,
     journal: Option<OpenJournal>,
+    // Those since the open journal began, the first one first.
+    changes: Vec<Change>,
     // The number of the last journal.
     begun: u64,
 }
@@ -104,10 +144,9 @@ impl Pool {
         ensures { IfOk result (λ pool. pool ≡ record { region = record { at = base; len = len }; live = []; journal = None }) }
     {
         Ok(Pool {
-            region: Extent { at: base, len },
-            live: Vec::new(alloc),
-            saved: Vec::new(alloc),
+            region: Region::new(alloc, Extent { at: base, len })?,
             journal: None,
+            changes: Vec::new(alloc),
             begun: 0,
         })
     }
@@ -119,8 +158,8 @@ impl Pool {
         ensures begun { IfOk result (λ mark. self.new ≡ record self.old { journal = Some (record { mark = mark; saved = self.old.live; room = gives }) }) }
         ensures refused { IfErr result (λ _. self.new ≡ self.old) }
     {
-        self.saved.clear();
-        self.saved.extend_from_slice(&self.live)?;
+        self.changes.clear();
+        self.changes.reserve(gives as usize)?;
         self.begun = self.begun.wrapping_add(1);
         let number = self.begun;
         self.journal = Some(OpenJournal {
@@ -141,11 +180,13 @@ impl Pool {
         ensures refused { IfErr result (λ _. self.new ≡ self.old) }
         ensures by_trial { GivesPlace result (least_place self.old.region self.old.live n) }
     {
-        let Some(gap) = first_gap(self.region, &self.live, n) else {
+        let Some(at) = self.region.least(n) else {
             return Err(Untaken::Full);
         };
-        let extent = Extent { at: gap.at, len: n };
-        self.live.insert(gap.index, extent)?;
+        make_room(&mut self.region, &mut self.changes, self.journal)?;
+        let extent = Extent { at, len: n };
+        self.region.fill(extent);
+        note(self.journal, &mut self.changes, Change::Taken(extent));
         Ok(extent)
     }
 
@@ -157,8 +198,8 @@ impl Pool {
         ensures counted { (e : Extent) → times e self.old.live ≡ (if same_extent e extent then 1 else 0) + times e self.new.live }
         ensures given { self.new ≡ record self.old { live = without_extent extent self.old.live; journal = one_given_of self.old.journal } }
     {
-        let index = index_of(&self.live, extent);
-        self.live.remove(index);
+        self.region.release(extent);
+        note(self.journal, &mut self.changes, Change::Given(extent));
         self.journal = one_given(self.journal);
     }
 
@@ -167,7 +208,7 @@ impl Pool {
         requires { mark_of self.old.journal ≡ Some mark }
         ensures { self.new ≡ record self.old { live = saved_of self.old.journal; journal = None } }
     {
-        mem::swap(&mut self.live, &mut self.saved);
+        undo_changes(&mut self.region, &mut self.changes);
         self.journal = None;
     }
 
@@ -183,14 +224,14 @@ impl Pool {
     pub fn largest(&self) -> u32
         ensures { IsLongestRun self.now.region self.now.live result }
     {
-        longest_gap(self.region, &self.live)
+        self.region.longest()
     }
 
     /// The number of free words.
     pub fn free(&self) -> u32
         ensures { result ≡ count_free self.now.live self.now.region.at self.now.region.len }
     {
-        free_words(self.region, &self.live)
+        self.region.free()
     }
 
     /// Tells what holds of the live extents of every pool, and does nothing.
@@ -200,6 +241,6 @@ impl Pool {
         ensures disjoint { (a b : Extent) → 0 < times a self.now.live → 0 < times b self.now.live → a ≢ b → AreDisjoint a b }
         ensures in_order { AllPairs (λ a b. a.at < b.at) self.now.live }
     {
-        let _ = &self.live;
+        self.region.layout();
     }
 }

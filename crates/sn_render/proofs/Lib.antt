@@ -1,7 +1,8 @@
 pub mod StreamLemmas
-pub mod GoingLemmas
-pub mod GrowingLemmas
+pub mod GatheringLemmas
+pub mod StepLemmas
+pub mod WritingLemmas
 pub mod ArrivingLemmas
-pub mod CutLemmas
+pub mod GoingLemmas
 pub mod OutcomeLemmas
 pub mod FaultLemmas

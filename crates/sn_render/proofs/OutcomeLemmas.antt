@@ -1,21 +1,20 @@
 -- A stream has one answer, and what was played is what it gives.
-use Rattle.std.proofs.Common.{◌≡◌, Bool, true, false, IsTrue, ℕ, ◌≤◌, ◌⊎◌, List, length, Option, Some, None, refl, sym, ap, subst, ◌∙◌, arith, inl, inr}
+use Rattle.std.proofs.Common.{◌≡◌, Bool, true, false, IsTrue, ℕ, ◌≤◌, ◌⊎◌, List, ◌++◌, length, Option, Some, None, refl, sym, ap, subst, ◌∙◌, arith, inl, inr}
 use Rattle.std.specs.Prelude.{IfSome}
-use Rattle.std.specs.Io.KnownBytes.{Keeps}
+use Rattle.std.specs.Io.KnownBytes.{Appends, Keeps}
 use Rattle.sn_osc.specs.Shape.{Shape}
 use Rattle.sn_pcm.specs.declared.settings.Settings.{Settings}
 use Rattle.sn_pcm.specs.Sound.{data_len, header_bytes}
 use Rattle.sn_render.specs.declared.outcome.Outcome.{Outcome}
 use Rattle.sn_render.specs.declared.outcome.Outcome.TheVariants.{Done, NoMemory, BadWords, BadStream, LongStream, LongSound, ReadFault, SoundFault, ReplyFault}
 use Rattle.sn_osc.specs.declared.fault.StreamFault.{StreamFault}
-use Rattle.sn_render.specs.Fronts.{TakesFront, TakeFronts}
-use Rattle.sn_render.specs.Going.{IsEnded, whole_sound, whole_replies}
+use Rattle.sn_render.specs.Fronts.{TakesFront, TakeFronts, TakeBoth}
 use Rattle.sn_render.specs.Outcomes.{IsTooLong, HasAnswer, IsAnswer, Played, ArePacketsOf, IsUnplayed, PlayedPart, Writes}
-use Rattle.sn_render.specs.Play.{last_of, arrived}
-use Rattle.sn_engine.specs.Running.{Running, opened}
+use Rattle.sn_render.specs.Play.{begun, last_of, played, to_end, to_first}
+use Rattle.sn_engine.specs.Running.{Running}
 use Rattle.sn_osc.specs.Frames.{Frames, StreamFaultAt}
 use Rattle.sn_osc.proofs.Streams.{one_list, excluded, one_stream_fault}
-use Rattle.sn_render.proofs.GoingLemmas.{IsOpened, all_given, all_played}
+use Rattle.sn_render.proofs.GoingLemmas.{sound_is}
 
 bad_alone : (bytes : List ℕ) (packets : List Shape) (number place : ℕ) (fault : StreamFault) → StreamFaultAt bytes number place fault → Frames packets bytes → ⊥
 bad_alone bytes packets number place fault s h = excluded packets s.before 0 bytes s.front s.rest place fault h s.frames s.parts s.why
@@ -84,22 +83,17 @@ complete s stream ReadFault answer bytes is some has read sound reply = absurd (
 complete s stream SoundFault answer bytes is some has read sound reply = absurd (sound refl)
 complete s stream ReplyFault answer bytes is some has read sound reply = absurd (reply refl)
 
--- an engine at which all packets arrived
-abbrev pub arrived_engine : Settings → List Shape → Running
-arrived_engine s packets = record (opened s 0 None 1) { waiting = arrived s packets }
-
 done_is : (m n : ℕ) → Done m ≡ Done n → m ≡ n
 done_is m n e = cc
 
 pub done_played : (s : Settings) (stream sound_old sound_new replies_old replies_new : Option (List ℕ)) (bytes : List ℕ) (packets : List Shape) (blocks n : ℕ) (e : Running)
-    → IfSome stream (λ xs. bytes ≡ xs) → Frames packets bytes → blocks ≡ last_of s packets → e ≡ arrived_engine s packets
-    → IsEnded s (record e { sound = header_bytes s (data_len s blocks) }) blocks sound_old sound_new replies_old replies_new → Done blocks ≡ Done n → Played s stream n sound_old sound_new replies_old replies_new
-done_played s None sound_old sound_new replies_old replies_new bytes packets blocks n e are frames last is ended same = tt
-done_played s (Some stream) sound_old sound_new replies_old replies_new bytes packets blocks n e are frames last is ended same =
-    let ended_last = subst (λ (k : ℕ). IsEnded s (record e { sound = header_bytes s (data_len s k) }) k sound_old sound_new replies_old replies_new) last ended in
-    let begun = subst (λ (r : Running). IsEnded s (record r { sound = header_bytes s (data_len s (last_of s packets)) }) (last_of s packets) sound_old sound_new replies_old replies_new) is ended_last in
-    let bytes_out = all_played s packets (record (arrived_engine s packets) { sound = header_bytes s (data_len s (last_of s packets)) }) sound_old sound_new replies_old replies_new (record { world = refl; waiting = refl; clashes = refl; block = refl; sound = refl; replies = refl }) begun in
-    (packets, subst (Frames packets) are frames, sym (done_is blocks n same) ∙ last, bytes_out.0, bytes_out.1)
+    → IfSome stream (λ xs. bytes ≡ xs) → Frames packets bytes → blocks ≡ last_of s packets → e ≡ begun s packets
+    → TakeBoth sound_old sound_new replies_old replies_new (header_bytes s (data_len s blocks) ++ (to_end blocks e).sound) (to_first (to_end blocks e).replies) → Done blocks ≡ Done n → Played s stream n sound_old sound_new replies_old replies_new
+done_played s None sound_old sound_new replies_old replies_new bytes packets blocks n e are frames last is took same = tt
+done_played s (Some stream) sound_old sound_new replies_old replies_new bytes packets blocks n e are frames last is took same =
+    let took_by : ℕ → Running → Type 0 = λ k r. TakeBoth sound_old sound_new replies_old replies_new (header_bytes s (data_len s k) ++ (to_end k r).sound) (to_first (to_end k r).replies) in
+    let both : took_by (last_of s packets) (begun s packets) = subst (took_by (last_of s packets)) is (subst (λ (k : ℕ). took_by k e) last took) in
+    (packets, subst (Frames packets) are frames, sym (done_is blocks n same) ∙ last, subst (Appends sound_old sound_new) (sound_is s packets) both.sound, both.replies)
 
 -- the answer of a stream whose sound is too long
 pub long_answer : (s : Settings) (stream : Option (List ℕ)) (bytes : List ℕ) (packets : List Shape) (blocks : ℕ) → IfSome stream (λ xs. bytes ≡ xs) → length bytes ≤ 16777216 → Frames packets bytes
@@ -151,19 +145,16 @@ unplayed_writes s stream ReplyFault sound replies is = absurd is
 -- ---- a stream whose playing was cut
 
 pub played_part : (s : Settings) (stream sound_old sound_new replies_old replies_new : Option (List ℕ)) (packets : List Shape) (blocks : ℕ) (e : Running)
-    → ArePacketsOf stream packets → blocks ≡ last_of s packets → (IsTooLong s blocks → ⊥) → e ≡ arrived_engine s packets
-    → TakeFronts sound_old sound_new replies_old replies_new (whole_sound s (record e { sound = header_bytes s (data_len s blocks) }) blocks) (whole_replies s (record e { sound = header_bytes s (data_len s blocks) }) blocks)
+    → ArePacketsOf stream packets → blocks ≡ last_of s packets → (IsTooLong s blocks → ⊥) → e ≡ begun s packets
+    → TakeFronts sound_old sound_new replies_old replies_new (header_bytes s (data_len s blocks) ++ (to_end blocks e).sound) (to_first (to_end blocks e).replies)
     → PlayedPart s stream sound_old sound_new replies_old replies_new
-played_part s stream sound_old sound_new replies_old replies_new packets blocks e given last short is t =
-    let fronts_at : Running → ℕ → Type 0 = λ r k. TakeFronts sound_old sound_new replies_old replies_new (whole_sound s (record r { sound = header_bytes s (data_len s k) }) k) (whole_replies s (record r { sound = header_bytes s (data_len s k) }) k) in
-    let fronts : fronts_at (arrived_engine s packets) (last_of s packets) = subst (λ (r : Running). fronts_at r (last_of s packets)) is (subst (fronts_at e) last t) in
-    let opening = record (arrived_engine s packets) { sound = header_bytes s (data_len s (last_of s packets)) } in
-    let opens : IsOpened s packets opening = record { world = refl; waiting = refl; clashes = refl; block = refl; sound = refl; replies = refl } in
-    let whole = all_given s packets opening opens in
+played_part s stream sound_old sound_new replies_old replies_new packets blocks e given last short is took =
+    let took_by : ℕ → Running → Type 0 = λ k r. TakeFronts sound_old sound_new replies_old replies_new (header_bytes s (data_len s k) ++ (to_end k r).sound) (to_first (to_end k r).replies) in
+    let fronts : took_by (last_of s packets) (begun s packets) = subst (took_by (last_of s packets)) is (subst (λ (k : ℕ). took_by k e) last took) in
     record {
       packets = packets;
       given = given;
       short = λ long. short (subst (IsTooLong s) (sym last) long);
-      sound = subst (TakesFront sound_old sound_new) whole.0 fronts.sound;
-      replies = subst (TakesFront replies_old replies_new) whole.1 fronts.replies;
+      sound = subst (TakesFront sound_old sound_new) (sound_is s packets) fronts.sound;
+      replies = fronts.replies;
     }

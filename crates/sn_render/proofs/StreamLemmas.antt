@@ -1,5 +1,5 @@
 -- What decoding a stream answers is the only answer.
-use Rattle.std.proofs.Common.{◌≡◌, ◌+◌, ℕ, List, ◌++◌, length, Result, Ok, Err, IfOk, sym, subst, ◌∙◌}
+use Rattle.std.proofs.Common.{◌≡◌, ◌<◌, ◌+◌, ℕ, List, ◌++◌, length, slice_index, Result, Ok, Err, IfOk, sym, subst, ◌∙◌}
 use Rattle.sn_osc.specs.declared.fault.StreamFault.{StreamFault}
 use Rattle.sn_osc.specs.Shape.{Shape}
 use Rattle.sn_osc.specs.Frames.{Frames, FrameFault, StreamFaultAt}
@@ -8,7 +8,11 @@ use Rattle.std.specs.Result.{IsErrAnd}
 use Rattle.sn_render.specs.declared.stream.BadFrame.{BadFrame}
 use Rattle.sn_render.specs.declared.stream.Unframed.{Unframed}
 use Rattle.sn_render.specs.declared.stream.Unframed.TheVariants as unframed
-use Rattle.sn_render.specs.Stream.{IfBad, IsFound, IsRefused}
+use Rattle.sn_render.specs.Stream.{AreFramed, IfBad, IsFound, IsRefused}
+
+pub are_framed : {X : Type 0} (view : X → List Shape) (bytes : List ℕ) (r : Result X Unframed) → ((i : ℕ) → slice_index bytes i < 256) → IfOk r (λ v. Frames (view v) bytes) → IfOk r (λ v. AreFramed (view v))
+are_framed view bytes (Ok v) small found = (bytes, small, found)
+are_framed view bytes (Err e) small found = tt
 
 pub only_found : {X : Type 0} (view : X → List Shape) (bytes : List ℕ) (r : Result X Unframed) → IfOk r (λ v. Frames (view v) bytes) → IfBad r (λ f. StreamFaultAt bytes f.packet f.place f.fault)
     → (xs : List Shape) → Frames xs bytes → IsFound view r xs

@@ -1,5 +1,5 @@
 -- Packets whose entries can be put and answered.
-use Rattle.std.specs.Prelude.{◌≡◌, ◌≤◌, ◌+◌, ◌^◌, ℕ, List, [], ◌∷◌, length, None}
+use Rattle.std.specs.Prelude.{◌≡◌, ◌≤◌, ◌+◌, ◌^◌, ℕ, List, [], ◌∷◌, length}
 use Rattle.sn_osc.specs.Shape.{Shape}
 use Rattle.sn_engine.specs.Arriving.{IsSpelled}
 use Rattle.sn_engine.specs.Running.{Running}
@@ -11,8 +11,7 @@ abbrev pub ArePut : List Shape → ℕ → Type 0
 ArePut [] puts = Unit {0}
 ArePut (x ∷ xs) puts = IsSpelled x × (puts + length (entries_of x) ≤ 2 ^ 62) × ArePut xs (puts + length (entries_of x))
 
--- an engine at boundary 0, in which any number of entries may wait
+-- an engine at boundary 0
 pub record IsBegun (r : Running) : Type 0 where
   pub block : r.block ≡ 0
   pub standing : r.standing ≡ Settled
-  pub unlimited : r.waiting.limit ≡ None

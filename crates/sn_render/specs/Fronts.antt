@@ -11,3 +11,8 @@ TakesFront old new whole = (front : List ℕ) × Appends old new front × Before
 pub record TakeFronts (sound_old sound_new replies_old replies_new : Option (List ℕ)) (whole_sound whole_replies : List ℕ) : Type 0 where
   pub sound : TakesFront sound_old sound_new whole_sound
   pub replies : TakesFront replies_old replies_new whole_replies
+
+-- each of two sinks took all of its bytes
+pub record TakeBoth (sound_old sound_new replies_old replies_new : Option (List ℕ)) (whole_sound whole_replies : List ℕ) : Type 0 where
+  pub sound : Appends sound_old sound_new whole_sound
+  pub replies : Appends replies_old replies_new whole_replies

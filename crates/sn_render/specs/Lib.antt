@@ -1,4 +1,5 @@
 pub mod Stream
+pub mod Gathering
 pub mod Play
 pub mod Arriving
 pub mod Fronts
@@ -6,3 +7,4 @@ pub mod Going
 pub mod Faults
 pub mod Outcomes
 pub mod Statuses
+pub mod Pieces

@@ -1,10 +1,15 @@
 -- What decoding a stream answers.
-use Rattle.std.specs.Prelude.{◌≡◌, ℕ, List, Result, Ok, Err}
+use Rattle.std.specs.Prelude.{◌≡◌, ◌<◌, ℕ, List, slice_index, Result, Ok, Err}
 use Rattle.sn_osc.specs.declared.fault.StreamFault.{StreamFault}
 use Rattle.sn_osc.specs.Shape.{Shape}
+use Rattle.sn_osc.specs.Frames.{Frames}
 use Rattle.sn_render.specs.declared.stream.BadFrame.{BadFrame}
 use Rattle.sn_render.specs.declared.stream.Unframed.{Unframed}
 use Rattle.sn_render.specs.declared.stream.Unframed.TheVariants as unframed
+
+-- Some bytes are the frames of these packets.
+abbrev pub AreFramed : List Shape → Type 0
+AreFramed packets = (bytes : List ℕ) × ((i : ℕ) → slice_index bytes i < 256) × Frames packets bytes
 
 -- a fact for a refused stream
 abbrev pub IfBad : {X : Type 0} → Result X Unframed → (BadFrame → Type 0) → Type 0

@@ -1,7 +1,8 @@
 ghost use Rattle.std.specs.Prelude.{◌≡◌, ◌<◌, ◌≤◌, ◌^◌, length, OnErr, OnOk};
 ghost use Rattle.sn_ports.specs.Causes.{Rose};
-ghost use Rattle.sn_render.specs.Fronts.{TakesFront, TakeFronts};
-ghost use Rattle.sn_render.specs.Going.{IsAtBoundary, IsBlock, IsEnd, IsEnded, IsWritten, after_block, to_first, whole_replies, whole_sound};
+ghost use Rattle.sn_render.specs.Fronts.{TakesFront, TakeFronts, TakeBoth};
+ghost use Rattle.sn_render.specs.Going.{IsAtBoundary, IsWritten, HasWritten};
+ghost use Rattle.sn_render.specs.Play.{after_block, to_end, to_first};
 ghost use Rattle.sn_engine.specs.Running.{at_boundary};
 ghost use Rattle.sn_render.specs.Faults.{NoneElseFailed};
 ghost use Rattle.sn_engine.specs.declared.standing.Standing.TheVariants.{Settled};
@@ -93,7 +94,7 @@ fn render_block<H: Threads + Sync, O: Sink, R: Sink, G: Gate>(
     requires block { engine.old.block < 2 ^ 62 }
     requires settled { engine.old.standing ≡ Settled }
     requires alone { length engine.old.replies ≡ 1 }
-    ensures block { OnOk result (IsBlock (O.taken sound.old) (O.taken sound.new) (R.taken replies.old) (R.taken replies.new) engine.old engine.new) }
+    ensures block { OnOk result (HasWritten (O.taken sound.old) (O.taken sound.new) (R.taken replies.old) (R.taken replies.new) (after_block engine.old) engine.new) }
     ensures fronts { OnErr result (TakeFronts (O.taken sound.old) (O.taken sound.new) (R.taken replies.old) (R.taken replies.new) (after_block engine.old).sound (to_first (after_block engine.old).replies)) }
     ensures sound { result ≡ Err Stop.SoundFault → Rose (O.faults sound.old) (O.faults sound.new) }
     ensures reply { result ≡ Err Stop.ReplyFault → Rose (R.faults replies.old) (R.faults replies.new) }
@@ -118,8 +119,8 @@ fn render_end<O: Sink, R: Sink>(
 ) -> Result<(), Stop>
     requires settled { engine.old.standing ≡ Settled }
     requires alone { length engine.old.replies ≡ 1 }
-    ensures end { OnOk result (IsEnd (O.taken sound.old) (O.taken sound.new) (R.taken replies.old) (R.taken replies.new) engine.old) }
-    ensures fronts { OnErr result (TakeFronts (O.taken sound.old) (O.taken sound.new) (R.taken replies.old) (R.taken replies.new) engine.old.sound (to_first (at_boundary engine.old).replies)) }
+    ensures end { OnOk result (TakeBoth (O.taken sound.old) (O.taken sound.new) (R.taken replies.old) (R.taken replies.new) (at_boundary engine.old).sound (to_first (at_boundary engine.old).replies)) }
+    ensures fronts { OnErr result (TakeFronts (O.taken sound.old) (O.taken sound.new) (R.taken replies.old) (R.taken replies.new) (at_boundary engine.old).sound (to_first (at_boundary engine.old).replies)) }
     ensures sound { result ≡ Err Stop.SoundFault → Rose (O.faults sound.old) (O.faults sound.new) }
     ensures reply { result ≡ Err Stop.ReplyFault → Rose (R.faults replies.old) (R.faults replies.new) }
     ensures sound_later { O.faults sound.old ≤ O.faults sound.new }
@@ -148,10 +149,10 @@ pub fn render_blocks<H: Threads + Sync, O: Sink, R: Sink, G: Gate>(
     gate: &G,
 ) -> Result<(), Stop>
     requires begun { engine.block ≡ 0 }
-    requires stands { IsAtBoundary engine.settings engine }
+    requires stands { IsAtBoundary engine }
     requires blocks { blocks < 2 ^ 62 }
-    ensures ended { OnOk result (IsEnded engine.settings engine blocks (O.taken sound.old) (O.taken sound.new) (R.taken replies.old) (R.taken replies.new)) }
-    ensures fronts { OnErr result (TakeFronts (O.taken sound.old) (O.taken sound.new) (R.taken replies.old) (R.taken replies.new) (whole_sound engine.settings engine blocks) (whole_replies engine.settings engine blocks)) }
+    ensures ended { OnOk result (TakeBoth (O.taken sound.old) (O.taken sound.new) (R.taken replies.old) (R.taken replies.new) (to_end blocks engine).sound (to_first (to_end blocks engine).replies)) }
+    ensures fronts { OnErr result (TakeFronts (O.taken sound.old) (O.taken sound.new) (R.taken replies.old) (R.taken replies.new) (to_end blocks engine).sound (to_first (to_end blocks engine).replies)) }
     ensures sound { result ≡ Err Stop.SoundFault → Rose (O.faults sound.old) (O.faults sound.new) }
     ensures reply { result ≡ Err Stop.ReplyFault → Rose (R.faults replies.old) (R.faults replies.new) }
     ensures unfailed { NoneElseFailed result (O.faults sound.old) (O.faults sound.new) (R.faults replies.old) (R.faults replies.new) }

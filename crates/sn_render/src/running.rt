@@ -1,4 +1,4 @@
-ghost use Rattle.std.specs.Prelude.{◌≡◌, ◌⊎◌, ◌<◌, ◌≤◌, ◌+◌, ℕ, List, [], Some, None, Err, IfOk, IfErr, OnErr, OnOk, map, unwrap_or};
+ghost use Rattle.std.specs.Prelude.{◌≡◌, ◌⊎◌, ◌<◌, ◌≤◌, ◌+◌, ◌++◌, ℕ, List, Some, Err, IfOk, IfErr, OnErr, OnOk, map, unwrap_or};
 ghost use Rattle.std.specs.Io.KnownBytes.{Appends, IsAtEnd};
 ghost use Rattle.sn_osc.specs.Shape.{shape};
 ghost use Rattle.sn_pcm.specs.Sound.{data_len, header_bytes};
@@ -6,16 +6,15 @@ ghost use Rattle.sn_pcm.specs.declared.settings.Settings.{Settings};
 ghost use Rattle.sn_ports.specs.Causes.{Rose};
 ghost use Rattle.sn_render.specs.Arriving.{ArePut, IsBegun};
 ghost use Rattle.sn_render.specs.Faults.{NoneElseFailed};
-ghost use Rattle.sn_render.specs.Fronts.{TakesFront, TakeFronts};
-ghost use Rattle.sn_render.specs.Going.{IsAtBoundary, IsEnded, whole_replies, whole_sound};
+ghost use Rattle.sn_render.specs.Fronts.{TakesFront, TakeFronts, TakeBoth};
+ghost use Rattle.sn_render.specs.Going.{IsAtBoundary};
 ghost use Rattle.sn_render.specs.Outcomes.{Played, IsTooLong, IsAnswer, HasAnswer, ArePacketsOf, IsUnplayed, TakesStream, Writes};
-ghost use Rattle.sn_render.specs.Play.{arrive, arrived};
-ghost use Rattle.sn_engine.specs.Running.{opened};
+ghost use Rattle.sn_render.specs.Play.{arrive, begun, to_end, to_first};
 ghost use Rattle.sn_render.specs.declared.outcome.Outcome.{Outcome};
 
+use crate::gathering::{Ungathered, gather};
 use crate::outcome::Outcome;
 use crate::rendering::{Stop, render_blocks};
-use crate::stream::{Unframed, Unread, decode_stream, read_stream};
 use sn_engine::Engine;
 use sn_osc::Elements;
 use sn_pcm::{Settings, header, too_long};
@@ -23,14 +22,11 @@ use sn_ports::{Gate, NoMemory, Sink, Source, write_all};
 use std::alloc::Global;
 use std::thread::Threads;
 
-/// The most bytes of a stream.
-const MOST_BYTES: u64 = 16777216;
-
 /// Offers packets that arrive at boundary 0 from client 0, in order.
 fn offer_all(alloc: Global, engine: &mut Engine, packets: Elements) -> Result<(), NoMemory>
     requires begun { IsBegun engine.old }
     requires put { ArePut (map shape packets.items) engine.old.waiting.puts }
-    ensures { OnOk result (engine.new ≡ record engine.old { waiting = arrive (map shape packets.items) engine.old.waiting }) }
+    ensures { OnOk result (engine.new ≡ arrive (map shape packets.items) engine.old) }
 {
     for packet in packets {
         engine.offer(alloc, packet, 0)?;
@@ -41,7 +37,7 @@ fn offer_all(alloc: Global, engine: &mut Engine, packets: Elements) -> Result<()
 /// An engine at boundary 0, at which all packets have arrived.
 fn opened(alloc: Global, settings: &Settings, packets: Elements) -> Result<Engine, NoMemory>
     requires { ArePut (map shape packets.items) 0 }
-    ensures { IfOk result (λ e. e ≡ record (opened settings.now 0 None 1) { waiting = arrived settings.now (map shape packets.items) }) }
+    ensures { IfOk result (λ e. e ≡ begun settings.now (map shape packets.items)) }
 {
     let mut engine = Engine::open(alloc, settings, 0, None, 1)?;
     offer_all(alloc, &mut engine, packets)?;
@@ -77,12 +73,12 @@ fn play<H: Threads + Sync, O: Sink, R: Sink, G: Gate>(
     gate: &G,
 ) -> Result<(), Stop>
     requires begun { engine.block ≡ 0 }
-    requires silent { engine.sound ≡ [] }
-    requires stands { IsAtBoundary settings.now engine }
+    requires stands { IsAtBoundary engine }
     requires short { IsTooLong settings.now blocks → ⊥ }
-    ensures ended { OnOk result (IsEnded settings.now (record engine { sound = header_bytes settings.now (data_len settings.now blocks) }) blocks (O.taken sound.old) (O.taken sound.new) (R.taken replies.old) (R.taken replies.new)) }
+    ensures ended { OnOk result (TakeBoth (O.taken sound.old) (O.taken sound.new) (R.taken replies.old) (R.taken replies.new)
+        (header_bytes settings.now (data_len settings.now blocks) ++ (to_end blocks engine).sound) (to_first (to_end blocks engine).replies)) }
     ensures fronts { OnErr result (TakeFronts (O.taken sound.old) (O.taken sound.new) (R.taken replies.old) (R.taken replies.new)
-        (whole_sound settings.now (record engine { sound = header_bytes settings.now (data_len settings.now blocks) }) blocks) (whole_replies settings.now (record engine { sound = header_bytes settings.now (data_len settings.now blocks) }) blocks)) }
+        (header_bytes settings.now (data_len settings.now blocks) ++ (to_end blocks engine).sound) (to_first (to_end blocks engine).replies)) }
     ensures sound { result ≡ Err Stop.SoundFault → Rose (O.faults sound.old) (O.faults sound.new) }
     ensures reply { result ≡ Err Stop.ReplyFault → Rose (R.faults replies.old) (R.faults replies.new) }
     ensures unfailed { NoneElseFailed result (O.faults sound.old) (O.faults sound.new) (R.faults replies.old) (R.faults replies.new) }
@@ -102,21 +98,21 @@ fn read_packets<S: Source>(alloc: Global, source: &mut S) -> Result<Elements, Ou
     ensures unfailed { OnOk result (S.faults source.new ≡ S.faults source.old) }
     ensures refused { IfErr result (λ o. (o ≡ Outcome.ReadFault) ⊎ (S.faults source.new ≡ S.faults source.old)) }
 {
-    let bytes = match read_stream(alloc, source) {
-        Ok(bytes) => bytes,
-        Err(Unread::NoMemory) => return Err(Outcome::NoMemory),
-        Err(Unread::TooLong) => return Err(Outcome::LongStream {
-            bytes: MOST_BYTES + 1,
-        }),
-        Err(Unread::Failed) => return Err(Outcome::ReadFault),
-    };
-    match decode_stream(alloc, &bytes) {
+    match gather(alloc, source) {
         Ok(packets) => Ok(packets),
-        Err(Unframed::NoMemory) => Err(Outcome::NoMemory),
-        Err(Unframed::Bad(bad)) => Err(Outcome::BadStream {
-            packet: bad.packet,
-            place: bad.place,
-            fault: bad.fault,
+        Err(Ungathered::NoMemory) => Err(Outcome::NoMemory),
+        Err(Ungathered::ReadFault) => Err(Outcome::ReadFault),
+        Err(Ungathered::LongStream { bytes }) => Err(Outcome::LongStream { bytes }),
+        Err(
+            Ungathered::BadStream {
+                packet,
+                place,
+                fault,
+            },
+        ) => Err(Outcome::BadStream {
+            packet,
+            place,
+            fault,
         }),
     }
 }

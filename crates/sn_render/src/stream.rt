@@ -1,6 +1,6 @@
-ghost use Rattle.std.specs.Prelude.{◌≡◌, ◌≤◌, ◌<◌, ◌+◌, ◌++◌, List, ℕ, length, map, IfOk, IfSome, OnOk, IsTrue};
+ghost use Rattle.std.specs.Prelude.{◌≡◌, ◌≤◌, ◌<◌, ◌+◌, ◌++◌, List, ℕ, length, map, IfOk, IfSome, OnOk, OnErr, IsTrue};
 ghost use Rattle.std.specs.Io.KnownBytes.{Consumes, IsAtEnd, Keeps};
-ghost use Rattle.sn_ports.specs.Causes.{Rose};
+ghost use Rattle.sn_ports.specs.Causes.{HasCause, Rose};
 ghost use Rattle.sn_osc.specs.Shape.{Shape, shape};
 ghost use Rattle.sn_osc.specs.Grammar.{Spells};
 ghost use Rattle.sn_osc.specs.Bytes.{frame_bytes};
@@ -9,14 +9,21 @@ ghost use Rattle.sn_osc.specs.Frames.{is_frame_size, Frames, first_frame, instea
 ghost use Rattle.sn_render.specs.declared.stream.Unframed.TheVariants as unframed;
 ghost use Rattle.sn_render.specs.Faults.{UnlessFailed};
 ghost use Rattle.sn_render.specs.Outcomes.{Takes};
-ghost use Rattle.sn_render.specs.Stream.{IfBad, IsFound, IsRefused};
+ghost use Rattle.sn_render.specs.Pieces.{IsPiece};
+ghost use Rattle.sn_render.specs.Stream.{AreFramed, IfBad, IsFound, IsRefused};
 
 use sn_osc::{Elements, NoFrame, Packet, StreamFault, Undecoded, decode, first_frame};
-use sn_ports::{NoMemory, Source, fill};
+use sn_ports::{Failed, NoMemory, Source, Text, fill};
 use std::alloc::{AllocError, AllocFailed, Global};
 
 /// The most bytes of a stream.
 const MOST_BYTES: usize = 16777216;
+
+/// How many bytes are asked for at once.
+const PIECE: usize = 65536;
+
+/// So many bytes show that a stream is too long.
+pub const TOO_MANY_BYTES: u64 = 16777217;
 
 /// The first frame that is at fault.
 #[derive(Clone, Copy, Debug, PartialEq, Eq)]
@@ -44,11 +51,12 @@ impl<T: Drop> From<AllocFailed<T>> for Unframed {
     }
 }
 
-/// Why a stream was not read.
+/// Why a source was not read to its end.
 #[derive(Clone, Copy, Debug, PartialEq, Eq)]
 pub enum Unread {
+    /// Memory ran out.
     NoMemory,
-    /// The stream has more bytes than may be.
+    /// There are more than 16,777,216 bytes.
     TooLong,
     /// The source failed.
     Failed,
@@ -61,7 +69,23 @@ pub fn room(alloc: Global, len: usize) -> Result<Vec<u8>, AllocError>
     vec![in alloc; 0; len]
 }
 
-/// Reads a stream to its end.
+/// Reads as many bytes as the piece has room for, or fewer at the end of the source, and puts them at the end of those
+/// that were read. It answers whether there were as many.
+fn read_piece<S: Source>(source: &mut S, piece: &mut [u8], bytes: &mut Text) -> Result<bool, Failed>
+    requires room { length piece.old ≤ bytes.old.spare }
+    ensures read { IfOk result (λ is_full. IsPiece (S.left source.old) (S.left source.new) bytes.old.bytes bytes.new.bytes (length piece.old) is_full) }
+    ensures spare { bytes.old.spare + length bytes.old.bytes ≤ bytes.new.spare + length bytes.new.bytes }
+    ensures some { OnErr result ((given : List ℕ) × Consumes (S.left source.old) (S.left source.new) given × (length given < length piece.old)) }
+    ensures cause { HasCause (S.faults source.old) (S.faults source.new) result }
+    ensures unfailed { OnOk result (S.faults source.new ≡ S.faults source.old) }
+    ensures size { length piece.new ≡ length piece.old }
+{
+    let count = fill(source, piece)?;
+    bytes.append_within(&piece[..count]);
+    Ok(count == piece.len())
+}
+
+/// Reads a source to its end.
 ///
 /// `TooLong` comes where 16,777,217 bytes were taken, and `Failed` only where the source's count of faults rose and fewer were taken. Nothing
 /// was taken where memory ran out.
@@ -76,17 +100,23 @@ pub fn read_stream<S: Source>(alloc: Global, source: &mut S) -> Result<Vec<u8>, 
     ensures failed { result ≡ Err Unread.Failed → Rose (S.faults source.old) (S.faults source.new) }
     ensures unfailed { UnlessFailed result (S.faults source.new ≡ S.faults source.old) }
 {
-    let Ok(mut bytes) = room(alloc, MOST_BYTES + 1) else {
+    let mut bytes = Text::new(alloc);
+    let Ok(()) = bytes.reserve(MOST_BYTES as u32 + 1) else {
         return Err(Unread::NoMemory);
     };
-    let Ok(count) = fill(source, &mut bytes) else {
-        return Err(Unread::Failed);
+    let Ok(mut piece) = room(alloc, PIECE) else {
+        return Err(Unread::NoMemory);
     };
-    if count > MOST_BYTES {
-        return Err(Unread::TooLong);
+    while bytes.len() <= MOST_BYTES {
+        let most = PIECE.min(MOST_BYTES + 1 - bytes.len());
+        let Ok(is_full) = read_piece(source, &mut piece[..most], &mut bytes) else {
+            return Err(Unread::Failed);
+        };
+        if !is_full {
+            return Ok(bytes.into_vec());
+        }
     }
-    bytes.truncate(count);
-    Ok(bytes)
+    Err(Unread::TooLong)
 }
 
 /// What is wrong where no whole frame stands.
@@ -153,6 +183,7 @@ fn decode_frames(alloc: Global, bytes: &[u8]) -> Result<Elements, Unframed>
 pub fn decode_stream(alloc: Global, bytes: &[u8]) -> Result<Elements, Unframed>
     requires { length bytes.now ≤ 16777216 }
     ensures found { IfOk result (λ v. Frames (map shape v.items) bytes.now) }
+    ensures framed { IfOk result (λ v. AreFramed (map shape v.items)) }
     ensures bad { IfBad result (λ f. StreamFaultAt bytes.now f.packet f.place f.fault) }
     ensures only_found { (xs : List Shape) → Frames xs bytes.now → IsFound (λ v. map shape v.items) result xs }
     ensures only_bad { (number place : ℕ) (fault : StreamFault) → StreamFaultAt bytes.now number place fault → IsRefused result number place fault }

@@ -1,10 +1,10 @@
--- The successors of a job are the jobs of which it is a predecessor.
-use Rattle.std.proofs.Common.{◌≡◌, ⊎_elim, ℕ, zero, suc, ◌+◌, ◌<◌, ◌==◌, Bool, true, false, ◌||◌, if◌then◌else◌, List, [], ◌∷◌, length, refl, sym, ap, subst, arith, eq-eqb, eqb-true}
+-- The successors of a job are the jobs of which it is a predecessor, each once.
+use Rattle.std.proofs.Common.{◌≡◌, ◌≢◌, ⊎_elim, ℕ, zero, suc, ◌+◌, ◌<◌, ◌≤◌, ◌==◌, Bool, true, false, ◌||◌, if◌then◌else◌, List, [], ◌∷◌, ◌++◌, length, refl, sym, ap, subst, arith, eq-eqb, eqb-true}
 use Rattle.std.specs.Prelude.{◌↔◌, Contains}
-use Rattle.std.proofs.lemmas.Bool.{or_cases, or_right}
+use Rattle.std.proofs.lemmas.Bool.{cases_eq, ne_eqb, or_cases, or_right}
 use Rattle.std.proofs.lemmas.List.Elements.{Contains-append_left, Contains-append_right, Contains-append_cases}
 use Rattle.sn_round.specs.declared.jobs.Job.{Job}
-use Rattle.sn_round.specs.Jobs.{is_in, predecessors, successors, successors_from}
+use Rattle.sn_round.specs.Jobs.{is_in, predecessors, successors, successors_from, times}
 use Rattle.sn_round.proofs.Orders.{nothing_in}
 
 contained : (j : ℕ) (xs : List ℕ) → is_in j xs ≡ true → Contains xs j
@@ -59,3 +59,39 @@ inverse jobs i j = (
       let same : 0 + j ≡ j = omega arith in
       subst (Contains (successors jobs i)) same (followed 0 jobs i j h.0 (found i (predecessors jobs j) h.1))),
 )
+
+times_append : (j : ℕ) (xs ys : List ℕ) → times j (xs ++ ys) ≡ times j xs + times j ys
+times_append j [] ys = omega arith
+times_append j (x ∷ xs) ys = omega (arith, times_append j xs ys)
+
+one_at_most : (b : Bool) → (if b then 1 else 0) + times 0 [] ≤ 1
+one_at_most true = omega arith
+one_at_most false = omega arith
+
+alone_once : (b : Bool) (k j : ℕ) → times j (alone b k) ≤ 1
+alone_once true k j = one_at_most (k == j)
+alone_once false k j = omega arith
+
+alone_other : (b : Bool) (k j : ℕ) → k ≢ j → times j (alone b k) ≡ 0
+alone_other true k j d = ap (λ (b : Bool). (if b then 1 else 0) + times j []) (ne_eqb k j d)
+alone_other false k j d = refl
+
+-- what stands before the first is not there
+not_before : (k : ℕ) (jobs : List Job) (i j : ℕ) → j < k → times j (successors_from k jobs i) ≡ 0
+not_before k [] i j l = refl
+not_before k (x ∷ jobs) i j l =
+    let parts = times_append j (alone (is_in i x.before) k) (successors_from (k + 1) jobs i) in
+    omega (arith, parts, alone_other (is_in i x.before) k j (λ e. omega arith), not_before (k + 1) jobs i j (omega arith))
+
+once_from : (k : ℕ) (jobs : List Job) (i j : ℕ) → times j (successors_from k jobs i) ≤ 1
+once_from k [] i j = omega arith
+once_from k (x ∷ jobs) i j =
+    let parts = times_append j (alone (is_in i x.before) k) (successors_from (k + 1) jobs i) in
+    ⊎_elim
+    (λ (e : k ≡ j). omega (arith, parts, alone_once (is_in i x.before) k j, not_before (k + 1) jobs i j (omega arith)))
+    (λ (d : k ≢ j). omega (arith, parts, alone_other (is_in i x.before) k j d, once_from (k + 1) jobs i j))
+    (cases_eq k j)
+
+-- no job is named twice among the successors of a job
+pub once : (jobs : List Job) (i j : ℕ) → times j (successors jobs i) ≤ 1
+once jobs i j = once_from 0 jobs i j

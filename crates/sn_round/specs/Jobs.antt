@@ -1,7 +1,7 @@
 -- Jobs, and what it means that they may run in any order that their predecessors allow.
-use Rattle.std.specs.Prelude.{◌≢◌, ◌⊎◌, ℕ, ◌+◌, ◌^◌, ◌<◌, ◌≤◌, ◌==◌, Bool, false, ◌||◌, if◌then◌else◌, List, [], ◌∷◌, ◌++◌, length, slice_index_or, Contains}
+use Rattle.std.specs.Prelude.{◌≡◌, ◌≢◌, ◌⊎◌, ℕ, ◌+◌, ◌^◌, ◌<◌, ◌≤◌, ◌==◌, Bool, true, false, ◌||◌, if◌then◌else◌, List, [], ◌∷◌, ◌++◌, length, slice_index_or, Contains}
 use Rattle.sn_mem.specs.declared.extents.Foot.{Foot}
-use Rattle.sn_mem.specs.Words.{Clash}
+use Rattle.sn_mem.specs.Words.{Clash, touches}
 use Rattle.sn_mem.specs.Blocks.{table}
 use Rattle.sn_round.specs.declared.jobs.Job.{Job}
 
@@ -57,3 +57,7 @@ pub data Ordered (jobs : List Job) : ℕ → ℕ → Type 0 where
 -- Of any two jobs that clash, one is ordered before the other.
 abbrev pub IsRaceFree : List Job → Type 0
 IsRaceFree jobs = (i j : ℕ) → i < length jobs → j < length jobs → i ≢ j → Clash (foot_at jobs i) (foot_at jobs j) → Ordered jobs i j ⊎ Ordered jobs j i
+
+-- Each foot lies in a memory of so many words.
+abbrev pub AreWithin : ℕ → List Job → Type 0
+AreWithin size jobs = (j x : ℕ) → j < length jobs → touches (foot_at jobs j) x ≡ true → x < size

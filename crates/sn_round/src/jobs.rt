@@ -1,7 +1,7 @@
 //! The jobs of a round.
-ghost use Rattle.std.specs.Prelude.{◌≡◌, ◌++◌, ◌∷◌, [], OnOk, OnErr};
+ghost use Rattle.std.specs.Prelude.{◌≡◌, ◌++◌, ◌∷◌, [], IfOk, OnOk, OnErr};
 
-use sn_mem::Foot;
+use sn_mem::{Extent, Extents, Foot};
 use sn_ports::NoMemory;
 use std::alloc::Global;
 use std::marker::Model;
@@ -37,6 +37,24 @@ impl Ids {
     {
         self.items.push(id)?;
         Ok(())
+    }
+
+    /// Puts ids at the end. An `Err` changes nothing.
+    pub fn extend(&mut self, ids: &[i32]) -> Result<(), NoMemory>
+        ensures ok { OnOk result (self.new ≡ self.old ++ ids.now) }
+        ensures err { OnErr result (self.new ≡ self.old) }
+    {
+        self.items.extend_from_slice(ids)?;
+        Ok(())
+    }
+
+    /// A copy.
+    pub fn copied(&self, alloc: Global) -> Result<Ids, NoMemory>
+        ensures { IfOk result (λ copy. copy ≡ self.now) }
+    {
+        let mut items = Vec::new(alloc);
+        items.extend_from_slice(&self.items)?;
+        Ok(Ids { items })
     }
 
     /// The ids, in their order.
@@ -80,6 +98,24 @@ impl Jobs {
         Ok(())
     }
 
+    /// Puts jobs at the end. An `Err` changes nothing.
+    pub fn extend(&mut self, jobs: &[u32]) -> Result<(), NoMemory>
+        ensures ok { OnOk result (self.new ≡ self.old ++ jobs.now) }
+        ensures err { OnErr result (self.new ≡ self.old) }
+    {
+        self.items.extend_from_slice(jobs)?;
+        Ok(())
+    }
+
+    /// A copy.
+    pub fn copied(&self, alloc: Global) -> Result<Jobs, NoMemory>
+        ensures { IfOk result (λ copy. copy ≡ self.now) }
+    {
+        let mut items = Vec::new(alloc);
+        items.extend_from_slice(&self.items)?;
+        Ok(Jobs { items })
+    }
+
     /// The jobs, in their order.
     pub fn as_slice(&self) -> &[u32]
         ensures { result.now ≡ self.now }
@@ -99,4 +135,37 @@ pub struct Job {
     pub foot: Foot,
     /// Its predecessors.
     pub before: Jobs,
+}
+
+fn copied_extents(alloc: Global, extents: &[Extent]) -> Result<Extents, NoMemory>
+    ensures { IfOk result (λ copy. copy ≡ extents.now) }
+{
+    let mut copy = Extents::new(alloc);
+    for extent in extents {
+        copy.push(*extent)?;
+    }
+    Ok(copy)
+}
+
+/// A copy of a foot.
+pub fn copied_foot(alloc: Global, foot: &Foot) -> Result<Foot, NoMemory>
+    ensures { IfOk result (λ copy. copy ≡ foot.now) }
+{
+    Ok(Foot {
+        reads: copied_extents(alloc, foot.reads.as_slice())?,
+        writes: copied_extents(alloc, foot.writes.as_slice())?,
+    })
+}
+
+impl Job {
+    /// A copy.
+    pub fn copied(&self, alloc: Global) -> Result<Job, NoMemory>
+        ensures { IfOk result (λ copy. copy ≡ self.now) }
+    {
+        Ok(Job {
+            synths: self.synths.copied(alloc)?,
+            foot: copied_foot(alloc, &self.foot)?,
+            before: self.before.copied(alloc)?,
+        })
+    }
 }

@@ -1,8 +1,8 @@
 //! Laws of the jobs of a round.
-ghost use Rattle.std.specs.Prelude.{◌≡◌, ◌↔◌, ◌<◌, ◌+◌, ℕ, List, length, Contains};
+ghost use Rattle.std.specs.Prelude.{◌≡◌, ◌↔◌, ◌<◌, ◌≤◌, ◌+◌, ℕ, List, length, Contains};
 ghost use Rattle.sn_mem.specs.Words.{Clash};
 ghost use Rattle.sn_round.specs.declared.jobs.Job.{Job};
-ghost use Rattle.sn_round.specs.Jobs.{AreJobs, IsRaceFree, Ordered, foot_at, predecessors, successors};
+ghost use Rattle.sn_round.specs.Jobs.{AreJobs, IsRaceFree, Ordered, foot_at, predecessors, successors, times};
 ghost use Rattle.sn_round.specs.Scripts.{IsScript, list_at, sequential};
 
 use crate::work::Work;
@@ -20,6 +20,11 @@ pub fn lower_comes_first()
 /// A law: the successors of a job are the jobs of which it is a predecessor.
 pub fn successors_are_the_inverse()
     ensures { (jobs : List Job) (i j : ℕ) → Contains (successors jobs i) j ↔ ((j < length jobs) × Contains (predecessors jobs j) i) }
+{}
+
+/// A law: no job is named twice among the successors of a job.
+pub fn successors_are_distinct()
+    ensures { (jobs : List Job) (i j : ℕ) → times j (successors jobs i) ≤ 1 }
 {}
 
 /// A law: a sequential script begins with the words that it is given, and each next list is what the next job makes of the one before.

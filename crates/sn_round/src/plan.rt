@@ -29,6 +29,16 @@ impl Model for Plan {
     ghost invariant = { λ p. AreJobs p.jobs.items × (p.after.items ≡ all_successors p.jobs.items) };
 }
 
+fn copied_jobs(alloc: Global, jobs: &[Job]) -> Result<Vec<Job>, NoMemory>
+    ensures { IfOk result (λ copy. copy.items ≡ jobs.now) }
+{
+    let mut copy = Vec::new(alloc);
+    for job in jobs {
+        copy.push(job.copied(alloc)?)?;
+    }
+    Ok(copy)
+}
+
 impl Plan {
     /// A round of these jobs.
     pub fn new(alloc: Global, jobs: Vec<Job>) -> Result<Plan, NoMemory>
@@ -37,6 +47,14 @@ impl Plan {
     {
         let after = successors_of(alloc, &jobs)?;
         Ok(Plan { jobs, after })
+    }
+
+    /// A copy.
+    pub fn copied(&self, alloc: Global) -> Result<Plan, NoMemory>
+        ensures { IfOk result (λ copy. copy ≡ self.now) }
+    {
+        self.is_well_formed();
+        Plan::new(alloc, copied_jobs(alloc, &self.jobs)?)
     }
 
     /// How many jobs there are, joints among them.

@@ -1,70 +1,81 @@
 -- A connection only adds to its sound and its replies.
-use Rattle.std.proofs.Common.{◌≡◌, ℕ, zero, suc, ◌+◌, Bool, true, false, Result, Ok, Err, List, [], ◌∷◌, ◌++◌, length, refl, sym, subst}
+use Rattle.std.proofs.Common.{◌≡◌, ◌+◌, ℕ, zero, suc, Bool, true, false, Result, Ok, Err, List, [], ◌∷◌, ◌++◌, length, refl, sym, ap, subst, ◌∙◌}
 use Rattle.std.specs.Prelude.{if◌then◌else◌}
 use Rattle.sn_osc.specs.Frames.{FirstFrame, cut, bad_size, frame, first_frame}
 use Rattle.sn_osc.specs.Reading.{read}
 use Rattle.sn_osc.specs.Shape.{Shape}
 use Rattle.sn_osc.specs.Unpacking.{unpacked}
 use Rattle.sn_osc.specs.declared.fault.PacketFault.{PacketFault}
-use Rattle.sn_pcm.specs.declared.settings.Settings.{Settings}
-use Rattle.sn_reply.specs.Frames.{frames_to}
-use Rattle.sn_engine.specs.Arriving.{offer_entries, nothing_offered}
-use Rattle.sn_engine.specs.Boundary.{quits_at}
+use Rattle.sn_reply.proofs.FrameLaws.{as_many}
+use Rattle.sn_engine.specs.Arriving.{offered, with_offered}
 use Rattle.sn_engine.specs.Entries.{entries_of}
-use Rattle.sn_engine.specs.Refusing.{bad_packet}
-use Rattle.sn_render.specs.Play.{Session, boundary}
-use Rattle.sn_render.proofs.GrowingLemmas.{Grows, grows_not, grows_both, says_more, boundary_grows, block_grows}
-use Rattle.sn_server.specs.declared.ended.Ended.TheVariants.{Quit}
-use Rattle.sn_server.specs.PlayEvents.{Live, Over, Course, going, ended, arrive_one, arrive_each, keep, receive, is_worn, worn, after_tick, tick, at_end, closed}
+use Rattle.sn_engine.specs.Refusing.{bad_packet, with_bad_packet}
+use Rattle.sn_engine.specs.Running.{Running, at_boundary, flow_at}
+use Rattle.sn_engine.specs.declared.standing.Flow.{Flow}
+use Rattle.sn_engine.specs.declared.standing.Flow.TheVariants as flows
+use Rattle.sn_render.specs.Play.{after_block}
+use Rattle.sn_render.proofs.StepLemmas.{IsStep, both_steps, holding, tells, boundary_step, after_block_step, Grows, grows_not, grows_both, grows}
+use Rattle.sn_server.specs.PlayEvents.{Live, Over, Course, going, ended, with_packet, with_packets, keep, receive, is_worn, worn, unless_quit, after_tick, tick, at_end, closed}
+
+-- ---- packets
+
+packet_step : (x : Result Shape PacketFault) → IsStep (with_packet x)
+packet_step (Ok x) = record {
+  adds = λ sound said r. ap (λ out. holding (sound ++ r.sound) out (with_offered 0 (entries_of x) r)) (tells (offered 0 (entries_of x) r).replies said r.replies);
+  clients = λ r. as_many 0 (offered 0 (entries_of x) r).replies r.replies;
+}
+packet_step (Err fault) = record {
+  adds = λ sound said r. ap (λ out. holding (sound ++ r.sound) out (with_bad_packet 0 r)) (tells (bad_packet 0 ∷ []) said r.replies);
+  clients = λ r. as_many 0 (bad_packet 0 ∷ []) r.replies;
+}
+
+pub packets_step : (packets : List (List ℕ)) → IsStep (with_packets packets)
+packets_step [] = record { adds = λ sound said r. refl; clients = λ r. refl }
+packets_step (packet ∷ packets) = both_steps (with_packet (read packet)) (with_packets packets) (packet_step (read packet)) (packets_step packets)
 
 -- ---- what is played up to the end
 
-end_is : (b : Bool) (v : Live) → (if b then worn v else closed v).session ≡ v.session
+end_is : (b : Bool) (v : Live) → (if b then worn v else closed v).play ≡ v.play
 end_is true v = refl
 end_is false v = refl
 
-pub live_end : (v : Live) → (at_end (going v)).session ≡ v.session
+pub live_end : (v : Live) → (at_end (going v)).play ≡ v.play
 live_end v = end_is (is_worn v) v
 
-pub grows_end : (s : Settings) (p : Session) (v : Live) → Grows s p v.session → Grows s p (at_end (going v)).session
-grows_end s p v g = subst (Grows s p) (sym (live_end v)) g
+pub grows_end : (p : Running) (v : Live) → Grows p v.play → Grows p (at_end (going v)).play
+grows_end p v g = subst (Grows p) (sym (live_end v)) g
 
-grows_or : (s : Settings) (b : Bool) (p : Session) (o : Over) (c : Course) → Grows s p o.session → Grows s p (at_end c).session → Grows s p (at_end (if b then ended o else c)).session
-grows_or s true p o c g h = g
-grows_or s false p o c g h = h
+grows_or : (b : Bool) (p : Running) (o : Over) (c : Course) → Grows p o.play → Grows p (at_end c).play → Grows p (at_end (if b then ended o else c)).play
+grows_or true p o c g h = g
+grows_or false p o c g h = h
 
-pub tick_grows : (s : Settings) (n : ℕ) (v : Live) → Grows s v.session (at_end (tick s n v)).session
-tick_grows s zero v = grows_end s v.session v (grows_not s v.session)
-tick_grows s (suc n) v =
-    let p = v.session in
-    let quits = quits_at v.block p.waiting p.world in
-    let over : Over = record { session = boundary v.block p; ending = Quit } in
-    let w = after_tick s v in
-    let more = tick s n w in
-    grows_or s (is_worn v) p (worn v) (if quits then ended over else more) (grows_not s p)
-    (grows_or s quits p over more (boundary_grows s v.block p) (grows_both s p w.session (at_end more).session (block_grows s v.block p) (tick_grows s n w)))
+grows_by : (x : Flow) (p r : Running) (c : Course) → Grows p r → Grows p (at_end c).play → Grows p (at_end (unless_quit x r c)).play
+grows_by flows.On p r c g h = h
+grows_by flows.Quit p r c g h = g
+
+pub tick_grows : (n : ℕ) (v : Live) → length v.play.replies ≡ 1 → Grows v.play (at_end (tick n v)).play
+tick_grows zero v alone = grows_end v.play v (grows_not v.play)
+tick_grows (suc n) v alone =
+    let p = v.play in
+    let w = after_tick v in
+    let more = tick n w in
+    grows_or (is_worn v) p (worn v) (unless_quit (flow_at p) (at_boundary p) more) (grows_not p)
+    (grows_by (flow_at p) p (at_boundary p) more (grows at_boundary boundary_step p alone)
+    (grows_both p w.play (at_end more).play (grows after_block after_block_step p alone) (tick_grows n w (after_block_step.clients p ∙ alone))))
 
 -- ---- bytes
 
-one_grows : (s : Settings) (b : ℕ) (x : Result Shape PacketFault) (p : Session) → Grows s p (arrive_one b x p)
-one_grows s b (Ok x) p = says_more s p (arrive_one b (Ok x) p) (frames_to 0 (offer_entries b 0 (entries_of x) (nothing_offered p.waiting)).replies) refl refl
-one_grows s b (Err fault) p = says_more s p (arrive_one b (Err fault) p) (frames_to 0 (bad_packet 0 ∷ [])) refl refl
+keep_end : (x : FirstFrame) (v : Live) → (at_end (keep x v)).play ≡ v.play
+keep_end cut v = live_end v
+keep_end (frame packet rest) v = live_end v
+keep_end (bad_size size) v = refl
 
-each_grows : (s : Settings) (b : ℕ) (packets : List (List ℕ)) (p : Session) → Grows s p (arrive_each b packets p)
-each_grows s b [] p = grows_not s p
-each_grows s b (packet ∷ packets) p =
-    let q = arrive_one b (read packet) p in
-    grows_both s p q (arrive_each b packets q) (one_grows s b (read packet) p) (each_grows s b packets q)
-
-keep_end : (x : FirstFrame) (rest : List ℕ) (fed block : ℕ) (p : Session) → (at_end (keep x rest fed block p)).session ≡ p
-keep_end cut rest fed block p = live_end (record { session = p; block = block; kept = rest; fed = fed })
-keep_end (frame packet behind) rest fed block p = live_end (record { session = p; block = block; kept = rest; fed = fed })
-keep_end (bad_size size) rest fed block p = refl
-
-pub receive_end : (piece : List ℕ) (v : Live) → (at_end (receive piece v)).session ≡ arrive_each v.block (unpacked (v.kept ++ piece)).packets v.session
+pub receive_end : (piece : List ℕ) (v : Live) → (at_end (receive piece v)).play ≡ with_packets (unpacked (v.framing.kept ++ piece)).packets v.play
 receive_end piece v =
-    let u = unpacked (v.kept ++ piece) in
-    keep_end (first_frame u.rest) u.rest (v.fed + length piece) v.block (arrive_each v.block u.packets v.session)
+    let u = unpacked (v.framing.kept ++ piece) in
+    keep_end (first_frame u.rest) (record { play = with_packets u.packets v.play; framing = record { kept = u.rest; fed = v.framing.fed + length piece } })
 
-pub receive_grows : (s : Settings) (piece : List ℕ) (v : Live) → Grows s v.session (at_end (receive piece v)).session
-receive_grows s piece v = subst (Grows s v.session) (sym (receive_end piece v)) (each_grows s v.block (unpacked (v.kept ++ piece)).packets v.session)
+pub receive_grows : (piece : List ℕ) (v : Live) → length v.play.replies ≡ 1 → Grows v.play (at_end (receive piece v)).play
+receive_grows piece v alone =
+    let packets = (unpacked (v.framing.kept ++ piece)).packets in
+    subst (Grows v.play) (sym (receive_end piece v)) (grows (with_packets packets) (packets_step packets) v.play alone)

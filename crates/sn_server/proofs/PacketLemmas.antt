@@ -1,7 +1,7 @@
 -- Packets that come to an engine over a connection.
 use Rattle.std.proofs.Common.{◌≡◌, ℕ, ℤ, ◌+◌, ◌≤◌, Bool, true, false, not, cond, ltb, Result, Ok, Err, Some, List, [], ◌∷◌, ◌++◌, length, take, drop, refl, sym, ap, ◌∙◌, arith}
 use Rattle.std.specs.Int.{w32, to_be_bytes}
-use Rattle.std.specs.Prelude.{if◌then◌else◌, IsTrue}
+use Rattle.std.specs.Prelude.{IsTrue}
 use Rattle.std.proofs.lemmas.Bool.{ltb-true}
 use Rattle.std.proofs.lemmas.List.{length-append, length-drop}
 use Rattle.sn_osc.specs.Bytes.{frame_bytes}
@@ -16,47 +16,32 @@ use Rattle.sn_osc.specs.Unpacking.{unpacked, one_more}
 use Rattle.sn_osc.specs.declared.fault.PacketFault.{PacketFault}
 use Rattle.sn_osc.proofs.Streams.{no_more, frame_first}
 use Rattle.sn_osc.proofs.UnpackingLemmas.{unpack_frame}
-use Rattle.sn_queue.specs.Steps.{put}
-use Rattle.sn_engine.specs.Arriving.{Offered, offer_entry, offer_entries, nothing_offered, next_boundary, offered, with_offered, is_full, refusal_of}
-use Rattle.sn_engine.specs.Entries.{Timed, entries_of}
+use Rattle.sn_engine.specs.Arriving.{nothing_offered, next_boundary, with_offered}
+use Rattle.sn_engine.specs.Entries.{entries_of}
 use Rattle.sn_engine.specs.Running.{Running}
 use Rattle.sn_engine.specs.declared.standing.Standing.TheVariants.{Settled}
 use Rattle.sn_engine.proofs.PutLemmas.{entries_few}
 use Rattle.sn_engine.specs.Refusing.{bad_packet}
 use Rattle.sn_reply.proofs.FrameLaws.{as_many}
-use Rattle.sn_server.specs.Serving.{IsReady, with_packet, with_packets}
-
--- no more entries are put than there are
-put_one : (b : Bool) (boundary : ℕ) (e : Timed) (o : Offered)
-    → (if b then record o { replies = o.replies ++ refusal_of 0 e ∷ []; refused = o.refused + 1 } else record o { waiting = put o.waiting e.tag boundary 0 e.messages }).waiting.puts ≤ o.waiting.puts + 1
-put_one true boundary e o = omega arith
-put_one false boundary e o = omega arith
-
-pub offered_puts : (boundary : ℕ) (es : List Timed) (o : Offered) → (offer_entries boundary 0 es o).waiting.puts ≤ o.waiting.puts + length es
-offered_puts boundary [] o = omega arith
-offered_puts boundary (e ∷ es) o = omega (arith, offered_puts boundary es (offer_entry boundary 0 e o), put_one (is_full o.waiting) boundary e o)
+use Rattle.sn_render.proofs.ArrivingLemmas.{StaysAt, one_stays, stay_both, offered_puts}
+use Rattle.sn_server.specs.PlayEvents.{with_packet, with_packets}
+use Rattle.sn_server.specs.Serving.{IsReady}
 
 pub packet_puts : (x : Shape) (bytes : List ℕ) (old new : Running) → Spells x bytes → 4 ≤ length bytes → new ≡ with_offered 0 (entries_of x) old → new.waiting.puts ≤ old.waiting.puts + length bytes
 packet_puts x bytes old new spelled some is =
     omega (arith, ap (λ r. r.waiting.puts) is, offered_puts (next_boundary old) (entries_of x) (nothing_offered old.waiting), entries_few x bytes spelled some)
 
--- nothing but what waits and what is said changes
-pub record StaysAt (old new : Running) : Type 0 where
-  pub standing : new.standing ≡ old.standing
-  pub block : new.block ≡ old.block
-  pub sound : new.sound ≡ old.sound
-  pub clients : length new.replies ≡ length old.replies
+-- ---- nothing but what waits and what is said changes
 
 pub packet_stays : (x : Result Shape PacketFault) (r : Running) → StaysAt r (with_packet x r)
-packet_stays (Ok x) r = record { standing = refl; block = refl; sound = refl; clients = as_many 0 (offered 0 (entries_of x) r).replies r.replies }
-packet_stays (Err fault) r = record { standing = refl; block = refl; sound = refl; clients = as_many 0 (bad_packet 0 ∷ []) r.replies }
+packet_stays (Ok x) r = one_stays x r
+packet_stays (Err fault) r = record { settings = refl; standing = refl; block = refl; sound = refl; clients = as_many 0 (bad_packet 0 ∷ []) r.replies }
 
 pub packets_stay : (packets : List (List ℕ)) (r : Running) → StaysAt r (with_packets packets r)
-packets_stay [] r = record { standing = refl; block = refl; sound = refl; clients = refl }
+packets_stay [] r = record { settings = refl; standing = refl; block = refl; sound = refl; clients = refl }
 packets_stay (p ∷ ps) r =
-    let one = packet_stays (read p) r in
-    let others = packets_stay ps (with_packet (read p) r) in
-    record { standing = others.standing ∙ one.standing; block = others.block ∙ one.block; sound = others.sound ∙ one.sound; clients = others.clients ∙ one.clients }
+    let next = with_packet (read p) r in
+    stay_both r next (with_packets ps next) (packet_stays (read p) r) (packets_stay ps next)
 
 -- the front of a frame is no longer than a frame
 cut_parts : (b c d : Bool) (i : ℤ) (f a : List ℕ) (P : Type 0) → cond b cut (cond c (bad_size i) (cond d cut (frame f a))) ≡ cut → (b ≡ true → P) → (c ≡ false → d ≡ true → P) → P

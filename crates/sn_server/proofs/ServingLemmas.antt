@@ -1,50 +1,43 @@
 -- A connection goes on from event to event.
-use Rattle.std.proofs.Common.{◌≡◌, ℕ, suc, ◌+◌, ◌-◌, ◌<◌, ◌||◌, Bool, true, false, Result, Ok, Err, ℤ, List, [], ◌∷◌, ◌++◌, length, Option, refl, sym, ap, subst, ◌∙◌, append_assoc, append-nil, arith, ◌⊎◌, inl, inr}
+use Rattle.std.proofs.Common.{◌≡◌, ℕ, suc, ◌+◌, ◌<◌, ◌||◌, Bool, true, Result, Ok, Err, ℤ, List, [], ◌∷◌, ◌++◌, length, Option, refl, sym, ap, subst, ◌∙◌, arith, ◌⊎◌, inl, inr}
 use Rattle.std.specs.Prelude.{if◌then◌else◌, nat_le}
-use Rattle.std.specs.Io.KnownBytes.{Appends, Keeps}
+use Rattle.std.specs.Io.KnownBytes.{Appends}
 use Rattle.std.specs.Result.{IsErrAnd}
+use Rattle.std.proofs.KnownBytes.{Appends-nil, Appends-trans, Appends-kept}
 use Rattle.sn_ports.specs.Transfer.{Before}
-use Rattle.std.proofs.KnownBytes.{Appends-trans, Appends-kept}
 use Rattle.sn_osc.specs.Frames.{cut, bad_size, first_frame}
 use Rattle.sn_osc.specs.Framed.{fed_with}
 use Rattle.sn_osc.specs.Framing.{Framing}
-use Rattle.sn_osc.specs.Reading.{read}
-use Rattle.sn_osc.specs.Shape.{Shape}
 use Rattle.sn_osc.specs.Unpacking.{unpacked}
-use Rattle.sn_osc.specs.declared.fault.PacketFault.{PacketFault}
-use Rattle.sn_pcm.specs.declared.settings.Settings.{Settings}
-use Rattle.sn_pcm.specs.Pcm.{pcm}
-use Rattle.sn_reply.specs.Frames.{frames_to, with_frames}
-use Rattle.sn_reply.specs.Replies.{ReplyShape}
-use Rattle.sn_reply.proofs.FrameLaws.{first_sent, none_sent, as_many, begins_refl, begins_trans}
-use Rattle.sn_world.specs.Settling.{settled}
-use Rattle.sn_world.specs.Walk.{walk}
-use Rattle.sn_engine.specs.Arriving.{offer_entries, nothing_offered}
-use Rattle.sn_engine.specs.Boundary.{unsaid, replies_at, quits_at}
-use Rattle.sn_engine.specs.Entries.{entries_of}
-use Rattle.sn_engine.specs.Outputs.{outputs}
-use Rattle.sn_engine.specs.Refusing.{bad_packet}
-use Rattle.sn_engine.specs.Running.{Running, at_boundary, with_block, with_settled, turn_settled, flow_at, flow_of}
+use Rattle.sn_reply.proofs.FrameLaws.{begins_refl, begins_trans}
+use Rattle.sn_engine.specs.Running.{Running, at_boundary, with_block, with_settled, flow_at}
 use Rattle.sn_engine.specs.declared.standing.Flow.{Flow}
 use Rattle.sn_engine.specs.declared.standing.Flow.TheVariants as flows
-use Rattle.sn_render.specs.Going.{to_first, after_block}
-use Rattle.sn_render.specs.Play.{Session, boundary}
+use Rattle.sn_render.specs.Fronts.{TakesFront}
+use Rattle.sn_render.specs.Play.{after_block, to_first}
+use Rattle.sn_render.proofs.StepLemmas.{AddsTo, added, drained, boundary_step, after_block_step, begins_more, begins_under, Grows, grows_not, grows_both, grows}
+use Rattle.sn_render.proofs.WritingLemmas.{takes_none}
 use Rattle.sn_server.specs.declared.ended.Ended.{Ended}
 use Rattle.sn_server.specs.declared.ended.Ended.TheVariants.{Quit, NoMemory, Closed, Cut, BadFrame, LinkFault, SoundFault, Worn}
-use Rattle.sn_server.specs.PlayEvents.{Live, Course, ended, ends, arrive_one, arrive_each, keep, receive, is_worn, worn, after_tick, tick, at_end}
-use Rattle.sn_render.specs.Fronts.{TakesFront}
+use Rattle.sn_server.specs.PlayEvents.{Live, Course, ended, ends, with_packets, keep, receive, is_worn, worn, unless_quit, after_tick, tick, at_end}
 use Rattle.sn_server.specs.Served.{TakesBetween, ByEnd, WhereGiven}
-use Rattle.sn_server.specs.Serving.{engine_of, framer_of, with_packet, with_packets, IsBad, IsLive, IsReady, HasEnded, GoesOn, IsCut, Follows, IsTickEnd, IsTicked, after_flow, IsTickPart, HasQuit, IsWornOut, HasLeft}
-use Rattle.sn_render.proofs.GoingLemmas.{pcm-append}
-use Rattle.sn_render.proofs.GrowingLemmas.{begins_same, begins_more, begins_under, takes_none, Grows, grows_both, block_grows}
-use Rattle.sn_server.proofs.GrowingLemmas.{tick_grows, receive_end, receive_grows}
+use Rattle.sn_server.specs.Serving.{IsBad, IsLive, IsReady, HasEnded, GoesOn, IsCut, Follows, IsTickEnd, IsTicked, after_flow, IsTickPart, HasQuit, IsWornOut, HasLeft}
+use Rattle.sn_server.proofs.PacketLemmas.{packets_stay}
+use Rattle.sn_server.proofs.GrowingLemmas.{packets_step, tick_grows, receive_end}
 use Rattle.sn_server.proofs.JoiningLemmas.{not_worn}
 
-abbrev pub saying : List ℕ → Running → Running
-saying t r = record r { replies = t ∷ [] }
+-- ---- steps
 
-pub one_sent : (rs : List ReplyShape) (t : List ℕ) → with_frames 0 rs (t ∷ []) ≡ (t ++ frames_to 0 rs) ∷ []
-one_sent rs t = first_sent 0 rs t [] ∙ ap (λ (ts : List (List ℕ)). (t ++ frames_to 0 rs) ∷ ts) (none_sent 1 rs)
+-- a step was taken, and what it gives was written and sent
+live_on : (sound_old sound_mid sound_new sent_old sent_mid sent_new : Option (List ℕ)) (v w : Live) (e0 held e1 : Running) (f0 f1 : Framing) → IsLive sound_old sound_mid sent_old sent_mid v e0 f0
+    → AddsTo v.play w.play held → e1 ≡ drained held → Appends sound_mid sound_new held.sound → Appends sent_mid sent_new (to_first held.replies) → f1 ≡ w.framing → IsLive sound_old sound_new sent_old sent_new w e1 f1
+live_on sound_old sound_mid sound_new sent_old sent_mid sent_new v w e0 held e1 f0 f1 live adds empty heard told framed = record {
+  alone = adds.alone;
+  engine = empty ∙ sym adds.rest;
+  framer = framed;
+  sound = subst (Appends sound_old sound_new) (sym adds.sound) (Appends-trans sound_old sound_mid sound_new v.play.sound held.sound live.sound heard);
+  sent = subst (Appends sent_old sent_new) (sym adds.said) (Appends-trans sent_old sent_mid sent_new (to_first v.play.replies) (to_first held.replies) live.sent told);
+}
 
 -- ---- a course that is cut short
 
@@ -63,276 +56,138 @@ between_later old new less least most front h =
     (taken, appended, begins_trans less least taken front first, last)
 
 -- nothing was written or sent since
-pub cut_here : (s : Settings) (sound_old sound_new sent_old sent_new : Option (List ℕ)) (v : Live) (e : Running) (f : Framing) (c : Course) → IsLive s sound_old sound_new sent_old sent_new v e f → Grows s v.session (at_end c).session
-    → IsCut s sound_old sound_new sent_old sent_new v c
-cut_here s sound_old sound_new sent_old sent_new v e f c live g = record {
-  sound = between_all sound_old sound_new (pcm s v.session.samples) (pcm s (at_end c).session.samples) live.sound g.sound;
-  sent = between_all sent_old sent_new v.session.replies (at_end c).session.replies live.sent g.replies;
+pub cut_here : (sound_old sound_new sent_old sent_new : Option (List ℕ)) (v : Live) (e : Running) (f : Framing) (c : Course) → IsLive sound_old sound_new sent_old sent_new v e f → Grows v.play (at_end c).play
+    → IsCut sound_old sound_new sent_old sent_new v c
+cut_here sound_old sound_new sent_old sent_new v e f c live g = record {
+  sound = between_all sound_old sound_new v.play.sound (at_end c).play.sound live.sound g.sound;
+  sent = between_all sent_old sent_new (to_first v.play.replies) (to_first (at_end c).play.replies) live.sent g.replies;
 }
 
 -- the connection had come further
-pub cut_later : (s : Settings) (sound_old sound_new sent_old sent_new : Option (List ℕ)) (v w : Live) (c : Course) → Grows s v.session w.session → IsCut s sound_old sound_new sent_old sent_new w c → IsCut s sound_old sound_new sent_old sent_new v c
-cut_later s sound_old sound_new sent_old sent_new v w c g h = record {
-  sound = between_later sound_old sound_new (pcm s v.session.samples) (pcm s w.session.samples) (pcm s (at_end c).session.samples) g.sound h.sound;
-  sent = between_later sent_old sent_new v.session.replies w.session.replies (at_end c).session.replies g.replies h.sent;
+pub cut_later : (sound_old sound_new sent_old sent_new : Option (List ℕ)) (v w : Live) (c : Course) → Grows v.play w.play → IsCut sound_old sound_new sent_old sent_new w c → IsCut sound_old sound_new sent_old sent_new v c
+cut_later sound_old sound_new sent_old sent_new v w c g h = record {
+  sound = between_later sound_old sound_new v.play.sound w.play.sound (at_end c).play.sound g.sound h.sound;
+  sent = between_later sent_old sent_new (to_first v.play.replies) (to_first w.play.replies) (to_first (at_end c).play.replies) g.replies h.sent;
 }
 
+-- a step was taken, and a front of what it gives was written and sent
+cut_in : (sound_old sound_mid sound_new sent_old sent_mid sent_new : Option (List ℕ)) (v : Live) (e : Running) (f : Framing) (next held : Running) (c : Course) → IsLive sound_old sound_mid sent_old sent_mid v e f
+    → AddsTo v.play next held → TakesFront sound_mid sound_new held.sound → TakesFront sent_mid sent_new (to_first held.replies) → Grows next (at_end c).play → IsCut sound_old sound_new sent_old sent_new v c
+cut_in sound_old sound_mid sound_new sent_old sent_mid sent_new v e f next held c live adds heard told g =
+    let last = (at_end c).play in
+    record {
+      sound = between_more sound_old sound_mid sound_new v.play.sound held.sound last.sound live.sound heard (subst (λ (t : List ℕ). Before t last.sound) adds.sound g.sound);
+      sent = between_more sent_old sent_mid sent_new (to_first v.play.replies) (to_first held.replies) (to_first last.replies) live.sent told (subst (λ (t : List ℕ). Before t (to_first last.replies)) adds.said g.replies);
+    }
+
 -- ---- frames
-
--- replies wait behind those that were sent
-pub record Owes (s : Settings) (done : List ℕ) (v : Live) (e : Running) : Type 0 where
-  pub pending : List ℕ
-  pub engine : e ≡ saying pending (engine_of s v)
-  pub all : done ++ pending ≡ v.session.replies
-
-abbrev with_session : Live → Session → Live
-with_session v p = record v { session = p }
-
-abbrev engine_saying : Settings → Live → List (List ℕ) → Running
-engine_saying s v ts = record (engine_of s v) { replies = ts }
-
-arrived_one : (s : Settings) (done : List ℕ) (v : Live) (e : Running) (x : Result Shape PacketFault) → Owes s done v e → Owes s done (with_session v (arrive_one v.block x v.session)) (with_packet x e)
-arrived_one s done v e (Ok x) o =
-    let said = (offer_entries v.block 0 (entries_of x) (nothing_offered v.session.waiting)).replies in
-    record {
-      pending = o.pending ++ frames_to 0 said;
-      engine = ap (with_packet (Ok x)) o.engine ∙ ap (engine_saying s (with_session v (arrive_one v.block (Ok x) v.session))) (one_sent said o.pending);
-      all = sym (append_assoc done o.pending (frames_to 0 said)) ∙ ap (λ (t : List ℕ). t ++ frames_to 0 said) o.all;
-    }
-arrived_one s done v e (Err fault) o =
-    let said = bad_packet 0 ∷ [] in
-    record {
-      pending = o.pending ++ frames_to 0 said;
-      engine = ap (with_packet (Err fault)) o.engine ∙ ap (engine_saying s (with_session v (arrive_one v.block (Err fault) v.session))) (one_sent said o.pending);
-      all = sym (append_assoc done o.pending (frames_to 0 said)) ∙ ap (λ (t : List ℕ). t ++ frames_to 0 said) o.all;
-    }
-
-arrived_each : (s : Settings) (done : List ℕ) (packets : List (List ℕ)) (v : Live) (e : Running) → Owes s done v e → Owes s done (with_session v (arrive_each v.block packets v.session)) (with_packets packets e)
-arrived_each s done [] v e o = o
-arrived_each s done (p ∷ ps) v e o = arrived_each s done ps (with_session v (arrive_one v.block (read p) v.session)) (with_packet (read p) e) (arrived_one s done v e (read p) o)
-
-sound_of_one : (b : ℕ) (x : Result Shape PacketFault) (p : Session) → (arrive_one b x p).samples ≡ p.samples
-sound_of_one b (Ok x) p = refl
-sound_of_one b (Err fault) p = refl
-
-sound_of_each : (b : ℕ) (packets : List (List ℕ)) (p : Session) → (arrive_each b packets p).samples ≡ p.samples
-sound_of_each b [] p = refl
-sound_of_each b (packet ∷ packets) p = sound_of_each b packets (arrive_one b (read packet) p) ∙ sound_of_one b (read packet) p
 
 -- the connection where what stands behind the last whole frame is kept
 abbrev pub after_piece : List ℕ → Live → Live
 after_piece piece v = record {
-  session = arrive_each v.block (unpacked (v.kept ++ piece)).packets v.session;
-  block = v.block;
-  kept = (unpacked (v.kept ++ piece)).rest;
-  fed = v.fed + length piece;
+  play = with_packets (unpacked (v.framing.kept ++ piece)).packets v.play;
+  framing = record { kept = (unpacked (v.framing.kept ++ piece)).rest; fed = v.framing.fed + length piece };
 }
 
 -- what an engine holds once all whole frames were offered
-owed : (s : Settings) (v : Live) (piece : List ℕ) (sound_old sound_new sent_old sent_new : Option (List ℕ)) (e0 e1 : Running) (f0 f1 : Framing) → IsLive s sound_old sound_new sent_old sent_new v e0 f0 → f1 ≡ fed_with piece f0
-    → e1 ≡ with_packets (unpacked f1.kept).packets e0 → Owes s v.session.replies (with_session v (arrive_each v.block (unpacked (v.kept ++ piece)).packets v.session)) e1
-owed s v piece sound_old sound_new sent_old sent_new e0 e1 f0 f1 live fed offered =
-    let piece_fed : f1 ≡ fed_with piece (framer_of v) = fed ∙ ap (fed_with piece) live.framer in
-    let o = arrived_each s v.session.replies (unpacked (v.kept ++ piece)).packets v (engine_of s v) (record { pending = []; engine = refl; all = append-nil v.session.replies }) in
-    record { pending = o.pending; engine = offered ∙ (λ i. with_packets (unpacked (piece_fed i).kept).packets (live.engine i)) ∙ o.engine; all = o.all }
+owed : (v : Live) (piece : List ℕ) (sound_old sound_new sent_old sent_new : Option (List ℕ)) (e0 e1 : Running) (f0 f1 : Framing) → IsLive sound_old sound_new sent_old sent_new v e0 f0 → f1 ≡ fed_with piece f0
+    → e1 ≡ with_packets (unpacked f1.kept).packets e0 → AddsTo v.play (after_piece piece v).play e1
+owed v piece sound_old sound_new sent_old sent_new e0 e1 f0 f1 live fed offered =
+    let packets = (unpacked (v.framing.kept ++ piece)).packets in
+    let piece_fed : f1 ≡ fed_with piece v.framing = fed ∙ ap (fed_with piece) live.framer in
+    let all : e1 ≡ with_packets packets e0 = offered ∙ ap (λ (f : Framing). with_packets (unpacked f.kept).packets e0) piece_fed in
+    subst (AddsTo v.play (after_piece piece v).play) (sym all) (added (with_packets packets) (packets_step packets) v.play e0 live.alone live.engine)
 
-pub received : (s : Settings) (v : Live) (piece : List ℕ) (sound_old sound_new sent_old sent_mid sent_new : Option (List ℕ)) (e0 e1 e2 : Running) (f0 f1 f2 : Framing) → IsLive s sound_old sound_new sent_old sent_mid v e0 f0
+-- no sound
+quiet : (e0 e1 : Running) (packets : List (List ℕ)) → e0.sound ≡ [] → e1 ≡ with_packets packets e0 → e1.sound ≡ []
+quiet e0 e1 packets silent offered = ap (λ (r : Running). r.sound) offered ∙ (packets_stay packets e0).sound ∙ silent
+
+pub received : (v : Live) (piece : List ℕ) (sound_old sound_new sent_old sent_mid sent_new : Option (List ℕ)) (e0 e1 e2 : Running) (f0 f1 f2 : Framing) → IsLive sound_old sound_new sent_old sent_mid v e0 f0
     → f1 ≡ fed_with piece f0 → e1 ≡ with_packets (unpacked f1.kept).packets e0 → f2 ≡ record f1 { kept = (unpacked f1.kept).rest }
-    → Appends sent_mid sent_new (to_first e1.replies) → e2 ≡ record e1 { replies = [] ∷ [] } → IsLive s sound_old sound_new sent_old sent_new (after_piece piece v) e2 f2
-received s v piece sound_old sound_new sent_old sent_mid sent_new e0 e1 e2 f0 f1 f2 live fed offered kept sent empty =
-    let packets = (unpacked (v.kept ++ piece)).packets in
-    let piece_fed : f1 ≡ fed_with piece (framer_of v) = fed ∙ ap (fed_with piece) live.framer in
-    let o = owed s v piece sound_old sound_new sent_old sent_mid e0 e1 f0 f1 live fed offered in
-    record {
-      engine = empty ∙ ap (λ (r : Running). record r { replies = [] ∷ [] }) o.engine;
-      framer = kept ∙ ap (λ (f : Framing). record f { kept = (unpacked f.kept).rest }) piece_fed;
-      sound = subst (λ xs. Appends sound_old sound_new (pcm s xs)) (sym (sound_of_each v.block packets v.session)) live.sound;
-      sent = subst (Appends sent_old sent_new) o.all (Appends-trans sent_old sent_mid sent_new v.session.replies o.pending live.sent (subst (Appends sent_mid sent_new) (ap (λ (r : Running). to_first r.replies) o.engine) sent));
-    }
+    → Appends sent_mid sent_new (to_first e1.replies) → e2 ≡ record e1 { replies = [] ∷ [] } → IsLive sound_old sound_new sent_old sent_new (after_piece piece v) e2 f2
+received v piece sound_old sound_new sent_old sent_mid sent_new e0 e1 e2 f0 f1 f2 live fed offered kept sent empty =
+    let piece_fed : f1 ≡ fed_with piece v.framing = fed ∙ ap (fed_with piece) live.framer in
+    let silent : e1.sound ≡ [] = quiet e0 e1 (unpacked f1.kept).packets (ap (λ (r : Running). r.sound) live.engine) offered in
+    live_on sound_old sound_new sound_new sent_old sent_mid sent_new v (after_piece piece v) e0 e1 e2 f0 f2 live (owed v piece sound_old sound_new sent_old sent_mid e0 e1 f0 f1 live fed offered)
+    (empty ∙ (λ i. record e1 { sound = silent i; replies = [] ∷ [] })) (subst (Appends sound_new sound_new) (sym silent) (Appends-nil sound_new)) sent (kept ∙ ap (λ (f : Framing). record f { kept = (unpacked f.kept).rest }) piece_fed)
 
 -- a front of what was answered was sent
-pub received_cut : (s : Settings) (v : Live) (piece : List ℕ) (sound_old sound_new sent_old sent_mid sent_new : Option (List ℕ)) (e0 e1 : Running) (f0 f1 : Framing) → IsLive s sound_old sound_new sent_old sent_mid v e0 f0
-    → f1 ≡ fed_with piece f0 → e1 ≡ with_packets (unpacked f1.kept).packets e0 → TakesFront sent_mid sent_new (to_first e1.replies) → IsCut s sound_old sound_new sent_old sent_new v (receive piece v)
-received_cut s v piece sound_old sound_new sent_old sent_mid sent_new e0 e1 f0 f1 live fed offered part =
-    let o = owed s v piece sound_old sound_new sent_old sent_mid e0 e1 f0 f1 live fed offered in
-    let last = (at_end (receive piece v)).session in
-    let all : v.session.replies ++ o.pending ≡ last.replies = o.all ∙ ap (λ (p : Session). p.replies) (sym (receive_end piece v)) in
-    let front : TakesFront sent_mid sent_new o.pending = subst (λ (t : List ℕ). TakesFront sent_mid sent_new t) (ap (λ (r : Running). to_first r.replies) o.engine) part in
-    record {
-      sound = between_all sound_old sound_new (pcm s v.session.samples) (pcm s last.samples) live.sound (receive_grows s piece v).sound;
-      sent = between_more sent_old sent_mid sent_new v.session.replies o.pending last.replies live.sent front (begins_same (v.session.replies ++ o.pending) last.replies all);
-    }
+pub received_cut : (v : Live) (piece : List ℕ) (sound_old sound_new sent_old sent_mid sent_new : Option (List ℕ)) (e0 e1 : Running) (f0 f1 : Framing) → IsLive sound_old sound_new sent_old sent_mid v e0 f0
+    → f1 ≡ fed_with piece f0 → e1 ≡ with_packets (unpacked f1.kept).packets e0 → TakesFront sent_mid sent_new (to_first e1.replies) → IsCut sound_old sound_new sent_old sent_new v (receive piece v)
+received_cut v piece sound_old sound_new sent_old sent_mid sent_new e0 e1 f0 f1 live fed offered part =
+    cut_in sound_old sound_new sound_new sent_old sent_mid sent_new v e0 f0 (after_piece piece v).play e1 (receive piece v) live (owed v piece sound_old sound_new sent_old sent_mid e0 e1 f0 f1 live fed offered)
+    (takes_none sound_new e1.sound) part (subst (Grows (after_piece piece v).play) (sym (receive_end piece v)) (grows_not (after_piece piece v).play))
 
-pub received_whole : (s : Settings) (v : Live) (piece : List ℕ) (sound_old sound_new sent_old sent_new : Option (List ℕ)) (e : Running) (f : Framing) → IsLive s sound_old sound_new sent_old sent_new (after_piece piece v) e f → first_frame f.kept ≡ cut
-    → GoesOn s sound_old sound_new sent_old sent_new (receive piece v) e f
-received_whole s v piece sound_old sound_new sent_old sent_new e f live stops =
+pub received_whole : (v : Live) (piece : List ℕ) (sound_old sound_new sent_old sent_new : Option (List ℕ)) (e : Running) (f : Framing) → IsLive sound_old sound_new sent_old sent_new (after_piece piece v) e f → first_frame f.kept ≡ cut
+    → GoesOn sound_old sound_new sent_old sent_new (receive piece v) e f
+received_whole v piece sound_old sound_new sent_old sent_new e f live stops =
     let w = after_piece piece v in
-    let at : first_frame w.kept ≡ cut = ap (λ (g : Framing). first_frame g.kept) (sym live.framer) ∙ stops in
-    record { live = w; course = ap (λ x. keep x w.kept w.fed w.block w.session) at; stands = live }
+    let at : first_frame w.framing.kept ≡ cut = ap (λ (g : Framing). first_frame g.kept) (sym live.framer) ∙ stops in
+    record { live = w; course = ap (λ x. keep x w) at; stands = live }
 
-bad_end : (s : Settings) (v : Live) (piece : List ℕ) (sound_old sound_new sent_old sent_new : Option (List ℕ)) (e : Running) (f : Framing) (size : ℤ) → IsLive s sound_old sound_new sent_old sent_new (after_piece piece v) e f
-    → first_frame f.kept ≡ bad_size size → HasEnded s sound_old sound_new sent_old sent_new (receive piece v) (BadFrame size)
-bad_end s v piece sound_old sound_new sent_old sent_new e f size live stops =
+bad_end : (v : Live) (piece : List ℕ) (sound_old sound_new sent_old sent_new : Option (List ℕ)) (e : Running) (f : Framing) (size : ℤ) → IsLive sound_old sound_new sent_old sent_new (after_piece piece v) e f
+    → first_frame f.kept ≡ bad_size size → HasEnded sound_old sound_new sent_old sent_new (receive piece v) (BadFrame size)
+bad_end v piece sound_old sound_new sent_old sent_new e f size live stops =
     let w = after_piece piece v in
-    let at : first_frame w.kept ≡ bad_size size = ap (λ (g : Framing). first_frame g.kept) (sym live.framer) ∙ stops in
+    let at : first_frame w.framing.kept ≡ bad_size size = ap (λ (g : Framing). first_frame g.kept) (sym live.framer) ∙ stops in
     record {
-      over = record { session = w.session; ending = BadFrame size };
-      course = ap (λ x. keep x w.kept w.fed w.block w.session) at;
+      over = record { play = w.play; ending = BadFrame size };
+      course = ap (λ x. keep x w) at;
       ending = refl;
       sound = live.sound;
       sent = live.sent;
     }
 
-pub received_bad : (s : Settings) (v : Live) (piece : List ℕ) (sound_old sound_new sent_old sent_new : Option (List ℕ)) (e : Running) (f : Framing) (how : Ended) → IsLive s sound_old sound_new sent_old sent_new (after_piece piece v) e f
-    → IsBad (first_frame f.kept) how → ByEnd how (HasEnded s sound_old sound_new sent_old sent_new (receive piece v) how) (IsCut s sound_old sound_new sent_old sent_new v (receive piece v))
-received_bad s v piece sound_old sound_new sent_old sent_new e f (BadFrame size) live stops = bad_end s v piece sound_old sound_new sent_old sent_new e f size live stops
-received_bad s v piece sound_old sound_new sent_old sent_new e f Quit live stops = absurd stops
-received_bad s v piece sound_old sound_new sent_old sent_new e f NoMemory live stops = absurd stops
-received_bad s v piece sound_old sound_new sent_old sent_new e f Closed live stops = absurd stops
-received_bad s v piece sound_old sound_new sent_old sent_new e f (Cut kept) live stops = absurd stops
-received_bad s v piece sound_old sound_new sent_old sent_new e f LinkFault live stops = absurd stops
-received_bad s v piece sound_old sound_new sent_old sent_new e f SoundFault live stops = absurd stops
-received_bad s v piece sound_old sound_new sent_old sent_new e f (Worn n blocks) live stops = absurd stops
+pub received_bad : (v : Live) (piece : List ℕ) (sound_old sound_new sent_old sent_new : Option (List ℕ)) (e : Running) (f : Framing) (how : Ended) → IsLive sound_old sound_new sent_old sent_new (after_piece piece v) e f
+    → IsBad (first_frame f.kept) how → ByEnd how (HasEnded sound_old sound_new sent_old sent_new (receive piece v) how) (IsCut sound_old sound_new sent_old sent_new v (receive piece v))
+received_bad v piece sound_old sound_new sent_old sent_new e f (BadFrame size) live stops = bad_end v piece sound_old sound_new sent_old sent_new e f size live stops
+received_bad v piece sound_old sound_new sent_old sent_new e f Quit live stops = absurd stops
+received_bad v piece sound_old sound_new sent_old sent_new e f NoMemory live stops = absurd stops
+received_bad v piece sound_old sound_new sent_old sent_new e f Closed live stops = absurd stops
+received_bad v piece sound_old sound_new sent_old sent_new e f (Cut kept) live stops = absurd stops
+received_bad v piece sound_old sound_new sent_old sent_new e f LinkFault live stops = absurd stops
+received_bad v piece sound_old sound_new sent_old sent_new e f SoundFault live stops = absurd stops
+received_bad v piece sound_old sound_new sent_old sent_new e f (Worn n blocks) live stops = absurd stops
 
 -- ---- blocks
 
--- of one client stays one
-pub boundary_alone : (r : Running) → length r.replies ≡ 1 → length (at_boundary r).replies ≡ 1
-boundary_alone r alone = as_many 0 (replies_at r.block r.waiting r.clashes r.world) r.replies ∙ alone
+after_quit : (n : ℕ) (v : Live) → v.framing.fed < 4611686018427387904 → v.play.block < 4611686018427387904 → flow_at v.play ≡ flows.Quit → tick (suc n) v ≡ ends (at_boundary v.play) Quit
+after_quit n v few less quits =
+    let more = tick n (after_tick v) in
+    not_worn v (unless_quit (flow_at v.play) (at_boundary v.play) more) few less ∙ ap (λ (x : Flow). unless_quit x (at_boundary v.play) more) quits
 
-pub block_alone : (r : Running) → length r.replies ≡ 1 → length (with_settled (with_block r)).replies ≡ 1
-block_alone r alone = as_many 0 (turn_settled (with_block r)).replies r.replies ∙ alone
-
-quits_by : (b : Bool) → flow_of b ≡ flows.Quit → b ≡ true
-quits_by true e = refl
-quits_by false e = absurd cc
-
-goes_by : (b : Bool) → flow_of b ≡ flows.On → b ≡ false
-goes_by false e = refl
-goes_by true e = absurd cc
-
-after_quit : (s : Settings) (n : ℕ) (v : Live) → v.fed < 4611686018427387904 → v.block < 4611686018427387904 → flow_at (engine_of s v) ≡ flows.Quit → tick s (suc n) v ≡ ends (boundary v.block v.session) Quit
-after_quit s n v few less quits =
-    not_worn v (if quits_at v.block v.session.waiting v.session.world then ends (boundary v.block v.session) Quit else tick s n (after_tick s v)) few less ∙ ap (λ (b : Bool). if b then ends (boundary v.block v.session) Quit else tick s n (after_tick s v)) (quits_by (quits_at v.block v.session.waiting v.session.world) quits)
-
-pub after_one : (s : Settings) (n : ℕ) (v : Live) → v.fed < 4611686018427387904 → v.block < 4611686018427387904 → flow_at (engine_of s v) ≡ flows.On → tick s (suc n) v ≡ tick s n (after_tick s v)
-after_one s n v few less goes =
-    not_worn v (if quits_at v.block v.session.waiting v.session.world then ends (boundary v.block v.session) Quit else tick s n (after_tick s v)) few less ∙ ap (λ (b : Bool). if b then ends (boundary v.block v.session) Quit else tick s n (after_tick s v)) (goes_by (quits_at v.block v.session.waiting v.session.world) goes)
-
--- what a boundary and its block say
-block_said : (s : Settings) (v : Live) → to_first (after_block (engine_of s v)).replies
-    ≡ frames_to 0 (replies_at v.block v.session.waiting v.session.clashes v.session.world) ++ frames_to 0 (settled v.block (unsaid (walk v.block (boundary v.block v.session).world))).replies
-block_said s v =
-    let first = replies_at v.block v.session.waiting v.session.clashes v.session.world in
-    let said = λ (n : ℕ). (settled n (unsaid (walk v.block (boundary v.block v.session).world))).replies in
-    let block : v.block + 1 - 1 ≡ v.block = omega arith in
-    let sent : with_frames 0 (said (v.block + 1 - 1)) (with_frames 0 first ([] ∷ [])) ≡ (frames_to 0 first ++ frames_to 0 (said v.block)) ∷ [] =
-    ap (with_frames 0 (said (v.block + 1 - 1))) (one_sent first []) ∙ one_sent (said (v.block + 1 - 1)) (frames_to 0 first) ∙ ap (λ (n : ℕ). (frames_to 0 first ++ frames_to 0 (said n)) ∷ []) block in
-    ap to_first sent
-
-pub ticked : (s : Settings) (v : Live) (sound_old sound_mid sound_new sent_old sent_mid sent_new : Option (List ℕ)) (e0 e1 : Running) (f : Framing) → IsLive s sound_old sound_mid sent_old sent_mid v e0 f
-    → e1 ≡ record (after_block e0) { sound = []; replies = [] ∷ [] } → Appends sound_mid sound_new (after_block e0).sound → Appends sent_mid sent_new (to_first (after_block e0).replies)
-    → IsLive s sound_old sound_new sent_old sent_new (after_tick s v) e1 f
-ticked s v sound_old sound_mid sound_new sent_old sent_mid sent_new e0 e1 f live done sounded replied =
-    let p = boundary v.block v.session in
-    let walked = walk v.block p.world in
-    let samples = outputs s v.block walked in
-    let first = replies_at v.block v.session.waiting v.session.clashes v.session.world in
-    let said = λ (n : ℕ). (settled n (unsaid walked)).replies in
-    let block : v.block + 1 - 1 ≡ v.block = omega arith in
-    let replies : to_first (after_block e0).replies ≡ frames_to 0 first ++ frames_to 0 (said v.block) = ap (λ (r : Running). to_first (after_block r).replies) live.engine ∙ block_said s v in
-    record {
-      engine = done ∙ ap (λ (r : Running). record (after_block r) { sound = []; replies = [] ∷ [] }) live.engine
-          ∙ ap (λ (n : ℕ). record (engine_of s (after_tick s v)) { world = (settled n (unsaid walked)).world }) block;
-      framer = live.framer;
-      sound = subst (Appends sound_old sound_new) (sym (pcm-append s v.session.samples samples))
-          (Appends-trans sound_old sound_mid sound_new (pcm s v.session.samples) (pcm s samples) live.sound (subst (Appends sound_mid sound_new) (ap (λ (r : Running). (after_block r).sound) live.engine) sounded));
-      sent = subst (Appends sent_old sent_new) (sym (append_assoc v.session.replies (frames_to 0 first) (frames_to 0 (said v.block))))
-          (Appends-trans sent_old sent_mid sent_new v.session.replies (frames_to 0 first ++ frames_to 0 (said v.block)) live.sent (subst (Appends sent_mid sent_new) replies replied));
-    }
-
-pub quitted : (s : Settings) (n : ℕ) (v : Live) (sound_old sound_mid sound_new sent_old sent_mid sent_new : Option (List ℕ)) (e : Running) (f : Framing) → IsLive s sound_old sound_mid sent_old sent_mid v e f
-    → v.fed < 4611686018427387904 → v.block < 4611686018427387904 → flow_at e ≡ flows.Quit → Keeps sound_mid sound_new → Appends sent_mid sent_new (to_first (at_boundary e).replies) → HasEnded s sound_old sound_new sent_old sent_new (tick s (suc n) v) Quit
-quitted s n v sound_old sound_mid sound_new sent_old sent_mid sent_new e f live few less quits silent replied =
-    let first = replies_at v.block v.session.waiting v.session.clashes v.session.world in
-    let replies : to_first (at_boundary e).replies ≡ frames_to 0 first = ap (λ (r : Running). to_first (at_boundary r).replies) live.engine ∙ ap to_first (one_sent first []) in
-    record {
-      over = record { session = boundary v.block v.session; ending = Quit };
-      course = after_quit s n v few less (subst (λ r. flow_at r ≡ flows.Quit) live.engine quits);
-      ending = refl;
-      sound = Appends-kept sound_old sound_mid sound_new (pcm s v.session.samples) live.sound silent;
-      sent = Appends-trans sent_old sent_mid sent_new v.session.replies (frames_to 0 first) live.sent (subst (Appends sent_mid sent_new) replies replied);
-    }
-
--- a boundary was cut short at which `/quit` was accepted
-quit_cut : (s : Settings) (n : ℕ) (v : Live) (sound_old sound_mid sound_new sent_old sent_mid sent_new : Option (List ℕ)) (e : Running) (f : Framing) → IsLive s sound_old sound_mid sent_old sent_mid v e f
-    → v.fed < 4611686018427387904 → v.block < 4611686018427387904 → flow_at (engine_of s v) ≡ flows.Quit → IsTickPart sound_mid sound_new sent_mid sent_new (engine_of s v) → IsCut s sound_old sound_new sent_old sent_new v (tick s (suc n) v)
-quit_cut s n v sound_old sound_mid sound_new sent_old sent_mid sent_new e f live few less quits part =
-    let p = v.session in
-    let q = boundary v.block p in
-    let first = replies_at v.block p.waiting p.clashes p.world in
-    let sound : TakesFront sound_mid sound_new [] = subst (λ (x : Flow). TakesFront sound_mid sound_new (after_flow x (engine_of s v)).sound) quits part.sound in
-    let said : TakesFront sent_mid sent_new (to_first (at_boundary (engine_of s v)).replies) = subst (λ (x : Flow). TakesFront sent_mid sent_new (to_first (after_flow x (engine_of s v)).replies)) quits part.sent in
-    let sent : TakesFront sent_mid sent_new (frames_to 0 first) = subst (λ (t : List ℕ). TakesFront sent_mid sent_new t) (ap to_first (one_sent first [])) said in
-    subst (λ (c : Course). IsCut s sound_old sound_new sent_old sent_new v c) (sym (after_quit s n v few less quits)) (record {
-      sound = between_more sound_old sound_mid sound_new (pcm s p.samples) [] (pcm s q.samples) live.sound sound (begins_same (pcm s p.samples ++ []) (pcm s q.samples) (append-nil (pcm s p.samples)));
-      sent = between_more sent_old sent_mid sent_new p.replies (frames_to 0 first) q.replies live.sent sent (begins_refl q.replies);
-    })
-
--- a boundary and its block were cut short
-block_cut : (s : Settings) (n : ℕ) (v : Live) (sound_old sound_mid sound_new sent_old sent_mid sent_new : Option (List ℕ)) (e : Running) (f : Framing) → IsLive s sound_old sound_mid sent_old sent_mid v e f
-    → v.fed < 4611686018427387904 → v.block < 4611686018427387904 → flow_at (engine_of s v) ≡ flows.On → IsTickPart sound_mid sound_new sent_mid sent_new (engine_of s v) → IsCut s sound_old sound_new sent_old sent_new v (tick s (suc n) v)
-block_cut s n v sound_old sound_mid sound_new sent_old sent_mid sent_new e f live few less goes part =
-    let p = v.session in
-    let w = after_tick s v in
-    let walked = walk v.block (boundary v.block p).world in
-    let samples = outputs s v.block walked in
-    let first = frames_to 0 (replies_at v.block p.waiting p.clashes p.world) in
-    let later = frames_to 0 (settled v.block (unsaid walked)).replies in
-    let last = (at_end (tick s n w)).session in
-    let g = tick_grows s n w in
-    let sound : TakesFront sound_mid sound_new (pcm s samples) = subst (λ (x : Flow). TakesFront sound_mid sound_new (after_flow x (engine_of s v)).sound) goes part.sound in
-    let said : TakesFront sent_mid sent_new (to_first (after_block (engine_of s v)).replies) = subst (λ (x : Flow). TakesFront sent_mid sent_new (to_first (after_flow x (engine_of s v)).replies)) goes part.sent in
-    let sent : TakesFront sent_mid sent_new (first ++ later) = subst (λ (t : List ℕ). TakesFront sent_mid sent_new t) (block_said s v) said in
-    let heard : Before (pcm s p.samples ++ pcm s samples) (pcm s last.samples) =
-    begins_trans (pcm s p.samples ++ pcm s samples) (pcm s w.session.samples) (pcm s last.samples) (begins_same (pcm s p.samples ++ pcm s samples) (pcm s w.session.samples) (sym (pcm-append s p.samples samples))) g.sound in
-    let told : Before (p.replies ++ (first ++ later)) last.replies =
-    begins_trans (p.replies ++ (first ++ later)) w.session.replies last.replies (begins_same (p.replies ++ (first ++ later)) w.session.replies (sym (append_assoc p.replies first later))) g.replies in
-    subst (λ (c : Course). IsCut s sound_old sound_new sent_old sent_new v c) (sym (after_one s n v few less goes)) (record {
-      sound = between_more sound_old sound_mid sound_new (pcm s p.samples) (pcm s samples) (pcm s last.samples) live.sound sound heard;
-      sent = between_more sent_old sent_mid sent_new p.replies (first ++ later) last.replies live.sent sent told;
-    })
-
-next_cut : (s : Settings) (n : ℕ) (v : Live) (sound_old sound_mid sound_new sent_old sent_mid sent_new : Option (List ℕ)) (e : Running) (f : Framing) → IsLive s sound_old sound_mid sent_old sent_mid v e f
-    → v.fed < 4611686018427387904 → v.block < 4611686018427387904 → IsTickPart sound_mid sound_new sent_mid sent_new e → IsCut s sound_old sound_new sent_old sent_new v (tick s (suc n) v)
-next_cut s n v sound_old sound_mid sound_new sent_old sent_mid sent_new e f live few less part = at (quits_at v.block v.session.waiting v.session.world) refl
-  where
-    here : IsTickPart sound_mid sound_new sent_mid sent_new (engine_of s v)
-    here = subst (λ (r : Running). IsTickPart sound_mid sound_new sent_mid sent_new r) live.engine part
-
-    at : (b : Bool) → quits_at v.block v.session.waiting v.session.world ≡ b → IsCut s sound_old sound_new sent_old sent_new v (tick s (suc n) v)
-    at true is = quit_cut s n v sound_old sound_mid sound_new sent_old sent_mid sent_new e f live few less (ap flow_of is) here
-    at false is = block_cut s n v sound_old sound_mid sound_new sent_old sent_mid sent_new e f live few less (ap flow_of is) here
+after_one : (n : ℕ) (v : Live) → v.framing.fed < 4611686018427387904 → v.play.block < 4611686018427387904 → flow_at v.play ≡ flows.On → tick (suc n) v ≡ tick n (after_tick v)
+after_one n v few less goes =
+    let more = tick n (after_tick v) in
+    not_worn v (unless_quit (flow_at v.play) (at_boundary v.play) more) few less ∙ ap (λ (x : Flow). unless_quit x (at_boundary v.play) more) goes
 
 -- so many ticks are left of a course behind a connection
-pub record IsTicking (s : Settings) (sound_old sound_new sent_old sent_new : Option (List ℕ)) (v : Live) (c : Course) (left : ℕ) (e : Running) (f : Framing) : Type 0 where
+pub record IsTicking (sound_old sound_new sent_old sent_new : Option (List ℕ)) (v : Live) (c : Course) (left : ℕ) (e : Running) (f : Framing) : Type 0 where
   pub live : Live
-  pub course : tick s left live ≡ c
-  pub grown : Grows s v.session live.session
-  pub stands : IsLive s sound_old sound_new sent_old sent_new live e f
+  pub course : tick left live ≡ c
+  pub grown : Grows v.play live.play
+  pub stands : IsLive sound_old sound_new sent_old sent_new live e f
 
-pub ticks_on : (s : Settings) (sound_old sound_mid sound_new sent_old sent_mid sent_new : Option (List ℕ)) (v : Live) (c : Course) (left less : ℕ) (e0 e1 : Running) (f : Framing) → IsTicking s sound_old sound_mid sent_old sent_mid v c left e0 f → left ≡ suc less → HasLeft e0 f
-    → IsTicked sound_mid sound_new sent_mid sent_new e0 e1 → IsTicking s sound_old sound_new sent_old sent_new v c less e1 f
-ticks_on s sound_old sound_mid sound_new sent_old sent_mid sent_new v c left less e0 e1 f i more enough t =
+-- more can be taken of a connection, as of the engine and the framer that hold what it does
+pub some_fed : (sound_old sound_new sent_old sent_new : Option (List ℕ)) (v : Live) (e : Running) (f : Framing) → IsLive sound_old sound_new sent_old sent_new v e f → HasLeft e f → v.framing.fed < 4611686018427387904
+some_fed sound_old sound_new sent_old sent_new v e f live enough = omega (arith, enough.fed, ap (λ (g : Framing). g.fed) live.framer)
+
+pub some_blocks : (sound_old sound_new sent_old sent_new : Option (List ℕ)) (v : Live) (e : Running) (f : Framing) → IsLive sound_old sound_new sent_old sent_new v e f → HasLeft e f → v.play.block < 4611686018427387904
+some_blocks sound_old sound_new sent_old sent_new v e f live enough = omega (arith, enough.block, ap (λ (r : Running). r.block) live.engine)
+
+pub ticks_on : (sound_old sound_mid sound_new sent_old sent_mid sent_new : Option (List ℕ)) (v : Live) (c : Course) (left less : ℕ) (e0 e1 : Running) (f : Framing) → IsTicking sound_old sound_mid sent_old sent_mid v c left e0 f → left ≡ suc less → HasLeft e0 f
+    → IsTicked sound_mid sound_new sent_mid sent_new e0 e1 → IsTicking sound_old sound_new sent_old sent_new v c less e1 f
+ticks_on sound_old sound_mid sound_new sent_old sent_mid sent_new v c left less e0 e1 f i more enough t =
     let w = i.live in
-    let few : w.fed < 4611686018427387904 = omega (arith, enough.fed, ap (λ (g : Framing). g.fed) i.stands.framer) in
-    let before : w.block < 4611686018427387904 = omega (arith, enough.block, ap (λ (r : Running). r.block) i.stands.engine) in
-    let goes : flow_at (engine_of s w) ≡ flows.On = ap (λ (r : Running). flow_at r) (sym i.stands.engine) ∙ t.flow in
+    let few = some_fed sound_old sound_mid sent_old sent_mid w e0 f i.stands enough in
+    let before = some_blocks sound_old sound_mid sent_old sent_mid w e0 f i.stands enough in
+    let goes : flow_at w.play ≡ flows.On = ap (λ (r : Running). flow_at r) (sym i.stands.engine) ∙ t.flow in
     record {
-      live = after_tick s w;
-      course = sym (after_one s less w few before goes) ∙ ap (λ (n : ℕ). tick s n w) (sym more) ∙ i.course;
-      grown = grows_both s v.session w.session (after_tick s w).session i.grown (block_grows s w.block w.session);
-      stands = ticked s w sound_old sound_mid sound_new sent_old sent_mid sent_new e0 e1 f i.stands t.engine t.sound t.replies;
+      live = after_tick w;
+      course = sym (after_one less w few before goes) ∙ ap (λ (n : ℕ). tick n w) (sym more) ∙ i.course;
+      grown = grows_both v.play w.play (after_block w.play) i.grown (grows after_block after_block_step w.play i.stands.alone);
+      stands = live_on sound_old sound_mid sound_new sent_old sent_mid sent_new w (after_tick w) e0 (after_block e0) e1 f f i.stands (added after_block after_block_step w.play e0 i.stands.alone i.stands.engine)
+          t.engine t.sound t.replies i.stands.framer;
     }
 
 pub ticked_ready : (sound_old sound_new sent_old sent_new : Option (List ℕ)) (e0 e1 : Running) (f : Framing) → IsReady e0 f → IsTicked sound_old sound_new sent_old sent_new e0 e1 → IsReady e1 f
@@ -348,8 +203,8 @@ ticked_ready sound_old sound_new sent_old sent_new e0 e1 f r t = record {
 pub ticked_block : (sound_old sound_new sent_old sent_new : Option (List ℕ)) (e0 e1 : Running) → IsTicked sound_old sound_new sent_old sent_new e0 e1 → e1.block ≡ e0.block + 1
 ticked_block sound_old sound_new sent_old sent_new e0 e1 t = ap (λ (r : Running). r.block) t.engine
 
-pub all_ticked : (s : Settings) (sound_old sound_new sent_old sent_new : Option (List ℕ)) (v : Live) (c : Course) (left : ℕ) (e : Running) (f : Framing) → IsTicking s sound_old sound_new sent_old sent_new v c left e f → left ≡ 0 → GoesOn s sound_old sound_new sent_old sent_new c e f
-all_ticked s sound_old sound_new sent_old sent_new v c left e f i none = record { live = i.live; course = sym i.course ∙ ap (λ (n : ℕ). tick s n i.live) none; stands = i.stands }
+pub all_ticked : (sound_old sound_new sent_old sent_new : Option (List ℕ)) (v : Live) (c : Course) (left : ℕ) (e : Running) (f : Framing) → IsTicking sound_old sound_new sent_old sent_new v c left e f → left ≡ 0 → GoesOn sound_old sound_new sent_old sent_new c e f
+all_ticked sound_old sound_new sent_old sent_new v c left e f i none = record { live = i.live; course = sym i.course ∙ ap (λ (n : ℕ). tick n i.live) none; stands = i.stands }
 
 -- ---- ends
 
@@ -381,45 +236,75 @@ pub given : (how : Ended) (P : Type 0) → P → WhereGiven how P
 given how P p = by_end how P (Unit {0}) p tt
 
 -- it is worn out
-pub worn_is : (s : Settings) (sound_old sound_new sent_old sent_new : Option (List ℕ)) (v : Live) (e : Running) (f : Framing) (how : Ended) → IsLive s sound_old sound_new sent_old sent_new v e f → IsWornOut e f how → (is_worn v ≡ true) × ((worn v).ending ≡ how)
-worn_is s sound_old sound_new sent_old sent_new v e f how live w = (
+pub worn_is : (sound_old sound_new sent_old sent_new : Option (List ℕ)) (v : Live) (e : Running) (f : Framing) (how : Ended) → IsLive sound_old sound_new sent_old sent_new v e f → IsWornOut e f how → (is_worn v ≡ true) × ((worn v).ending ≡ how)
+worn_is sound_old sound_new sent_old sent_new v e f how live w = (
   sym (λ i. nat_le 4611686018427387904 (live.framer i).fed || nat_le 4611686018427387904 (live.engine i).block) ∙ w.most,
   sym (λ i. Worn (live.framer i).fed (live.engine i).block) ∙ sym w.numbers,
 )
 
-pub worn_tick : (s : Settings) (sound_old sound_new sent_old sent_new : Option (List ℕ)) (v : Live) (c : Course) (left less : ℕ) (e : Running) (f : Framing) (how : Ended) → IsTicking s sound_old sound_new sent_old sent_new v c left e f → left ≡ suc less → IsWornOut e f how
-    → ByEnd how (HasEnded s sound_old sound_new sent_old sent_new c how) (IsCut s sound_old sound_new sent_old sent_new v c)
-worn_tick s sound_old sound_new sent_old sent_new v c left less e f how i more out =
+pub worn_tick : (sound_old sound_new sent_old sent_new : Option (List ℕ)) (v : Live) (c : Course) (left less : ℕ) (e : Running) (f : Framing) (how : Ended) → IsTicking sound_old sound_new sent_old sent_new v c left e f → left ≡ suc less → IsWornOut e f how
+    → ByEnd how (HasEnded sound_old sound_new sent_old sent_new c how) (IsCut sound_old sound_new sent_old sent_new v c)
+worn_tick sound_old sound_new sent_old sent_new v c left less e f how i more out =
     let w = i.live in
-    let is = worn_is s sound_old sound_new sent_old sent_new w e f how i.stands out in
-    let rest = if quits_at w.block w.session.waiting w.session.world then ends (boundary w.block w.session) Quit else tick s less (after_tick s w) in
-    worn_out how f.fed e.block (HasEnded s sound_old sound_new sent_old sent_new c how) (IsCut s sound_old sound_new sent_old sent_new v c) out.numbers (record {
+    let is = worn_is sound_old sound_new sent_old sent_new w e f how i.stands out in
+    let rest = unless_quit (flow_at w.play) (at_boundary w.play) (tick less (after_tick w)) in
+    worn_out how f.fed e.block (HasEnded sound_old sound_new sent_old sent_new c how) (IsCut sound_old sound_new sent_old sent_new v c) out.numbers (record {
       over = worn w;
-      course = sym i.course ∙ ap (λ (n : ℕ). tick s n w) more ∙ ap (λ (b : Bool). if b then ended (worn w) else rest) is.0;
+      course = sym i.course ∙ ap (λ (n : ℕ). tick n w) more ∙ ap (λ (b : Bool). if b then ended (worn w) else rest) is.0;
       ending = is.1;
       sound = i.stands.sound;
       sent = i.stands.sent;
     })
 
-quit_tick : (s : Settings) (sound_old sound_mid sound_new sent_old sent_mid sent_new : Option (List ℕ)) (v : Live) (c : Course) (left less : ℕ) (e : Running) (f : Framing) → IsTicking s sound_old sound_mid sent_old sent_mid v c left e f → left ≡ suc less → HasLeft e f → HasQuit sound_mid sound_new sent_mid sent_new e
-    → HasEnded s sound_old sound_new sent_old sent_new c Quit
-quit_tick s sound_old sound_mid sound_new sent_old sent_mid sent_new v c left less e f i more enough q =
+quit_tick : (sound_old sound_mid sound_new sent_old sent_mid sent_new : Option (List ℕ)) (v : Live) (c : Course) (left less : ℕ) (e : Running) (f : Framing) → IsTicking sound_old sound_mid sent_old sent_mid v c left e f → left ≡ suc less → HasLeft e f → HasQuit sound_mid sound_new sent_mid sent_new e
+    → HasEnded sound_old sound_new sent_old sent_new c Quit
+quit_tick sound_old sound_mid sound_new sent_old sent_mid sent_new v c left less e f i more enough q =
     let w = i.live in
-    let few : w.fed < 4611686018427387904 = omega (arith, enough.fed, ap (λ (g : Framing). g.fed) i.stands.framer) in
-    let before : w.block < 4611686018427387904 = omega (arith, enough.block, ap (λ (r : Running). r.block) i.stands.engine) in
-    let h = quitted s less w sound_old sound_mid sound_new sent_old sent_mid sent_new e f i.stands few before q.flow q.sound q.replies in
-    record { over = h.over; course = sym i.course ∙ ap (λ (n : ℕ). tick s n w) more ∙ h.course; ending = h.ending; sound = h.sound; sent = h.sent }
+    let few = some_fed sound_old sound_mid sent_old sent_mid w e f i.stands enough in
+    let before = some_blocks sound_old sound_mid sent_old sent_mid w e f i.stands enough in
+    let adds = added at_boundary boundary_step w.play e i.stands.alone i.stands.engine in
+    record {
+      over = record { play = at_boundary w.play; ending = Quit };
+      course = sym i.course ∙ ap (λ (n : ℕ). tick n w) more ∙ after_quit less w few before (ap (λ (r : Running). flow_at r) (sym i.stands.engine) ∙ q.flow);
+      ending = refl;
+      sound = Appends-kept sound_old sound_mid sound_new w.play.sound i.stands.sound q.sound;
+      sent = subst (Appends sent_old sent_new) (sym adds.said) (Appends-trans sent_old sent_mid sent_new (to_first w.play.replies) (to_first (at_boundary e).replies) i.stands.sent q.replies);
+    }
 
 -- the next tick was cut short
-cut_tick : (s : Settings) (sound_old sound_mid sound_new sent_old sent_mid sent_new : Option (List ℕ)) (v : Live) (c : Course) (left less : ℕ) (e : Running) (f : Framing) → IsTicking s sound_old sound_mid sent_old sent_mid v c left e f → left ≡ suc less → HasLeft e f
-    → IsTickPart sound_mid sound_new sent_mid sent_new e → IsCut s sound_old sound_new sent_old sent_new v c
-cut_tick s sound_old sound_mid sound_new sent_old sent_mid sent_new v c left less e f i more enough part =
+next_cut : (n : ℕ) (v : Live) (sound_old sound_mid sound_new sent_old sent_mid sent_new : Option (List ℕ)) (e : Running) (f : Framing) → IsLive sound_old sound_mid sent_old sent_mid v e f → HasLeft e f
+    → IsTickPart sound_mid sound_new sent_mid sent_new e → IsCut sound_old sound_new sent_old sent_new v (tick (suc n) v)
+next_cut n v sound_old sound_mid sound_new sent_old sent_mid sent_new e f live enough part = at (flow_at e) refl
+  where
+    cut_at : (x : Flow) (next held : Running) (c : Course) → flow_at e ≡ x → after_flow x e ≡ held → tick (suc n) v ≡ c → AddsTo v.play next held → Grows next (at_end c).play → IsCut sound_old sound_new sent_old sent_new v (tick (suc n) v)
+    cut_at x next held c is holds course adds g =
+        let all : after_flow (flow_at e) e ≡ held = ap (λ (y : Flow). after_flow y e) is ∙ holds in
+        subst (λ (d : Course). IsCut sound_old sound_new sent_old sent_new v d) (sym course) (cut_in sound_old sound_mid sound_new sent_old sent_mid sent_new v e f next held c live adds
+        (subst (λ (r : Running). TakesFront sound_mid sound_new r.sound) all part.sound) (subst (λ (r : Running). TakesFront sent_mid sent_new (to_first r.replies)) all part.sent) g)
+
+    same : (x : Flow) → flow_at e ≡ x → flow_at v.play ≡ x
+    same x is = ap (λ (r : Running). flow_at r) (sym live.engine) ∙ is
+
+    few : v.framing.fed < 4611686018427387904
+    few = some_fed sound_old sound_mid sent_old sent_mid v e f live enough
+
+    before : v.play.block < 4611686018427387904
+    before = some_blocks sound_old sound_mid sent_old sent_mid v e f live enough
+
+    at : (x : Flow) → flow_at e ≡ x → IsCut sound_old sound_new sent_old sent_new v (tick (suc n) v)
+    at flows.Quit is =
+        cut_at flows.Quit (at_boundary v.play) (at_boundary e) (ends (at_boundary v.play) Quit) is refl (after_quit n v few before (same flows.Quit is)) (added at_boundary boundary_step v.play e live.alone live.engine) (grows_not (at_boundary v.play))
+    at flows.On is =
+        cut_at flows.On (after_block v.play) (after_block e) (tick n (after_tick v)) is refl (after_one n v few before (same flows.On is)) (added after_block after_block_step v.play e live.alone live.engine)
+        (tick_grows n (after_tick v) (after_block_step.clients v.play ∙ live.alone))
+
+cut_tick : (sound_old sound_mid sound_new sent_old sent_mid sent_new : Option (List ℕ)) (v : Live) (c : Course) (left less : ℕ) (e : Running) (f : Framing) → IsTicking sound_old sound_mid sent_old sent_mid v c left e f → left ≡ suc less → HasLeft e f
+    → IsTickPart sound_mid sound_new sent_mid sent_new e → IsCut sound_old sound_new sent_old sent_new v c
+cut_tick sound_old sound_mid sound_new sent_old sent_mid sent_new v c left less e f i more enough part =
     let w = i.live in
-    let few : w.fed < 4611686018427387904 = omega (arith, enough.fed, ap (λ (g : Framing). g.fed) i.stands.framer) in
-    let before : w.block < 4611686018427387904 = omega (arith, enough.block, ap (λ (r : Running). r.block) i.stands.engine) in
-    let here = next_cut s less w sound_old sound_mid sound_new sent_old sent_mid sent_new e f i.stands few before part in
-    let rest : tick s (suc less) w ≡ c = ap (λ (n : ℕ). tick s n w) (sym more) ∙ i.course in
-    cut_later s sound_old sound_new sent_old sent_new v w c i.grown (subst (λ (d : Course). IsCut s sound_old sound_new sent_old sent_new w d) rest here)
+    let here = next_cut less w sound_old sound_mid sound_new sent_old sent_mid sent_new e f i.stands enough part in
+    let rest : tick (suc less) w ≡ c = ap (λ (n : ℕ). tick n w) (sym more) ∙ i.course in
+    cut_later sound_old sound_new sent_old sent_new v w c i.grown (subst (λ (d : Course). IsCut sound_old sound_new sent_old sent_new w d) rest here)
 
 -- ---- what of a tick was written
 
@@ -442,27 +327,27 @@ block_part sound_old sound_new sent_old sent_new old mid goes is heard told = re
 abbrev pub failed : Ended → Result (Unit {0}) Ended
 failed how = Err how
 
-pub ended_tick : (s : Settings) (sound_old sound_mid sound_new sent_old sent_mid sent_new : Option (List ℕ)) (v : Live) (c : Course) (left less : ℕ) (e : Running) (f : Framing) (how : Ended) → IsTicking s sound_old sound_mid sent_old sent_mid v c left e f → left ≡ suc less → HasLeft e f
+pub ended_tick : (sound_old sound_mid sound_new sent_old sent_mid sent_new : Option (List ℕ)) (v : Live) (c : Course) (left less : ℕ) (e : Running) (f : Framing) (how : Ended) → IsTicking sound_old sound_mid sent_old sent_mid v c left e f → left ≡ suc less → HasLeft e f
     → IsTickEnd how → (failed how ≡ failed Quit → HasQuit sound_mid sound_new sent_mid sent_new e) → IsTickPart sound_mid sound_new sent_mid sent_new e
-    → ByEnd how (HasEnded s sound_old sound_new sent_old sent_new c how) (IsCut s sound_old sound_new sent_old sent_new v c)
-ended_tick s sound_old sound_mid sound_new sent_old sent_mid sent_new v c left less e f Quit i more enough is quit part = quit_tick s sound_old sound_mid sound_new sent_old sent_mid sent_new v c left less e f i more enough (quit refl)
-ended_tick s sound_old sound_mid sound_new sent_old sent_mid sent_new v c left less e f NoMemory i more enough is quit part = cut_tick s sound_old sound_mid sound_new sent_old sent_mid sent_new v c left less e f i more enough part
-ended_tick s sound_old sound_mid sound_new sent_old sent_mid sent_new v c left less e f LinkFault i more enough is quit part = cut_tick s sound_old sound_mid sound_new sent_old sent_mid sent_new v c left less e f i more enough part
-ended_tick s sound_old sound_mid sound_new sent_old sent_mid sent_new v c left less e f SoundFault i more enough is quit part = cut_tick s sound_old sound_mid sound_new sent_old sent_mid sent_new v c left less e f i more enough part
-ended_tick s sound_old sound_mid sound_new sent_old sent_mid sent_new v c left less e f Closed i more enough is quit part = absurd is
-ended_tick s sound_old sound_mid sound_new sent_old sent_mid sent_new v c left less e f (Cut kept) i more enough is quit part = absurd is
-ended_tick s sound_old sound_mid sound_new sent_old sent_mid sent_new v c left less e f (BadFrame size) i more enough is quit part = absurd is
-ended_tick s sound_old sound_mid sound_new sent_old sent_mid sent_new v c left less e f (Worn n blocks) i more enough is quit part = absurd is
+    → ByEnd how (HasEnded sound_old sound_new sent_old sent_new c how) (IsCut sound_old sound_new sent_old sent_new v c)
+ended_tick sound_old sound_mid sound_new sent_old sent_mid sent_new v c left less e f Quit i more enough is quit part = quit_tick sound_old sound_mid sound_new sent_old sent_mid sent_new v c left less e f i more enough (quit refl)
+ended_tick sound_old sound_mid sound_new sent_old sent_mid sent_new v c left less e f NoMemory i more enough is quit part = cut_tick sound_old sound_mid sound_new sent_old sent_mid sent_new v c left less e f i more enough part
+ended_tick sound_old sound_mid sound_new sent_old sent_mid sent_new v c left less e f LinkFault i more enough is quit part = cut_tick sound_old sound_mid sound_new sent_old sent_mid sent_new v c left less e f i more enough part
+ended_tick sound_old sound_mid sound_new sent_old sent_mid sent_new v c left less e f SoundFault i more enough is quit part = cut_tick sound_old sound_mid sound_new sent_old sent_mid sent_new v c left less e f i more enough part
+ended_tick sound_old sound_mid sound_new sent_old sent_mid sent_new v c left less e f Closed i more enough is quit part = absurd is
+ended_tick sound_old sound_mid sound_new sent_old sent_mid sent_new v c left less e f (Cut kept) i more enough is quit part = absurd is
+ended_tick sound_old sound_mid sound_new sent_old sent_mid sent_new v c left less e f (BadFrame size) i more enough is quit part = absurd is
+ended_tick sound_old sound_mid sound_new sent_old sent_mid sent_new v c left less e f (Worn n blocks) i more enough is quit part = absurd is
 
 -- what a step answers that ended, or was cut short
-pub follows_err : (s : Settings) (sound_old sound_new sent_old sent_new : Option (List ℕ)) (v : Live) (c : Course) (e : Running) (f : Framing) (r : Result (Unit {0}) Ended) (how : Ended) → IsErrAnd r (λ k. k ≡ how)
-    → ByEnd how (HasEnded s sound_old sound_new sent_old sent_new c how) (IsCut s sound_old sound_new sent_old sent_new v c) → Follows s sound_old sound_new sent_old sent_new v c e f r
-follows_err s sound_old sound_new sent_old sent_new v c e f (Ok x) how is h = absurd is
-follows_err s sound_old sound_new sent_old sent_new v c e f (Err k) how is h = subst (λ (k : Ended). ByEnd k (HasEnded s sound_old sound_new sent_old sent_new c k) (IsCut s sound_old sound_new sent_old sent_new v c)) (sym is) h
+pub follows_err : (sound_old sound_new sent_old sent_new : Option (List ℕ)) (v : Live) (c : Course) (e : Running) (f : Framing) (r : Result (Unit {0}) Ended) (how : Ended) → IsErrAnd r (λ k. k ≡ how)
+    → ByEnd how (HasEnded sound_old sound_new sent_old sent_new c how) (IsCut sound_old sound_new sent_old sent_new v c) → Follows sound_old sound_new sent_old sent_new v c e f r
+follows_err sound_old sound_new sent_old sent_new v c e f (Ok x) how is h = absurd is
+follows_err sound_old sound_new sent_old sent_new v c e f (Err k) how is h = subst (λ (k : Ended). ByEnd k (HasEnded sound_old sound_new sent_old sent_new c k) (IsCut sound_old sound_new sent_old sent_new v c)) (sym is) h
 
-pub follows_cut : (s : Settings) (sound_old sound_new sent_old sent_new : Option (List ℕ)) (v : Live) (c : Course) (e : Running) (f : Framing) (r : Result (Unit {0}) Ended) (how : Ended) → IsErrAnd r (λ k. k ≡ how) → (how ≡ NoMemory) ⊎ (how ≡ LinkFault)
-    → IsCut s sound_old sound_new sent_old sent_new v c → Follows s sound_old sound_new sent_old sent_new v c e f r
-follows_cut s sound_old sound_new sent_old sent_new v c e f r how is (inl none) h =
-    follows_err s sound_old sound_new sent_old sent_new v c e f r how is (subst (λ (k : Ended). ByEnd k (HasEnded s sound_old sound_new sent_old sent_new c k) (IsCut s sound_old sound_new sent_old sent_new v c)) (sym none) h)
-follows_cut s sound_old sound_new sent_old sent_new v c e f r how is (inr fault) h =
-    follows_err s sound_old sound_new sent_old sent_new v c e f r how is (subst (λ (k : Ended). ByEnd k (HasEnded s sound_old sound_new sent_old sent_new c k) (IsCut s sound_old sound_new sent_old sent_new v c)) (sym fault) h)
+pub follows_cut : (sound_old sound_new sent_old sent_new : Option (List ℕ)) (v : Live) (c : Course) (e : Running) (f : Framing) (r : Result (Unit {0}) Ended) (how : Ended) → IsErrAnd r (λ k. k ≡ how) → (how ≡ NoMemory) ⊎ (how ≡ LinkFault)
+    → IsCut sound_old sound_new sent_old sent_new v c → Follows sound_old sound_new sent_old sent_new v c e f r
+follows_cut sound_old sound_new sent_old sent_new v c e f r how is (inl none) h =
+    follows_err sound_old sound_new sent_old sent_new v c e f r how is (subst (λ (k : Ended). ByEnd k (HasEnded sound_old sound_new sent_old sent_new c k) (IsCut sound_old sound_new sent_old sent_new v c)) (sym none) h)
+follows_cut sound_old sound_new sent_old sent_new v c e f r how is (inr fault) h =
+    follows_err sound_old sound_new sent_old sent_new v c e f r how is (subst (λ (k : Ended). ByEnd k (HasEnded sound_old sound_new sent_old sent_new c k) (IsCut sound_old sound_new sent_old sent_new v c)) (sym fault) h)

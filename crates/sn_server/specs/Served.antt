@@ -18,10 +18,10 @@ TakesEach old [] new = new ≡ old
 TakesEach old (e ∷ es) new = (between : List LinkEvent) × Takes old between e × TakesEach between es new
 
 -- Each event is taken while the connection goes on, and before as many bytes came, or as many blocks were done, as may.
-abbrev pub WhileOpen : Settings → List LinkEvent → Course → Type 0
-WhileOpen s [] c = Unit {0}
-WhileOpen s (e ∷ es) (ended o) = ⊥
-WhileOpen s (e ∷ es) (going v) = (is_worn v ≡ false) × WhileOpen s es (after_event s e (going v))
+abbrev pub WhileOpen : List LinkEvent → Course → Type 0
+WhileOpen [] c = Unit {0}
+WhileOpen (e ∷ es) (ended o) = ⊥
+WhileOpen (e ∷ es) (going v) = (is_worn v ≡ false) × WhileOpen es (after_event e (going v))
 
 -- a fact about the ends that the events give, and another about faults and want of memory
 abbrev pub ByEnd : Ended → Type 0 → Type 0 → Type 0
@@ -43,7 +43,7 @@ WhereGiven how P = ByEnd how P (Unit {0})
 pub record IsServed (s : Settings) (base : ℕ) (left_old left_new : Option (List LinkEvent)) (sound_old sound_new sent_old sent_new : Option (List ℕ)) (how : Ended) : Type 0 where
   pub events : List LinkEvent
   pub taken : Known left_old left_new (λ old new. TakesEach old events new)
-  pub while_open : WhileOpen s events (going (beginning s base))
+  pub while_open : WhileOpen events (going (beginning s base))
   pub ending : (play_events s base events).ending ≡ how
   pub sound : Appends sound_old sound_new (play_events s base events).sound
   pub sent : Appends sent_old sent_new (play_events s base events).sent
@@ -55,7 +55,7 @@ pub record IsCutShort (s : Settings) (base : ℕ) (left_old left_new : Option (L
   pub last : List LinkEvent
   pub one : length last ≤ 1
   pub taken : Known left_old left_new (λ old new. TakesEach old (whole ++ last) new)
-  pub while_open : WhileOpen s (whole ++ last) (going (beginning s base))
+  pub while_open : WhileOpen (whole ++ last) (going (beginning s base))
   pub sound : TakesBetween sound_old sound_new (play_events s base whole).sound (play_events s base (whole ++ last)).sound
   pub sent : TakesBetween sent_old sent_new (play_events s base whole).sent (play_events s base (whole ++ last)).sent
 

@@ -3,15 +3,8 @@ use Rattle.std.specs.Prelude.{◌≡◌, ◌≤◌, ◌<◌, ◌+◌, ◌^◌, �
 use Rattle.std.specs.Io.KnownBytes.{Appends, Keeps}
 use Rattle.sn_ports.specs.Links.{LinkEvent, Takes, Known}
 use Rattle.sn_osc.specs.Framing.{Framing}
-use Rattle.sn_osc.specs.Reading.{read}
-use Rattle.sn_osc.specs.Shape.{Shape}
-use Rattle.sn_osc.specs.declared.fault.PacketFault.{PacketFault}
 use Rattle.sn_osc.specs.Frames.{FirstFrame, cut, bad_size}
 use Rattle.sn_pcm.specs.declared.settings.Settings.{Settings}
-use Rattle.sn_pcm.specs.Pcm.{pcm}
-use Rattle.sn_engine.specs.Arriving.{with_offered}
-use Rattle.sn_engine.specs.Entries.{entries_of}
-use Rattle.sn_engine.specs.Refusing.{with_bad_packet}
 use Rattle.sn_engine.specs.Running.{Running, at_boundary, flow_at}
 use Rattle.sn_engine.specs.declared.standing.Flow.{Flow}
 use Rattle.sn_engine.specs.declared.standing.Flow.TheVariants.{On}
@@ -20,7 +13,7 @@ use Rattle.sn_engine.specs.declared.standing.Standing.TheVariants.{Settled}
 use Rattle.sn_server.specs.declared.ended.Ended.{Ended}
 use Rattle.sn_server.specs.declared.ended.Ended.TheVariants.{Quit, NoMemory, Closed, Cut, BadFrame, LinkFault, SoundFault, Worn}
 use Rattle.sn_render.specs.Fronts.{TakesFront}
-use Rattle.sn_render.specs.Going.{to_first, after_block}
+use Rattle.sn_render.specs.Play.{after_block, to_first}
 use Rattle.sn_server.specs.PlayEvents.{Live, Over, Course, going, ended, is_worn, after_event, after_events, at_end, beginning}
 use Rattle.sn_server.specs.Served.{TakesBetween, TakesEach, WhileOpen, ByEnd}
 
@@ -64,61 +57,37 @@ IsTickEnd NoMemory = ⊤
 IsTickEnd LinkFault = ⊤
 IsTickEnd SoundFault = ⊤
 
--- the bytes of a frame come to an engine, from client 0
-abbrev pub with_packet : Result Shape PacketFault → Running → Running
-with_packet (Ok x) r = with_offered 0 (entries_of x) r
-with_packet (Err fault) r = with_bad_packet 0 r
-
-abbrev pub with_packets : List (List ℕ) → Running → Running
-with_packets [] r = r
-with_packets (packet ∷ packets) r = with_packets packets (with_packet (read packet) r)
-
--- an engine of one client at a boundary, of which nothing is still to be written
-abbrev pub engine_of : Settings → Live → Running
-engine_of s v = record {
-  settings = s;
-  world = v.session.world;
-  waiting = v.session.waiting;
-  clashes = v.session.clashes;
-  block = v.block;
-  standing = Settled;
-  sound = [];
-  replies = [] ∷ [];
-}
-
-abbrev pub framer_of : Live → Framing
-framer_of v = record { kept = v.kept; fed = v.fed }
-
--- An engine and a framer hold what a connection does, and what it gave was written.
-pub record IsLive (s : Settings) (sound_old sound_new sent_old sent_new : Option (List ℕ)) (v : Live) (e : Running) (f : Framing) : Type 0 where
-  pub engine : e ≡ engine_of s v
-  pub framer : f ≡ framer_of v
-  pub sound : Appends sound_old sound_new (pcm s v.session.samples)
-  pub sent : Appends sent_old sent_new v.session.replies
+-- An engine of one client and a framer hold what a connection does, but for its bytes, which were written and sent.
+pub record IsLive (sound_old sound_new sent_old sent_new : Option (List ℕ)) (v : Live) (e : Running) (f : Framing) : Type 0 where
+  pub alone : length v.play.replies ≡ 1
+  pub engine : e ≡ record v.play { sound = []; replies = [] ∷ [] }
+  pub framer : f ≡ v.framing
+  pub sound : Appends sound_old sound_new v.play.sound
+  pub sent : Appends sent_old sent_new (to_first v.play.replies)
 
 -- a connection that has ended, and what it gave was written
-pub record HasEnded (s : Settings) (sound_old sound_new sent_old sent_new : Option (List ℕ)) (c : Course) (how : Ended) : Type 0 where
+pub record HasEnded (sound_old sound_new sent_old sent_new : Option (List ℕ)) (c : Course) (how : Ended) : Type 0 where
   pub over : Over
   pub course : c ≡ ended over
   pub ending : over.ending ≡ how
-  pub sound : Appends sound_old sound_new (pcm s over.session.samples)
-  pub sent : Appends sent_old sent_new over.session.replies
+  pub sound : Appends sound_old sound_new over.play.sound
+  pub sent : Appends sent_old sent_new (to_first over.play.replies)
 
-pub record GoesOn (s : Settings) (sound_old sound_new sent_old sent_new : Option (List ℕ)) (c : Course) (e : Running) (f : Framing) : Type 0 where
+pub record GoesOn (sound_old sound_new sent_old sent_new : Option (List ℕ)) (c : Course) (e : Running) (f : Framing) : Type 0 where
   pub live : Live
   pub course : c ≡ going live
-  pub stands : IsLive s sound_old sound_new sent_old sent_new live e f
+  pub stands : IsLive sound_old sound_new sent_old sent_new live e f
 
 -- A course behind a connection was cut short. What was written and sent begins with what the connection gave, and what the course gives begins
 -- with it.
-pub record IsCut (s : Settings) (sound_old sound_new sent_old sent_new : Option (List ℕ)) (v : Live) (c : Course) : Type 0 where
-  pub sound : TakesBetween sound_old sound_new (pcm s v.session.samples) (pcm s (at_end c).session.samples)
-  pub sent : TakesBetween sent_old sent_new v.session.replies (at_end c).session.replies
+pub record IsCut (sound_old sound_new sent_old sent_new : Option (List ℕ)) (v : Live) (c : Course) : Type 0 where
+  pub sound : TakesBetween sound_old sound_new v.play.sound (at_end c).play.sound
+  pub sent : TakesBetween sent_old sent_new (to_first v.play.replies) (to_first (at_end c).play.replies)
 
 -- where a connection has come by a step, and what the step answers
-abbrev pub Follows : Settings → Option (List ℕ) → Option (List ℕ) → Option (List ℕ) → Option (List ℕ) → Live → Course → Running → Framing → Result Unit Ended → Type 0
-Follows s sound_old sound_new sent_old sent_new v c e f (Ok x) = GoesOn s sound_old sound_new sent_old sent_new c e f
-Follows s sound_old sound_new sent_old sent_new v c e f (Err how) = ByEnd how (HasEnded s sound_old sound_new sent_old sent_new c how) (IsCut s sound_old sound_new sent_old sent_new v c)
+abbrev pub Follows : Option (List ℕ) → Option (List ℕ) → Option (List ℕ) → Option (List ℕ) → Live → Course → Running → Framing → Result Unit Ended → Type 0
+Follows sound_old sound_new sent_old sent_new v c e f (Ok x) = GoesOn sound_old sound_new sent_old sent_new c e f
+Follows sound_old sound_new sent_old sent_new v c e f (Err how) = ByEnd how (HasEnded sound_old sound_new sent_old sent_new c how) (IsCut sound_old sound_new sent_old sent_new v c)
 
 -- an engine and a framer that can take what comes: no more entries were put than bytes were used
 pub record IsReady (e : Running) (f : Framing) : Type 0 where
@@ -172,35 +141,35 @@ pub record TookEvent (left_old left_new : Option (List LinkEvent)) (v : Live) (P
   pub gives : P event
 
 -- The events that were taken end a course so, none was taken after its end, and what it gave was written.
-pub record EndsBy (s : Settings) (left_old left_new : Option (List LinkEvent)) (sound_old sound_new sent_old sent_new : Option (List ℕ)) (c : Course) (how : Ended) : Type 0 where
+pub record EndsBy (left_old left_new : Option (List LinkEvent)) (sound_old sound_new sent_old sent_new : Option (List ℕ)) (c : Course) (how : Ended) : Type 0 where
   pub events : List LinkEvent
   pub taken : Known left_old left_new (λ old new. TakesEach old events new)
-  pub while_open : WhileOpen s events c
+  pub while_open : WhileOpen events c
   pub over : Over
-  pub course : at_end (after_events s events c) ≡ over
+  pub course : at_end (after_events events c) ≡ over
   pub ending : over.ending ≡ how
-  pub sound : Appends sound_old sound_new (pcm s over.session.samples)
-  pub sent : Appends sent_old sent_new over.session.replies
+  pub sound : Appends sound_old sound_new over.play.sound
+  pub sent : Appends sent_old sent_new (to_first over.play.replies)
 
 -- A step was cut short, in an event or before one was taken.
-pub record IsStepCut (s : Settings) (left_old left_new : Option (List LinkEvent)) (sound_old sound_new sent_old sent_new : Option (List ℕ)) (v : Live) : Type 0 where
+pub record IsStepCut (left_old left_new : Option (List LinkEvent)) (sound_old sound_new sent_old sent_new : Option (List ℕ)) (v : Live) : Type 0 where
   pub last : List LinkEvent
   pub one : length last ≤ 1
   pub taken : Known left_old left_new (λ old new. TakesEach old last new)
-  pub while_open : WhileOpen s last (going v)
-  pub cut : IsCut s sound_old sound_new sent_old sent_new v (after_events s last (going v))
+  pub while_open : WhileOpen last (going v)
+  pub cut : IsCut sound_old sound_new sent_old sent_new v (after_events last (going v))
 
 -- an event was taken, or this is the end
-abbrev pub Took : Settings → Option (List LinkEvent) → Option (List LinkEvent) → Option (List ℕ) → Option (List ℕ) → Option (List ℕ) → Option (List ℕ) → Live → Running → Framing → Result Unit Ended → Type 0
-Took s left_old left_new sound_old sound_new sent_old sent_new v e f (Ok x) = TookEvent left_old left_new v (λ x. GoesOn s sound_old sound_new sent_old sent_new (after_event s x (going v)) e f)
-Took s left_old left_new sound_old sound_new sent_old sent_new v e f (Err how) =
-    ByEnd how (EndsBy s left_old left_new sound_old sound_new sent_old sent_new (going v) how) (IsStepCut s left_old left_new sound_old sound_new sent_old sent_new v)
+abbrev pub Took : Option (List LinkEvent) → Option (List LinkEvent) → Option (List ℕ) → Option (List ℕ) → Option (List ℕ) → Option (List ℕ) → Live → Running → Framing → Result Unit Ended → Type 0
+Took left_old left_new sound_old sound_new sent_old sent_new v e f (Ok x) = TookEvent left_old left_new v (λ x. GoesOn sound_old sound_new sent_old sent_new (after_event x (going v)) e f)
+Took left_old left_new sound_old sound_new sent_old sent_new v e f (Err how) =
+    ByEnd how (EndsBy left_old left_new sound_old sound_new sent_old sent_new (going v) how) (IsStepCut left_old left_new sound_old sound_new sent_old sent_new v)
 
 -- the events so far have given this
 pub record IsServing (s : Settings) (base : ℕ) (left_old left_new : Option (List LinkEvent)) (sound_old sound_new sent_old sent_new : Option (List ℕ)) (e : Running) (f : Framing) : Type 0 where
   pub events : List LinkEvent
   pub taken : Known left_old left_new (λ old new. TakesEach old events new)
-  pub while_open : WhileOpen s events (going (beginning s base))
+  pub while_open : WhileOpen events (going (beginning s base))
   pub live : Live
-  pub course : after_events s events (going (beginning s base)) ≡ going live
-  pub stands : IsLive s sound_old sound_new sent_old sent_new live e f
+  pub course : after_events events (going (beginning s base)) ≡ going live
+  pub stands : IsLive sound_old sound_new sent_old sent_new live e f

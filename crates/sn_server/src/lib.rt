@@ -1,4 +1,4 @@
-//! A connection is served, event after event. What renders a stream is handed on.
+//! A connection is served, event after event. What reads and renders a stream is handed on.
 #![tactic(auto)]
 
 mod ended;
@@ -10,4 +10,6 @@ mod ticking;
 pub use ended::Ended;
 pub use joining::joined_pieces;
 pub use serving::serve_one;
-pub use sn_render::{Outcome, StreamFault, render};
+pub use sn_render::{
+    Outcome, Packets, StreamFault, TOO_MANY_BYTES, Ungathered, Unread, gather, read_stream, render,
+};

@@ -6,13 +6,12 @@ ghost use Rattle.sn_ports.specs.Links.{KeepsEvents};
 ghost use Rattle.sn_osc.specs.Frames.{first_frame};
 ghost use Rattle.sn_osc.specs.Reading.{read};
 ghost use Rattle.sn_osc.specs.Unpacking.{unpacked};
-ghost use Rattle.sn_pcm.specs.declared.settings.Settings.{Settings};
 ghost use Rattle.sn_engine.specs.declared.standing.Standing.TheVariants.{Settled};
 ghost use Rattle.sn_server.specs.Faults.{UnlessFault};
 ghost use Rattle.sn_render.specs.Fronts.{TakesFront};
-ghost use Rattle.sn_render.specs.Going.{to_first};
-ghost use Rattle.sn_server.specs.PlayEvents.{Live, receive};
-ghost use Rattle.sn_server.specs.Serving.{IsLive, Follows, IsReady, Stops, StaysOpen, with_packet, with_packets};
+ghost use Rattle.sn_render.specs.Play.{to_first};
+ghost use Rattle.sn_server.specs.PlayEvents.{Live, receive, with_packet, with_packets};
+ghost use Rattle.sn_server.specs.Serving.{IsLive, Follows, IsReady, Stops, StaysOpen};
 ghost use Rattle.sn_server.specs.declared.ended.Ended.{Ended};
 
 use crate::ended::Ended;
@@ -95,8 +94,8 @@ pub fn receive<L: Link>(
     requires fed { framer.old.fed + length piece.now ≤ 2 ^ 62 }
     requires new { framer.old.fed < 2 ^ 62 }
     requires few { length piece.now ≤ 65536 }
-    ensures follows { (s : Settings) (v : Live) (sound_old sound_new sent_old : Option (List ℕ)) → IsLive s sound_old sound_new sent_old (L.sent link.old) v engine.old framer.old
-        → Follows s sound_old sound_new sent_old (L.sent link.new) v (receive piece.now v) engine.new framer.new result }
+    ensures follows { (v : Live) (sound_old sound_new sent_old : Option (List ℕ)) → IsLive sound_old sound_new sent_old (L.sent link.old) v engine.old framer.old
+        → Follows sound_old sound_new sent_old (L.sent link.new) v (receive piece.now v) engine.new framer.new result }
     ensures ready { OnOk result (IsReady engine.new framer.new) }
     ensures fed { OnOk result (framer.new.fed ≡ framer.old.fed + length piece.now) }
     ensures block { OnOk result (engine.new.block ≡ engine.old.block) }

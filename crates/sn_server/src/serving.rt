@@ -2,7 +2,6 @@
 ghost use Rattle.std.specs.Prelude.{◌≡◌, ◌⊎◌, ◌≤◌, ◌<◌, ◌+◌, ◌^◌, ℕ, List, Option, Some, IfErr, OnOk, Err, length};
 ghost use Rattle.sn_ports.specs.Causes.{Rose};
 ghost use Rattle.sn_ports.specs.Links.{LinkEvent};
-ghost use Rattle.sn_pcm.specs.declared.settings.Settings.{Settings};
 ghost use Rattle.sn_render.specs.Faults.{NothingFailed};
 ghost use Rattle.sn_server.specs.Faults.{UnlessFault};
 ghost use Rattle.sn_server.specs.PlayEvents.{Live, bytes_in, closing, play_events};
@@ -52,8 +51,8 @@ fn take_event<H: Threads + Sync, L: Link, O: Sink, G: Gate>(
     requires left { HasLeft engine.old framer.old }
     requires room { 0 < length room.old }
     requires few { length room.old ≤ 65536 }
-    ensures took { (s : Settings) (v : Live) (sound_old sent_old : Option (List ℕ)) → IsLive s sound_old (O.taken sound.old) sent_old (L.sent link.old) v engine.old framer.old
-        → Took s (L.left link.old) (L.left link.new) sound_old (O.taken sound.new) sent_old (L.sent link.new) v engine.new framer.new result }
+    ensures took { (v : Live) (sound_old sent_old : Option (List ℕ)) → IsLive sound_old (O.taken sound.old) sent_old (L.sent link.old) v engine.old framer.old
+        → Took (L.left link.old) (L.left link.new) sound_old (O.taken sound.new) sent_old (L.sent link.new) v engine.new framer.new result }
     ensures ready { OnOk result (IsReady engine.new framer.new) }
     ensures more { OnOk result (engine.old.block + framer.old.fed < engine.new.block + framer.new.fed) }
     ensures later_block { OnOk result (engine.old.block ≤ engine.new.block) }
@@ -89,8 +88,8 @@ fn serve_event<H: Threads + Sync, L: Link, O: Sink, G: Gate>(
     requires ready { IsReady engine.old framer.old }
     requires room { 0 < length room.old }
     requires few { length room.old ≤ 65536 }
-    ensures took { (s : Settings) (v : Live) (sound_old sent_old : Option (List ℕ)) → IsLive s sound_old (O.taken sound.old) sent_old (L.sent link.old) v engine.old framer.old
-        → Took s (L.left link.old) (L.left link.new) sound_old (O.taken sound.new) sent_old (L.sent link.new) v engine.new framer.new result }
+    ensures took { (v : Live) (sound_old sent_old : Option (List ℕ)) → IsLive sound_old (O.taken sound.old) sent_old (L.sent link.old) v engine.old framer.old
+        → Took (L.left link.old) (L.left link.new) sound_old (O.taken sound.new) sent_old (L.sent link.new) v engine.new framer.new result }
     ensures ready { OnOk result (IsReady engine.new framer.new) }
     ensures left { OnOk result (HasLeft engine.old framer.old) }
     ensures more { OnOk result (engine.old.block + framer.old.fed < engine.new.block + framer.new.fed) }

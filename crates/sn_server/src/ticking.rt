@@ -3,13 +3,12 @@ ghost use Rattle.std.specs.Prelude.{◌≡◌, ◌⊎◌, ◌≤◌, ◌<◌, �
 ghost use Rattle.std.specs.Io.KnownBytes.{Appends};
 ghost use Rattle.sn_ports.specs.Causes.{Rose};
 ghost use Rattle.sn_ports.specs.Links.{KeepsEvents};
-ghost use Rattle.sn_pcm.specs.declared.settings.Settings.{Settings};
 ghost use Rattle.sn_engine.specs.Running.{with_block, with_settled};
 ghost use Rattle.sn_engine.specs.declared.standing.Standing.TheVariants.{Settled, Bounded};
 ghost use Rattle.sn_render.specs.Faults.{NothingFailed};
 ghost use Rattle.sn_server.specs.Faults.{UnlessFault};
 ghost use Rattle.sn_render.specs.Fronts.{TakesFront};
-ghost use Rattle.sn_render.specs.Going.{to_first};
+ghost use Rattle.sn_render.specs.Play.{to_first};
 ghost use Rattle.sn_server.specs.PlayEvents.{Live, tick};
 ghost use Rattle.sn_server.specs.Serving.{IsLive, Follows, IsReady, StaysOpen, IsTickEnd, IsTicked, IsTickPart, HasQuit, IsWornOut, HasLeft};
 ghost use Rattle.sn_server.specs.declared.ended.Ended.{Ended};
@@ -128,8 +127,8 @@ pub fn ticks<H: Threads + Sync, L: Link, O: Sink, G: Gate>(
     gate: &G,
 ) -> Result<(), Ended>
     requires ready { IsReady engine.old framer.now }
-    ensures follows { (s : Settings) (v : Live) (sound_old sent_old : Option (List ℕ)) → IsLive s sound_old (O.taken sound.old) sent_old (L.sent link.old) v engine.old framer.now
-        → Follows s sound_old (O.taken sound.new) sent_old (L.sent link.new) v (tick s count v) engine.new framer.now result }
+    ensures follows { (v : Live) (sound_old sent_old : Option (List ℕ)) → IsLive sound_old (O.taken sound.old) sent_old (L.sent link.old) v engine.old framer.now
+        → Follows sound_old (O.taken sound.new) sent_old (L.sent link.new) v (tick count v) engine.new framer.now result }
     ensures ready { OnOk result (IsReady engine.new framer.now) }
     ensures block { OnOk result (engine.new.block ≡ engine.old.block + count) }
     ensures open { IfErr result StaysOpen }

@@ -1,5 +1,5 @@
 -- Words that may be read and written, unit by unit.
-use Rattle.std.proofs.Common.{◌≡◌, ◌≤◌, ◌<◌, ◌+◌, ◌-◌, ℕ, zero, suc, ℤ, Bool, true, false, ◌==◌, List, [], ◌∷◌, length, get_or, drop, refl, ap, sym, subst, ◌∙◌, arith}
+use Rattle.std.proofs.Common.{◌≡◌, ◌≤◌, ◌<◌, ◌+◌, ◌-◌, ℕ, zero, suc, ℤ, Bool, true, false, ◌==◌, List, [], ◌∷◌, length, get_or, take, drop, refl, ap, sym, subst, ◌∙◌, arith}
 use Rattle.sn_ports.specs.Octets.{Octets}
 use Rattle.sn_mem.specs.declared.extents.Foot.{Foot}
 use Rattle.sn_mem.specs.Words.{touches, writes, MayRead, MayWrite}
@@ -41,10 +41,27 @@ drop_past [] (suc i) past = refl
 drop_past (y ∷ ys) zero past = absurd (omega arith)
 drop_past (y ∷ ys) (suc i) past = drop_past ys i (omega arith)
 
+-- the words of the units before a number, and those of the others
+parted : (rate : ℕ) (us : List UnitLine) (i : ℕ) → units_words rate (take i us) + units_words rate (drop i us) ≡ units_words rate us
+parted rate [] zero = refl
+parted rate [] (suc i) = refl
+parted rate (u ∷ us) zero = omega arith
+parted rate (u ∷ us) (suc i) = omega (arith, parted rate us i)
+
+-- where the words of the unit of a number begin
+abbrev pub place_of : ℕ → List UnitLine → ℕ → ℕ → ℕ
+place_of rate us first i = first + units_words rate (take i us)
+
 -- the words of the next unit begin at a place
 pub record IsAt (rate : ℕ) (units : List UnitLine) (first i at : ℕ) : Type 0 where
   pub low : first ≤ at
   pub place : at + units_words rate (drop i units) ≡ first + units_words rate units
+
+pub placed : (rate : ℕ) (us : List UnitLine) (first i : ℕ) → IsAt rate us first i (place_of rate us first i)
+placed rate us first i = record { low = omega arith; place = omega (arith, parted rate us i) }
+
+pub next_place : (rate : ℕ) (us : List UnitLine) (first i : ℕ) (u : UnitLine) → i < length us → u ≡ get_or us i u → place_of rate us first (i + 1) ≡ place_of rate us first i + unit_words rate u
+next_place rate us first i u lt item = omega (arith, parted rate us i, parted rate us (i + 1), ap (units_words rate) (drop_next us i u lt item))
 
 module _ (rate : ℕ) (units : List UnitLine) (first i : ℕ) (u : UnitLine) (at : ℕ) (lt : i < length units) (item : u ≡ get_or units i u) (is : IsAt rate units first i at) where
   words_left : units_words rate (drop i units) ≡ unit_words rate u + units_words rate (drop (i + 1) units)

@@ -20,7 +20,8 @@ use Rattle.sn_mem.specs.Buffers.{Buffer, buffers_of, overlaps}
 use Rattle.sn_world.specs.Nodes.{Content, content_of}
 use Rattle.sn_world.specs.Noted.{Noted}
 use Rattle.sn_world.specs.Pictures.{Pictures, IsHeld, AreHeld, KeepsOutside, held_extents, live_held}
-use Rattle.sn_world.specs.Settling.{done_action, after_ending, settled_at, settled_units, triggers_in, endings_in, notices_of, told_all, all_acted, with_settled, settled}
+use Rattle.sn_def.specs.Facts.{done_action}
+use Rattle.sn_world.specs.Settling.{after_ending, settled_at, settled_units, triggers_in, endings_in, notices_of, told_all, all_acted, with_settled, settled}
 use Rattle.sn_world.specs.SettleWords.{settled_held, walk_triggers, walk_endings, settled_walk, walk_room}
 use Rattle.sn_world.specs.World.{World, Turn, world_of, turn_of}
 use Rattle.sn_world.proofs.Changes.{pictured_again}

@@ -3,7 +3,7 @@ ghost use Rattle.std.specs.Prelude.{◌≡◌, ◌≤◌, ◌<◌, ◌+◌, ◌*
 ghost use Rattle.sn_def.specs.StateWords.{unit_words, units_words};
 ghost use Rattle.sn_mem.specs.Words.{MayRead};
 ghost use Rattle.sn_reply.specs.declared.events.Notice.{Notice};
-ghost use Rattle.sn_world.specs.Settling.{sends, literal_at, done_action, triggers_at, endings_at, unit_triggers, unit_endings};
+ghost use Rattle.sn_world.specs.Settling.{triggers_at, endings_at, unit_triggers, unit_endings};
 ghost use Rattle.sn_tree.specs.Trees.{running_labels};
 ghost use Rattle.sn_world.specs.Pictures.{Pictures, WritesWorld, IsHeld};
 ghost use Rattle.sn_world.specs.SettleWords.{held_triggers, held_endings, walk_triggers, walk_endings};
@@ -12,43 +12,11 @@ ghost use Rattle.sn_settle.specs.Telling.{HaveRoom, AreTold, AreNoted, CanLook, 
 ghost use Rattle.sn_settle.specs.Looking.{listed};
 
 use crate::telling::tell;
-use sn_def::{Input, Kind, Now, Unit};
+use sn_def::{Def, Now, Unit};
 use sn_mem::{Port, sample_of};
 use sn_ports::Text;
 use sn_reply::Notice;
 use sn_world::{Ending, Endings, Flags, Held, Stage};
-
-/// The value of an input that is a literal.
-fn literal_at(inputs: &[Input], place: usize) -> Option<i32>
-    ensures { result ≡ literal_at inputs.now place }
-{
-    match inputs.get(place) {
-        Some(Input::Literal(value)) => Some(*value),
-        _ => Some(0),
-    }
-}
-
-/// What a unit does at its end, where it is one that ends.
-pub fn done_action(unit: &Unit) -> Option<i32>
-    ensures { result ≡ done_action unit.now.kind unit.now.inputs }
-{
-    let inputs = unit.inputs.as_slice();
-    match unit.kind {
-        Kind::FreeSelf => Some(2),
-        Kind::PauseSelf => Some(1),
-        Kind::Line | Kind::DetectSilence | Kind::RecordBuf => literal_at(inputs, 3),
-        Kind::Linen => literal_at(inputs, 4),
-        Kind::PlayBuf => literal_at(inputs, 5),
-        _ => None,
-    }
-}
-
-/// Whether a unit sends triggers.
-pub fn sends(unit: &Unit) -> bool
-    ensures { result ≡ sends unit.now.kind }
-{
-    matches!(unit.kind, Kind::SendTrig)
-}
 
 /// The trigger that a unit sent in a block, its state's words being those from a place on.
 fn trigger_at<P: Port>(port: &mut P, now: &Now, unit: &Unit, at: u32) -> Option<Notice>
@@ -59,7 +27,7 @@ fn trigger_at<P: Port>(port: &mut P, now: &Now, unit: &Unit, at: u32) -> Option<
     ensures foot { P.foot port.new ≡ P.foot port.old }
     ensures rest { P.rest port.new ≡ P.rest port.old }
 {
-    if !sends(unit) {
+    if !unit.sends() {
         return None;
     }
     if port.load(at) != now.block + 1 {
@@ -82,7 +50,7 @@ fn ending_at<P: Port>(port: &mut P, now: &Now, unit: &Unit, at: u32) -> Option<E
     ensures foot { P.foot port.new ≡ P.foot port.old }
     ensures rest { P.rest port.new ≡ P.rest port.old }
 {
-    let Some(action) = done_action(unit) else {
+    let Some(action) = unit.done_action() else {
         return None;
     };
     if port.load(at) != 1 {
@@ -146,11 +114,13 @@ fn look_at_units<P: Port>(
     port: &mut P,
     flags: &Flags,
     now: &Now,
+    def: &Def,
     units: &[Unit],
     at: u32,
     endings: &mut Endings,
     outs: &mut [Text],
 )
+    requires same { units.now ≡ def.now.units }
     requires reads { MayRead (P.foot port.old) at (units_words now.now.rate units.now) }
     requires block { now.now.block < 2 ^ 63 }
     requires can { CanLook (unit_triggers now.now.rate now.now.block now.now.node units.now at (P.words port.old)) (unit_endings now.now.rate now.now.node units.now at (P.words port.old)) outs.old endings.old }
@@ -159,10 +129,11 @@ fn look_at_units<P: Port>(
     ensures foot { P.foot port.new ≡ P.foot port.old }
     ensures rest { P.rest port.new ≡ P.rest port.old }
 {
-    let mut at = at;
+    let mut number = 0;
     for unit in units {
-        look_at_unit(port, flags, now, unit, at, endings, outs);
-        at += unit.state_words(now.rate);
+        let words = def.unit_words(number, now.rate);
+        look_at_unit(port, flags, now, unit, at + words.first, endings, outs);
+        number += 1;
     }
 }
 
@@ -189,7 +160,16 @@ fn look_at_held<P: Port>(
         Held::Group => {}
         Held::Synth { def, state, .. } => {
             let units = def.units.as_slice();
-            look_at_units(port, &stage.notify, now, units, state.at, endings, outs);
+            look_at_units(
+                port,
+                &stage.notify,
+                now,
+                def,
+                units,
+                state.at,
+                endings,
+                outs,
+            );
         }
     }
 }

@@ -3,7 +3,6 @@ ghost use Rattle.std.specs.Prelude.{◌≡◌, ◌≤◌, length};
 ghost use Rattle.sn_tree.specs.Trees.{running_labels};
 ghost use Rattle.sn_world.specs.SettleWords.{unit_room, units_room, held_room, walk_room};
 
-use crate::looking::{done_action, sends};
 use sn_def::Unit;
 use sn_world::{Held, Stage};
 
@@ -12,8 +11,8 @@ fn unit_room(unit: &Unit) -> u32
     ensures room { result ≡ unit_room unit.now }
     ensures few { result ≤ 2 }
 {
-    let triggers = if sends(unit) { 1 } else { 0 };
-    let ends = if done_action(unit).is_some() { 1 } else { 0 };
+    let triggers = if unit.sends() { 1 } else { 0 };
+    let ends = if unit.done_action().is_some() { 1 } else { 0 };
     triggers + ends
 }
 

@@ -7,8 +7,7 @@ ghost use Rattle.sn_world.specs.Pictures.{Pictures, WritesWorld, IsHeld};
 ghost use Rattle.sn_world.specs.Settling.{settled_at, settled_units};
 ghost use Rattle.sn_world.specs.SettleWords.{settled_held, settled_walk};
 
-use crate::looking::done_action;
-use sn_def::Unit;
+use sn_def::{Def, Unit};
 use sn_mem::Port;
 use sn_world::{Held, Stage};
 
@@ -19,7 +18,7 @@ fn settle_unit<P: Port>(port: &mut P, unit: &Unit, at: u32)
     ensures foot { P.foot port.new ≡ P.foot port.old }
     ensures rest { P.rest port.new ≡ P.rest port.old }
 {
-    let Some(_action) = done_action(unit) else {
+    let Some(_action) = unit.done_action() else {
         return;
     };
     if port.load(at) == 1 {
@@ -28,16 +27,18 @@ fn settle_unit<P: Port>(port: &mut P, unit: &Unit, at: u32)
 }
 
 /// Makes each done word 1 of a synth's units 2.
-fn settle_units<P: Port>(port: &mut P, rate: u32, units: &[Unit], at: u32)
+fn settle_units<P: Port>(port: &mut P, rate: u32, def: &Def, units: &[Unit], at: u32)
+    requires same { units.now ≡ def.now.units }
     requires writes { MayWrite (P.foot port.old) at (units_words rate units.now) }
     ensures words { P.words port.new ≡ settled_units rate units.now at (P.words port.old) }
     ensures foot { P.foot port.new ≡ P.foot port.old }
     ensures rest { P.rest port.new ≡ P.rest port.old }
 {
-    let mut at = at;
+    let mut number = 0;
     for unit in units {
-        settle_unit(port, unit, at);
-        at += unit.state_words(rate);
+        let words = def.unit_words(number, rate);
+        settle_unit(port, unit, at + words.first);
+        number += 1;
     }
 }
 
@@ -53,7 +54,7 @@ fn settle_held<P: Port>(port: &mut P, stage: &Stage, held: &Held)
     match held {
         Held::Group => {}
         Held::Synth { def, state, .. } => {
-            settle_units(port, stage.rate, def.units.as_slice(), state.at);
+            settle_units(port, stage.rate, def, def.units.as_slice(), state.at);
         }
     }
 }

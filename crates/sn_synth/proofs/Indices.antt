@@ -7,6 +7,8 @@ use Rattle.std.proofs.lemmas.List.Elements.{All-head, All-tail}
 use Rattle.std.proofs.lemmas.List.{get_or-replicate, get_or-map, length-map}
 use Rattle.sn_def.specs.declared.table.Mark.{Mark}
 use Rattle.sn_def.specs.declared.table.Mark.TheVariants.{Index}
+use Rattle.sn_def.specs.declared.table.Access.TheVariants as accesses
+use Rattle.sn_def.specs.declared.table.Bank.TheVariants as banks
 use Rattle.sn_def.specs.declared.control.Control.{Control as SynthControl}
 use Rattle.sn_def.specs.declared.unit.Input.{Input}
 use Rattle.sn_def.specs.declared.unit.Input.TheVariants.{Literal, Control, Wire}
@@ -25,7 +27,7 @@ use Rattle.sn_io.specs.BufferUnits.{is_buffer_unit, numbered}
 use Rattle.sn_io.specs.Conditions.{MayReadAudio, MayReadControl, MayWriteAudio, MayWriteControl, MayReadBuffer, MayWriteBuffer, IsWholeIfSome}
 use Rattle.sn_synth.specs.Synths.{followed, control_value, control_values, input_block, input_blocks}
 use Rattle.sn_synth.specs.Conditions.{AreControlsOf, no_control, index_value, index_of, MayPlay, MayPlayAll, Reaches, MayOutput}
-use Rattle.sn_synth.proofs.RowLaws.{hears_index, reads_index, writes_index, sets_index, first_index, reads_a_buffer, writes_a_buffer}
+use Rattle.sn_def.proofs.RowLaws.{first_index, bus_index, on_a_buffer}
 
 any_at : {A : Type 0} (p : A → Bool) (xs : List A) (k : ℕ) (d : A) → k < length xs → p (get_or xs k d) ≡ true → list_any p xs ≡ true
 any_at p [] k d lt h = absurd (omega arith)
@@ -91,15 +93,15 @@ reaches f places d controls buses wires k e are fit lt each may =
     let long : length inputs ≡ length u.inputs = length-map u.inputs (input_block (control_values buses controls) wires) in
     record {
       buses = record {
-        hears = λ is i low. let P : ℤ → Type 0 = λ (z : ℤ). MayReadAudio f (audio_number (z +ℤ pos i)) in subst P (sym (index (hears_index u.kind is))) (may.hears is i low);
-        reads = λ is i low. let P : ℤ → Type 0 = λ (z : ℤ). MayReadControl f (control_number (z +ℤ pos i)) in subst P (sym (index (reads_index u.kind is))) (may.reads is i low);
-        writes = λ is i low. let P : ℤ → Type 0 = λ (z : ℤ). MayWriteAudio f (audio_number (z +ℤ pos i)) in subst P (sym (index (writes_index u.kind is))) (may.writes is i (omega (arith, long, low)));
-        sets = λ is i low. let P : ℤ → Type 0 = λ (z : ℤ). MayWriteControl f (control_number (z +ℤ pos i)) in subst P (sym (index (sets_index u.kind is))) (may.sets is i (omega (arith, long, low)));
+        hears = λ is i low. let P : ℤ → Type 0 = λ (z : ℤ). MayReadAudio f (audio_number (z +ℤ pos i)) in subst P (sym (index (bus_index accesses.Read banks.Audio u.kind refl is))) (may.hears is i low);
+        reads = λ is i low. let P : ℤ → Type 0 = λ (z : ℤ). MayReadControl f (control_number (z +ℤ pos i)) in subst P (sym (index (bus_index accesses.Read banks.Control u.kind refl is))) (may.reads is i low);
+        writes = λ is i low. let P : ℤ → Type 0 = λ (z : ℤ). MayWriteAudio f (audio_number (z +ℤ pos i)) in subst P (sym (index (bus_index accesses.Write banks.Audio u.kind refl is))) (may.writes is i (omega (arith, long, low)));
+        sets = λ is i low. let P : ℤ → Type 0 = λ (z : ℤ). MayWriteControl f (control_number (z +ℤ pos i)) in subst P (sym (index (bus_index accesses.Write banks.Control u.kind refl is))) (may.sets is i (omega (arith, long, low)));
       };
       buffer = record {
         whole = whole (control_number (sample inputs 0 0)) places each;
-        reads = λ is. let P : ℤ → Type 0 = λ (z : ℤ). MayReadBuffer f (numbered (control_number z) places) in subst P (sym (first (reads_a_buffer u.kind is))) (may.plays is);
-        writes = λ is. let P : ℤ → Type 0 = λ (z : ℤ). MayWriteBuffer f (numbered (control_number z) places) in subst P (sym (first (writes_a_buffer u.kind is))) (may.records is);
+        reads = λ is. let P : ℤ → Type 0 = λ (z : ℤ). MayReadBuffer f (numbered (control_number z) places) in subst P (sym (first (on_a_buffer accesses.Read u.kind is))) (may.plays is);
+        writes = λ is. let P : ℤ → Type 0 = λ (z : ℤ). MayWriteBuffer f (numbered (control_number z) places) in subst P (sym (first (on_a_buffer accesses.Write u.kind is))) (may.records is);
       };
     }
 

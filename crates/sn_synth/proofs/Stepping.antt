@@ -23,7 +23,8 @@ use Rattle.sn_mem.proofs.Feet.{part_at}
 use Rattle.sn_synth.specs.Synths.{input_block, input_blocks, now_of}
 use Rattle.sn_synth.specs.Words.{unit_after, Going, after_unit, after_units}
 use Rattle.sn_synth.specs.Conditions.{IsKnown, AreKnown, Reaches, MayOutput, CanRun}
-use Rattle.sn_synth.proofs.RowLaws.{played, inputs_few, same_words, outputs_long}
+use Rattle.sn_def.proofs.RowLaws.{inputs_few}
+use Rattle.sn_synth.proofs.RowLaws.{played, same_words, outputs_long}
 
 -- ---- what a unit line that fits allows
 
@@ -48,14 +49,14 @@ inputs_known c w c' w' u e e' fits =
     subst P (sym e) (subst Q (sym e') (known (row_of u.kind).inputs c w 0 u.inputs fits.inputs))
 
 pub inputs_at_most : (c w : ℕ) (u : UnitLine) → UnitFits c w u → length u.inputs ≤ 12
-inputs_at_most c w u fits = let few = inputs_few u.kind (played u.kind) in let most = fits.most_inputs in omega arith
+inputs_at_most c w u fits = let few = inputs_few u.kind in let most = fits.most_inputs in omega arith
 
 long_blocks : (values : List ℤ) (wires : List (List ℤ)) (xs : List Input) → length (input_blocks values wires xs) ≡ length xs
 long_blocks values wires xs = length-map xs (input_block values wires)
 
 size_is : (rate c w : ℕ) (values : List ℤ) (wires : List (List ℤ)) (u : UnitLine) → UnitFits c w u → words_of (row_of u.kind).words (most_frames rate (input_blocks values wires u.inputs)) ≡ unit_words rate u
 unfolding unit_words
-size_is rate c w values wires u fits = let least = fits.fewest_inputs in same_words u.kind rate c w values wires u.inputs (played u.kind) fits.inputs (omega arith)
+size_is rate c w values wires u fits = let least = fits.fewest_inputs in same_words u.kind rate c w values wires u.inputs fits.inputs (omega arith)
 
 pub can_run : (rate : ℕ) (f : Foot) (places : List (Option BufferPlace)) (at c w n len : ℕ) (values : List ℤ) (wires : List (List ℤ)) (u : UnitLine) → UnitFits c w u → MayOutput f places values u → n ≡ u.outputs → len ≡ unit_words rate u → (0 < len → 10368 ≤ at) → MayWrite f at len → AreApart (record { at = at; len = len }) places → CanRun u.kind rate f places n at len (input_blocks values wires u.inputs)
 can_run rate f places at c w n len values wires u fits may many size apart state buffers =
@@ -75,7 +76,7 @@ can_run rate f places at c w n len values wires u fits may many size apart state
 pub outputs_are : (c w n : ℕ) (u : UnitLine) (now : Now) (places : List (Option BufferPlace)) (ws : List ℕ) (at len : ℕ) (inputs : List (List ℤ)) → UnitFits c w u → n ≡ u.outputs → length (unit_after u.kind now n places ws at len inputs).1 ≡ u.outputs
 outputs_are c w n u now places ws at len inputs fits many =
     let P : ℕ → Type 0 = λ n. length (unit_after u.kind now n places ws at len inputs).1 ≡ u.outputs in
-    subst P (sym many) (outputs_long u.kind now places ws at len inputs u.outputs (played u.kind) fits.fewest_outputs fits.most_outputs)
+    subst P (sym many) (outputs_long u.kind now places ws at len inputs u.outputs fits.fewest_outputs fits.most_outputs)
 
 -- ---- the units to come
 

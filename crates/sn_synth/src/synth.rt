@@ -51,5 +51,13 @@ pub fn run_synth<P: Port>(
 {
     def.well_formed();
     read_controls(port, controls.as_slice(), &mut scratch.values);
-    run_units(port, buffers, def.units.as_slice(), state.at, scratch, now);
+    run_units(
+        port,
+        buffers,
+        def,
+        def.units.as_slice(),
+        state.at,
+        scratch,
+        now,
+    );
 }

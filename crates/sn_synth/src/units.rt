@@ -18,51 +18,26 @@ ghost use Rattle.sn_synth.specs.Words.{plain_after, unit_after, after_units, beg
 ghost use Rattle.sn_synth.specs.Conditions.{MayOutput, CanRun};
 
 use crate::inputs::gather;
-use sn_def::{Kind, Now, Unit};
+use sn_def::{Def, Family, Kind, Now, Unit, family_of};
+use sn_fixed::Heights;
 use sn_mem::{Blocks, Buffers, Extent, Places, Port, Scratch};
 
 fn is_bus_unit(kind: Kind) -> bool
     ensures { result ≡ is_bus_unit kind }
 {
-    matches!(
-        kind,
-        Kind::Inar
-            | Kind::InFeedback
-            | Kind::Inkr
-            | Kind::Outar
-            | Kind::ReplaceOut
-            | Kind::Outkr
-            | Kind::SendTrig
-            | Kind::DetectSilence
-            | Kind::FreeSelf
-            | Kind::PauseSelf
-    )
+    matches!(family_of(kind), Family::Bus | Family::Trigger)
 }
 
 fn is_buffer_unit(kind: Kind) -> bool
     ensures { result ≡ is_buffer_unit kind }
 {
-    matches!(
-        kind,
-        Kind::PlayBuf | Kind::RecordBuf | Kind::BufRd | Kind::BufWr | Kind::BufFrames
-    )
+    matches!(family_of(kind), Family::Buffer)
 }
 
 fn is_generator(kind: Kind) -> bool
     ensures { result ≡ is_generator kind }
 {
-    matches!(
-        kind,
-        Kind::SinOsc
-            | Kind::LFSaw
-            | Kind::LFPulse
-            | Kind::LFTri
-            | Kind::Impulse
-            | Kind::WhiteNoise
-            | Kind::Phasor
-            | Kind::Line
-            | Kind::Linen
-    )
+    matches!(family_of(kind), Family::Generator)
 }
 
 /// What the unit of a number is told.
@@ -78,6 +53,7 @@ fn numbered(now: &Now, number: u32) -> Now
 /// Runs a unit that hears and writes no bus on the blocks of its inputs.
 #[tactic(auto, unfolding(crate::specs::UnitBlocks::inner))]
 fn run_inner<P: Port>(
+    heights: &Heights,
     kind: Kind,
     now: &Now,
     port: &mut P,
@@ -96,7 +72,7 @@ fn run_inner<P: Port>(
     ensures rest { P.rest port.new ≡ P.rest port.old }
 {
     if is_generator(kind) {
-        sn_gen::run(kind, now, port, state, inputs, outputs);
+        sn_gen::run_with(heights, kind, now, port, state, inputs, outputs);
     } else {
         sn_filt::run(kind, now, port, state, inputs, outputs);
     }
@@ -105,6 +81,7 @@ fn run_inner<P: Port>(
 /// Runs a unit that has no buffer on the blocks of its inputs. `outputs` comes with as many blocks
 /// as the unit has outputs.
 fn run_plain<P: Port>(
+    heights: &Heights,
     kind: Kind,
     now: &Now,
     port: &mut P,
@@ -128,13 +105,14 @@ fn run_plain<P: Port>(
     if is_bus_unit(kind) {
         sn_io::run(kind, now, &Places, port, state, inputs, outputs);
     } else {
-        run_inner(kind, now, port, state, inputs, outputs);
+        run_inner(heights, kind, now, port, state, inputs, outputs);
     }
 }
 
 /// Runs a unit of a kind on the blocks of its inputs, with the buffers at their places. `outputs`
 /// comes with as many blocks as the unit has outputs.
 fn run_kind<P: Port>(
+    heights: &Heights,
     kind: Kind,
     now: &Now,
     buffers: &Buffers,
@@ -154,14 +132,15 @@ fn run_kind<P: Port>(
     if is_buffer_unit(kind) {
         sn_io::run_buffer_unit(kind, now, buffers, port, state, inputs, outputs);
     } else {
-        run_plain(kind, now, port, state, inputs, outputs);
+        run_plain(heights, kind, now, port, state, inputs, outputs);
     }
 }
 
-/// Runs the units in order, their states in the words from `at` on, one unit's after the other's.
+/// Runs the units of a definition in order, their states in the words from `at` on, one unit's after the other's.
 pub(crate) fn run_units<P: Port>(
     port: &mut P,
     buffers: &Buffers,
+    def: &Def,
     units: &[Unit],
     at: u32,
     scratch: &mut Scratch,
@@ -169,6 +148,7 @@ pub(crate) fn run_units<P: Port>(
 )
     requires rate { 0 < now.now.rate }
     requires block { now.now.block < 2 ^ 63 }
+    requires same { units.now ≡ def.now.units }
     requires fit { UnitsFit (length scratch.old.values) 0 units.now }
     requires wires { outputs_of units.now ≤ 512 }
     requires few { length units.now ≤ 256 }
@@ -184,7 +164,7 @@ pub(crate) fn run_units<P: Port>(
     let mut place = at;
     let mut number = 0;
     for unit in units {
-        let len = unit.state_words(now.rate);
+        let len = def.unit_words(number as usize, now.rate).count;
         let state = Extent { at: place, len };
         gather(
             unit.inputs.as_slice(),
@@ -194,6 +174,7 @@ pub(crate) fn run_units<P: Port>(
         );
         scratch.outputs.resize(unit.outputs as usize);
         run_kind(
+            &scratch.heights,
             unit.kind,
             &numbered(now, number),
             buffers,

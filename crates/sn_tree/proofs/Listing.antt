@@ -2,13 +2,13 @@
 use Rattle.std.proofs.Common.{◌≡◌, ℕ, ◌+◌, ◌≤◌, ℤ, List, [], ◌∷◌, ◌++◌, length, take, drop, Option, Some, sym, refl, ap, ◌∙◌, subst, arith, append_assoc, length-drop}
 use Rattle.std.specs.List.{IsFirstAndRest}
 use Rattle.sn_tree.specs.declared.entry.Entry.{Entry}
-use Rattle.sn_tree.specs.Trees.{Nodes, none, node, joined, subtree, with_payloads}
+use Rattle.sn_tree.specs.Trees.{Nodes, none, node, joined, subtree, running_labels, with_payloads}
 use Rattle.sn_tree.specs.Order.{Key, label_in, tree_of, IsFlat}
 use Rattle.sn_tree.specs.Arranged.{Arranged}
 use Rattle.sn_tree.specs.Saving.{SavedNodes}
 use Rattle.sn_tree.specs.Model.{NodeTree}
 use Rattle.sn_tree.specs.Kept.{uses, payload_of, IsFilled, shown}
-use Rattle.sn_tree.specs.Walking.{payload_at, IsLeft}
+use Rattle.sn_tree.specs.Walking.{payload_at, left_of, IsLeft}
 use Rattle.sn_tree.specs.Members.{tops, members, members_of}
 use Rattle.sn_tree.proofs.PayloadLaws.{relabelled, joined-payloads, subtree-payloads}
 use Rattle.sn_tree.proofs.Keeping.{uses-parts}
@@ -97,3 +97,8 @@ module _ {P : Type 0} (root : P) (slots : List (Option P)) (nodes : Arranged) (i
   members_shown saved tree view =
       ap (λ t. members (with_payloads (payload_of root slots) t)) value
       ∙ (ap members (sym (subtree-payloads (payload_of root slots) id nodes.attached)) ∙ ap (λ (t : NodeTree P). members (subtree id t.attached)) view)
+
+  pub walk_shown : (saved : Option SavedNodes) (tree : NodeTree P) → shown root slots nodes saved ≡ tree → left_of root slots es ≡ running_labels (subtree id tree.attached)
+  walk_shown saved tree view =
+      ap (λ t. running_labels (with_payloads (payload_of root slots) t)) value
+      ∙ (ap running_labels (sym (subtree-payloads (payload_of root slots) id nodes.attached)) ∙ ap (λ (t : NodeTree P). running_labels (subtree id t.attached)) view)

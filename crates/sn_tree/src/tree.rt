@@ -343,6 +343,18 @@ impl<P: Drop> Tree<P> {
         }
     }
 
+    /// The walk over an attached node and all below it, where those that are paused are left out with what is below them.
+    /// Where no such node is attached it reaches none.
+    pub fn walk_at(&self, id: i32) -> Walk<'_, P>
+        ensures { result ≡ running_labels (subtree id self.now.attached) }
+    {
+        Walk {
+            root: &self.root,
+            payloads: &self.payloads,
+            entries: self.order.subtree_entries(id),
+        }
+    }
+
     /// Goes over the payloads of all attached nodes, in the order of the walk.
     pub fn tally<T: Tally<P>>(&self, tally: &mut T)
         ensures { tally.new ≡ gathered T.with_one tally.old (payloads self.now.attached) }

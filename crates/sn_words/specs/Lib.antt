@@ -1,4 +1,5 @@
 pub mod Choices
+pub mod Converting
 pub mod Keys
 pub mod Laws
 pub mod Serving

@@ -2,12 +2,14 @@
 #![tactic(auto)]
 
 mod choices;
+mod convert;
 mod keys;
 mod laws;
 mod lines;
 mod render;
 mod serve;
 
+pub use convert::{Conversion, convert_words};
 pub use laws::{chosen_port, chosen_settings, defaults_stand, first_bad_word};
 pub use lines::BadWord;
 pub use render::settings;

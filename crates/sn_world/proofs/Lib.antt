@@ -18,7 +18,6 @@ pub mod DefsLemmas
 pub mod OpeningLaws
 pub mod Inserting
 pub mod Replacing
-pub mod OwnWords
 pub mod SettleLaws
 pub mod SettleWalks
 pub mod HeldIds

@@ -8,6 +8,7 @@ use Rattle.sn_def.specs.declared.control.Control.{Control}
 use Rattle.sn_def.specs.declared.unit.Unit.{Unit as UnitLine}
 use Rattle.sn_def.specs.Definition.{Definition}
 use Rattle.sn_def.specs.Defs.{definition_of}
+use Rattle.sn_def.specs.Facts.{sends, done_action}
 use Rattle.sn_def.specs.StateWords.{unit_words, units_words}
 use Rattle.sn_reply.specs.declared.events.Notice.{Notice}
 use Rattle.sn_reply.specs.declared.events.Notice.TheVariants as notice
@@ -15,9 +16,9 @@ use Rattle.sn_world.specs.declared.stage.Held.{Held}
 use Rattle.sn_world.specs.declared.stage.Held.TheVariants as held
 use Rattle.sn_world.specs.Nodes.{Content, synth, content_of}
 use Rattle.sn_world.specs.Pictures.{held_extents, IsHeld}
-use Rattle.sn_world.specs.Settling.{sends, done_action, triggers_at, ending_of, after_ending, endings_at, settled_at, unit_triggers, unit_endings, settled_units, content_triggers, content_endings, settled_content}
+use Rattle.sn_world.specs.Settling.{triggers_at, ending_of, after_ending, endings_at, settled_at, unit_triggers, unit_endings, settled_units, content_triggers, content_endings, settled_content}
 use Rattle.sn_world.specs.SettleWords.{held_triggers, held_endings, settled_held}
-use Rattle.sn_world.proofs.OwnWords.{sender_words, ender_words}
+use Rattle.sn_def.proofs.RowLaws.{sender_words, ender_words}
 use Rattle.sn_mem.proofs.BufferWords.{outside}
 use Rattle.sn_world.proofs.Walking.{IsKept}
 

@@ -5,6 +5,7 @@ use Rattle.sn_mem.specs.declared.extents.Extent.{Extent}
 use Rattle.sn_mem.specs.Blocks.{sample_in}
 use Rattle.sn_def.specs.declared.unit.Unit.{Unit as UnitLine}
 use Rattle.sn_def.specs.Defs.{definition_of}
+use Rattle.sn_def.specs.Facts.{sends, done_action}
 use Rattle.sn_def.specs.StateWords.{unit_words}
 use Rattle.sn_reply.specs.declared.events.Notice.{Notice}
 use Rattle.sn_reply.specs.declared.events.Notice.TheVariants as notice
@@ -15,7 +16,7 @@ use Rattle.sn_world.specs.Nodes.{Content, content_of}
 use Rattle.sn_mem.specs.Buffers.{overlaps}
 use Rattle.sn_world.specs.Pictures.{held_extents, live_held, AreHeld}
 use Rattle.sn_world.specs.declared.endings.Ending.{Ending}
-use Rattle.sn_world.specs.Settling.{sends, done_action, triggers_at, ending_of, after_ending, endings_at, unit_triggers, unit_endings, settled_units, content_triggers, content_endings, settled_content, triggers_in, endings_in, settled_nodes}
+use Rattle.sn_world.specs.Settling.{triggers_at, ending_of, after_ending, endings_at, unit_triggers, unit_endings, settled_units, content_triggers, content_endings, settled_content, triggers_in, endings_in, settled_nodes}
 use Rattle.sn_world.specs.SettleWords.{held_triggers, held_endings, settled_held, walk_triggers, walk_endings, settled_walk, one_if_some, unit_room, units_room, held_room, walk_room}
 use Rattle.sn_world.proofs.Walking.{IsKept, CanWalk, same_content, same_label, same_node, same_nodes, kept_on, can_go_on, parts_of, held_from}
 use Rattle.sn_world.proofs.SettleLaws.{held_triggers_are, held_endings_are, IsSettledHeld, held_settled}

@@ -2,12 +2,13 @@
 use Rattle.std.specs.Prelude.{ℕ, ◌+◌, ℤ, Option, Some, None, if◌then◌else◌, List, [], ◌∷◌, ◌++◌}
 use Rattle.sn_def.specs.declared.unit.Unit.{Unit as UnitLine}
 use Rattle.sn_def.specs.Defs.{definition_of}
+use Rattle.sn_def.specs.Facts.{sends, done_action}
 use Rattle.sn_reply.specs.declared.events.Notice.{Notice}
 use Rattle.sn_tree.specs.Trees.{Label}
 use Rattle.sn_world.specs.declared.stage.Held.{Held}
 use Rattle.sn_world.specs.declared.stage.Held.TheVariants as held
 use Rattle.sn_world.specs.declared.endings.Ending.{Ending}
-use Rattle.sn_world.specs.Settling.{sends, done_action, unit_triggers, unit_endings, settled_units}
+use Rattle.sn_world.specs.Settling.{unit_triggers, unit_endings, settled_units}
 
 abbrev pub held_triggers : ℕ → ℕ → ℤ → Held → List ℕ → List Notice
 held_triggers rate b id held.Group ws = []

@@ -1,12 +1,10 @@
 -- What happens after a block: its triggers are reported, and then the units that ended in it pause or free their synths.
-use Rattle.std.specs.Prelude.{ℕ, ◌+◌, ◌==◌, ◌&&◌, ℤ, pos, Bool, true, false, if◌then◌else◌, List, [], ◌∷◌, ◌++◌, flat_map, Option, Some, None, slice_get, slice_index, slice_set}
+use Rattle.std.specs.Prelude.{ℕ, ◌+◌, ◌==◌, ◌&&◌, ℤ, pos, Bool, false, if◌then◌else◌, List, [], ◌∷◌, ◌++◌, flat_map, Option, Some, None, slice_index, slice_set}
 use Rattle.std.specs.Ordering.{int_eq}
 use Rattle.sn_mem.specs.Blocks.{sample_in}
-use Rattle.sn_def.specs.declared.kind.Kind.{Kind}
-use Rattle.sn_def.specs.declared.kind.Kind.TheVariants as kinds
-use Rattle.sn_def.specs.declared.unit.Input.{Input}
 use Rattle.sn_def.specs.declared.unit.Unit.{Unit as UnitLine}
-use Rattle.sn_def.specs.StateWords.{literal_value, unit_words}
+use Rattle.sn_def.specs.StateWords.{unit_words}
+use Rattle.sn_def.specs.Facts.{sends, done_action}
 use Rattle.sn_reply.specs.declared.events.Place.{Place}
 use Rattle.sn_reply.specs.declared.events.Notice.{Notice}
 use Rattle.sn_reply.specs.declared.events.Notice.TheVariants as notice
@@ -21,30 +19,12 @@ use Rattle.sn_world.specs.World.{Turn}
 
 -- ---- one unit, whose state words begin at a place among the words of its synth
 
-abbrev pub sends : Kind → Bool
-sends kinds.SendTrig = true
-sends _ = false
-
 -- A SendTrig unit sent a trigger in block b where its first word is b + 1. Its second and third words are the trigger's id and its value.
 abbrev pub triggers_at : ℕ → ℤ → UnitLine → ℕ → List ℕ → List Notice
 triggers_at b id u place state =
     if sends u.kind && slice_index state place == b + 1
     then notice.Tr id (sample_in (slice_index state (place + 1))) (sample_in (slice_index state (place + 2))) ∷ []
     else []
-
-abbrev pub literal_at : List Input → ℕ → Option ℤ
-literal_at inputs i = Some (literal_value (slice_get inputs i))
-
--- what a unit does that ends: its input `done!` says it, FreeSelf frees its synth and PauseSelf pauses it
-abbrev pub done_action : Kind → List Input → Option ℤ
-done_action kinds.Line inputs = literal_at inputs 3
-done_action kinds.Linen inputs = literal_at inputs 4
-done_action kinds.PlayBuf inputs = literal_at inputs 5
-done_action kinds.RecordBuf inputs = literal_at inputs 3
-done_action kinds.DetectSilence inputs = literal_at inputs 3
-done_action kinds.FreeSelf inputs = Some (pos 2)
-done_action kinds.PauseSelf inputs = Some (pos 1)
-done_action _ inputs = None
 
 -- where the done word is 1
 abbrev pub ending_of : ℤ → ℕ → Option ℤ → List Ending

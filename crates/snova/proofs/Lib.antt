@@ -1,2 +1,3 @@
 pub mod ByWordsLemmas
 pub mod ServeLemmas
+pub mod ConvertLemmas

@@ -11,6 +11,9 @@ use Rattle.sn_render.specs.declared.outcome.Outcome.TheVariants as outcome
 use Rattle.sn_server.specs.declared.ended.Ended.{Ended}
 use Rattle.sn_server.specs.declared.ended.Ended.TheVariants as ends
 use Rattle.snova.specs.Connection.{served_status}
+use Rattle.snova.specs.Converting.{converted_status}
+use Rattle.snova.specs.declared.converting.Converted.{Converted}
+use Rattle.snova.specs.declared.converting.Converted.TheVariants as converted
 use Rattle.snova.specs.declared.serving.Served.{Served}
 use Rattle.snova.specs.declared.serving.Served.TheVariants as served
 use Rattle.snova.specs.declared.exit.Exit.{Exit}
@@ -71,12 +74,24 @@ abbrev pub served_line : Served → List ℕ
 served_line (served.BadWords index) = bad_word_line index
 served_line (served.Ran how) = end_line how
 
+-- what is printed of a conversion
+abbrev pub converted_line : Converted → List ℕ
+converted_line (converted.Done packets) = codes "done " ++ decimal packets ++ codes " packets"
+converted_line converted.NoMemory = codes "no memory"
+converted_line (converted.BadWords index) = bad_word_line index
+converted_line (converted.BadStream packet place fault) = bad_stream_line packet place fault
+converted_line (converted.LongStream bytes) = codes "stream over 16777216 bytes"
+converted_line converted.ReadFault = codes "read fault"
+converted_line converted.OutFault = codes "out fault"
+converted_line (converted.BadScore line) = codes "bad score: line " ++ decimal line
+
 -- what is printed; of the usage nothing is said
 abbrev pub exit_line : Exit → Option (List ℕ)
 exit_line exit.Help = None
 exit_line exit.Version = Some (codes "snova 0.1.0")
 exit_line (exit.Rendered outcome) = Some (outcome_line outcome)
 exit_line (exit.Served served) = Some (served_line served)
+exit_line (exit.Converted converted) = Some (converted_line converted)
 exit_line exit.NotOpened = Some (codes "cannot open")
 
 abbrev pub exit_status : Exit → ℕ
@@ -84,4 +99,5 @@ exit_status exit.Help = 0
 exit_status exit.Version = 0
 exit_status (exit.Rendered outcome) = outcome_status outcome
 exit_status (exit.Served served) = served_status served
+exit_status (exit.Converted converted) = converted_status converted
 exit_status exit.NotOpened = 9

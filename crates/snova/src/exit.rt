@@ -1,8 +1,9 @@
 //! What came of the words: the line that is printed, and the status of the program.
 ghost use Rattle.std.specs.Prelude.{◌≡◌, Some};
 ghost use Rattle.std.specs.Fmt.{DisplaysOnOk};
-ghost use Rattle.snova.specs.Lines.{end_line, exit_line, exit_status, fault_number, outcome_line};
+ghost use Rattle.snova.specs.Lines.{bad_stream_line, converted_line, end_line, exit_line, exit_status, fault_number, outcome_line};
 
+use crate::converting::Converted;
 use crate::serving::Served;
 use crate::usage::{USAGE, VERSION};
 use sn_osc::PacketKind;
@@ -26,6 +27,8 @@ pub(crate) enum Exit {
     Rendered(Outcome),
     /// A connection was served.
     Served(Served),
+    /// A text was made a stream, or a stream a text.
+    Converted(Converted),
     /// A file could not be opened, no connection be taken at the port, or the clock not be read, or one
     /// file would be written over another.
     NotOpened,
@@ -40,6 +43,7 @@ impl Exit {
             Exit::Help | Exit::Version => 0,
             Exit::Rendered(outcome) => outcome.status(),
             Exit::Served(served) => served.status(),
+            Exit::Converted(converted) => converted.status(),
             Exit::NotOpened => CANNOT_OPEN,
         }
     }
@@ -67,6 +71,22 @@ fn number_of(fault: StreamFault) -> u8
     }
 }
 
+/// Writes the first fault of a stream.
+fn write_bad_stream<W: fmt::Write>(
+    f: &mut fmt::Formatter<W>,
+    packet: u32,
+    place: u64,
+    fault: StreamFault,
+) -> fmt::Result
+    ensures { DisplaysOnOk W.write_str_gives f.old result (Some (bad_stream_line packet place fault)) f.new }
+{
+    let number = number_of(fault);
+    write!(
+        f,
+        "bad stream: packet {packet}, byte {place}, fault P{number}"
+    )
+}
+
 /// Writes what came of a run.
 fn write_outcome<W: fmt::Write>(f: &mut fmt::Formatter<W>, outcome: Outcome) -> fmt::Result
     ensures { DisplaysOnOk W.write_str_gives f.old result (Some (outcome_line outcome)) f.new }
@@ -79,13 +99,7 @@ fn write_outcome<W: fmt::Write>(f: &mut fmt::Formatter<W>, outcome: Outcome) -> 
             packet,
             place,
             fault,
-        } => {
-            let number = number_of(fault);
-            write!(
-                f,
-                "bad stream: packet {packet}, byte {place}, fault P{number}"
-            )
-        }
+        } => write_bad_stream(f, packet, place, fault),
         Outcome::LongStream { bytes: _ } => f.write_str("stream over 16777216 bytes"),
         Outcome::LongSound { blocks } => write!(f, "sound too long: {blocks} blocks"),
         Outcome::ReadFault => f.write_str("read fault"),
@@ -113,6 +127,26 @@ fn write_end<W: fmt::Write>(f: &mut fmt::Formatter<W>, how: Ended) -> fmt::Resul
     }
 }
 
+/// Writes what came of a conversion.
+fn write_converted<W: fmt::Write>(f: &mut fmt::Formatter<W>, converted: Converted) -> fmt::Result
+    ensures { DisplaysOnOk W.write_str_gives f.old result (Some (converted_line converted)) f.new }
+{
+    match converted {
+        Converted::Done { packets } => write!(f, "done {packets} packets"),
+        Converted::NoMemory => f.write_str("no memory"),
+        Converted::BadWords { index } => write!(f, "bad word {index}"),
+        Converted::BadStream {
+            packet,
+            place,
+            fault,
+        } => write_bad_stream(f, packet, place, fault),
+        Converted::LongStream { bytes: _ } => f.write_str("stream over 16777216 bytes"),
+        Converted::ReadFault => f.write_str("read fault"),
+        Converted::OutFault => f.write_str("out fault"),
+        Converted::BadScore { line } => write!(f, "bad score: line {line}"),
+    }
+}
+
 impl fmt::Display for Exit {
     ghost output = { exit_line };
 
@@ -123,6 +157,7 @@ impl fmt::Display for Exit {
             Exit::Rendered(outcome) => write_outcome(f, *outcome),
             Exit::Served(Served::BadWords { index }) => write!(f, "bad word {index}"),
             Exit::Served(Served::Ran(how)) => write_end(f, *how),
+            Exit::Converted(converted) => write_converted(f, *converted),
             Exit::NotOpened => f.write_str("cannot open"),
         }
     }

@@ -4,12 +4,15 @@ ghost use Rattle.sn_words.specs.Words.{settings_of};
 ghost use Rattle.snova.specs.Paths.{are_apart};
 
 use crate::exit::Exit;
+use crate::progress::Progress;
 use crate::running::run;
 use sn_ports::{Calls, FileSink, FileSource, MemorySink, MemorySource, NoMemory, Open, Text, Word};
 use sn_server::Outcome;
 use sn_words::settings;
+use std::io::Eprint;
 use std::rt::Files;
 use std::thread::Threads;
+use std::time::Clock;
 use std::{fs, io};
 
 /// Whether no two paths are spelled alike.
@@ -19,22 +22,23 @@ fn are_apart(commands: &str, sound: &str, replies: &str) -> bool
     commands != sound && commands != replies && sound != replies
 }
 
-/// Runs over the files at three paths, for words that choose settings.
-fn run_on_files<H: Files + AllocGlobal + Threads + Sync>(
+/// Runs over the files at three paths, for words that choose settings, and tells how far it is if somebody watches.
+fn run_on_files<H: Files + Clock + Eprint + AllocGlobal + Threads + Sync>(
     rt: &H,
     words: &[Word],
     commands: &str,
     sound: &str,
     replies: &str,
+    is_watched: bool,
 ) -> io::Result<Outcome>
     requires room { length words.now < 2 ^ 32 }
     requires accepted { IsOk (settings_of words.now) }
     requires apart { IsTrue (are_apart commands.now sound.now replies.now) }
 {
     let mut source = FileSource::new(fs::open(rt, commands)?);
-    let mut sound = FileSink::new(fs::create(rt, sound)?);
+    let mut sound = Progress::new(FileSink::new(fs::create(rt, sound)?), rt, is_watched);
     let mut replies = FileSink::new(fs::create(rt, replies)?);
-    Ok(run(
+    let outcome = run(
         rt,
         rt.alloc(),
         words,
@@ -42,7 +46,9 @@ fn run_on_files<H: Files + AllocGlobal + Threads + Sync>(
         &mut sound,
         &mut replies,
         &Open,
-    ))
+    );
+    sound.end();
+    Ok(outcome)
 }
 
 /// Runs over nothing, for words that are refused.
@@ -69,10 +75,11 @@ fn run_on_nothing<H: AllocGlobal + Threads + Sync>(
 
 /// Renders the file at the first path, for words that choose settings. Two paths that are spelled alike are refused,
 /// since one file would be written over the other.
-fn render_paths<H: Files + AllocGlobal + Threads + Sync>(
+fn render_paths<H: Files + Clock + Eprint + AllocGlobal + Threads + Sync>(
     rt: &H,
     words: &[Word],
     paths: [&str; 3],
+    is_watched: bool,
 ) -> Exit
     requires room { length words.now < 2 ^ 32 }
     requires accepted { IsOk (settings_of words.now) }
@@ -81,17 +88,19 @@ fn render_paths<H: Files + AllocGlobal + Threads + Sync>(
     if !are_apart(commands, sound, replies) {
         return Exit::NotOpened;
     }
-    match run_on_files(rt, words, commands, sound, replies) {
+    match run_on_files(rt, words, commands, sound, replies, is_watched) {
         Ok(outcome) => Exit::Rendered(outcome),
         Err(_) => Exit::NotOpened,
     }
 }
 
-/// Renders the file that the words name. Where they are refused no file is opened.
-pub(crate) fn render_files<H: Files + AllocGlobal + Threads + Sync>(
+/// Renders the file that the words name, and tells how far it is if somebody watches. If the words are refused no
+/// file is opened.
+pub(crate) fn render_files<H: Files + Clock + Eprint + AllocGlobal + Threads + Sync>(
     rt: &H,
     args: &[String],
     words: &[Word],
+    is_watched: bool,
 ) -> Result<Exit, NoMemory>
     requires { length words.now < 2 ^ 32 }
 {
@@ -100,6 +109,7 @@ pub(crate) fn render_files<H: Files + AllocGlobal + Threads + Sync>(
             rt,
             words,
             [commands.as_str(), sound.as_str(), replies.as_str()],
+            is_watched,
         )),
         _ => Ok(Exit::Rendered(run_on_nothing(rt, words)?)),
     }

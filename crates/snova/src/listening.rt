@@ -1,12 +1,18 @@
 //! A connection at a port is served.
 ghost use Rattle.std.specs.Prelude.{◌≡◌, ◌<◌, ◌^◌, length, Ok, IfOk};
+ghost use Rattle.std.specs.Duration.{as_nanos};
+ghost use Rattle.sn_pcm.specs.declared.settings.Settings.{Settings};
+ghost use Rattle.sn_server.specs.Served.{Served as GivesEnd};
+ghost use Rattle.sn_server.specs.declared.ended.Ended.{Ended};
 ghost use Rattle.sn_words.specs.Choices.{numbers};
 ghost use Rattle.sn_words.specs.Serving.{serve_words_of};
+ghost use Rattle.snova.specs.Clock.{time_tag};
+ghost use Rattle.snova.specs.Connection.{AreServed};
 
-use crate::clock::now;
+use crate::clock::{Reading, now};
 use crate::exit::Exit;
 use crate::serving::{Served, serve};
-use sn_ports::{Calls, FileSink, MemorySink, NoMemory, Open, PlayedLink, Word};
+use sn_ports::{Calls, FileSink, Link, MemorySink, NoMemory, Open, PlayedLink, Sink, Word};
 use sn_tcp::TcpLink;
 use sn_words::{ServeWords, serve_words};
 use std::io::{Read, Write};
@@ -27,6 +33,21 @@ fn link_over<S: Read + Write + OpenStream + AsRawFd + Drop, C: Clock + Drop>(
     TcpLink::new(socket, clock, chosen.settings.rate)
 }
 
+/// Serves what comes over a link. Block 0 is at the time that the clock read.
+fn serve_since<H: AllocGlobal + Threads + Sync, L: Link, O: Sink>(
+    rt: &H,
+    words: &[Word],
+    start: Reading,
+    link: &mut L,
+    sound: &mut O,
+) -> Served
+    requires room { length words.now < 2 ^ 32 }
+    ensures served { (how : Ended) → result ≡ Served.Ran how → (s : Settings) × AreServed words.now s × GivesEnd s (time_tag (as_nanos start.since_1970))
+        (L.left link.old) (L.left link.new) (O.taken sound.old) (O.taken sound.new) (L.sent link.old) (L.sent link.new) how }
+{
+    serve(rt, rt.alloc(), words, start.tag, link, sound, &Open)
+}
+
 /// Serves the first connection that comes to the port of this machine, and writes the sound to a file, for words that
 /// choose these settings and this port.
 fn serve_on_port<H: Files + Clock + Net + AllocGlobal + Threads + Sync>(
@@ -41,17 +62,9 @@ fn serve_on_port<H: Files + Clock + Net + AllocGlobal + Threads + Sync>(
     let listener = TcpListener::bind(rt, (Ipv4Addr::LOCALHOST, chosen.port))?;
     let mut sound = FileSink::new(fs::create(rt, sound)?);
     let (stream, _) = listener.accept()?;
-    let base = now(rt)?;
+    let start = now(rt)?;
     let mut link = link_over(stream, rt, chosen)?;
-    Ok(serve(
-        rt,
-        rt.alloc(),
-        words,
-        base.tag,
-        &mut link,
-        &mut sound,
-        &Open,
-    ))
+    Ok(serve_since(rt, words, start, &mut link, &mut sound))
 }
 
 /// Serves nothing, for words that are refused.

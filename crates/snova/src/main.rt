@@ -1,19 +1,25 @@
 //! A sound server: reads a file of commands, or serves a connection, and writes its sound and its replies.
+//! It also writes commands as text, and makes commands of a text.
 #![tactic(auto)]
 
 mod clock;
+mod converting;
 mod exit;
 mod files;
+mod forms;
 mod listening;
+mod progress;
 mod running;
 mod serving;
 mod usage;
 
 use exit::{BAD_WORDS, Exit};
 use files::render_files;
+use forms::convert_files;
 use listening::serve_port;
 use sn_ports::{NoMemory, Text, Word};
 use sn_server::Outcome;
+use std::io::{Eprint, IsTerminal};
 use std::net::Net;
 use std::process::ExitCode;
 use std::rt::{Clock, Env, Files};
@@ -41,9 +47,10 @@ fn as_words<H: AllocGlobal>(rt: &H, args: &[String]) -> Result<Vec<Word>, NoMemo
     Ok(words)
 }
 
-/// Does what the words of the command line say.
-fn carry_out<H: Env + Files + Clock + Net + AllocGlobal + Threads + Sync>(
+/// Does what the words of the command line say, and tells how far it is if somebody watches.
+fn carry_out<H: Env + Files + Clock + Eprint + Net + AllocGlobal + Threads + Sync>(
     rt: &H,
+    is_watched: bool,
 ) -> Result<Exit, NoMemory> {
     let args = given(rt)?;
     let words = as_words(rt, &args)?;
@@ -54,12 +61,14 @@ fn carry_out<H: Env + Files + Clock + Net + AllocGlobal + Threads + Sync>(
         Call::Help => Ok(Exit::Help),
         Call::Version => Ok(Exit::Version),
         Call::Serve => serve_port(rt, &args, &words),
-        Call::Render => render_files(rt, &args, &words),
+        Call::Convert => convert_files(rt, &args, &words),
+        Call::Render => render_files(rt, &args, &words, is_watched),
     }
 }
 
 fn main(rt: HostRuntime) -> io::Result<ExitCode> {
-    let exit = carry_out(&rt).unwrap_or(Exit::Rendered(Outcome::NoMemory));
+    let is_watched = rt.stderr().is_terminal();
+    let exit = carry_out(&rt, is_watched).unwrap_or(Exit::Rendered(Outcome::NoMemory));
     println!(rt; "{exit}")?;
     let status = exit.status();
     if status == BAD_WORDS {

@@ -7,6 +7,7 @@ use crate::running::run;
 use crate::serving::{Served, serve};
 use sn_ports::{Calls, Event, MemorySink, MemorySource, NoMemory, Open, PlayedLink, Text, Word};
 use sn_server::{Ended, Outcome};
+use std::io::Eprint;
 use std::rt::Files;
 use std::test::Fail;
 use std::thread::Threads;
@@ -158,7 +159,7 @@ fn a_port_that_is_refused(rt: HostRuntime) -> Result<(), Fail> {
 }
 
 /// Renders by these words, over files.
-fn rendered<H: Files + AllocGlobal + Threads + Sync>(
+fn rendered<H: Files + Clock + Eprint + AllocGlobal + Threads + Sync>(
     rt: &H,
     texts: [&str; 4],
 ) -> Result<Exit, NoMemory> {
@@ -167,7 +168,7 @@ fn rendered<H: Files + AllocGlobal + Threads + Sync>(
         args.push(String::from_str(rt.alloc(), text)?)?;
     }
     let words = words(rt, &texts)?;
-    render_files(rt, &args, &words)
+    render_files(rt, &args, &words, false)
 }
 
 #[test]

@@ -1,6 +1,6 @@
 //! What the words of the command line ask for, and the text that tells what they may be.
 ghost use Rattle.std.specs.Prelude.{◌≡◌};
-ghost use Rattle.snova.specs.Calls.{alone, by_name, call_of, is_help};
+ghost use Rattle.snova.specs.Calls.{alone, by_name, call_of, is_conversion, is_help};
 
 use sn_ports::Word;
 
@@ -15,6 +15,12 @@ snova render [key=value ..] COMMANDS SOUND REPLIES
 snova serve [key=value ..] PORT SOUND
     takes one connection at the port PORT of this machine, 1 to 65535, and
     writes the sound into the file SOUND, as PCM without a header
+snova score IN OUT
+    reads packets as text in the file IN, and writes them as commands into the
+    file OUT
+snova dump IN OUT
+    reads the commands in the file IN, and writes them as text into the file
+    OUT
 snova help, snova --help, snova -h
     prints this text
 snova --version
@@ -28,19 +34,20 @@ Keys, and the values where no word gives one:
     memory    65536 to 16777216 words of 8 bytes       1048576
 
 Statuses, and the lines that are printed:
-    0   done B blocks, quit, closed
+    0   done B blocks, done N packets, quit, closed
     1   no memory
     2   bad word I
     3   bad stream: packet N, byte P, fault X
     4   stream over 16777216 bytes
     5   sound too long: B blocks
     6   read fault
-    7   sound fault
+    7   sound fault, out fault
     8   reply fault
     9   cannot open
     10  cut after K bytes
     11  bad frame size S
     12  link fault
+    16  bad score: line L
     17  worn out";
 
 /// What the words ask for.
@@ -52,6 +59,8 @@ pub(crate) enum Call {
     Version,
     /// To serve a connection.
     Serve,
+    /// To make a text a stream, or a stream a text.
+    Convert,
     /// To render a file of commands.
     Render,
 }
@@ -62,12 +71,20 @@ fn is_help(word: &[u8]) -> bool
     word == b"help".as_slice() || word == b"--help".as_slice() || word == b"-h".as_slice()
 }
 
+fn is_conversion(word: &[u8]) -> bool
+    ensures { result ≡ is_conversion word.now }
+{
+    word == b"score".as_slice() || word == b"dump".as_slice()
+}
+
 /// What a first word asks for that others may follow.
 fn by_name(word: &[u8]) -> Call
     ensures { result ≡ by_name word.now }
 {
     if word == b"serve".as_slice() {
         Call::Serve
+    } else if is_conversion(word) {
+        Call::Convert
     } else {
         Call::Render
     }

@@ -14,6 +14,7 @@ loop-frame-init g c =
     record {
       place = let some : 0 < c.from.result = omega arith in let low : c.load.result % c.from.result < c.from.result = omega arith in omega (arith, low);
       long = refl;
+      rate = c.new-times.ensures ∙ c.rate.ensures;
       foot = refl;
       rest = refl;
       ran = sym (scan_none (ring_step (g.U.Echo.reach c.args.unit.now) (g.U.Echo.step c.args.unit.now) (c.args.state.len - 1)) (c.load.result % c.from.result, window ws c.args.state.at c.args.state.len) c.args.inputs.now);
@@ -35,6 +36,7 @@ loop-frame-preserved g c =
     record {
       place = c.after-place.ensures.bound;
       long = length-set_at c.loop-frame.samples c.loop-frame.frame (to_z w32 (of_z w32 c.hear.result)) 64 i.long;
+      rate = c.at-time.ensures.rate ∙ i.rate;
       foot = c.hear.ensures.foot ∙ i.foot;
       rest = c.hear.ensures.rest ∙ i.rest;
       ran = ring_more (g.U.Echo.reach c.args.unit.now) (g.U.Echo.step c.args.unit.now) at len c.loop-frame.frame c.loop-frame.place c.after-place.result (len - 1)

@@ -8,6 +8,7 @@ abbrev pub invariant-loop-frame : goal.invariant-loop-frame
 invariant-loop-frame g l = record {
   place : l.place < l.room;
   long : length l.samples ≡ 64;
+  rate : l.times.rate ≡ g.U.Echo.rate l.unit;
   foot : g.P.Port.foot l.port ≡ g.P.Port.foot l.initial.port;
   rest : g.P.Port.rest l.port ≡ g.P.Port.rest l.initial.port;
   ran : ◌≡◌ {A = (ℕ × List ℕ) × List ℤ} ((l.place, window (g.P.Port.words l.port) l.state.at l.state.len), take l.frame l.samples)

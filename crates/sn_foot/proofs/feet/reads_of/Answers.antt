@@ -2,7 +2,7 @@ use Rattle.std.proofs.Common.{◌≡◌, ◌∙◌, List, ap, map}
 use Rattle.std.proofs.lemmas.List.Elements.{All-same}
 use Rattle.std.proofs.lemmas.Result.{IfOk-weaker}
 use Rattle.sn_mem.specs.declared.extents.Extent.{Extent}
-use Rattle.sn_foot.specs.declared.resource.Access.TheVariants.{Read}
+use Rattle.sn_def.specs.declared.table.Access.TheVariants.{Read}
 use Rattle.sn_foot.specs.Canonical.{Ends, canonical}
 use Rattle.sn_foot.specs.Footprints.{foot_of, used_places}
 use Rattle.sn_foot.specs.Marks.{nodes_use}

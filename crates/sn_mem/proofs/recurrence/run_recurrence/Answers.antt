@@ -1,10 +1,10 @@
 use Rattle.std.proofs.Common.{◌<◌, length, SFits, w32, to_z, of_z, rules, refl, arith, sym, ap, ◌∙◌, ℤ}
 use Rattle.std.proofs.lemmas.Int.{to_z-of_z}
-use Rattle.sn_mem.proofs.Steps.{scan_none, scan_step, length-set_at}
+use Rattle.sn_mem.proofs.Steps.{scan_none, scan_step, length-set_at, same_step}
 use Rattle.sn_mem.proofs.recurrence.run_recurrence.Goals as goal
 
 pub loop-frame-init : goal.loop-frame-init
-loop-frame-init g c = (refl, sym (scan_none (g.U.Recurrence.step c.args.unit.now) c.load-state.result c.args.inputs.now))
+loop-frame-init g c = (refl, sym (scan_none (g.U.Recurrence.step c.args.unit.now) c.load-state.result c.args.inputs.now), refl, refl)
 
 pub loop-frame-preserved : goal.loop-frame-preserved
 loop-frame-preserved g c =
@@ -13,5 +13,8 @@ loop-frame-preserved g c =
     let lt : c.loop-frame.frame < length c.loop-frame.samples = omega arith in (
       length-set_at c.loop-frame.samples c.loop-frame.frame (to_z w32 (of_z w32 c.next-after.result.1)) 64 i.0,
       scan_step (g.U.Recurrence.step c.args.unit.now) c.load-state.result c.loop-frame.state c.next-after.result.0 (to_z w32 (of_z w32 c.next-after.result.1)) c.args.inputs.now c.loop-frame.frame c.loop-frame.samples lt i.1
-          (ap (λ (y : ℤ). (c.next-after.result.0, y)) (to_z-of_z w32 c.next-after.result.1 fits) ∙ c.next-after.ensures),
+          (ap (λ (y : ℤ). (c.next-after.result.0, y)) (to_z-of_z w32 c.next-after.result.1 fits)
+          ∙ (c.next-after.ensures.value ∙ same_step (g.U.Recurrence.step c.loop-frame.running) (g.U.Recurrence.step c.args.unit.now) c.loop-frame.state c.args.inputs.now c.loop-frame.frame i.2)),
+      c.next-after.ensures.step ∙ i.2,
+      c.next-after.ensures.arity ∙ i.3,
     )

@@ -3,4 +3,8 @@ use Rattle.sn_mem.specs.Blocks.{scan}
 use Rattle.sn_mem.proofs.recurrence.run_recurrence.Given as goal
 
 abbrev pub invariant-loop-frame : goal.invariant-loop-frame
-invariant-loop-frame g l = (length l.samples ≡ 64) × ((l.state, take l.frame l.samples) ≡ scan (g.U.Recurrence.step l.unit) l.initial.state l.inputs l.frame)
+invariant-loop-frame g l =
+    (length l.samples ≡ 64)
+    × ((l.state, take l.frame l.samples) ≡ scan (g.U.Recurrence.step l.unit) l.initial.state l.inputs l.frame)
+    × (g.U.Recurrence.step l.running ≡ g.U.Recurrence.step l.unit)
+    × (g.U.Recurrence.arity l.running ≡ g.U.Recurrence.arity l.unit)

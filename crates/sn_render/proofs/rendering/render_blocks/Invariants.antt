@@ -1,4 +1,4 @@
--- The engine plays on what the session would.
+-- What was written and what the engine still holds play on to the same end.
 use Rattle.std.proofs.Common.{◌≤◌, ◌-◌}
 use Rattle.sn_render.specs.Going.{IsGoing}
 use Rattle.sn_render.specs.Faults.{NothingFailed}
@@ -6,7 +6,7 @@ use Rattle.sn_render.proofs.rendering.render_blocks.Given as goal
 
 abbrev pub invariant-loop-number : goal.invariant-loop-number
 invariant-loop-number g l = record {
-  going : IsGoing l.fn.engine.settings l.fn.engine l.blocks (l.blocks - l.number) (g.O.Sink.taken l.fn.sound) (g.O.Sink.taken l.sound) (g.R.Sink.taken l.fn.replies) (g.R.Sink.taken l.replies) l.engine;
+  going : IsGoing l.fn.engine l.blocks (l.blocks - l.number) (g.O.Sink.taken l.fn.sound) (g.O.Sink.taken l.sound) (g.R.Sink.taken l.fn.replies) (g.R.Sink.taken l.replies) l.engine;
   sound_later : g.O.Sink.faults l.fn.sound ≤ g.O.Sink.faults l.sound;
   reply_later : g.R.Sink.faults l.fn.replies ≤ g.R.Sink.faults l.replies;
   still : NothingFailed (g.O.Sink.faults l.fn.sound) (g.O.Sink.faults l.sound) (g.R.Sink.faults l.fn.replies) (g.R.Sink.faults l.replies);

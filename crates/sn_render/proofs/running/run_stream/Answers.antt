@@ -1,17 +1,25 @@
 use Rattle.std.proofs.Common.{◌≡◌, map, ap, ◌∙◌, arith, inr, refl}
 use Rattle.std.specs.Prelude.{unwrap_or}
+use Rattle.std.proofs.KnownBytes.{Keeps-refl}
 use Rattle.sn_osc.specs.Shape.{shape}
 use Rattle.sn_queue.specs.Steps.{last_due}
 use Rattle.sn_render.specs.declared.outcome.Outcome.TheVariants.{Done, SoundFault, ReplyFault}
 use Rattle.sn_render.specs.Play.{last_of}
 use Rattle.sn_render.proofs.ArrivingLemmas.{frames_put}
-use Rattle.sn_render.proofs.OutcomeLemmas.{done_played, long_answer, faulty_answer, few_told, not_long, played_part, unplayed, unplayed_writes}
+use Rattle.sn_render.proofs.GoingLemmas.{begun_first, begun_stands}
+use Rattle.sn_render.proofs.OutcomeLemmas.{done_played, done_answer, long_answer, faulty_answer, few_told, not_long, played_part, unplayed, unplayed_writes}
 use Rattle.sn_render.proofs.running.run_stream.Goals as goal
 
 pub opened-requires : goal.opened-requires
 opened-requires g c =
     let p = c.in-Ok.ensures.packets in
     frames_put (map shape c.in-Ok.packets.items) p.bytes 0 p.frames (omega (arith, p.size))
+
+pub play-requires-clause-begun : goal.play-requires-clause-begun
+play-requires-clause-begun g c = λ κs lives. begun_first c.args.settings.now (map shape c.in-Ok.packets.items) c.in-Ok-opened.engine c.in-Ok-opened.ensures
+
+pub play-requires-clause-stands : goal.play-requires-clause-stands
+play-requires-clause-stands g c = λ κs lives. begun_stands c.args.settings.now (map shape c.in-Ok.packets.items) c.in-Ok-opened.engine c.in-Ok-opened.ensures
 
 pub returns-in-Ok-play-clause-done : goal.returns-in-Ok-play-clause-done
 returns-in-Ok-play-clause-done g c = λ n same.
@@ -29,6 +37,17 @@ returns-then-too_long-clause-answer g c =
     let packets = map shape c.in-Ok.packets.items in
     let last : c.unwrap_or-blocks.result ≡ last_of s packets = c.unwrap_or-blocks.ensures ∙ ap (λ o. unwrap_or o 0) (c.last.ensures ∙ ap (λ e. last_due e.waiting) c.in-Ok-opened.ensures) in
     long_answer s (g.S.Source.left c.args.source.now) p.bytes packets c.unwrap_or-blocks.result p.told p.size p.frames last (c.too_long.ensures.0 c.if-too_long.true)
+
+pub returns-then-too_long-clause-written : goal.returns-then-too_long-clause-written
+returns-then-too_long-clause-written g c = (Keeps-refl _, Keeps-refl _)
+
+pub returns-in-Ok-play-clause-answer : goal.returns-in-Ok-play-clause-answer
+returns-in-Ok-play-clause-answer g c =
+    let s = c.args.settings.now in
+    let p = c.in-Ok.ensures.packets in
+    let packets = map shape c.in-Ok.packets.items in
+    let last : c.unwrap_or-blocks.result ≡ last_of s packets = c.unwrap_or-blocks.ensures ∙ ap (λ o. unwrap_or o 0) (c.last.ensures ∙ ap (λ e. last_due e.waiting) c.in-Ok-opened.ensures) in
+    done_answer s (g.S.Source.left c.args.source.now) p.bytes packets c.unwrap_or-blocks.result p.told p.size p.frames last (not_long _ _ c.too_long.ensures.1 c.if-too_long.false)
 
 pub returns-in-Err-SoundFault-clause-answer : goal.returns-in-Err-SoundFault-clause-answer
 returns-in-Err-SoundFault-clause-answer g c =

@@ -4,4 +4,4 @@ use Rattle.sn_server.proofs.JoiningLemmas.{joined_events}
 use Rattle.sn_server.proofs.joining.joined_pieces.Goals as goal
 
 pub returns : goal.returns
-returns c = λ s base es fs a b few. ap (performance s) (joined_events s base es fs a b few)
+returns c = λ s base es fs a b few. ap performance (joined_events s base es fs a b few)

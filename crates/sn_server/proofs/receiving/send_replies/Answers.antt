@@ -1,5 +1,5 @@
 use Rattle.sn_reply.proofs.FrameLaws.{begins_refl}
-use Rattle.sn_render.specs.Going.{to_first}
+use Rattle.sn_render.specs.Play.{to_first}
 use Rattle.sn_server.proofs.receiving.send_replies.Goals as goal
 
 pub returns-in-Ok-clause-front : goal.returns-in-Ok-clause-front

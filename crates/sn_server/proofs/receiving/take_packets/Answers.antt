@@ -2,7 +2,7 @@ use Rattle.std.proofs.Common.{◌≡◌, ◌∙◌, ◌+◌, ◌≤◌, length, 
 use Rattle.sn_osc.specs.Framed.{Next}
 use Rattle.sn_osc.specs.Reading.{read}
 use Rattle.sn_osc.specs.declared.frame.Frame.{Frame}
-use Rattle.sn_server.specs.Serving.{with_packet}
+use Rattle.sn_server.specs.PlayEvents.{with_packet}
 use Rattle.sn_server.proofs.PacketLemmas.{took_one}
 use Rattle.sn_server.proofs.receiving.take_packets.Goals as goal
 

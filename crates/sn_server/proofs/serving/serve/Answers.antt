@@ -1,5 +1,5 @@
 use Rattle.std.proofs.Common.{◌∙◌, length, ap, le_refl, arith, refl}
-use Rattle.sn_server.proofs.EventLemmas.{begins_serving, begins_ready, serves_on, serves_to, serves_nothing, as_long}
+use Rattle.sn_server.proofs.EventLemmas.{close_on, begins_serving, begins_ready, serves_on, serves_to, serves_nothing, as_long}
 use Rattle.sn_render.specs.Faults.{NothingFailed}
 use Rattle.sn_render.proofs.FaultLemmas.{none_failed}
 use Rattle.sn_server.proofs.FaultLemmas.{given_so}
@@ -33,7 +33,7 @@ loop-how-preserved g c =
     record {
       serving = serves_on s c.args.base (g.L.Link.left c.args.link.now) (g.L.Link.left l.link) (g.L.Link.left n.link) (g.O.Sink.taken c.args.sound.now) (g.O.Sink.taken l.sound) (g.O.Sink.taken n.sound)
           (g.L.Link.sent c.args.link.now) (g.L.Link.sent l.link) (g.L.Link.sent n.link) l.engine n.engine l.framer n.framer i.serving
-          (r.took s i.serving.live (g.O.Sink.taken c.args.sound.now) (g.L.Link.sent c.args.link.now) i.serving.stands);
+          (r.took i.serving.live (g.O.Sink.taken c.args.sound.now) (g.L.Link.sent c.args.link.now) i.serving.stands);
       ready = r.ready;
       room = as_long l.room.len l.room.items n.room l.room.ok.0 (c.serve_event.auto.room ∙ ap length c.deref_mut.ensures.value) ∙ i.room;
       link_later = omega (arith, i.link_later, c.serve_event.ensures.link_later);
@@ -49,7 +49,12 @@ returns-in-Err-clause-served g c =
     let n = c.serve_event.new in
     serves_to s c.args.base (g.L.Link.left c.args.link.now) (g.L.Link.left l.link) (g.L.Link.left n.link) (g.O.Sink.taken c.args.sound.now) (g.O.Sink.taken l.sound) (g.O.Sink.taken n.sound)
     (g.L.Link.sent c.args.link.now) (g.L.Link.sent l.link) (g.L.Link.sent n.link) l.engine l.framer c.in-Err.how i.serving
-    (c.in-Err.ensures.took s i.serving.live (g.O.Sink.taken c.args.sound.now) (g.L.Link.sent c.args.link.now) i.serving.stands)
+    (c.in-Err.ensures.took i.serving.live (g.O.Sink.taken c.args.sound.now) (g.L.Link.sent c.args.link.now) i.serving.stands)
+
+pub returns-in-Err-clause-close : goal.returns-in-Err-clause-close
+returns-in-Err-clause-close g c =
+    let i = c.loop-how.invariant.serving in
+    close_on c.in-Err.how (g.L.Link.left c.args.link.now) (g.L.Link.left c.loop-how.link) (g.L.Link.left c.serve_event.new.link) i.events i.taken c.in-Err.ensures.close
 
 pub returns-in-Err-clause-unfailed : goal.returns-in-Err-clause-unfailed
 returns-in-Err-clause-unfailed g c =

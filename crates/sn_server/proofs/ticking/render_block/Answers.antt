@@ -1,9 +1,9 @@
 use Rattle.std.proofs.Common.{◌≡◌, ℕ, List, length, ap, subst, ◌∙◌, refl}
 use Rattle.sn_engine.specs.Running.{Running, with_block, with_settled}
-use Rattle.sn_render.specs.Going.{to_first}
+use Rattle.sn_render.specs.Play.{to_first}
 use Rattle.sn_render.specs.Fronts.{TakesFront}
-use Rattle.sn_server.proofs.ServingLemmas.{block_alone}
-use Rattle.sn_render.proofs.GrowingLemmas.{takes_none}
+use Rattle.sn_render.proofs.StepLemmas.{rendered_step}
+use Rattle.sn_render.proofs.WritingLemmas.{takes_none}
 use Rattle.sn_render.specs.Faults.{NothingFailed}
 use Rattle.sn_server.proofs.FaultLemmas.{given_so, unless_so, unless_err}
 use Rattle.sn_server.proofs.ticking.render_block.Goals as goal
@@ -11,7 +11,7 @@ use Rattle.sn_server.proofs.ticking.render_block.Goals as goal
 pub send_replies-requires : goal.send_replies-requires
 send_replies-requires g c =
     let done : c.settle.new.self ≡ with_settled (with_block c.args.engine.now) = c.settle.ensures ∙ ap with_settled c.blocks-2.ensures in
-    record { alone = ap (λ (r : Running). length r.replies) c.write_sound.ensures.kept ∙ ap (λ (r : Running). length r.replies) done ∙ block_alone c.args.engine.now c.requires.alone }
+    record { alone = ap (λ (r : Running). length r.replies) c.write_sound.ensures.kept ∙ ap (λ (r : Running). length r.replies) done ∙ rendered_step.clients c.args.engine.now ∙ c.requires.alone }
 
 pub returns-in_err-write_sound-clause-unfailed : goal.returns-in_err-write_sound-clause-unfailed
 returns-in_err-write_sound-clause-unfailed g c =

@@ -1,14 +1,15 @@
 use Rattle.std.proofs.Common.{length, ap, sym, ◌∙◌, ◌≡◌, refl}
-use Rattle.sn_server.proofs.ServingLemmas.{boundary_alone, none_part, quit_part, block_part}
+use Rattle.sn_render.proofs.StepLemmas.{boundary_step}
+use Rattle.sn_server.proofs.ServingLemmas.{none_part, quit_part, block_part}
 use Rattle.sn_render.specs.Faults.{NothingFailed}
 use Rattle.sn_server.proofs.FaultLemmas.{given_so, unless_err}
 use Rattle.sn_server.proofs.ticking.tick.Goals as goal
 
 pub render_block-requires-clause-alone : goal.render_block-requires-clause-alone
-render_block-requires-clause-alone g c κs within = ap (λ r. length r.replies) c.in_ok-boundary.ensures.ok ∙ boundary_alone c.args.engine.now c.requires.alone
+render_block-requires-clause-alone g c κs within = ap (λ r. length r.replies) c.in_ok-boundary.ensures.ok ∙ boundary_step.clients c.args.engine.now ∙ c.requires.alone
 
 pub send_replies-requires : goal.send_replies-requires
-send_replies-requires g c = record { alone = ap (λ r. length r.replies) c.in_ok-boundary.ensures.ok ∙ boundary_alone c.args.engine.now c.requires.alone }
+send_replies-requires g c = record { alone = ap (λ r. length r.replies) c.in_ok-boundary.ensures.ok ∙ boundary_step.clients c.args.engine.now ∙ c.requires.alone }
 
 pub returns-in_err-send_replies-in-Quit-clause-unfailed : goal.returns-in_err-send_replies-in-Quit-clause-unfailed
 returns-in_err-send_replies-in-Quit-clause-unfailed g c =

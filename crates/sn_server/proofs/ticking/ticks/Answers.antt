@@ -3,40 +3,40 @@ use Rattle.sn_ports.proofs.LinkLemmas.{keeps_events-trans}
 use Rattle.sn_server.specs.PlayEvents.{tick}
 use Rattle.sn_server.proofs.EventLemmas.{known_same}
 use Rattle.sn_server.proofs.ServingLemmas.{ticks_on, ticked_ready, ticked_block, all_ticked, worn_tick, ended_tick, follows_err, given}
-use Rattle.sn_render.proofs.GrowingLemmas.{grows_not}
+use Rattle.sn_render.proofs.StepLemmas.{grows_not}
 use Rattle.sn_render.specs.Faults.{NothingFailed}
 use Rattle.sn_render.proofs.FaultLemmas.{none_failed}
 use Rattle.sn_server.proofs.FaultLemmas.{given_so, unless_err}
 use Rattle.sn_server.proofs.ticking.ticks.Goals as goal
 
 pub returns-in_err-check_worn-clause-follows : goal.returns-in_err-check_worn-clause-follows
-returns-in_err-check_worn-clause-follows g c = λ s v sound_old sent_old live.
+returns-in_err-check_worn-clause-follows g c = λ v sound_old sent_old live.
     let l = c.loop-number in
     let sound_new = g.O.Sink.taken l.sound in
     let sent_new = g.L.Link.sent l.link in
     let how = c.in_err-check_worn.field-0.0 in
-    let course = tick s c.args.count v in
+    let course = tick c.args.count v in
     let more : c.args.count - l.number ≡ suc (c.args.count - (l.number + 1)) = omega (arith, c.loop-number-test.true) in
-    follows_err s sound_old sound_new sent_old sent_new v course l.engine c.args.framer.now c.from_residual.result how c.from_residual.ensures.1
-    (worn_tick s sound_old sound_new sent_old sent_new v course (c.args.count - l.number) (c.args.count - (l.number + 1)) l.engine c.args.framer.now how (l.invariant.follows s v sound_old sent_old live) more c.in_err-check_worn.ensures.worn)
+    follows_err sound_old sound_new sent_old sent_new v course l.engine c.args.framer.now c.from_residual.result how c.from_residual.ensures.1
+    (worn_tick sound_old sound_new sent_old sent_new v course (c.args.count - l.number) (c.args.count - (l.number + 1)) l.engine c.args.framer.now how (l.invariant.follows v sound_old sent_old live) more c.in_err-check_worn.ensures.worn)
 
 pub returns-in_err-tick-clause-follows : goal.returns-in_err-tick-clause-follows
-returns-in_err-tick-clause-follows g c = λ s v sound_old sent_old live.
+returns-in_err-tick-clause-follows g c = λ v sound_old sent_old live.
     let l = c.loop-number in
     let sound_new = g.O.Sink.taken c.tick.new.sound in
     let sent_new = g.L.Link.sent c.tick.new.link in
     let how = c.in_err-tick.field-0.0 in
-    let course = tick s c.args.count v in
+    let course = tick c.args.count v in
     let more : c.args.count - l.number ≡ suc (c.args.count - (l.number + 1)) = omega (arith, c.loop-number-test.true) in
-    follows_err s sound_old sound_new sent_old sent_new v course c.tick.new.engine c.args.framer.now c.from_residual-in_err-tick.result how c.from_residual-in_err-tick.ensures.1
-    (ended_tick s sound_old (g.O.Sink.taken l.sound) sound_new sent_old (g.L.Link.sent l.link) sent_new v course (c.args.count - l.number) (c.args.count - (l.number + 1)) l.engine c.args.framer.now how (l.invariant.follows s v sound_old sent_old live) more
+    follows_err sound_old sound_new sent_old sent_new v course c.tick.new.engine c.args.framer.now c.from_residual-in_err-tick.result how c.from_residual-in_err-tick.ensures.1
+    (ended_tick sound_old (g.O.Sink.taken l.sound) sound_new sent_old (g.L.Link.sent l.link) sent_new v course (c.args.count - l.number) (c.args.count - (l.number + 1)) l.engine c.args.framer.now how (l.invariant.follows v sound_old sent_old live) more
     c.in_ok-check_worn.ensures.ok c.in_err-tick.ensures.only c.in_err-tick.ensures.quit c.tick.ensures.part)
 
 pub loop-number-init : goal.loop-number-init
 loop-number-init g c =
     let all : c.args.count - 0 ≡ c.args.count = omega arith in
     record {
-      follows = λ s v sound_old sent_old live. record { live = v; course = ap (λ (n : ℕ). tick s n v) all; grown = grows_not s v.session; stands = live };
+      follows = λ v sound_old sent_old live. record { live = v; course = ap (λ (n : ℕ). tick n v) all; grown = grows_not v.play; stands = live };
       ready = c.requires.ready;
       block = omega arith;
       events = known_same (g.L.Link.left c.args.link.now) (λ a b. b ≡ a) (λ a. refl);
@@ -56,7 +56,7 @@ loop-number-preserved g c =
     let sent_new = g.L.Link.sent c.tick.new.link in
     let more : c.args.count - l.number ≡ suc (c.args.count - (l.number + 1)) = omega (arith, c.loop-number-test.true) in
     record {
-      follows = λ s v sound_old sent_old live. ticks_on s sound_old sound_mid sound_new sent_old sent_mid sent_new v (tick s c.args.count v) (c.args.count - l.number) (c.args.count - (l.number + 1)) l.engine c.tick.new.engine c.args.framer.now (i.follows s v sound_old sent_old live) more c.in_ok-check_worn.ensures.ok t;
+      follows = λ v sound_old sent_old live. ticks_on sound_old sound_mid sound_new sent_old sent_mid sent_new v (tick c.args.count v) (c.args.count - l.number) (c.args.count - (l.number + 1)) l.engine c.tick.new.engine c.args.framer.now (i.follows v sound_old sent_old live) more c.in_ok-check_worn.ensures.ok t;
       ready = ticked_ready sound_mid sound_new sent_mid sent_new l.engine c.tick.new.engine c.args.framer.now i.ready t;
       block = omega (arith, i.block, ticked_block sound_mid sound_new sent_mid sent_new l.engine c.tick.new.engine t);
       events = keeps_events-trans (g.L.Link.left c.args.link.now) (g.L.Link.left l.link) (g.L.Link.left c.tick.new.link) i.events c.tick.ensures.events;
@@ -66,10 +66,10 @@ loop-number-preserved g c =
     }
 
 pub returns-clause-follows : goal.returns-clause-follows
-returns-clause-follows g c = λ s v sound_old sent_old live.
+returns-clause-follows g c = λ v sound_old sent_old live.
     let l = c.loop-number in
     let none : c.args.count - l.number ≡ 0 = omega (arith, c.loop-number-test.false) in
-    all_ticked s sound_old (g.O.Sink.taken l.sound) sent_old (g.L.Link.sent l.link) v (tick s c.args.count v) (c.args.count - l.number) l.engine c.args.framer.now (l.invariant.follows s v sound_old sent_old live) none
+    all_ticked sound_old (g.O.Sink.taken l.sound) sent_old (g.L.Link.sent l.link) v (tick c.args.count v) (c.args.count - l.number) l.engine c.args.framer.now (l.invariant.follows v sound_old sent_old live) none
 
 pub returns-in_err-check_worn-clause-unfailed : goal.returns-in_err-check_worn-clause-unfailed
 returns-in_err-check_worn-clause-unfailed g c =

@@ -1,6 +1,5 @@
 -- The ticks that are left give what all of them would.
 use Rattle.std.proofs.Common.{◌≡◌, ◌≤◌, ◌+◌, ◌-◌, List, ℕ, Option}
-use Rattle.sn_pcm.specs.declared.settings.Settings.{Settings}
 use Rattle.sn_ports.specs.Links.{KeepsEvents}
 use Rattle.sn_server.specs.PlayEvents.{Live, tick}
 use Rattle.sn_server.specs.Serving.{IsLive, IsReady}
@@ -10,8 +9,8 @@ use Rattle.sn_server.proofs.ticking.ticks.Given as goal
 
 abbrev pub invariant-loop-number : goal.invariant-loop-number
 invariant-loop-number g l = record {
-  follows : (s : Settings) (v : Live) (sound_old sent_old : Option (List ℕ)) → IsLive s sound_old (g.O.Sink.taken l.fn.sound) sent_old (g.L.Link.sent l.fn.link) v l.fn.engine l.framer
-      → IsTicking s sound_old (g.O.Sink.taken l.sound) sent_old (g.L.Link.sent l.link) v (tick s l.count v) (l.count - l.number) l.engine l.framer;
+  follows : (v : Live) (sound_old sent_old : Option (List ℕ)) → IsLive sound_old (g.O.Sink.taken l.fn.sound) sent_old (g.L.Link.sent l.fn.link) v l.fn.engine l.framer
+      → IsTicking sound_old (g.O.Sink.taken l.sound) sent_old (g.L.Link.sent l.link) v (tick l.count v) (l.count - l.number) l.engine l.framer;
   ready : IsReady l.engine l.framer;
   block : l.engine.block ≡ l.fn.engine.block + l.number;
   events : KeepsEvents (g.L.Link.left l.fn.link) (g.L.Link.left l.link);

@@ -1,6 +1,6 @@
 use Rattle.std.proofs.Common.{sym}
 use Rattle.sn_def.specs.StateWords.{unit_words}
-use Rattle.sn_world.proofs.OwnWords.{ender_words}
+use Rattle.sn_def.proofs.RowLaws.{ender_words}
 use Rattle.sn_settle.proofs.Reading.{read_word}
 use Rattle.sn_settle.proofs.looking.ending_at.Goals as goal
 

@@ -2,8 +2,8 @@ use Rattle.std.proofs.Common.{◌≡◌, ◌+◌, true, ap, ◌∙◌, arith}
 use Rattle.sn_mem.specs.declared.extents.Foot.{Foot}
 use Rattle.sn_mem.specs.Words.{touches}
 use Rattle.sn_def.specs.StateWords.{unit_words}
-use Rattle.sn_world.specs.Settling.{sends}
-use Rattle.sn_world.proofs.OwnWords.{sender_words}
+use Rattle.sn_def.specs.Facts.{sends}
+use Rattle.sn_def.proofs.RowLaws.{sender_words}
 use Rattle.sn_settle.proofs.Reading.{read_word}
 use Rattle.sn_settle.proofs.looking.trigger_at.Goals as goal
 

@@ -3,7 +3,7 @@ use Rattle.sn_mem.specs.declared.extents.Foot.{Foot}
 use Rattle.sn_mem.specs.Words.{writes}
 use Rattle.sn_def.specs.StateWords.{unit_words}
 use Rattle.sn_world.proofs.Meanings.{touched}
-use Rattle.sn_world.proofs.OwnWords.{ender_words}
+use Rattle.sn_def.proofs.RowLaws.{ender_words}
 use Rattle.sn_settle.proofs.Reading.{write_word}
 use Rattle.sn_settle.proofs.words.settle_unit.Goals as goal
 

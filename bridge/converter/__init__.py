@@ -1,0 +1,1 @@
+"""Turns what sclang writes into what `snova` reads."""

@@ -1,0 +1,19 @@
+use Rattle.std.proofs.Common.{◌≡◌, ℤ, ◌-ℤ◌, SFits, w32, w64, to_z, of_z, arith, rules, subst, ◌∙◌}
+use Rattle.std.proofs.lemmas.Int.{to_z-of_z}
+use Rattle.sn_fixed.specs.Divisions.{IsDivided}
+use Rattle.sn_fixed.proofs.Multiples.{of_whole}
+use Rattle.sn_fixed.proofs.slopes.Slope.at.Goals as goal
+
+pub invariant_of-result : goal.invariant_of-result
+invariant_of-result c =
+    let start : SFits w32 c.args.ends.start = search rules in
+    let end : SFits w32 c.args.ends.end = search rules in
+    let fits : SFits w64 c.distance-whole.result = search rules in
+    let whole : c.distance-whole.result ≡ c.args.ends.end -ℤ c.args.ends.start = grind (arith, to_z-of_z) in
+    let w : ℤ = to_z w64 (of_z w64 c.distance-whole.result) in
+    let d : ℤ = c.args.ends.end -ℤ c.args.ends.start in
+    record {
+      within = c.requires.within;
+      reached = of_whole w d c.args.frame c.args.frames c.multiple_divided.result.remainder c.multiple_divided.result.quotient (to_z-of_z w64 c.distance-whole.result fits ∙ whole) c.multiple_divided.ensures;
+      grows = subst (λ z. IsDivided z c.args.frames c.divided.result.quotient c.divided.result.remainder) (to_z-of_z w64 c.distance-whole.result fits ∙ whole) c.divided.ensures;
+    }

@@ -1,0 +1,21 @@
+use Rattle.std.proofs.Common.{◌≡◌, ◌+ℤ◌, SFits, w32, w64, to_z, of_z, arith, rules, ◌∙◌}
+use Rattle.std.proofs.lemmas.Int.{to_z-of_z}
+use Rattle.sn_fixed.proofs.Multiples.{in_range_at, sample_at}
+use Rattle.sn_fixed.proofs.slopes.Slope.sample.Goals as goal
+
+pub moved-requires : goal.moved-requires
+moved-requires c =
+    let s = c.args.self.now in
+    let start : SFits w32 c.args.self.now.ends.start = search rules in
+    let end : SFits w32 c.args.self.now.ends.end = search rules in
+    let height : SFits w64 c.args.self.now.gone.quotient = search rules in
+    in_range_at s.ends.start s.ends.end s.gone.quotient (to_z w32 (of_z w32 s.ends.start)) (to_z w64 (of_z w64 s.gone.quotient)) s.frame s.frames s.gone.remainder (to_z-of_z w32 s.ends.start start) (to_z-of_z w64 s.gone.quotient height) start end s.within s.reached
+
+pub returns : goal.returns
+returns c =
+    let s = c.args.self.now in
+    let start : SFits w32 c.args.self.now.ends.start = search rules in
+    let height : SFits w64 c.args.self.now.gone.quotient = search rules in
+    let moved : SFits w32 c.moved.result = search rules in
+    let is : c.moved.result ≡ c.args.self.now.ends.start +ℤ c.args.self.now.gone.quotient = grind (arith, to_z-of_z) in
+    to_z-of_z w32 c.moved.result moved ∙ sample_at s.ends.start s.ends.end s.gone.quotient c.moved.result s.frame s.frames s.gone.remainder is s.reached

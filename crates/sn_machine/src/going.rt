@@ -1,0 +1,110 @@
+//! Whether jobs, a script and words are such that a round of them may begin.
+ghost use Rattle.std.specs.Prelude.{◌≡◌, ◌<◌, ◌≤◌, ◌+◌, ℕ, true, IsTrue, length, slice_index};
+ghost use Rattle.std.specs.List.{list_all};
+ghost use Rattle.sn_mem.specs.Words.{Clash, touches};
+ghost use Rattle.sn_round.specs.Jobs.{AreWithin, IsRaceFree, Ordered, foot_at, predecessors};
+ghost use Rattle.sn_round.specs.Scripts.{IsScript};
+ghost use Rattle.sn_machine.specs.Calls.{ends_below};
+
+use crate::feet::agree_outside;
+use crate::lists::{Script, Words};
+use sn_mem::{Extent, Foot, clash};
+use sn_round::Plan;
+
+/// Whether a job is ordered before another.
+fn is_ordered(plan: &Plan, first: u32, second: u32) -> bool
+    requires { second < length plan.now }
+    ensures { IsTrue result → Ordered plan.now first second }
+{
+    plan.is_well_formed();
+    for before in plan.predecessors(second).as_slice() {
+        if *before == first {
+            return true;
+        }
+        if is_ordered(plan, first, *before) {
+            return true;
+        }
+    }
+    false
+}
+
+/// Whether a job is ordered before each later one with which it clashes.
+fn comes_first(plan: &Plan, first: u32) -> bool
+    requires { first < length plan.now }
+    ensures { IsTrue result → (j : ℕ) → first < j → j < length plan.now → Clash (foot_at plan.now first) (foot_at plan.now j) → Ordered plan.now first j }
+{
+    plan.is_well_formed();
+    for second in first + 1..plan.jobs() {
+        if clash(plan.foot(first), plan.foot(second)) && !is_ordered(plan, first, second) {
+            return false;
+        }
+    }
+    true
+}
+
+/// Whether of each two jobs that clash the lower is ordered before the higher. Takes time that grows fast with the jobs.
+pub fn is_race_free(plan: &Plan) -> bool
+    ensures { IsTrue result → IsRaceFree plan.now }
+{
+    for first in 0..plan.jobs() {
+        if !comes_first(plan, first) {
+            return false;
+        }
+    }
+    true
+}
+
+fn end_below(extents: &[Extent], size: u64) -> bool
+    ensures { result ≡ list_all (ends_below size) extents.now }
+{
+    extents
+        .iter()
+        .all(|extent| extent.at as u64 + extent.len as u64 <= size)
+}
+
+fn lies_in(foot: &Foot, size: u64) -> bool
+    ensures { IsTrue result → (x : ℕ) → touches foot.now x ≡ true → x < size }
+{
+    end_below(foot.writes.as_slice(), size) && end_below(foot.reads.as_slice(), size)
+}
+
+/// Whether each foot lies in a memory of so many words.
+pub fn are_within(plan: &Plan, size: u64) -> bool
+    ensures { IsTrue result → AreWithin size plan.now }
+{
+    for job in 0..plan.jobs() {
+        if !lies_in(plan.foot(job), size) {
+            return false;
+        }
+    }
+    true
+}
+
+/// Whether the lists are one more than the jobs, all of one length, and each as the one before outside what its job may write.
+pub fn is_script(plan: &Plan, size: usize, script: &Script) -> bool
+    ensures { IsTrue result → IsScript plan.now size script.now }
+{
+    if script.len() != plan.jobs() as usize + 1 || script.list(0).len() != size {
+        return false;
+    }
+    for job in 0..plan.jobs() {
+        let before = script.list(job as usize);
+        let after = script.list(job as usize + 1);
+        if !agree_outside(plan.foot(job), after, before) {
+            return false;
+        }
+    }
+    true
+}
+
+/// Whether the word of each job is the number of its predecessors.
+pub fn are_armed(plan: &Plan, counts: &Words) -> bool
+    ensures { IsTrue result → (j : ℕ) → j < length plan.now → slice_index counts.now j ≡ length (predecessors plan.now j) }
+{
+    for job in 0..plan.jobs() {
+        if counts.word(job as usize) != plan.predecessors(job).as_slice().len() as u64 {
+            return false;
+        }
+    }
+    true
+}

@@ -1,0 +1,11 @@
+pub mod Digits
+pub mod Quoting
+pub mod MessageBack
+pub mod Packets
+pub mod Standing
+pub mod Running
+pub mod FirstFaults
+pub mod Answering
+pub mod Loops
+pub mod Spelling
+pub mod Streaming

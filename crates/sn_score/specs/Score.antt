@@ -1,0 +1,27 @@
+-- The text of a list of packets.
+use Rattle.std.specs.Prelude.{◌≡◌, ◌≤◌, ℕ, List, length, flat_map, Bool, nat_lt, IsTrue}
+use Rattle.std.specs.List.{list_all, AllByRecursion}
+use Rattle.sn_osc.specs.Shape.{Shape}
+use Rattle.sn_osc.specs.Grammar.{Spells}
+use Rattle.sn_score.specs.Lines.{packet_text}
+
+abbrev pub are_octets : List ℕ → Bool
+are_octets bytes = list_all (λ b. nat_lt b 256) bytes
+
+-- the packet spells in at most 65,536 bytes
+pub record Fits (x : Shape) : Type 0 where
+  pub bytes : List ℕ
+  pub spelled : Spells x bytes
+  pub octets : IsTrue (are_octets bytes)
+  pub few : length bytes ≤ 65536
+
+abbrev pub AllFit : List Shape → Type 0
+AllFit packets = AllByRecursion Fits packets
+
+unfoldable pub score_text : List Shape → List ℕ
+score_text packets = flat_map packet_text packets
+
+-- the text of packets that each fit
+pub record Score (text : List ℕ) (packets : List Shape) : Type 0 where
+  pub fit : AllFit packets
+  pub written : text ≡ score_text packets

@@ -22,7 +22,7 @@ UNITS = {
 
 WORDS = {
     "SinOsc": 1, "LFSaw": 1, "LFPulse": 1, "LFTri": 1, "Impulse": 2, "WhiteNoise": 1, "Phasor": 3, "Line": 5, "Linen": 7,
-    "OnePole": 1, "Lag": 2, "Integrator": 1, "Delay1": 1, "SOS": 4, "Latch": 2, "Gate": 2, "PulseCount": 3, "Stepper": 4,
+    "OnePole": 1, "Lag": 2, "Integrator": 1, "Delay1": 1, "SOS": 4, "Latch": 2, "Gate": 1, "PulseCount": 3, "Stepper": 4,
     "PlayBuf": 4, "RecordBuf": 2, "SendTrig": 4, "DetectSilence": 2, "FreeSelf": 1, "PauseSelf": 1,
 }
 

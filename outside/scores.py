@@ -1,9 +1,13 @@
 """Text of packets, both ways, by the grammar, and a comparison with a built program: python3 scores.py SNOVA
 
-SNOVA dumps the stream of each piece of ../examples, and scores the text back to the same bytes. So it does with packets of every form,
-and with texts that are no score, whose first faults must be the same. It prints each difference and exits with 1 if there is one.
+SNOVA dumps the stream of each piece of ../examples, and scores the text back to the same bytes. So it does with packets of every form
+and with rows that are worked by hand. Texts that are no score and streams that are no list of packets must have the same first fault.
+Words that are refused, files that fail, too many bytes and too little memory must have their line and their status, and leave nothing
+in OUT, or a prefix. It prints each difference and exits with 1 if there is one.
 """
 import re
+import resource
+import signal
 import struct
 import subprocess
 import sys
@@ -194,47 +198,149 @@ NO_SCORES = [
     b"[ 0 0\n[ 0 0\n" + b'/l "' + b"n" * 65484 + b'"\n/a\n]\n]\n', b'/l "' + b"n" * 65529 + b'"\n', b"/a 1\r\n", b"/a\n[ 0 1\n/b\n]\n/c 1 2 x\n",
 ]
 
+# Rows worked by hand: a text of one packet, and its stream.
+ROWS = [
+    (b"[ 1 0\n/c_get 3\n]\n", "00000024 2362756e646c6500 0000000100000000 00000010 2f635f6765740000 2c690000 00000003"),
+    (b'/a ?"f" #3f800000\n', "0000000c 2f610000 2c660000 3f800000"),
+]
+# Texts worked by hand, and their first line at fault.
+BAD_ROWS = [(b"[ 1 0\n", 2), (b"/a 007\n", 1)]
 
-def run(snova, word, given, folder):
-    """What a conversion printed, its status and what it wrote."""
+
+def nested(depth):
+    """So many bundles, one inside the other."""
+    return osc.bundle(1, nested(depth - 1)) if depth > 1 else osc.bundle(1)
+
+
+ONE = osc.frame(osc.message("/a", 1))
+# Streams that are no list of packets: what follows a packet that is good.
+NO_STREAMS = [
+    osc.frame(b"a\0\0\0"), osc.frame(b"/aaa"), osc.frame(b"/a\0\1"), osc.frame(b"/a\0\0ab\0\0"), osc.frame(b"/a\0\0,i\0\0"),
+    osc.frame(b"/a\0\0,\0\0\0more"), osc.frame(b"/a\0\0,b\0\0\0\0\0\5more"), osc.frame(osc.bundle(1) + b"\0\0\0\5"), osc.frame(b"#bundl\0\0"),
+    osc.frame(osc.bundle(9, osc.bundle(8))), osc.frame(nested(9)), struct.pack(">i", 6) + b"/a\0\0\0\0", ONE[:-1], b"\0\0",
+]
+
+MOST = 16777216
+# A line, and a frame, of which so many have as many bytes as there may be.
+LONG_LINE, LINES = b"/" + b"n" * 32766 + b"\n", 512
+LONG_FRAME, FULL = osc.frame(osc.message("/a", bytes(65520))), 256
+MANY = 400000
+
+
+def with_little_memory():
+    resource.setrlimit(resource.RLIMIT_AS, (48 << 20, 48 << 20))
+
+
+def with_short_files():
+    signal.signal(signal.SIGXFSZ, signal.SIG_IGN)
+    resource.setrlimit(resource.RLIMIT_FSIZE, (9, 9))
+
+
+# The words, what IN holds and how often, the line, the status, what OUT holds then (None: it was not made), and what the program is run with.
+ENDS = [
+    ([], ONE, 1, "bad word 0", 2, None, None),
+    (["sore", "given", "made"], ONE, 1, "bad word 0", 2, None, None),
+    (["dump"], ONE, 1, "bad word 1", 2, None, None),
+    (["score"], ONE, 1, "bad word 1", 2, None, None),
+    (["score", "given"], ONE, 1, "bad word 2", 2, None, None),
+    (["dump", "given", "made", "more"], ONE, 1, "bad word 3", 2, None, None),
+    (["score", "given", "made", "more", "words"], ONE, 1, "bad word 3", 2, None, None),
+    (["dump", "absent", "made"], ONE, 1, "cannot open", 9, None, None),
+    (["dump", "given", "absent/made"], ONE, 1, "cannot open", 9, None, None),
+    (["dump", "given", "given"], ONE, 1, "cannot open", 9, None, None),
+    (["dump", ".", "made"], ONE, 1, "read fault", 6, b"", None),
+    (["score", ".", "made"], ONE, 1, "read fault", 6, b"", None),
+    (["dump", "given", "/dev/full"], ONE, 1, "out fault", 7, None, None),
+    (["score", "given", "/dev/full"], b"/a\n", 1, "out fault", 7, None, None),
+    (["dump", "given", "made"], ONE, 3, "out fault", 7, b"/a 1\n/a 1", with_short_files),
+    (["score", "given", "made"], b"/a 1\n", 1, "out fault", 7, ONE[:9], with_short_files),
+    (["dump", "given", "made"], ONE, MANY, "no memory", 1, b"", with_little_memory),
+    (["score", "given", "made"], b"/a 1\n", MANY, "no memory", 1, b"", with_little_memory),
+    (["dump", "given", "made"], LONG_FRAME, FULL, "done 256 packets", 0, b"/a #" + b"00" * 65520 + b"\n", None),
+    (["score", "given", "made"], LONG_LINE, LINES, "done 512 packets", 0, osc.frame(LONG_LINE[:-1] + b"\0"), None),
+    (["dump", "given", "made"], b"/", MOST + 1, "stream over 16777216 bytes", 4, b"", None),
+    (["score", "given", "made"], b"\n", MOST + 1, "stream over 16777216 bytes", 4, b"", None),
+]
+
+
+def run(snova, words, given, folder, prepare=None):
+    """What a conversion printed, its status and what it wrote, if anything."""
+    made = folder / "made"
+    made.unlink(missing_ok=True)
     (folder / "given").write_bytes(given)
-    ran = subprocess.run([snova, word, "given", "made"], cwd=folder, stdout=subprocess.PIPE, stderr=subprocess.DEVNULL, check=False)
-    return ran.stdout.decode().strip(), ran.returncode, (folder / "made").read_bytes()
+    ran = subprocess.run([snova, *words], cwd=folder, stdout=subprocess.PIPE, stderr=subprocess.DEVNULL, check=False, preexec_fn=prepare)
+    return ran.stdout.decode().strip(), ran.returncode, made.read_bytes() if made.exists() else None
+
+
+def convert(snova, word, given, folder):
+    return run(snova, [word, "given", "made"], given, folder)
+
+
+def size(data):
+    return "no file" if data is None else f"{len(data)} bytes"
 
 
 def compare(what, ran, wanted):
     if ran != wanted:
-        print(f"{what}: {ran[0]}, status {ran[1]}, {len(ran[2])} bytes; wanted {wanted[0]}, status {wanted[1]}, {len(wanted[2])} bytes")
+        print(f"{what}: {ran[0]}, status {ran[1]}, {size(ran[2])}; wanted {wanted[0]}, status {wanted[1]}, {size(wanted[2])}")
     return ran == wanted
+
+
+def compare_forms(snova, folder, what, text, stream, packets):
+    done = f"done {packets} packets"
+    there = compare(f"{what}, dump", convert(snova, "dump", stream, folder), (done, 0, text))
+    back = compare(f"{what}, score", convert(snova, "score", text, folder), (done, 0, stream))
+    return there and back
 
 
 def compare_stream(snova, folder, what, stream):
     text, packets = dumped(stream)
-    done = f"done {packets} packets"
     same = scored(text) == (stream, packets) or print(f"{what}: the model does not read its text back")
-    there = compare(f"{what}, dump", run(snova, "dump", stream, folder), (done, 0, text))
-    back = compare(f"{what}, score", run(snova, "score", text, folder), (done, 0, stream))
-    return bool(same) and there and back
+    return bool(same) and compare_forms(snova, folder, what, text, stream, packets)
 
 
 def compare_text(snova, folder, text):
     stream, number = scored(text)
     wanted = (f"bad score: line {number}", 16, b"") if stream is None else (f"done {number} packets", 0, stream)
-    return compare(f"score of {text[:60]}", run(snova, "score", text, folder), wanted)
+    return compare(f"score of {text[:60]}", convert(snova, "score", text, folder), wanted)
 
 
-def main(snova):
+def compare_bad_stream(snova, folder, stream):
+    try:
+        osc.packets_of(stream)
+    except osc.Fault as fault:
+        line = f"bad stream: packet {fault.packet}, byte {fault.place}, fault P{fault.kind}"
+        return compare(f"dump of {stream}", convert(snova, "dump", stream, folder), (line, 3, b""))
+    return print(f"dump of {stream}: the model finds no fault")
+
+
+def compare_end(snova, folder, words, given, times, line, status, out, prepare):
+    wanted = line, status, out * times if status == 0 else out
+    return compare(f"{' '.join(words)}, with {len(given) * times} bytes", run(snova, words, given * times, folder, prepare), wanted)
+
+
+def examples():
+    """The name and the stream of each piece."""
     sys.path.append(str(EXAMPLES))
     import make
 
-    streams = {"packets of every form": b"".join(osc.frame(packet) for packet in FRAMES), "nothing": b""}
     for name in make.all_names():
-        streams[f"examples/{name}.txt"] = b"".join(osc.frame(make.bundle(make.tag_at(seconds), messages)) for seconds, messages in make.read(name))
-    with tempfile.TemporaryDirectory() as folder:
-        same = [compare_stream(snova, Path(folder), what, stream) for what, stream in streams.items()]
-        same += [compare_text(snova, Path(folder), text) for text in NO_SCORES]
+        yield f"examples/{name}.txt", b"".join(osc.frame(make.bundle(make.tag_at(seconds), messages)) for seconds, messages in make.read(name))
+
+
+def main(snova):
+    streams = {"packets of every form": b"".join(osc.frame(packet) for packet in FRAMES), "nothing": b"", **dict(examples())}
+    with tempfile.TemporaryDirectory() as name:
+        folder = Path(name)
+        same = [compare_stream(snova, folder, what, stream) for what, stream in streams.items()]
+        same += [compare_forms(snova, folder, text.decode(), text, bytes.fromhex(stream), 1) for text, stream in ROWS]
+        same += [compare(text.decode(), convert(snova, "score", text, folder), (f"bad score: line {line}", 16, b"")) for text, line in BAD_ROWS]
+        same += [compare_text(snova, folder, text) for text in NO_SCORES]
+        same += [compare_bad_stream(snova, folder, ONE + stream) for stream in NO_STREAMS]
+        same += [compare_end(snova, folder, *end) for end in ENDS]
     if all(same):
-        print(f"{len(streams)} streams are dumped and scored back, and {len(NO_SCORES)} texts have their first fault")
+        print(f"{len(streams) + len(ROWS)} streams are dumped and scored back, {len(NO_SCORES) + len(BAD_ROWS)} texts and {len(NO_STREAMS)} streams "
+              f"have their first fault, and {len(ENDS)} ends are as they should be")
     return 0 if all(same) else 1
 
 

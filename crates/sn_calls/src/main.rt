@@ -5,7 +5,9 @@
 mod alone;
 mod connections;
 mod fixed;
+mod holding;
 mod line;
+mod machines;
 mod pools;
 mod rounds;
 mod trees;
@@ -13,6 +15,7 @@ mod trees;
 use connections::ConnectionRows;
 use fixed::FixedRows;
 use line::{Line, Rows, Unanswered};
+use machines::MachineRows;
 use pools::PoolRows;
 use rounds::RoundRows;
 use std::net::Net;
@@ -77,6 +80,7 @@ fn try_file<H: Files + Net + Print + AllocGlobal>(rt: &H, path: &str) -> Result<
     match path {
         "fixed.txt" => Ok(try_rows(rt, path, text, FixedRows { alloc })?),
         "pool.txt" => Ok(try_rows(rt, path, text, PoolRows::new(alloc)?)?),
+        "machine.txt" => Ok(try_rows(rt, path, text, MachineRows { alloc })?),
         "round.txt" => Ok(try_rows(rt, path, text, RoundRows::new(alloc)?)?),
         "tcp.txt" => Ok(try_rows(rt, path, text, ConnectionRows { rt, alloc })?),
         _ => Err(Unanswered::NoRow),

@@ -18,8 +18,9 @@ pub struct RoundRows {
     plan: Plan,
 }
 
+/// No jobs.
 #[tactic(auto, using(crate::proofs::Rising::no_jobs_are))]
-fn no_jobs(alloc: Global) -> Vec<Job>
+pub fn no_jobs(alloc: Global) -> Vec<Job>
     ensures { AreJobs result.items }
 {
     Vec::new(alloc)
@@ -80,33 +81,33 @@ fn foot(alloc: Global, at: u32) -> Result<Foot, NoMemory> {
     })
 }
 
-/// Puts a job at the end, where its predecessors stand before it.
+/// Puts a job at the end, where its predecessors stand before it. It answers whether they do.
 #[tactic(auto, using(crate::proofs::Rising::jobs_more))]
-fn put(alloc: Global, jobs: &mut Vec<Job>, synths: Ids, before: &[u32]) -> Result<bool, NoMemory>
+pub fn put(jobs: &mut Vec<Job>, job: Job) -> Result<bool, NoMemory>
     requires jobs { AreJobs jobs.old.items }
     ensures jobs { AreJobs jobs.new.items }
 {
-    if jobs.len() > 1000 || !rise(0, jobs.len() as u32, before) {
+    if jobs.len() > 1000 || !rise(0, jobs.len() as u32, job.before.as_slice()) {
         return Ok(false);
     }
-    let at = jobs.len() as u32 * 10;
-    let job = Job {
-        synths,
-        foot: foot(alloc, at)?,
-        before: predecessors(alloc, before)?,
-    };
     jobs.push(job)?;
     Ok(true)
 }
 
-/// A job by its synths and its predecessors.
+/// A job by its synths and its predecessors. It writes ten words of its own.
 fn put_job(alloc: Global, jobs: &mut Vec<Job>, line: &mut Line<'_>) -> Answer
     requires { AreJobs jobs.old.items }
     ensures { AreJobs jobs.new.items }
 {
     let synths = ids(alloc, &line.naturals(alloc)?)?;
-    let before = line.naturals(alloc)?;
-    let is_put = put(alloc, jobs, synths, &before)?;
+    let before = predecessors(alloc, &line.naturals(alloc)?)?;
+    let at = (jobs.len() as u32).wrapping_mul(10);
+    let job = Job {
+        synths,
+        foot: foot(alloc, at)?,
+        before,
+    };
+    let is_put = put(jobs, job)?;
     said(alloc, if is_put { "ok" } else { "not before it" })
 }
 

@@ -9,14 +9,15 @@ use Rattle.sn_def.specs.declared.table.Access.{Access}
 use Rattle.sn_def.specs.declared.table.Access.TheVariants.{Read, Write}
 use Rattle.sn_foot.specs.declared.resource.Resource.{Resource}
 use Rattle.sn_foot.specs.declared.resource.Resource.TheVariants.{Audio, Control, Buffer}
-use Rattle.sn_clash.specs.declared.uses.Use.{Use}
+use Rattle.sn_foot.specs.declared.uses.Use.{Use}
 use Rattle.sn_clash.specs.declared.marks.Mark.{Mark}
-use Rattle.sn_foot.specs.Footprints.{clash_on, is_there}
-use Rattle.sn_clash.specs.Clashing.{number_of, resources}
-use Rattle.sn_clash.specs.Using.{footprint_in, is_access, is_same, listed, uses_in}
-use Rattle.sn_clash.specs.Marking.{comes_before, first_hit, first_of, hits, mark_of, marked_in, meets, rank}
+use Rattle.sn_foot.specs.Footprints.{clash_on, is_there, number_of}
+use Rattle.sn_clash.specs.Clashing.{resources}
+use Rattle.sn_foot.specs.Uses.{footprint_in, is_same, uses_in}
+use Rattle.sn_def.specs.Facts.{is_access}
+use Rattle.sn_clash.specs.Marking.{listed, comes_before, first_hit, first_of, hits, mark_of, marked_in, meets, rank}
 use Rattle.sn_clash.proofs.Firsts.{all_none, first_audio, first_buffer, first_control}
-use Rattle.sn_clash.proofs.Marking.{low_number}
+use Rattle.sn_foot.proofs.Putting.{low_number}
 
 -- ---- tests
 

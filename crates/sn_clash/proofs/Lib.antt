@@ -2,8 +2,8 @@ pub mod Firsts
 pub mod Marking
 pub mod Least
 pub mod Putting
+pub mod Together
 pub mod Members
 pub mod Stacking
-pub mod Reaching
 pub mod Worlds
 pub mod Numbers

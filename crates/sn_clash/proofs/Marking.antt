@@ -1,7 +1,7 @@
 -- What is marked is what is used.
-use Rattle.std.proofs.Common.{◌≡◌, ◌<◌, ℕ, ◌+◌, ◌*◌, ◌==◌, Bool, true, false, ◌&&◌, ◌||◌, List, [], ◌∷◌, Option, None, sym, refl, ap, subst, ◌∙◌, ⊎_elim, arith, length}
-use Rattle.std.specs.Prelude.{slice_set, slice_index_or, nat_lt, is_some}
-use Rattle.std.proofs.lemmas.Bool.{and_parts, cases_eq, eq-eqb, ne_eqb, ltb-true}
+use Rattle.std.proofs.Common.{◌≡◌, ◌<◌, ℕ, ◌+◌, ◌*◌, ◌==◌, Bool, true, false, ◌&&◌, ◌||◌, List, [], ◌∷◌, Option, sym, refl, ap, subst, ◌∙◌, ⊎_elim, arith, length}
+use Rattle.std.specs.Prelude.{slice_set, slice_index_or}
+use Rattle.std.proofs.lemmas.Bool.{cases_eq, eq-eqb, ne_eqb}
 use Rattle.std.proofs.Math.Bool.{or_assoc, or-false, or-true, and-false, and-or_distrib_left}
 use Rattle.std.proofs.lemmas.List.{length-set, get_or-set_same, get_or-set_other}
 use Rattle.sn_mem.specs.declared.buffers.BufferPlace.{BufferPlace}
@@ -9,11 +9,12 @@ use Rattle.sn_def.specs.declared.table.Access.{Access}
 use Rattle.sn_def.specs.declared.table.Access.TheVariants.{Read, Write}
 use Rattle.sn_foot.specs.declared.resource.Resource.{Resource}
 use Rattle.sn_foot.specs.declared.resource.Resource.TheVariants.{Audio, Control, Buffer}
-use Rattle.sn_foot.specs.Footprints.{Footprint, is_there}
-use Rattle.sn_clash.specs.declared.uses.Use.{Use}
+use Rattle.sn_foot.specs.Footprints.{Footprint, is_there, number_of}
+use Rattle.sn_foot.specs.declared.uses.Use.{Use}
+use Rattle.sn_foot.proofs.Putting.{low_number}
 use Rattle.sn_clash.specs.declared.marks.Mark.{Mark}
-use Rattle.sn_clash.specs.Clashing.{number_of}
-use Rattle.sn_clash.specs.Using.{footprint_in, is_access, is_same, uses_in}
+use Rattle.sn_foot.specs.Uses.{footprint_in, is_same, uses_in}
+use Rattle.sn_def.specs.Facts.{is_access}
 use Rattle.sn_clash.specs.Marking.{mark_of, mark_use, mark_uses, marked_in, more, place, unmarked}
 use Rattle.sn_clash.specs.Passing.{either, no_use}
 
@@ -40,11 +41,6 @@ same_place (Control m) (Buffer n) = ne_eqb (3 * m + 1) (3 * n + 2) (λ e. omega 
 same_place (Buffer m) (Audio n) = ne_eqb (3 * m + 2) (3 * n) (λ e. omega (arith, e))
 same_place (Buffer m) (Control n) = ne_eqb (3 * m + 2) (3 * n + 1) (λ e. omega (arith, e))
 same_place (Buffer m) (Buffer n) = same_number (3 * m + 2) (3 * n + 2) m n (λ e. omega (arith, e)) (λ e. omega (arith, e))
-
-pub low_number : (buffers : List (Option BufferPlace)) (r : Resource) → is_there buffers r ≡ true → number_of r < 1024
-low_number buffers (Audio n) h = omega (arith, ltb-true n 128 h)
-low_number buffers (Control n) h = ltb-true n 1024 h
-low_number buffers (Buffer n) h = ltb-true n 1024 (and_parts (nat_lt n 1024) (is_some (slice_index_or buffers n None)) h).0
 
 low_place : (r : Resource) → number_of r < 1024 → place r < 3072
 low_place (Audio n) h = omega (arith, h)

@@ -3,19 +3,17 @@ use Rattle.std.proofs.Common.{◌≡◌, ◌≤◌, ◌<◌, ℕ, ◌+◌, ℤ, 
 use Rattle.std.specs.Prelude.{slice_index_or, is_some}
 use Rattle.std.specs.List.{filter, list_any}
 use Rattle.std.proofs.Math.Bool.{or_comm}
-use Rattle.std.proofs.lemmas.List.{take_more, take_all, map-append, reverse-append}
+use Rattle.std.proofs.lemmas.List.{take_more, map-append, reverse-append}
 use Rattle.sn_foot.specs.declared.resource.Resource.{Resource}
 use Rattle.sn_foot.specs.Footprints.{Footprint, clash_on}
 use Rattle.sn_clash.specs.declared.clash.Clash.{Clash}
 use Rattle.sn_clash.specs.declared.entry.Entry.{Entry}
-use Rattle.sn_clash.specs.declared.uses.Use.{Use}
 use Rattle.sn_clash.specs.declared.marks.Mark.{Mark}
 use Rattle.sn_clash.specs.Clashing.{Member, clashes_among, clashes_with, resources}
-use Rattle.sn_clash.specs.Using.{footprint_in, listed}
-use Rattle.sn_clash.specs.Marking.{marked_in}
+use Rattle.sn_foot.specs.Uses.{footprint_in}
+use Rattle.sn_clash.specs.Marking.{listed, marked_in}
 use Rattle.sn_clash.specs.Passing.{either, gathered, no_use, clashes_later, from_first, member_of, members_of}
 use Rattle.sn_clash.proofs.Firsts.{first_kept, first_later}
-use Rattle.sn_clash.proofs.Putting.{joined}
 
 -- ---- whether there is a first one
 
@@ -88,12 +86,6 @@ next_gathered there es n x old new f lt at is e =
     is
     ∙ ap (λ (g : Footprint). either g (footprint_in there x.uses.items)) e
     ∙ sym (ap (λ ms. gathered f ms) (one_at there es n x lt at))
-
-pub next_uses : (there : Resource → Bool) (es : List Entry) (n : ℕ) (x : Entry) (old new : List Use) (f : Footprint) → n < length es → x ≡ slice_index_or es n x →
-    new ≡ old ++ x.uses.items →
-    footprint_in there old ≡ gathered f (members_of there (take n es)) →
-    footprint_in there new ≡ gathered f (members_of there (take (n + 1) es))
-next_uses there es n x old new f lt at is e = next_gathered there es n x (footprint_in there old) (footprint_in there new) f lt at (joined there old x.uses.items new is) e
 
 -- ---- the second member
 

@@ -8,9 +8,9 @@ use Rattle.sn_tree.specs.Trees.{Nodes, none, node}
 use Rattle.sn_world.specs.declared.stage.Stage.{Stage}
 use Rattle.sn_foot.specs.declared.resource.Resource.{Resource}
 use Rattle.sn_foot.specs.declared.resource.Resource.TheVariants.{Audio, Control, Buffer}
-use Rattle.sn_foot.specs.Footprints.{held_reads, held_writes, clash_on, is_there}
+use Rattle.sn_foot.specs.Footprints.{held_reads, held_writes, clash_on, is_there, number_of}
 use Rattle.sn_clash.specs.declared.clash.Clash.{Clash}
-use Rattle.sn_clash.specs.Clashing.{Member, clashes, clashes_among, clashes_in, clashes_with, is_parallel, members, number_of, resources}
+use Rattle.sn_clash.specs.Clashing.{Member, clashes, clashes_among, clashes_in, clashes_with, is_parallel, members, resources}
 
 abbrev pub IsSmall : Clash → Type 0
 IsSmall c = number_of c.resource < 1024

@@ -2,6 +2,7 @@
 use Rattle.std.proofs.Common.{◌≡◌, ◌<◌, ℕ, ◌+◌, ◌-◌, ℤ, Bool, true, false, ◌&&◌, ◌||◌, List, [], ◌∷◌, ◌++◌, sym, refl, ap, ◌∙◌, arith, length, take, drop, map, reverse, append_assoc, length-append, if◌then◌else◌}
 use Rattle.std.specs.Prelude.{slice_index_or}
 use Rattle.std.specs.List.{list_any}
+use Rattle.std.proofs.lemmas.Bool.{cond-false, or_parts}
 use Rattle.std.proofs.Math.Bool.{and-false, and-or_distrib_left, or_assoc}
 use Rattle.std.proofs.Math.Seq.{drop-append_seam}
 use Rattle.std.proofs.lemmas.List.{append-nil, map-append, reverse-append, reverse-reverse, length-reverse, length-map, take-map, drop-map, take_more}
@@ -18,9 +19,9 @@ use Rattle.sn_foot.specs.Footprints.{Footprint, held_reads, held_writes}
 use Rattle.sn_clash.specs.declared.clash.Clash.{Clash}
 use Rattle.sn_clash.specs.declared.entry.Entry.{Entry}
 use Rattle.std.specs.Global.{Vec}
-use Rattle.sn_clash.specs.declared.uses.Use.{Use}
+use Rattle.sn_foot.specs.declared.uses.Use.{Use}
 use Rattle.sn_clash.specs.Clashing.{Member, clashes, clashes_among, footprint, is_parallel, members}
-use Rattle.sn_clash.specs.Using.{footprint_in}
+use Rattle.sn_foot.specs.Uses.{footprint_in}
 use Rattle.sn_clash.specs.Passing.{Passed, Slot, base_of, either, found_at, gathered, members_of, no_use, nothing, pass, pass_one, passed_of, slot_members, slot_of, used_by, uses_at}
 use Rattle.sn_clash.specs.Rows.{row_of}
 
@@ -245,3 +246,27 @@ module _ (there : Resource → Bool) where
 
   pub group_passed : (t : Nodes Held) → reverse (pass there (rows t) nothing).found ≡ found_in t
   group_passed t = ap (λ (p : Passed). reverse p.found) (all_passed t nothing) ∙ reverse-reverse (found_in t)
+
+-- ---- without a parallel group
+
+abbrev parallel : Label Held → Bool
+parallel l = is_parallel l.kind
+
+none_of : (running : Bool) (label : Label Held) (bs cs : List (Label Held)) (mine below after : List Clash) → (parallel label ≡ false → mine ≡ []) → (list_any parallel bs ≡ false → below ≡ []) → (list_any parallel cs ≡ false → after ≡ []) →
+    list_any parallel (if running then label ∷ (bs ++ cs) else cs) ≡ false → (if running then mine ++ (below ++ after) else after) ≡ []
+none_of true label bs cs mine below after f g h quiet =
+    let here = or_parts (parallel label) (list_any parallel (bs ++ cs)) quiet in
+    let rest = or_parts (list_any parallel bs) (list_any parallel cs) (sym (list_any-append parallel bs cs) ∙ here.1) in
+    λ i. f here.0 i ++ (g rest.0 i ++ h rest.1 i)
+none_of false label bs cs mine below after f g h quiet = h quiet
+
+module _ (there : Resource → Bool) where
+  no_parallel : (t : Nodes Held) → list_any parallel (running_labels t) ≡ false → clashes there held_reads held_writes t ≡ []
+  no_parallel none quiet = refl
+  no_parallel (node label below after) quiet =
+      let first : List Clash = take 1 (clashes_among label.id (members there held_reads held_writes below)) in
+      none_of label.running label (running_labels below) (running_labels after) (if parallel label then first else []) (clashes there held_reads held_writes below) (clashes there held_reads held_writes after)
+      (λ is. cond-false (parallel label) first [] is) (no_parallel below) (no_parallel after) quiet
+
+  pub no_clashes : (t : Nodes Held) → list_any (λ l. is_parallel l.kind) (running_labels t) ≡ false → [] ≡ clashes there held_reads held_writes t
+  no_clashes t quiet = sym (no_parallel t quiet)

@@ -1,5 +1,5 @@
 -- Which members of parallel groups clash.
-use Rattle.std.specs.Prelude.{ℕ, ℤ, Bool, true, false, ◌&&◌, if◌then◌else◌, List, [], ◌∷◌, ◌++◌, map, take}
+use Rattle.std.specs.Prelude.{ℤ, Bool, true, false, ◌&&◌, if◌then◌else◌, List, [], ◌∷◌, ◌++◌, map, take}
 use Rattle.std.specs.List.{filter, list_any}
 use Rattle.sn_mem.specs.Blocks.{table}
 use Rattle.sn_tree.specs.declared.node.NodeKind.{NodeKind}
@@ -14,11 +14,6 @@ use Rattle.sn_foot.specs.Footprints.{Footprint, clash_on, is_there, synth_reads,
 use Rattle.sn_clash.specs.declared.clash.Clash.{Clash}
 
 -- ---- resources
-
-abbrev pub number_of : Resource → ℕ
-number_of (Audio n) = n
-number_of (Control n) = n
-number_of (Buffer n) = n
 
 -- audio buses, control buses, and buffers, each by their numbers
 unfoldable pub resources : List Resource

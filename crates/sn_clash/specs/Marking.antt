@@ -4,10 +4,9 @@ use Rattle.sn_def.specs.declared.table.Access.{Access}
 use Rattle.sn_def.specs.declared.table.Access.TheVariants.{Read, Write}
 use Rattle.sn_foot.specs.declared.resource.Resource.{Resource}
 use Rattle.sn_foot.specs.declared.resource.Resource.TheVariants.{Audio, Control, Buffer}
-use Rattle.sn_foot.specs.Footprints.{Footprint}
-use Rattle.sn_clash.specs.declared.uses.Use.{Use}
+use Rattle.sn_foot.specs.Footprints.{Footprint, number_of}
+use Rattle.sn_foot.specs.declared.uses.Use.{Use}
 use Rattle.sn_clash.specs.declared.marks.Mark.{Mark}
-use Rattle.sn_clash.specs.Clashing.{number_of}
 
 -- ---- marks
 
@@ -67,3 +66,8 @@ first_of (Some least) r = if comes_before least r then least else r
 abbrev pub first_hit : (Resource → Bool) → List Mark → List Use → Option Resource → Option Resource
 first_hit there marks [] least = least
 first_hit there marks (u ∷ us) least = first_hit there marks us (if hits there marks u then Some (first_of least u.resource) else least)
+
+-- an answer as a list
+abbrev pub listed : {A : Type 0} → Option A → List A
+listed None = []
+listed (Some x) = x ∷ []

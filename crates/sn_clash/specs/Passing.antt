@@ -8,7 +8,7 @@ use Rattle.sn_foot.specs.Footprints.{Footprint, held_reads, held_writes, clash_o
 use Rattle.sn_clash.specs.declared.clash.Clash.{Clash}
 use Rattle.sn_clash.specs.declared.entry.Entry.{Entry}
 use Rattle.sn_clash.specs.Clashing.{Member, clashes_among, is_parallel, resources}
-use Rattle.sn_clash.specs.Using.{footprint_in}
+use Rattle.sn_foot.specs.Uses.{footprint_in}
 
 -- ---- footprints together
 

@@ -1,5 +1,5 @@
 //! A node that was passed.
-use crate::uses::Use;
+use sn_foot::Use;
 
 /// A node with all below it.
 #[derive(Drop)]

@@ -3,16 +3,14 @@
 
 mod clash;
 mod entry;
-mod groups;
+mod gathering;
 mod laws;
 mod marks;
 mod pairs;
 mod passing;
 mod sharing;
-mod uses;
-mod using;
 mod walking;
 
 pub use clash::{Clash, Clashes};
 pub use laws::world_has_the_clashes;
-pub use walking::clashes;
+pub use walking::{all_nodes, clashes};

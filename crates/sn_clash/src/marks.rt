@@ -2,12 +2,11 @@
 ghost use Rattle.std.specs.Prelude.{◌≡◌, length, slice_index_or, ℕ, List, Option, IfOk};
 ghost use Rattle.sn_mem.specs.declared.buffers.BufferPlace as buffer;
 ghost use Rattle.sn_foot.specs.Footprints.{is_there};
-ghost use Rattle.sn_clash.specs.Using.{footprint_in};
+ghost use Rattle.sn_foot.specs.Uses.{footprint_in};
 ghost use Rattle.sn_clash.specs.Marking.{mark_of, mark_use, mark_uses, marked_in, more, place, unmarked};
 
-use crate::uses::Use;
 use sn_def::Access;
-use sn_foot::Resource;
+use sn_foot::{Resource, Use};
 use sn_ports::NoMemory;
 use std::alloc::Global;
 use std::marker::Model;

@@ -1,19 +1,17 @@
 //! The first two members of a group that clash.
-ghost use Rattle.std.specs.Prelude.{◌≡◌, ◌≤◌, ◌<◌, ◌+◌, ◌^◌, Bool, length, take, if◌then◌else◌, IfOk, OnOk};
+ghost use Rattle.std.specs.Prelude.{◌≡◌, ◌≤◌, ◌<◌, ◌+◌, ◌^◌, length, take, if◌then◌else◌, IfOk};
 ghost use Rattle.std.specs.List.{list_any};
-ghost use Rattle.sn_foot.specs.declared.resource.Resource as resource;
 ghost use Rattle.sn_foot.specs.Footprints.{clash_on, is_there};
 ghost use Rattle.sn_clash.specs.Clashing.{clashes_among, clashes_with, resources};
-ghost use Rattle.sn_clash.specs.Using.{footprint_in, listed};
-ghost use Rattle.sn_clash.specs.Marking.{marked_in};
-ghost use Rattle.sn_clash.specs.Passing.{from_first, gathered, member_of, members_of};
+ghost use Rattle.sn_foot.specs.Uses.{footprint_in};
+ghost use Rattle.sn_clash.specs.Marking.{listed, marked_in};
+ghost use Rattle.sn_clash.specs.Passing.{from_first, member_of, members_of};
 
 use crate::clash::Clash;
 use crate::entry::Entry;
 use crate::marks::Marks;
 use crate::sharing::first_shared;
-use crate::uses::Use;
-use sn_foot::Resource;
+use sn_foot::{Resource, Use};
 use sn_mem::Buffers;
 use sn_ports::NoMemory;
 use std::alloc::Global;
@@ -103,14 +101,4 @@ pub fn first_clash(
     let first = &members[count - 1];
     let later = &members[..count - 1];
     first_with(alloc, buffers, group, first, later)
-}
-
-/// What members use is used too.
-pub fn gather(uses: &mut Vec<Use>, members: &[Entry]) -> Result<(), NoMemory>
-    ensures { OnOk result ((there : resource.Resource → Bool) → footprint_in there uses.new.items ≡ gathered (footprint_in there uses.old.items) (members_of there members.now)) }
-{
-    for member in members {
-        uses.extend_from_slice(&member.uses)?;
-    }
-    Ok(())
 }

@@ -1,18 +1,18 @@
 //! The pass over a group and all nodes below it.
-ghost use Rattle.std.specs.Prelude.{◌≡◌, ◌++◌, Bool, List, Option, map, take, if◌then◌else◌, IfOk, OnOk};
+ghost use Rattle.std.specs.Prelude.{◌≡◌, ◌++◌, Bool, List, Option, map, take, drop, if◌then◌else◌, IfOk, OnOk};
 ghost use Rattle.sn_mem.specs.declared.buffers.BufferPlace as buffer;
 ghost use Rattle.sn_foot.specs.declared.resource.Resource as resource;
 ghost use Rattle.sn_foot.specs.Footprints.{is_there};
 ghost use Rattle.sn_clash.specs.Clashing.{clashes_among, is_parallel};
-ghost use Rattle.sn_clash.specs.Using.{footprint_in};
+ghost use Rattle.sn_foot.specs.Uses.{footprint_in};
 ghost use Rattle.sn_clash.specs.Passing.{base_of, found_at, gathered, members_of, no_use, nothing, pass, pass_one, passed_of, slot_of, used_by};
 ghost use Rattle.sn_clash.specs.Rows.{label_in, row_of};
 
 use crate::clash::Clash;
 use crate::entry::Entry;
-use crate::pairs::{first_clash, gather};
-use crate::uses::Use;
-use crate::using::push_held;
+use crate::gathering::gather;
+use crate::pairs::first_clash;
+use sn_foot::{Use, push_held};
 use sn_mem::Buffers;
 use sn_ports::NoMemory;
 use sn_tree::{Member, NodeKind};
@@ -48,16 +48,23 @@ fn used_by(alloc: Global, held: &Held) -> Result<Vec<Use>, NoMemory>
     Ok(uses)
 }
 
-/// What a node uses with all below it.
-fn uses_at(alloc: Global, running: bool, held: &Held, below: &[Entry]) -> Result<Vec<Use>, NoMemory>
-    ensures { IfOk result (λ u. (buffers : List (Option buffer.BufferPlace)) → footprint_in (is_there buffers) u.items ≡ (if running then gathered (used_by (is_there buffers) held.now) (members_of (is_there buffers) below.now) else no_use)) }
+/// What a node uses with all below it: the nodes behind the first `kept`, which are taken out.
+fn uses_at(
+    alloc: Global,
+    running: bool,
+    held: &Held,
+    passed: &mut Vec<Entry>,
+    kept: usize,
+) -> Result<Vec<Use>, NoMemory>
+    ensures uses { IfOk result (λ u. (buffers : List (Option buffer.BufferPlace)) → footprint_in (is_there buffers) u.items ≡ (if running then gathered (used_by (is_there buffers) held.now) (members_of (is_there buffers) (drop kept passed.old.items)) else no_use)) }
+    ensures left { OnOk result (passed.new.items ≡ take kept passed.old.items) }
 {
     if !running {
+        passed.truncate(kept);
         return Ok(Vec::new(alloc));
     }
-    let mut uses = used_by(alloc, held)?;
-    gather(&mut uses, below)?;
-    Ok(uses)
+    let uses = used_by(alloc, held)?;
+    gather(uses, passed, kept)
 }
 
 /// Puts the first clash of the members of a group at the end, if there is one.
@@ -121,9 +128,8 @@ fn pass_one(
     let kept = passed.len().saturating_sub(node.children as usize);
     let below = &passed[kept..];
     let base = base_of(below, found.len());
-    let uses = uses_at(alloc, node.running, node.payload, below)?;
     report(alloc, buffers, node, below, base, found)?;
-    passed.truncate(kept);
+    let uses = uses_at(alloc, node.running, node.payload, passed, kept)?;
     passed.push(entry(node, uses, base))?;
     Ok(())
 }

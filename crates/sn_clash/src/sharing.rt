@@ -2,15 +2,14 @@
 ghost use Rattle.std.specs.Prelude.{◌≡◌, None, Some, if◌then◌else◌, take};
 ghost use Rattle.std.specs.List.{filter};
 ghost use Rattle.sn_foot.specs.declared.resource.Resource.TheVariants.{Buffer};
-ghost use Rattle.sn_foot.specs.Footprints.{clash_on, is_there};
-ghost use Rattle.sn_clash.specs.Clashing.{number_of, resources};
-ghost use Rattle.sn_clash.specs.Using.{footprint_in, listed};
-ghost use Rattle.sn_clash.specs.Marking.{comes_before, first_hit, first_of, hits, marked_in, meets, rank};
+ghost use Rattle.sn_foot.specs.Footprints.{clash_on, is_there, number_of};
+ghost use Rattle.sn_clash.specs.Clashing.{resources};
+ghost use Rattle.sn_foot.specs.Uses.{footprint_in};
+ghost use Rattle.sn_clash.specs.Marking.{listed, comes_before, first_hit, first_of, hits, marked_in, meets, rank};
 
 use crate::marks::{Mark, Marks};
-use crate::uses::Use;
 use sn_def::Access;
-use sn_foot::Resource;
+use sn_foot::{Resource, Use};
 use sn_mem::Buffers;
 
 /// Whether there is a buffer of a number.

@@ -1,52 +1,56 @@
 //! The clashes of all nodes.
-ghost use Rattle.std.specs.Prelude.{◌≡◌, ◌<◌, ◌++◌, ◌∷◌, true, ℕ, List, IfOk};
-ghost use Rattle.std.specs.List.{All};
-ghost use Rattle.sn_tree.specs.Trees.{Label};
+ghost use Rattle.std.specs.Prelude.{◌≡◌, ◌<◌, pos, map, ℕ, List, IfOk};
+ghost use Rattle.std.specs.List.{All, list_any};
+ghost use Rattle.sn_tree.specs.Members.{members};
+ghost use Rattle.sn_tree.specs.Trees.{running_labels, subtree};
 ghost use Rattle.sn_world.specs.World.{world_of};
-ghost use Rattle.sn_world.specs.declared.stage.Held as payload;
-ghost use Rattle.sn_foot.specs.Footprints.{is_there};
-ghost use Rattle.sn_clash.specs.Clashing.{clashes_in, clashes_of, number_of};
-ghost use Rattle.sn_clash.specs.Groups.{collected};
+ghost use Rattle.sn_foot.specs.Footprints.{number_of};
+ghost use Rattle.sn_clash.specs.Clashing.{clashes_in, clashes_of, is_parallel};
+ghost use Rattle.sn_clash.specs.Rows.{row_of};
 
-use crate::clash::{Clash, Clashes};
-use crate::groups::push_group;
-use crate::passing::is_parallel;
+use crate::clash::Clashes;
+use crate::passing::{is_parallel, pass};
 use sn_ports::NoMemory;
-use sn_tree::Visit;
-use sn_world::{Held, NodeId, Stage};
+use sn_tree::{Member, Tree};
+use sn_world::{Held, Stage};
 use std::alloc::Global;
 
-/// Puts the clashes of a node at the end, where it is a parallel group, with those of all groups below it. Of the nodes that
-/// the walk reaches so many were passed with a group already: `skipped` before this node, and what is answered after it.
-fn visit(
-    alloc: Global,
-    stage: &Stage,
-    found: &mut Vec<Clash>,
-    skipped: usize,
-    node: &Visit<'_, Held>,
-) -> Result<usize, NoMemory>
-    ensures { IfOk result (λ left. (rest : List (Label payload.Held)) → found.new.items ++ collected (is_there stage.now.buffers) stage.now.tree.attached left rest ≡ found.old.items ++ collected (is_there stage.now.buffers) stage.now.tree.attached skipped (record { id = node.now.id; kind = node.now.kind; running = true; payload = node.now.payload.now } ∷ rest)) }
+/// Whether the walk reaches a parallel group.
+fn has_parallel(tree: &Tree<Held>) -> bool
+    ensures { result ≡ list_any (λ l. is_parallel l.kind) (running_labels tree.now.attached) }
 {
-    if skipped > 0 {
-        return Ok(skipped - 1);
+    for node in tree.walk() {
+        if is_parallel(node.kind) {
+            return true;
+        }
     }
-    if !is_parallel(node.kind) {
-        return Ok(0);
+    false
+}
+
+/// All nodes of a tree, in the order of the walk.
+pub fn all_nodes<'a>(alloc: Global, tree: &'a Tree<Held>) -> Result<Vec<Member<'a, Held>>, NoMemory>
+    ensures { IfOk result (λ nodes. map row_of nodes.items ≡ members (subtree (pos 0) tree.now.attached)) }
+{
+    let mut nodes = Vec::new(alloc);
+    for member in tree.members(0) {
+        nodes.push(member)?;
     }
-    push_group(alloc, stage, &NodeId { id: node.id }, found)
+    Ok(nodes)
 }
 
 /// The clashes of all groups that the walk reaches.
-fn walk_groups(alloc: Global, stage: &Stage) -> Result<Clashes, NoMemory>
+#[tactic(auto, using(crate::proofs::Stacking::no_clashes))]
+fn all_clashes(alloc: Global, stage: &Stage) -> Result<Clashes, NoMemory>
     ensures { IfOk result (λ found. found ≡ clashes_in stage.now) }
 {
-    stage.tree.ids_are_distinct();
-    let mut found = Vec::new(alloc);
-    let mut skipped = 0;
-    for node in stage.tree.walk() {
-        skipped = visit(alloc, stage, &mut found, skipped, &node)?;
+    if !has_parallel(&stage.tree) {
+        return Ok(Clashes::new(alloc));
     }
-    Ok(Clashes { items: found })
+    stage.tree.root_holds_all();
+    let nodes = all_nodes(alloc, &stage.tree)?;
+    let mut items = pass(alloc, &stage.buffers, &nodes)?;
+    items.reverse();
+    Ok(Clashes { items })
 }
 
 /// The clashes of the members of parallel groups: for each such group that the walk reaches, in the order of the walk, the
@@ -56,5 +60,5 @@ pub fn clashes(alloc: Global, stage: &Stage) -> Result<Clashes, NoMemory>
     ensures world { IfOk result (λ found. (words : List ℕ) → found ≡ clashes_of (world_of stage.now words)) }
     ensures small { IfOk result (All (λ c. number_of c.resource < 1024)) }
 {
-    walk_groups(alloc, stage)
+    all_clashes(alloc, stage)
 }

@@ -5,15 +5,8 @@ ghost use Rattle.sn_def.specs.StateWords.{literal_value};
 ghost use Rattle.sn_def.specs.Facts.{is_access, is_bank, touches, sends, action_of, done_action};
 
 use crate::kind::Kind;
-use crate::table::{Access, Bank, Ends, Family, row_of};
+use crate::table::{self, Access, Bank, Ends, ends_of, row_of};
 use crate::unit::{Input, Unit};
-
-/// The family of a kind.
-pub fn family_of(kind: Kind) -> Family
-    ensures { result ≡ (row_of kind).family }
-{
-    row_of(kind).family
-}
 
 fn is_access(access: Access, used: Access) -> bool
     ensures { result ≡ is_access access used }
@@ -71,13 +64,13 @@ impl Unit {
     pub fn sends(&self) -> bool
         ensures { result ≡ sends self.now.kind }
     {
-        row_of(self.kind).sends
+        table::sends(self.kind)
     }
 
     /// What the unit does when it ends, if it is one that ends.
     pub fn done_action(&self) -> Option<i32>
         ensures { result ≡ done_action self.now.kind self.now.inputs }
     {
-        action_of(row_of(self.kind).ends, self.inputs.as_slice())
+        action_of(ends_of(self.kind), self.inputs.as_slice())
     }
 }

@@ -25,7 +25,7 @@ mod wires;
 
 pub use control::{Control, Controls, Now};
 pub use definition::{Def, Names, Param, Params};
-pub use facts::{family_of, touches};
+pub use facts::touches;
 pub use fault::{DefFault, DefKind, Unread};
 pub use kind::Kind;
 pub use laws::{
@@ -34,6 +34,6 @@ pub use laws::{
 };
 pub use layout::UnitWords;
 pub use printing::print;
-pub use table::{Access, Bank, Ends, Family, Mark, Row, Use, Words, row_of};
+pub use table::{Access, Bank, Ends, Family, Mark, Row, Use, Words, family_of, row_of};
 pub use text::read;
 pub use unit::{Input, Inputs, Unit, Units};

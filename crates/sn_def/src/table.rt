@@ -239,80 +239,109 @@ macro_rules! row {
     };
 }
 
-/// The unit's row: family, name and inputs => outputs, words of state; and what it reads or writes,
-/// its done action, and whether it sends triggers.
+/// The table: a unit's family, name and inputs => outputs, words of state; and what it reads or writes,
+/// its done action, and whether it sends triggers. With a field's name it gives that field, and makes no row.
+macro_rules! by_kind {
+    ($kind:expr $(, $field:ident)?) => {
+        match $kind {
+            Kind::SinOsc => row!(Generator b"SinOsc" [Signal, Signal] => 1, Fixed(1))$(.$field)?,
+            Kind::LFSaw => row!(Generator b"LFSaw" [Signal, Signal] => 1, Fixed(1))$(.$field)?,
+            Kind::LFPulse => row!(Generator b"LFPulse" [Signal, Signal, Signal] => 1, Fixed(1))$(.$field)?,
+            Kind::LFTri => row!(Generator b"LFTri" [Signal, Signal] => 1, Fixed(1))$(.$field)?,
+            Kind::Impulse => row!(Generator b"Impulse" [Signal] => 1, Fixed(2))$(.$field)?,
+            Kind::WhiteNoise => row!(Generator b"WhiteNoise" [] => 1, Fixed(1))$(.$field)?,
+            Kind::Phasor =>
+                row!(Generator b"Phasor" [Signal, Signal, Signal, Signal, Signal] => 1, Fixed(3))$(.$field)?,
+            Kind::Line =>
+                row!(Generator b"Line" [Signal, Signal, Signal, Constant] => 1, Fixed(5))
+                    .ending(Ends::Input(3))$(.$field)?,
+            Kind::Linen =>
+                row!(Generator b"Linen" [Signal, Signal, Signal, Signal, Constant] => 1, Fixed(7))
+                    .ending(Ends::Input(4))$(.$field)?,
+            Kind::Add => row!(Arithmetic b"Add" [Signal, Signal] => 1, Fixed(0))$(.$field)?,
+            Kind::Sub => row!(Arithmetic b"Sub" [Signal, Signal] => 1, Fixed(0))$(.$field)?,
+            Kind::Mul => row!(Arithmetic b"Mul" [Signal, Signal] => 1, Fixed(0))$(.$field)?,
+            Kind::MulAdd => row!(Arithmetic b"MulAdd" [Signal, Signal, Signal] => 1, Fixed(0))$(.$field)?,
+            Kind::Neg => row!(Arithmetic b"Neg" [Signal] => 1, Fixed(0))$(.$field)?,
+            Kind::Abs => row!(Arithmetic b"Abs" [Signal] => 1, Fixed(0))$(.$field)?,
+            Kind::Min => row!(Arithmetic b"Min" [Signal, Signal] => 1, Fixed(0))$(.$field)?,
+            Kind::Max => row!(Arithmetic b"Max" [Signal, Signal] => 1, Fixed(0))$(.$field)?,
+            Kind::Clip => row!(Arithmetic b"Clip" [Signal, Signal, Signal] => 1, Fixed(0))$(.$field)?,
+            Kind::Gt => row!(Arithmetic b"Gt" [Signal, Signal] => 1, Fixed(0))$(.$field)?,
+            Kind::Lt => row!(Arithmetic b"Lt" [Signal, Signal] => 1, Fixed(0))$(.$field)?,
+            Kind::Pan2 => row!(Arithmetic b"Pan2" [Signal, Signal, Signal] => 2, Fixed(0))$(.$field)?,
+            Kind::OnePole => row!(Filter b"OnePole" [Signal, Signal] => 1, Fixed(1))$(.$field)?,
+            Kind::Lag => row!(Filter b"Lag" [Signal, Signal] => 1, Fixed(2))$(.$field)?,
+            Kind::Integrator => row!(Filter b"Integrator" [Signal, Signal] => 1, Fixed(1))$(.$field)?,
+            Kind::Delay1 => row!(Filter b"Delay1" [Signal] => 1, Fixed(1))$(.$field)?,
+            Kind::DelayN => row!(Filter b"DelayN" [Signal, Longest, Signal] => 1, Delay)$(.$field)?,
+            Kind::CombN => row!(Filter b"CombN" [Signal, Longest, Signal, Signal] => 1, Comb)$(.$field)?,
+            Kind::SOS =>
+                row!(Filter b"SOS" [Signal, Signal, Signal, Signal, Signal, Signal] => 1, Fixed(4))$(.$field)?,
+            Kind::Latch => row!(Filter b"Latch" [Signal, Signal] => 1, Fixed(2))$(.$field)?,
+            Kind::Gate => row!(Filter b"Gate" [Signal, Signal] => 1, Fixed(1))$(.$field)?,
+            Kind::PulseCount => row!(Filter b"PulseCount" [Signal, Signal] => 1, Fixed(3))$(.$field)?,
+            Kind::Stepper =>
+                row!(Filter b"Stepper" [Signal, Signal, Signal, Signal, Signal, Signal] => 1, Fixed(4))
+                    $(.$field)?,
+            Kind::Inar => row!(Bus b"In.ar" [Index] => 1, Fixed(0)).reading(Bank::Audio)$(.$field)?,
+            Kind::InFeedback => row!(Bus b"InFeedback" [Index] => 1, Fixed(0)).reading(Bank::Audio)$(.$field)?,
+            Kind::Inkr => row!(Bus b"In.kr" [Index] => 1, Fixed(0)).reading(Bank::Control)$(.$field)?,
+            Kind::Outar => row!(Bus b"Out.ar" [Index] => 0, Fixed(0)).writing(Bank::Audio)$(.$field)?,
+            Kind::ReplaceOut => row!(Bus b"ReplaceOut" [Index] => 0, Fixed(0)).writing(Bank::Audio)$(.$field)?,
+            Kind::Outkr => row!(Bus b"Out.kr" [Index] => 0, Fixed(0)).writing(Bank::Control)$(.$field)?,
+            Kind::PlayBuf =>
+                row!(Buffer b"PlayBuf" [Index, Signal, Signal, Signal, Signal, Constant] => 1, Fixed(4))
+                    .reading(Bank::Buffer).ending(Ends::Input(5))$(.$field)?,
+            Kind::RecordBuf =>
+                row!(Buffer b"RecordBuf" [Index, Signal, Signal, Constant] => 0, Fixed(2))
+                    .writing(Bank::Buffer).ending(Ends::Input(3))$(.$field)?,
+            Kind::BufRd =>
+                row!(Buffer b"BufRd" [Index, Signal] => 1, Fixed(0)).reading(Bank::Buffer)$(.$field)?,
+            Kind::BufWr =>
+                row!(Buffer b"BufWr" [Index, Signal] => 0, Fixed(0)).writing(Bank::Buffer)$(.$field)?,
+            Kind::BufFrames => row!(Buffer b"BufFrames" [Index] => 1, Fixed(0))$(.$field)?,
+            Kind::SendTrig =>
+                row!(Trigger b"SendTrig" [Signal, Signal, Signal] => 0, Fixed(4)).sending()$(.$field)?,
+            Kind::DetectSilence =>
+                row!(Trigger b"DetectSilence" [Signal, Signal, Signal, Constant] => 1, Fixed(2))
+                    .ending(Ends::Input(3))$(.$field)?,
+            Kind::FreeSelf =>
+                row!(Trigger b"FreeSelf" [Signal] => 0, Fixed(1)).ending(Ends::Always(2))$(.$field)?,
+            Kind::PauseSelf =>
+                row!(Trigger b"PauseSelf" [Signal] => 0, Fixed(1)).ending(Ends::Always(1))$(.$field)?,
+        }
+    };
+}
+
+/// The unit's row.
 #[tactic(auto, unfolding(crate::specs::Units::row_of))]
 pub fn row_of(kind: Kind) -> Row
     ensures { row_seen result ≡ row_of kind }
 {
-    match kind {
-        Kind::SinOsc => row!(Generator b"SinOsc" [Signal, Signal] => 1, Fixed(1)),
-        Kind::LFSaw => row!(Generator b"LFSaw" [Signal, Signal] => 1, Fixed(1)),
-        Kind::LFPulse => row!(Generator b"LFPulse" [Signal, Signal, Signal] => 1, Fixed(1)),
-        Kind::LFTri => row!(Generator b"LFTri" [Signal, Signal] => 1, Fixed(1)),
-        Kind::Impulse => row!(Generator b"Impulse" [Signal] => 1, Fixed(2)),
-        Kind::WhiteNoise => row!(Generator b"WhiteNoise" [] => 1, Fixed(1)),
-        Kind::Phasor =>
-            row!(Generator b"Phasor" [Signal, Signal, Signal, Signal, Signal] => 1, Fixed(3)),
-        Kind::Line =>
-            row!(Generator b"Line" [Signal, Signal, Signal, Constant] => 1, Fixed(5)).ending(
-                Ends::Input(3),
-            ),
-        Kind::Linen =>
-            row!(Generator b"Linen" [Signal, Signal, Signal, Signal, Constant] => 1, Fixed(7)).ending(
-                Ends::Input(4),
-            ),
-        Kind::Add => row!(Arithmetic b"Add" [Signal, Signal] => 1, Fixed(0)),
-        Kind::Sub => row!(Arithmetic b"Sub" [Signal, Signal] => 1, Fixed(0)),
-        Kind::Mul => row!(Arithmetic b"Mul" [Signal, Signal] => 1, Fixed(0)),
-        Kind::MulAdd => row!(Arithmetic b"MulAdd" [Signal, Signal, Signal] => 1, Fixed(0)),
-        Kind::Neg => row!(Arithmetic b"Neg" [Signal] => 1, Fixed(0)),
-        Kind::Abs => row!(Arithmetic b"Abs" [Signal] => 1, Fixed(0)),
-        Kind::Min => row!(Arithmetic b"Min" [Signal, Signal] => 1, Fixed(0)),
-        Kind::Max => row!(Arithmetic b"Max" [Signal, Signal] => 1, Fixed(0)),
-        Kind::Clip => row!(Arithmetic b"Clip" [Signal, Signal, Signal] => 1, Fixed(0)),
-        Kind::Gt => row!(Arithmetic b"Gt" [Signal, Signal] => 1, Fixed(0)),
-        Kind::Lt => row!(Arithmetic b"Lt" [Signal, Signal] => 1, Fixed(0)),
-        Kind::Pan2 => row!(Arithmetic b"Pan2" [Signal, Signal, Signal] => 2, Fixed(0)),
-        Kind::OnePole => row!(Filter b"OnePole" [Signal, Signal] => 1, Fixed(1)),
-        Kind::Lag => row!(Filter b"Lag" [Signal, Signal] => 1, Fixed(2)),
-        Kind::Integrator => row!(Filter b"Integrator" [Signal, Signal] => 1, Fixed(1)),
-        Kind::Delay1 => row!(Filter b"Delay1" [Signal] => 1, Fixed(1)),
-        Kind::DelayN => row!(Filter b"DelayN" [Signal, Longest, Signal] => 1, Delay),
-        Kind::CombN => row!(Filter b"CombN" [Signal, Longest, Signal, Signal] => 1, Comb),
-        Kind::SOS =>
-            row!(Filter b"SOS" [Signal, Signal, Signal, Signal, Signal, Signal] => 1, Fixed(4)),
-        Kind::Latch => row!(Filter b"Latch" [Signal, Signal] => 1, Fixed(2)),
-        Kind::Gate => row!(Filter b"Gate" [Signal, Signal] => 1, Fixed(1)),
-        Kind::PulseCount => row!(Filter b"PulseCount" [Signal, Signal] => 1, Fixed(3)),
-        Kind::Stepper =>
-            row!(Filter b"Stepper" [Signal, Signal, Signal, Signal, Signal, Signal] => 1, Fixed(4)),
-        Kind::Inar => row!(Bus b"In.ar" [Index] => 1, Fixed(0)).reading(Bank::Audio),
-        Kind::InFeedback => row!(Bus b"InFeedback" [Index] => 1, Fixed(0)).reading(Bank::Audio),
-        Kind::Inkr => row!(Bus b"In.kr" [Index] => 1, Fixed(0)).reading(Bank::Control),
-        Kind::Outar => row!(Bus b"Out.ar" [Index] => 0, Fixed(0)).writing(Bank::Audio),
-        Kind::ReplaceOut => row!(Bus b"ReplaceOut" [Index] => 0, Fixed(0)).writing(Bank::Audio),
-        Kind::Outkr => row!(Bus b"Out.kr" [Index] => 0, Fixed(0)).writing(Bank::Control),
-        Kind::PlayBuf =>
-            row!(Buffer b"PlayBuf" [Index, Signal, Signal, Signal, Signal, Constant] => 1, Fixed(4))
-                .reading(Bank::Buffer)
-                .ending(Ends::Input(5)),
-        Kind::RecordBuf =>
-            row!(Buffer b"RecordBuf" [Index, Signal, Signal, Constant] => 0, Fixed(2))
-                .writing(Bank::Buffer)
-                .ending(Ends::Input(3)),
-        Kind::BufRd => row!(Buffer b"BufRd" [Index, Signal] => 1, Fixed(0)).reading(Bank::Buffer),
-        Kind::BufWr => row!(Buffer b"BufWr" [Index, Signal] => 0, Fixed(0)).writing(Bank::Buffer),
-        Kind::BufFrames => row!(Buffer b"BufFrames" [Index] => 1, Fixed(0)),
-        Kind::SendTrig =>
-            row!(Trigger b"SendTrig" [Signal, Signal, Signal] => 0, Fixed(4)).sending(),
-        Kind::DetectSilence =>
-            row!(Trigger b"DetectSilence" [Signal, Signal, Signal, Constant] => 1, Fixed(2)).ending(
-                Ends::Input(3),
-            ),
-        Kind::FreeSelf => row!(Trigger b"FreeSelf" [Signal] => 0, Fixed(1)).ending(Ends::Always(2)),
-        Kind::PauseSelf => row!(Trigger b"PauseSelf" [Signal] => 0, Fixed(1)).ending(Ends::Always(
-            1,
-        )),
-    }
+    by_kind!(kind)
+}
+
+/// The family of a kind.
+#[tactic(auto, unfolding(crate::specs::Units::row_of))]
+pub fn family_of(kind: Kind) -> Family
+    ensures { result ≡ (row_of kind).family }
+{
+    by_kind!(kind, family)
+}
+
+/// Whether units of a kind send triggers.
+#[tactic(auto, unfolding(crate::specs::Units::row_of))]
+pub(crate) fn sends(kind: Kind) -> bool
+    ensures { result ≡ (row_of kind).sends }
+{
+    by_kind!(kind, sends)
+}
+
+/// Whether units of a kind end, and their done action.
+#[tactic(auto, unfolding(crate::specs::Units::row_of))]
+pub(crate) fn ends_of(kind: Kind) -> Ends
+    ensures { result ≡ (row_of kind).ends }
+{
+    by_kind!(kind, ends)
 }

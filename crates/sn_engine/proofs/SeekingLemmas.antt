@@ -10,7 +10,7 @@ use Rattle.sn_foot.specs.declared.resource.Resource.{Resource}
 use Rattle.sn_clash.specs.declared.clash.Clash.{Clash}
 use Rattle.sn_engine.specs.declared.before.Key.{Key}
 use Rattle.sn_engine.specs.Clashing.{sort_of, same_resource, same_clash}
-use Rattle.sn_clash.specs.Clashing.{number_of}
+use Rattle.sn_foot.specs.Footprints.{number_of}
 use Rattle.sn_engine.specs.Seeking.{key_of, key_cmp}
 
 resource_at : (a b : Resource) → is_eq (ordering_then (nat_cmp (sort_of a) (sort_of b)) (nat_cmp (number_of a) (number_of b))) ≡ same_resource a b

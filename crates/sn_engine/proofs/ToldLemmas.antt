@@ -7,7 +7,7 @@ use Rattle.std.specs.Prelude.{if◌then◌else◌}
 use Rattle.std.proofs.lemmas.List.{append_assoc}
 use Rattle.std.proofs.lemmas.List.Folds.{list_any-append}
 use Rattle.sn_foot.specs.declared.resource.Resource.{Resource}
-use Rattle.sn_clash.specs.Clashing.{number_of}
+use Rattle.sn_foot.specs.Footprints.{number_of}
 use Rattle.sn_clash.specs.declared.clash.Clash.{Clash}
 use Rattle.sn_reply.specs.declared.replies.To.TheVariants.{All}
 use Rattle.sn_reply.specs.Replies.{ReplyShape}

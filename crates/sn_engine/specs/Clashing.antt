@@ -7,7 +7,7 @@ use Rattle.sn_reply.specs.declared.replies.To.TheVariants.{All}
 use Rattle.sn_reply.specs.Replies.{ReplyShape}
 use Rattle.sn_foot.specs.declared.resource.Resource.{Resource}
 use Rattle.sn_foot.specs.declared.resource.Resource.TheVariants.{Audio, Control, Buffer}
-use Rattle.sn_clash.specs.Clashing.{number_of}
+use Rattle.sn_foot.specs.Footprints.{number_of}
 use Rattle.sn_clash.specs.declared.clash.Clash.{Clash}
 
 -- the sort and the number of a resource

@@ -4,7 +4,7 @@ use Rattle.std.specs.List.{list_any}
 use Rattle.std.specs.BTreeSet.{BTreeSet, contains}
 use Rattle.std.specs.declared.cmp.Ordering.{Ordering}
 use Rattle.std.specs.Ordering.{nat_cmp, int_cmp, ordering_then}
-use Rattle.sn_clash.specs.Clashing.{number_of}
+use Rattle.sn_foot.specs.Footprints.{number_of}
 use Rattle.sn_clash.specs.declared.clash.Clash.{Clash}
 use Rattle.sn_engine.specs.declared.before.Key.{Key}
 use Rattle.sn_engine.specs.Clashing.{sort_of, same_clash}

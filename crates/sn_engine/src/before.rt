@@ -1,7 +1,7 @@
 //! The clashes of the boundary before, among which those of a boundary are sought.
 ghost use Rattle.std.specs.Prelude.{◌≡◌, IfOk};
 ghost use Rattle.std.specs.List.{list_any};
-ghost use Rattle.sn_clash.specs.Clashing.{number_of};
+ghost use Rattle.sn_foot.specs.Footprints.{number_of};
 ghost use Rattle.sn_engine.specs.Clashing.{sort_of, same_clash};
 ghost use Rattle.sn_engine.specs.Seeking.{key_of, AreKeysOf};
 

@@ -5,7 +5,8 @@ ghost use Rattle.sn_osc.specs.Bytes.{has_no_null};
 ghost use Rattle.sn_osc.specs.Shape.{int, string, message_of};
 ghost use Rattle.sn_reply.specs.Sending.{IsSendable};
 ghost use Rattle.sn_world.specs.World.{world_of};
-ghost use Rattle.sn_clash.specs.Clashing.{clashes_of, number_of};
+ghost use Rattle.sn_clash.specs.Clashing.{clashes_of};
+ghost use Rattle.sn_foot.specs.Footprints.{number_of};
 ghost use Rattle.sn_engine.specs.Holding.{AreClashesOf};
 ghost use Rattle.sn_engine.specs.Clashing.{IsSmall, resource_arguments, clash_message, told_clash, told_clashes};
 

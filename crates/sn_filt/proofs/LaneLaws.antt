@@ -116,7 +116,7 @@ sum_low x y p q = omega (arith, ints)
 difference_low : (x y : ℤ) → unsigned_abs x ≤ 2 ^ 40 → unsigned_abs y ≤ 2 ^ 40 → unsigned_abs (x -ℤ y) ≤ 2 ^ 62
 difference_low x y p q = omega (arith, ints)
 
-half_word : (x : ℤ) → FitsSigned w32 x → unsigned_abs x ≤ 2147483648
+pub half_word : (x : ℤ) → FitsSigned w32 x → unsigned_abs x ≤ 2147483648
 half_word (pos n) f = let h = f.sfits in omega (arith, ints)
 half_word (negsuc n) f = let h = f.sfits in omega (arith, ints)
 

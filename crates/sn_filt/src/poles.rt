@@ -1,9 +1,10 @@
 //! Filters with one sample or two of memory.
-ghost use Rattle.std.specs.Prelude.{◌≡◌, ◌≤ℤ◌, ◌-ℤ◌, pos, negsuc, unsigned_abs};
+ghost use Rattle.std.specs.Prelude.{◌≡◌, ◌≤◌, ◌^◌, ◌≤ℤ◌, ◌+ℤ◌, ◌-ℤ◌, ◌*ℤ◌, pos, negsuc, unsigned_abs};
+ghost use Rattle.sn_fixed.specs.Fixed.{floor, sat};
 ghost use Rattle.sn_filt.specs.Arithmetic.{clipped};
 ghost use Rattle.sn_filt.specs.Poles.{pole, lag_sample};
 
-use sn_fixed::{ONE, TimeFrames, mul_add, nearer, weighted};
+use sn_fixed::{ONE, TimeFrames, mul_add, nearer, sat, scaled, times};
 use sn_mem::{Blocks, Recurrence, Stored, sample_of, word_of};
 
 /// The sample nearest to `x` from -1.0 to 1.0.
@@ -17,9 +18,29 @@ pub(crate) fn clipped(x: i32) -> i32
 fn rest(c: i32) -> i32
     requires low { negsuc 16777215 ≤ℤ c }
     requires high { c ≤ℤ pos 16777216 }
-    ensures { result ≡ pos 16777216 -ℤ pos (unsigned_abs c) }
+    ensures value { result ≡ pos 16777216 -ℤ pos (unsigned_abs c) }
+    ensures bound { unsigned_abs result ≤ 2 ^ 24 }
 {
     ONE - c.unsigned_abs() as i32
+}
+
+/// The exact product of a weight of at most 1.0 and a sample.
+#[tactic(auto, using(crate::proofs::Shares::share_small))]
+fn share(weight: i32, x: i32) -> i64
+    requires { unsigned_abs weight ≤ 2 ^ 24 }
+    ensures value { result ≡ weight *ℤ x }
+    ensures bound { unsigned_abs result ≤ 2 ^ 55 }
+{
+    times(weight, x)
+}
+
+/// The sample nearest to a sum of shares in the scale of samples, rounded down.
+fn mean(a: i64, b: i64) -> i32
+    requires a { unsigned_abs a ≤ 2 ^ 55 }
+    requires b { unsigned_abs b ≤ 2 ^ 55 }
+    ensures { result ≡ sat (floor (a +ℤ b) 16777216) }
+{
+    sat(scaled(a + b))
 }
 
 fn pole(last: i32, x: i32, c: i32) -> i32
@@ -27,7 +48,7 @@ fn pole(last: i32, x: i32, c: i32) -> i32
     requires high { c ≤ℤ pos 16777216 }
     ensures { result ≡ pole last x c }
 {
-    weighted(rest(c), x, c, last)
+    mean(share(rest(c), x), share(c, last))
 }
 
 /// OnePole x c

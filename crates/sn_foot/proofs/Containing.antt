@@ -36,12 +36,12 @@ is_listed f (suc k) x n lt h =
     (λ (last : k ≤ n). let e : n ≡ k = omega arith in or_right (has (listed f k) x) (has (f k) x) (sym (ap (λ m. has (f m) x) e) ∙ h))
     (cases_lt n k)
 
-used_is : (used : Bool) (place : Option Extent) (x : ℕ) → has (where_used used place) x ≡ true → (used ≡ true) × (lies_in x place ≡ true)
+pub used_is : (used : Bool) (place : Option Extent) (x : ℕ) → has (where_used used place) x ≡ true → (used ≡ true) × (lies_in x place ≡ true)
 used_is used None x h = absurd (true≢false (sym h))
 used_is true (Some e) x h = (refl, sym (or-false (covers e x)) ∙ h)
 used_is false (Some e) x h = absurd (true≢false (sym h))
 
-is_used : (used : Bool) (place : Option Extent) (x : ℕ) → used ≡ true → lies_in x place ≡ true → has (where_used used place) x ≡ true
+pub is_used : (used : Bool) (place : Option Extent) (x : ℕ) → used ≡ true → lies_in x place ≡ true → has (where_used used place) x ≡ true
 is_used used None x u h = absurd (true≢false (sym h))
 is_used true (Some e) x u h = or-false (covers e x) ∙ h
 is_used false (Some e) x u h = absurd (true≢false (sym u))
@@ -68,7 +68,7 @@ module _ (buffers : List (Option BufferPlace)) (used : Resource → Bool) where
   unfolding audio control buffer
   sorts x = has_append (listed audio 128) (listed control 1024 ++ listed buffer 1024) x ∙ ap (λ b. has (listed audio 128) x || b) (has_append (listed control 1024) (listed buffer 1024) x)
 
-  places_are : (x : ℕ) → has (used_places buffers used) x ≡ true → IsOfUsed buffers used x
+  pub places_are : (x : ℕ) → has (used_places buffers used) x ≡ true → IsOfUsed buffers used x
   unfolding audio control buffer IsListed
   places_are x h =
       ⊎_elim
@@ -79,7 +79,7 @@ module _ (buffers : List (Option BufferPlace)) (used : Resource → Bool) where
       (or_cases (has (listed control 1024) x) (has (listed buffer 1024) x) b))
       (or_cases (has (listed audio 128) x) (has (listed control 1024) x || has (listed buffer 1024) x) (sym (sorts x) ∙ h))
 
-  are_places : (x : ℕ) (r : Resource) → used r ≡ true → lies_in x (place_of buffers r) ≡ true → has (used_places buffers used) x ≡ true
+  pub are_places : (x : ℕ) (r : Resource) → used r ≡ true → lies_in x (place_of buffers r) ≡ true → has (used_places buffers used) x ≡ true
   unfolding audio control buffer
   are_places x (Audio n) u l =
       sorts x ∙ or_left (has (listed audio 128) x) (has (listed control 1024) x || has (listed buffer 1024) x)

@@ -1,5 +1,8 @@
 pub mod Runs
-pub mod Marking
+pub mod Putting
 pub mod Finding
 pub mod Placing
 pub mod Containing
+pub mod Footing
+pub mod Sufficing
+pub mod NodesByFoot

@@ -27,6 +27,11 @@ abbrev pub buffer_words : Option BufferPlace → Option Extent
 buffer_words None = None
 buffer_words (Some p) = Some p.extent
 
+abbrev pub number_of : Resource → ℕ
+number_of (Audio n) = n
+number_of (Control n) = n
+number_of (Buffer n) = n
+
 -- A resource is an audio bus 0 to 127, a control bus 0 to 1,023, or a buffer 0 to 1,023 that is allocated.
 abbrev pub is_there : {B : Type 0} → List (Option B) → Resource → Bool
 is_there buffers (Audio n) = nat_lt n 128

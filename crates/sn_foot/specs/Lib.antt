@@ -1,4 +1,5 @@
 pub mod Canonical
 pub mod Footprints
-pub mod Marks
-pub mod Walks
+pub mod Putting
+pub mod Uses
+pub mod Suffices

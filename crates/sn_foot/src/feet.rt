@@ -5,12 +5,16 @@ ghost use Rattle.sn_tree.specs.Trees.{holds};
 ghost use Rattle.sn_mem.specs.Buffers.{live_places};
 ghost use Rattle.sn_world.specs.Pictures.{held_extents, live_held};
 ghost use Rattle.sn_foot.specs.declared.feet.Unfooted.TheVariants.{NoMemory, NoNode};
-ghost use Rattle.sn_foot.specs.Canonical.{Ends};
+ghost use Rattle.sn_def.specs.declared.table.Access.TheVariants.{Read, Write};
+ghost use Rattle.sn_foot.specs.Canonical.{Ends, canonical};
 ghost use Rattle.sn_foot.specs.Footprints.{foot_at, foot_of, states_of};
+ghost use Rattle.sn_foot.specs.Uses.{places_of};
 
 use crate::merging::canonical;
 use crate::nodes::{found_at, is_attached};
 use crate::places::used_places;
+use crate::uses::Use;
+use crate::using::uses_of;
 use sn_def::Access;
 use sn_mem::{Buffers, Extent, Extents, Foot};
 use sn_ports::NoMemory;
@@ -57,22 +61,27 @@ pub fn put_states(places: &mut Vec<Extent>, nodes: &[&Held]) -> Result<(), NoMem
     Ok(())
 }
 
-/// The words that nodes may read beside those that they may write.
-fn reads_of(alloc: Global, buffers: &Buffers, nodes: &[&Held]) -> Result<Extents, NoMemory>
+/// The words of what is read.
+fn reads_of(alloc: Global, buffers: &Buffers, uses: &[Use]) -> Result<Extents, NoMemory>
     requires buffers { All Ends (live_places buffers.now) }
-    ensures { IfOk result (λ reads. reads ≡ (foot_of buffers.now (map (λ h. h.now) nodes.now)).reads) }
+    ensures { IfOk result (λ reads. reads ≡ canonical (places_of buffers.now Read uses.now)) }
 {
-    let places = used_places(alloc, buffers, Access::Read, nodes)?;
+    let places = used_places(alloc, buffers, Access::Read, uses)?;
     canonical(alloc, places)
 }
 
-/// The words that nodes may write, those of their own states among them.
-fn writes_of(alloc: Global, buffers: &Buffers, nodes: &[&Held]) -> Result<Extents, NoMemory>
+/// The words of what is written, and those of the states of nodes.
+fn writes_of(
+    alloc: Global,
+    buffers: &Buffers,
+    uses: &[Use],
+    nodes: &[&Held],
+) -> Result<Extents, NoMemory>
     requires buffers { All Ends (live_places buffers.now) }
     requires states { All Ends (states_of (map (λ h. h.now) nodes.now)) }
-    ensures { IfOk result (λ writes. writes ≡ (foot_of buffers.now (map (λ h. h.now) nodes.now)).writes) }
+    ensures { IfOk result (λ writes. writes ≡ canonical (places_of buffers.now Write uses.now ++ states_of (map (λ h. h.now) nodes.now))) }
 {
-    let mut places = used_places(alloc, buffers, Access::Write, nodes)?;
+    let mut places = used_places(alloc, buffers, Access::Write, uses)?;
     put_states(&mut places, nodes)?;
     canonical(alloc, places)
 }
@@ -85,10 +94,10 @@ pub fn foot_of_nodes(alloc: Global, buffers: &Buffers, nodes: &[&Held]) -> Resul
     requires states { All Ends (states_of (map (λ h. h.now) nodes.now)) }
     ensures { IfOk result (λ foot. foot ≡ foot_of buffers.now (map (λ h. h.now) nodes.now)) }
 {
-    Ok(Foot {
-        reads: reads_of(alloc, buffers, nodes)?,
-        writes: writes_of(alloc, buffers, nodes)?,
-    })
+    let uses = uses_of(alloc, nodes)?;
+    let reads = reads_of(alloc, buffers, &uses)?;
+    let writes = writes_of(alloc, buffers, &uses, nodes)?;
+    Ok(Foot { reads, writes })
 }
 
 /// Replaces the content of `foot` by the words that a node and all below it may read and write.

@@ -3,16 +3,20 @@
 
 mod feet;
 mod laws;
-mod marks;
 mod merging;
 mod nodes;
 mod places;
 mod resource;
 mod units;
+mod uses;
+mod using;
 
 pub use feet::{Unfooted, foot_of, foot_of_nodes};
-pub use laws::{foot_has_its_words, one_canonical};
+pub use laws::{
+    foot_has_each, foot_has_its_words, foot_lies_in_memory, foot_suffices, nodes_run_by_foot,
+    one_canonical, wider_foot_suffices,
+};
 pub use merging::canonical;
-pub use nodes::is_kept;
 pub use resource::Resource;
-pub use units::{index_of, used_span};
+pub use uses::Use;
+pub use using::push_held;

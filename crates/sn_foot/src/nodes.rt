@@ -1,12 +1,10 @@
 //! The nodes that a footprint is made of.
-ghost use Rattle.std.specs.Prelude.{◌≡◌, ◌<◌, ◌≤◌, ◌+◌, ◌==◌, ◌&&◌, ◌∷◌, ◌++◌, ℕ, List, IfOk, map};
-ghost use Rattle.sn_tree.specs.Trees.{Label, holds};
-ghost use Rattle.sn_world.specs.declared.stage.Held.{Held};
+ghost use Rattle.std.specs.Prelude.{◌≡◌, IfOk, map};
+ghost use Rattle.sn_tree.specs.Trees.{holds};
 ghost use Rattle.sn_foot.specs.Footprints.{found_at, is_reached};
-ghost use Rattle.sn_foot.specs.Walks.{kept, member as member_of};
 
 use sn_ports::NoMemory;
-use sn_tree::{Member, Tree};
+use sn_tree::Tree;
 use sn_world::{Held, NodeId};
 use std::alloc::Global;
 
@@ -30,31 +28,6 @@ fn is_reached(tree: &Tree<Held>, node: &NodeId) -> bool
     false
 }
 
-/// Whether the walk finds a node, past so many with all below each.
-pub fn is_kept(skipped: u64, running: bool) -> bool
-    ensures { result ≡ (skipped == 0 && running) }
-{
-    skipped == 0 && running
-}
-
-/// Keeps what a node holds, unless it is left out. Of the next nodes so many are left out with all below each: `skipped`
-/// before this node, and what is answered after it.
-fn keep<'a>(
-    found: &mut Vec<&'a Held>,
-    skipped: u64,
-    member: Member<'a, Held>,
-) -> Result<u64, NoMemory>
-    requires { skipped ≤ 17592186044416 }
-    ensures kept { IfOk result (λ left. (rest : List (Label Held × ℕ)) → map (λ h. h.now) found.new.items ++ kept left rest ≡ map (λ h. h.now) found.old.items ++ kept skipped (member_of member.entry.id member.entry.kind member.entry.running member.entry.payload.now member.entry.children ∷ rest)) }
-    ensures few { IfOk result (λ left. left < skipped + 4294967296) }
-{
-    if is_kept(skipped, member.running) {
-        found.push(member.payload)?;
-        return Ok(0);
-    }
-    Ok(skipped.saturating_sub(1) + member.children as u64)
-}
-
 /// What the walk finds at a node and below it, in its order; nothing where it does not reach the node.
 #[tactic(auto, using(crate::proofs::Finding::found_nothing))]
 pub fn found_at<'a>(
@@ -68,11 +41,8 @@ pub fn found_at<'a>(
     if !is_reached(tree, node) {
         return Ok(found);
     }
-    // A hint for the proof alone: a tree has at most 4,096 nodes, so no count of nodes overflows.
-    let _nodes = tree.len();
-    let mut skipped = 0;
-    for member in tree.members(node.id) {
-        skipped = keep(&mut found, skipped, member)?;
+    for visit in tree.walk_at(node.id) {
+        found.push(visit.payload)?;
     }
     Ok(found)
 }

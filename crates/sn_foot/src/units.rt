@@ -2,9 +2,9 @@
 ghost use Rattle.std.specs.Prelude.{◌≡◌, ◌<◌, ◌-◌, ◌^◌, length};
 ghost use Rattle.sn_synth.specs.Conditions.{index_of, index_value};
 ghost use Rattle.sn_def.specs.declared.table.Bank.TheVariants.{Audio};
-ghost use Rattle.sn_foot.specs.Marks.{span, used_span};
+ghost use Rattle.sn_foot.specs.Putting.{span};
 
-use sn_def::{Access, Bank, Control, Input, Unit, touches};
+use sn_def::{Access, Bank, Control, Input, Unit};
 
 /// How many signals follow a unit's index.
 fn signals(unit: &Unit) -> usize
@@ -26,7 +26,7 @@ fn channels(access: Access, unit: &Unit) -> usize
 }
 
 /// How many resources of a sort a unit uses from its index on, if it uses any.
-fn span(access: Access, bank: Bank, unit: &Unit) -> usize
+pub fn span(access: Access, bank: Bank, unit: &Unit) -> usize
     ensures count { result ≡ span access bank unit.now }
     ensures few { result < 2 ^ 61 }
 {
@@ -34,18 +34,6 @@ fn span(access: Access, bank: Bank, unit: &Unit) -> usize
         Bank::Audio => channels(access, unit),
         Bank::Control => channels(access, unit),
         Bank::Buffer => 1,
-    }
-}
-
-/// How many resources of a sort a unit uses from its index on.
-pub fn used_span(access: Access, bank: Bank, unit: &Unit) -> usize
-    ensures count { result ≡ used_span access bank unit.now }
-    ensures few { result < 2 ^ 61 }
-{
-    if touches(access, bank, unit.kind) {
-        span(access, bank, unit)
-    } else {
-        0
     }
 }
 

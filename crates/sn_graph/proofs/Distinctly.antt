@@ -1,5 +1,5 @@
 -- Where ids are distinct, what the walk reaches by an id is one node.
-use Rattle.std.proofs.Common.{◌≡◌, ◌⊎◌, inl, inr, ⊎_elim, ℤ, true, false, ◌||◌, List, ◌∷◌, ◌++◌, Option, Some, sym, ap, ◌∙◌, subst, arith, true≢false}
+use Rattle.std.proofs.Common.{◌≡◌, ◌≤◌, ◌⊎◌, inl, inr, ⊎_elim, ℕ, ◌+◌, ℤ, true, false, ◌||◌, refl, if◌then◌else◌, List, ◌∷◌, ◌++◌, Option, Some, sym, ap, ◌∙◌, subst, arith, true≢false}
 use Rattle.std.specs.Prelude.{◌↔◌, map}
 use Rattle.std.specs.List.{list_any}
 use Rattle.std.specs.Ordering.{int_eq}
@@ -8,16 +8,52 @@ use Rattle.std.proofs.lemmas.Bool.Decides.{Decides-int_eq}
 use Rattle.std.proofs.lemmas.List.Folds.{list_any-append}
 use Rattle.sn_mem.specs.declared.buffers.BufferPlace.{BufferPlace}
 use Rattle.sn_tree.specs.declared.node.NodeKind.TheVariants as kinds
-use Rattle.sn_tree.specs.Steps.{AllDistinct}
+use Rattle.sn_tree.specs.Steps.{AllDistinct, occurrences}
+use Rattle.sn_tree.proofs.Distinct.{occurs-node}
 use Rattle.sn_tree.specs.Trees.{Label, Nodes, none, node, holds, ids, running_labels}
 use Rattle.sn_world.specs.declared.stage.Held.{Held}
 use Rattle.sn_foot.specs.Footprints.{held_reads, held_writes, is_reached, is_there}
 use Rattle.sn_clash.specs.Clashing.{clashes}
-use Rattle.sn_clash.proofs.Reaching.{Distinct, held_some, not_here, not_below, distinct_below, distinct_after}
 use Rattle.sn_graph.specs.Plans.{is_listed}
 use Rattle.sn_graph.specs.Clear.{IsClashing, TwoClash}
 use Rattle.sn_graph.proofs.Labels.{children_after, children_below, children_here, kind_after, kind_below, kind_here, some_is}
 use Rattle.sn_graph.proofs.Naming.{Named, found_named, named_found}
+
+-- ---- ids once
+
+abbrev pub Distinct : Nodes Held → Type 0
+Distinct t = (x : ℤ) → occurrences int_eq x (ids t) ≤ 1
+
+pub held_some : (x : ℤ) (t : Nodes Held) → holds x t ≡ true → 1 ≤ occurrences int_eq x (ids t)
+held_some x none h = absurd (cc)
+held_some x (node label below after) h =
+    ⊎_elim
+    (λ (a : int_eq label.id x ≡ true). let one : ◌≡◌ {A = ℕ} (if int_eq label.id x then 1 else 0) 1 = rw a refl in omega (arith, occurs-node x label below after))
+    (λ (b : (holds x below || holds x after) ≡ true). ⊎_elim
+    (λ (a : holds x below ≡ true). omega (arith, occurs-node x label below after, held_some x below a))
+    (λ (a : holds x after ≡ true). omega (arith, occurs-node x label below after, held_some x after a))
+    (or_cases (holds x below) (holds x after) b))
+    (or_cases (int_eq label.id x) (holds x below || holds x after) h)
+
+pub not_here : (label : Label Held) (below after : Nodes Held) (x : ℤ) → Distinct (node label below after) → 1 ≤ occurrences int_eq x (ids below) + occurrences int_eq x (ids after) → int_eq label.id x ≡ false
+not_here label below after x one some =
+    ⊎_elim
+    (λ (a : int_eq label.id x ≡ true). let here : ◌≡◌ {A = ℕ} (if int_eq label.id x then 1 else 0) 1 = rw a refl in absurd (omega (arith, occurs-node x label below after, one x)))
+    (λ (a : int_eq label.id x ≡ false). a)
+    (cases_Bool (int_eq label.id x))
+
+pub not_below : (label : Label Held) (below after : Nodes Held) (x : ℤ) → Distinct (node label below after) → holds x after ≡ true → holds x below ≡ false
+not_below label below after x one h =
+    ⊎_elim
+    (λ (a : holds x below ≡ true). absurd (omega (arith, occurs-node x label below after, one x, held_some x below a, held_some x after h)))
+    (λ (a : holds x below ≡ false). a)
+    (cases_Bool (holds x below))
+
+pub distinct_below : (label : Label Held) (below after : Nodes Held) → Distinct (node label below after) → Distinct below
+distinct_below label below after one = λ x. omega (arith, occurs-node x label below after, one x)
+
+pub distinct_after : (label : Label Held) (below after : Nodes Held) → Distinct (node label below after) → Distinct after
+distinct_after label below after one = λ x. omega (arith, occurs-node x label below after, one x)
 
 -- ---- what is reached
 

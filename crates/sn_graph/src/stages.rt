@@ -1,15 +1,13 @@
 //! The plan of a stage.
-ghost use Rattle.std.specs.Prelude.{◌≡◌, ◌<◌, pos, length, IfOk, map};
+ghost use Rattle.std.specs.Prelude.{◌≡◌, ◌<◌, pos, length, IfOk};
 ghost use Rattle.std.specs.List.{All};
 ghost use Rattle.sn_mem.specs.Buffers.{live_places};
 ghost use Rattle.sn_tree.specs.Trees.{count, subtree};
-ghost use Rattle.sn_tree.specs.Members.{members};
 ghost use Rattle.sn_world.specs.Pictures.{live_held};
 ghost use Rattle.sn_foot.specs.Canonical.{Ends};
 ghost use Rattle.sn_clash.specs.Clashing.{clashes_in};
 ghost use Rattle.sn_round.specs.Jobs.{IsRaceFree};
 ghost use Rattle.sn_graph.specs.Inputs.{nodes_of};
-ghost use Rattle.sn_clash.specs.Rows.{row_of};
 ghost use Rattle.sn_graph.specs.Plans.{IsPlanned, plan_of};
 ghost use Rattle.sn_graph.specs.Clear.{AreListed};
 ghost use Rattle.sn_graph.specs.Disjoint.{AreDisjoint};
@@ -19,23 +17,11 @@ use crate::jobs::plan_of_nodes;
 use crate::named::NamedGroups;
 use crate::nodes::Running;
 use crate::parts::{put_part, take_nodes};
-use sn_clash::Clash;
+use sn_clash::{Clash, all_nodes};
 use sn_ports::NoMemory;
 use sn_round::Plan;
-use sn_tree::{Member, Tree};
-use sn_world::{Held, Stage};
+use sn_world::Stage;
 use std::alloc::Global;
-
-/// All nodes of a tree, in the order of the walk.
-fn members_of<'a>(alloc: Global, tree: &'a Tree<Held>) -> Result<Vec<Member<'a, Held>>, NoMemory>
-    ensures { IfOk result (λ found. map row_of found.items ≡ members (subtree (pos 0) tree.now.attached)) }
-{
-    let mut found = Vec::new(alloc);
-    for member in tree.members(0) {
-        found.push(member)?;
-    }
-    Ok(found)
-}
 
 /// The nodes that run, with what each synth touches. The walk is gone over from its end on.
 fn running_nodes(
@@ -47,7 +33,7 @@ fn running_nodes(
     requires states { All Ends (live_held stage.now.tree.attached) }
     ensures { IfOk result (λ nodes. nodes_of nodes ≡ running_nodes stage.now.buffers clashing.now stage.now.tree.attached) }
 {
-    let mut members = members_of(alloc, &stage.tree)?;
+    let mut members = all_nodes(alloc, &stage.tree)?;
     let mut parts = Vec::new(alloc);
     while let Some(member) = members.pop() {
         put_part(alloc, &stage.buffers, clashing, &mut parts, &member)?;

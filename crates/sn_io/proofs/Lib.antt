@@ -14,3 +14,7 @@ pub mod BufferMeaning
 pub mod BufferKeeping
 pub mod Standing
 mod BufferRuns
+pub mod Agreeing
+pub mod ByFoot
+pub mod BusByFoot
+pub mod BufferByFoot

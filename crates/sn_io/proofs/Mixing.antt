@@ -40,7 +40,7 @@ same_bus w w' xs xs' p q = cc
 mixed_by : Bool → ℕ → List ℕ → ℕ → List ℤ → ℕ → ℤ
 mixed_by t b ws at xs k = sat (cond t (get_or (samples_at ws (at + 1)) k (pos 0)) (pos 0) +ℤ get_or xs k (pos 0))
 
-onto_by : Bool → ℕ → List ℕ → ℕ → List ℤ → List ℕ
+unfoldable pub onto_by : Bool → ℕ → List ℕ → ℕ → List ℤ → List ℕ
 onto_by t b ws at xs = cond t (changed summed ws (at + 1) xs) (set (changed (λ w. overwritten) ws (at + 1) xs) at (b + 1))
 
 onto_by_is : (t : Bool) (b : ℕ) (ws : List ℕ) (at : ℕ) (xs : List ℤ) → (t ≡ true → get_or ws at 0 ≡ b + 1) → at + 65 ≤ length ws
@@ -87,7 +87,7 @@ unfolding onto_by
 long_by true b ws at xs = changed_long summed ws (at + 1) xs
 long_by false b ws at xs = length-set (changed (λ w. overwritten) ws (at + 1) xs) at (b + 1) ∙ changed_long (λ w. overwritten) ws (at + 1) xs
 
-onto_long : (adds : Bool) (b : ℕ) (ws : List ℕ) (at : ℕ) (xs : List ℤ) → length (onto_block adds b ws at xs) ≡ length ws
+pub onto_long : (adds : Bool) (b : ℕ) (ws : List ℕ) (at : ℕ) (xs : List ℤ) → length (onto_block adds b ws at xs) ≡ length ws
 unfolding onto_by
 onto_long adds b ws at xs = long_by (adds && get_or ws at 0 == b + 1) b ws at xs
 

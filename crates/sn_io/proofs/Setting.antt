@@ -31,7 +31,7 @@ value_apart b ws at x j apart =
     get_or-set_other (set ws (at + 1) v) at j (b + 1) 0 (⊎_elim (λ (l : j < at). omega (arith, l)) (λ (r : at + 2 ≤ j). omega (arith, r)) apart)
     ∙ get_or-set_other ws (at + 1) j v 0 (⊎_elim (λ (l : j < at). omega (arith, l)) (λ (r : at + 2 ≤ j). omega (arith, r)) apart)
 
-value_long : (b : ℕ) (ws : List ℕ) (at : ℕ) (x : ℤ) → length (onto_value b ws at x) ≡ length ws
+pub value_long : (b : ℕ) (ws : List ℕ) (at : ℕ) (x : ℤ) → length (onto_value b ws at x) ≡ length ws
 value_long b ws at x = let v : ℕ = word_for (sat (held_at b ws at +ℤ x)) in length-set (set ws (at + 1) v) at (b + 1) ∙ length-set ws (at + 1) v
 
 -- ---- one channel

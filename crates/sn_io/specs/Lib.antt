@@ -8,3 +8,4 @@ pub mod Positions
 pub mod BufferUnits
 pub mod BuffersOverWords
 pub mod Conditions
+pub mod ByFoot

@@ -6,6 +6,7 @@ mod buffer_samples;
 mod buffers;
 mod channels;
 mod inputs;
+mod laws;
 mod outputs;
 mod playing;
 mod positions;
@@ -14,3 +15,7 @@ mod triggers;
 
 pub use block::run;
 pub use buffers::run_buffer_unit;
+pub use laws::{
+    buffer_unit_by_foot, bus_unit_by_foot, by_foot_in_turn, by_wider_foot, framed_by_foot,
+    kept_to_its_foot,
+};

@@ -11,7 +11,7 @@ use crate::lists::{Script, Words};
 use sn_mem::{Extent, Foot, clash};
 use sn_round::Plan;
 
-/// Whether a job is ordered before another.
+/// Whether a job is ordered before another. It is before no lower one, so a lower predecessor is passed over.
 fn is_ordered(plan: &Plan, first: u32, second: u32) -> bool
     requires { second < length plan.now }
     ensures { IsTrue result → Ordered plan.now first second }
@@ -20,6 +20,9 @@ fn is_ordered(plan: &Plan, first: u32, second: u32) -> bool
     for before in plan.predecessors(second).as_slice() {
         if *before == first {
             return true;
+        }
+        if *before < first {
+            continue;
         }
         if is_ordered(plan, first, *before) {
             return true;
@@ -42,7 +45,9 @@ fn comes_first(plan: &Plan, first: u32) -> bool
     true
 }
 
-/// Whether of each two jobs that clash the lower is ordered before the higher. Takes time that grows fast with the jobs.
+/// Whether of each two jobs that clash the lower is ordered before the higher.
+///
+/// It takes each pair of jobs, and of those that clash each way from one to the other.
 pub fn is_race_free(plan: &Plan) -> bool
     ensures { IsTrue result → IsRaceFree plan.now }
 {

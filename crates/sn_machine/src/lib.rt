@@ -11,6 +11,7 @@ mod views;
 mod worker;
 
 pub use feet::{may_touch, may_write};
+pub use going::{are_within, is_race_free};
 pub use laws::{
     a_round_can_be_played, arm_keeps, claim_is_ready, claim_keeps, end_keeps, go_keeps,
     idle_load_finds, idle_store_keeps, join_keeps, load_finds, look_keeps, mains_fit,

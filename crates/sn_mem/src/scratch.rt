@@ -10,6 +10,9 @@ use std::sync::Arc;
 
 const MOST_VALUES: usize = 512;
 
+/// How many words the buses have.
+pub const BUS_WORDS: usize = 10368;
+
 /// A list of at most 512 values in Q8.24.
 #[derive(Drop)]
 pub struct Values {
@@ -75,6 +78,13 @@ pub struct Scratch {
     pub values: Values,
     /// The table from which sines are taken. Several scratches may share it.
     pub heights: Arc<Heights, Global>,
+    /// Room for a copy of the words of the buses.
+    pub buses: Vec<u64>,
+}
+
+/// So many words.
+fn some_words(alloc: Global, count: usize) -> Result<Vec<u64>, NoMemory> {
+    Ok(vec![in alloc; 0u64; count]?)
 }
 
 impl Scratch {
@@ -96,6 +106,7 @@ impl Scratch {
             outputs: Blocks::new(alloc)?,
             values: Values::new(alloc)?,
             heights,
+            buses: some_words(alloc, BUS_WORDS)?,
         })
     }
 }

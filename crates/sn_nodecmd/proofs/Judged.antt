@@ -1,5 +1,5 @@
 -- The reason against a new node is the tree's.
-use Rattle.std.proofs.Common.{◌≡◌, ◌≤◌, ◌+◌, ℤ, pos, Bool, true, false, not, ◌&&◌, nat_lt, [], ◌∷◌, Some, None, refl, sym, ap, ◌∙◌, subst, ⊎_elim, arith, is_some}
+use Rattle.std.proofs.Common.{◌≡◌, ◌≤◌, ◌+◌, ℤ, pos, Bool, true, false, not, ◌&&◌, nat_lt, [], ◌∷◌, Some, None, refl, sym, ap, ◌∙◌, subst, ⊎_elim, arith, is_some, true≢false}
 use Rattle.std.proofs.lemmas.Bool.{cases_Bool, le-ltb}
 use Rattle.std.specs.Ordering.{int_eq}
 use Rattle.sn_reply.specs.declared.reason.Reason.TheVariants as Reasons
@@ -34,13 +34,19 @@ by_tests false false false false synth true many = refl
 by_tests false false false false synth false true = refl
 by_tests false false false false synth false false = refl
 
--- nothing is against a new node: its target is there, and has another id
+-- where a node goes inside its target, that is no synth
+pub outside_synth : (inside synth : Bool) → (inside && synth) ≡ false → inside ≡ true → synth ≡ false
+outside_synth true synth h is = h
+outside_synth false synth h is = absurd (true≢false (sym is))
+
+-- nothing is against a new node: its target is there, has another id, and is no synth if the node goes inside it
 pub record IsPlaceable (id : ℤ) (r : NewNode) (stage : Stage) : Type 0 where
   pub there : holds r.target stage.tree.attached ≡ true
   pub other : int_eq id r.target ≡ false
+  pub group : is_inside (action_for r.action) ≡ true → labels_synth (label_of r.target stage.tree.attached) ≡ false
 
 pub placeable : (id : ℤ) (r : NewNode) (stage : Stage) → None ≡ node_refusal (Some id) r.action r.target stage.tree.attached → IsPlaceable id r stage
-placeable id r stage h = at (holds id stage.tree.attached) (is_some (add_action r.action)) (holds r.target stage.tree.attached) (is_in_synth (action_for r.action) r.target stage.tree.attached) (is_beside_root (action_for r.action) r.target) (nat_lt 4096 (count (left_by (replaces r.action) r.target stage.tree.attached) + 1)) refl refl (sym h)
+placeable id r stage h = at (holds id stage.tree.attached) (is_some (add_action r.action)) (holds r.target stage.tree.attached) (is_in_synth (action_for r.action) r.target stage.tree.attached) (is_beside_root (action_for r.action) r.target) (nat_lt 4096 (count (left_by (replaces r.action) r.target stage.tree.attached) + 1)) refl refl refl (sym h)
   where
     apart : (b : Bool) → int_eq id r.target ≡ b → holds id stage.tree.attached ≡ false → holds r.target stage.tree.attached ≡ true → b ≡ false
     apart false e free there = refl
@@ -49,12 +55,17 @@ placeable id r stage h = at (holds id stage.tree.attached) (is_some (add_action 
         let bad : true ≡ false = sym there ∙ ap (λ n. holds n stage.tree.attached) (sym same) ∙ free in
         absurd cc
 
-    at : (used known there inside root many : Bool) → holds id stage.tree.attached ≡ used → holds r.target stage.tree.attached ≡ there
+    at : (used known there inside root many : Bool) → holds id stage.tree.attached ≡ used → holds r.target stage.tree.attached ≡ there → is_in_synth (action_for r.action) r.target stage.tree.attached ≡ inside
         → first_of ((used, Reasons.IdInUse) ∷ (not known, Reasons.AddAction) ∷ (not there, Reasons.NoSuchNode) ∷ (inside, Reasons.NotGroup) ∷ (root, Reasons.Root) ∷ (many, Reasons.TooManyNodes) ∷ []) ≡ None → IsPlaceable id r stage
-    at true known there inside root many a b h = absurd cc
-    at false false there inside root many a b h = absurd cc
-    at false true false inside root many a b h = absurd cc
-    at false true true inside root many a b h = record { there = b; other = apart (int_eq id r.target) refl a b }
+    at true known there inside root many a b c h = absurd cc
+    at false false there inside root many a b c h = absurd cc
+    at false true false inside root many a b c h = absurd cc
+    at false true true true root many a b c h = absurd cc
+    at false true true false root many a b c h = record {
+      there = b;
+      other = apart (int_eq id r.target) refl a b;
+      group = λ is. outside_synth (is_inside (action_for r.action)) (labels_synth (label_of r.target stage.tree.attached)) c is;
+    }
 
 replace_tests : (used there root many : Bool) → (there ≡ true → many ≡ false)
     → reason_against_new true (first_fault ((used, faults.InUse) ∷ (not there, faults.NoNode) ∷ (root, faults.IsRoot) ∷ []))

@@ -23,7 +23,7 @@ use Rattle.sn_world.specs.declared.stage.Held.{Held}
 use Rattle.sn_world.specs.declared.stage.Stage.{Stage}
 use Rattle.sn_world.specs.Nodes.{Content, synth, content_of, live_in}
 use Rattle.sn_mem.specs.Buffers.{overlaps, live_places}
-use Rattle.sn_world.specs.Pictures.{Pictures, KeepsOutside, held_extents, live_held, IsHeld, IsSynthOf}
+use Rattle.sn_world.specs.Pictures.{Pictures, KeepsOutside, held_extents, live_held, has_synth, IsHeld, IsSynthOf}
 use Rattle.sn_world.specs.World.{World, Turn, world_of, turn_of, live_of}
 use Rattle.sn_world.proofs.BufferLaws.{live_buffers-of}
 use Rattle.sn_world.specs.declared.notices.NodeEvent.TheVariants.{Went}
@@ -47,6 +47,7 @@ use Rattle.sn_nodecmd.proofs.Clearing.{length-cleared, cleared_other, window-cle
 -- what a synth holds
 pub record IsHeldSynth (h : Held) (d : Definition) (controls : List Control) (e : Extent) : Type 0 where
   pub own : held_extents h ≡ e ∷ []
+  pub plays : has_synth h ≡ true
   pub content : (us : List ℕ) → content_of us h ≡ synth (record { definition = d; controls = controls; state = window us e.at e.len; extent = e })
   pub held : (rate : ℕ) (region : Extent) → IsSynthOf rate region d controls e → IsHeld rate region h
 
@@ -110,6 +111,8 @@ module _ (id : ℤ) (r : NewNode) (d : Definition) (controls : List Control) (he
     before = goes_before r.action;
     there = can.there;
     other = can.other;
+    group = can.group;
+    agrees = (is.what.plays, refl);
     held = is.what.held old.rate old.pool.region (record { each = is.each; size = is.added.place.size; within = (from, to) });
     free = unused;
     buffers = ap (λ (s : Stage). s.buffers) is.added.stage;

@@ -33,8 +33,9 @@ use Rattle.sn_world.specs.Mappings.{Mapping, is_followable, followed_bus, with_b
 use Rattle.sn_nodecmd.specs.Reworks.{held_with}
 use Rattle.sn_nodecmd.specs.Mapped.{mapping_of, takes_index, refusal_in}
 use Rattle.sn_nodecmd.specs.declared.mappings.Mapping.{Mapping as Read}
+use Rattle.sn_world.proofs.HeldKinds.{kind-below}
 use Rattle.sn_world.proofs.Turning.{pictures-tree}
-use Rattle.sn_nodecmd.proofs.ReworkLemmas.{live-reworked, world-reworked}
+use Rattle.sn_nodecmd.proofs.ReworkLemmas.{kind-held, live-reworked, world-reworked}
 
 -- ---- the walk over a node and all nodes below it
 
@@ -186,18 +187,18 @@ module _ (ms : List Mapping) (rate : ℕ) (region : Extent) where
 
   all-held : (t : Nodes Held) → AllFine ms t → AreHeld rate region t → AreHeld rate region (with_payloads change t)
   all-held none fine h = h
-  all-held (node l below after) fine h = (one-held l.payload fine.0 h.0, (all-held below fine.1.0 h.1.0, all-held after fine.1.1 h.1.1))
+  all-held (node l below after) fine h = (one-held l.payload fine.0 h.0, (all-held below fine.1.0 h.1.0, all-held after fine.1.1 h.1.1), kind-held (with_buses ms) l.kind l.payload below h.2)
 
   held-mapped : (id : ℤ) (t : Nodes Held) → AllFine ms (subtree id t) → AreHeld rate region t → AreHeld rate region (reworked change id t)
   held-mapped id none fine h = h
   held-mapped id (node l below after) fine h =
       let reached : Bool → Bool → Nodes Held = λ here inner. if here then node l below none else if inner then subtree id below else subtree id after in
       cond_both (int_eq l.id id) (node (with_payload (change l.payload) l) (with_payloads change below) after) (if holds id below then node l (reworked change id below) after else node l below (reworked change id after)) (AreHeld rate region)
-      (λ e. let f : AllFine ms (node l below none) = subst (λ (b : Bool). AllFine ms (reached b (holds id below))) e fine in (one-held l.payload f.0 h.0, (all-held below f.1.0 h.1.0, h.1.1)))
+      (λ e. let f : AllFine ms (node l below none) = subst (λ (b : Bool). AllFine ms (reached b (holds id below))) e fine in (one-held l.payload f.0 h.0, (all-held below f.1.0 h.1.0, h.1.1), kind-held (with_buses ms) l.kind l.payload below h.2))
       (λ e. let f : AllFine ms (reached false (holds id below)) = subst (λ (b : Bool). AllFine ms (reached b (holds id below))) e fine in
       cond_both (holds id below) (node l (reworked change id below) after) (node l below (reworked change id after)) (AreHeld rate region)
-      (λ e2. let f2 : AllFine ms (subtree id below) = subst (λ (b : Bool). AllFine ms (reached false b)) e2 f in (h.0, (held-mapped id below f2 h.1.0, h.1.1)))
-      (λ e2. let f2 : AllFine ms (subtree id after) = subst (λ (b : Bool). AllFine ms (reached false b)) e2 f in (h.0, (h.1.0, held-mapped id after f2 h.1.1))))
+      (λ e2. let f2 : AllFine ms (subtree id below) = subst (λ (b : Bool). AllFine ms (reached false b)) e2 f in (h.0, (held-mapped id below f2 h.1.0, h.1.1), kind-below l.kind l.payload below (reworked change id below) id h.2 e2))
+      (λ e2. let f2 : AllFine ms (subtree id after) = subst (λ (b : Bool). AllFine ms (reached false b)) e2 f in (h.0, (h.1.0, held-mapped id after f2 h.1.1), h.2)))
 
 -- ---- the row
 

@@ -8,10 +8,11 @@ use Rattle.sn_mem.specs.declared.extents.Extent.{Extent}
 use Rattle.sn_reply.specs.Replies.{ReplyShape}
 use Rattle.sn_reply.specs.declared.reason.Reason.TheVariants as Reasons
 use Rattle.sn_tree.specs.declared.node.TreeFault.TheVariants as faults
-use Rattle.sn_tree.specs.Trees.{Nodes, none, node, holds, count, put, subtree, without}
-use Rattle.sn_tree.specs.Faults.{first_fault, move_fault, is_missing, is_inside, is_in_synth, is_beside_root}
+use Rattle.sn_tree.specs.Trees.{Nodes, none, node, holds, count, put, subtree, without, label_of}
+use Rattle.sn_tree.specs.Faults.{first_fault, move_fault, is_missing, is_inside, is_in_synth, is_beside_root, labels_synth}
 use Rattle.sn_tree.specs.Model.{NodeTree}
 use Rattle.sn_tree.specs.Steps.{moved, moving}
+use Rattle.sn_tree.proofs.Moving.{kept_in}
 use Rattle.sn_tree.proofs.PayloadLaws.{holds-payloads, synth-payloads, put-payloads, without-payloads, subtree-payloads}
 use Rattle.sn_world.specs.declared.notices.NodeEvent.TheVariants.{Moved}
 use Rattle.sn_world.specs.declared.node_repetition.NodeMove.{NodeMove}
@@ -28,6 +29,7 @@ use Rattle.sn_world.proofs.Inserting.{held-put}
 use Rattle.sn_nodecmd.specs.Folding.{KeepsTree, Keeps}
 use Rattle.sn_nodecmd.specs.Relocating.{reason_against_move}
 use Rattle.sn_world.proofs.Replacing.{held-without}
+use Rattle.sn_nodecmd.proofs.Judged.{outside_synth}
 use Rattle.sn_nodecmd.proofs.Stepping.{count-put, saved_followed, room_followed, keeps_with}
 
 -- ---- a subtree that is taken out, and what is left
@@ -86,7 +88,7 @@ held-subtree : (rate : ℕ) (region : Extent) (id : ℤ) (t : Nodes Held) → Ar
 held-subtree rate region id none h = h
 held-subtree rate region id (node l below after) h =
     cond_both (int_eq l.id id) (node l below none) (if holds id below then subtree id below else subtree id after) (AreHeld rate region)
-    (λ _. (h.0, (h.1.0, tt)))
+    (λ _. (h.0, (h.1.0, tt), h.2))
     (λ _. cond_both (holds id below) (subtree id below) (subtree id after) (AreHeld rate region)
     (λ _. held-subtree rate region id below h.1.0)
     (λ _. held-subtree rate region id after h.1.1))
@@ -128,28 +130,36 @@ move_refusal_in stage words m = λ i. first_of (
 
 -- ---- the move
 
+-- the target is there, and neither in the subtree nor, if the node goes inside it, a synth
+allowed_tests : (missing there root beside synth inside : Bool) → first_of ((missing, Reasons.NoSuchNode) ∷ (not there, Reasons.NoSuchNode) ∷ (root, Reasons.Root) ∷ (beside, Reasons.Root) ∷ (synth, Reasons.NotGroup) ∷ (inside, Reasons.InsideItself) ∷ []) ≡ None
+    → (there ≡ true) × (inside ≡ false) × (synth ≡ false)
+allowed_tests true there root beside synth inside h = absurd cc
+allowed_tests false false root beside synth inside h = absurd cc
+allowed_tests false true true beside synth inside h = absurd cc
+allowed_tests false true false true synth inside h = absurd cc
+allowed_tests false true false false true inside h = absurd cc
+allowed_tests false true false false false true h = absurd cc
+allowed_tests false true false false false false h = (refl, refl, refl)
+
+move_allowed : (m : NodeMove) (t : Nodes Held) → move_refusal m t ≡ None → (holds m.target t ≡ true) × (holds m.target (subtree m.id t) ≡ false) × (is_in_synth m.action m.target t ≡ false)
+move_allowed m t allowed = allowed_tests (is_missing m.id t) (holds m.target t) (int_eq m.id (pos 0)) (is_beside_root m.action m.target) (is_in_synth m.action m.target t) (holds m.target (subtree m.id t)) allowed
+
 -- the target stays where the node is taken out
 target_left : (m : NodeMove) (t : Nodes Held) → move_refusal m t ≡ None → holds m.target (without m.id t) ≡ true
-target_left m t allowed =
-    let tests = at (is_missing m.id t) (holds m.target t) (int_eq m.id (pos 0)) (is_beside_root m.action m.target) (is_in_synth m.action m.target t) (holds m.target (subtree m.id t)) allowed in
-    left_there m.target m.id t tests.0 tests.1
-  where
-    at : (missing there root beside synth inside : Bool) → first_of ((missing, Reasons.NoSuchNode) ∷ (not there, Reasons.NoSuchNode) ∷ (root, Reasons.Root) ∷ (beside, Reasons.Root) ∷ (synth, Reasons.NotGroup) ∷ (inside, Reasons.InsideItself) ∷ []) ≡ None
-        → (there ≡ true) × (inside ≡ false)
-    at true there root beside synth inside h = absurd cc
-    at false false root beside synth inside h = absurd cc
-    at false true true beside synth inside h = absurd cc
-    at false true false true synth inside h = absurd cc
-    at false true false false true inside h = absurd cc
-    at false true false false false true h = absurd cc
-    at false true false false false false h = (refl, refl)
+target_left m t allowed = let tests = move_allowed m t allowed in left_there m.target m.id t tests.0 tests.1
+
+-- and is no synth if the node goes inside it
+group_left : (m : NodeMove) (t : Nodes Held) → move_refusal m t ≡ None → is_inside m.action ≡ true → labels_synth (label_of m.target (without m.id t)) ≡ false
+group_left m t allowed inside =
+    let tests = move_allowed m t allowed in
+    ap labels_synth (kept_in m.id m.target t tests.1).labels ∙ outside_synth (is_inside m.action) (labels_synth (label_of m.target t)) tests.2 inside
 
 keeps_moved : (m : NodeMove) (tree : NodeTree Held) → move_refusal m tree.attached ≡ None → KeepsTree tree (moved m.id m.action m.target tree)
 keeps_moved m tree allowed = record {
   saved = saved_followed 1 (moving m.id m.action m.target) tree.journal;
   room = omega (arith, room_followed 1 (moving m.id m.action m.target) tree.journal, count-put m.action m.target (subtree m.id tree.attached) (without m.id tree.attached), count-parted m.id tree.attached);
   extents = λ weight. omega (arith, amount-put weight m.action m.target (subtree m.id tree.attached) (without m.id tree.attached) (target_left m tree.attached allowed), amount-without weight m.id tree.attached);
-  held = λ rate region h. held-put rate region m.action m.target (subtree m.id tree.attached) (without m.id tree.attached) (held-subtree rate region m.id tree.attached h) (held-without rate region m.id tree.attached h);
+  held = λ rate region h. held-put rate region m.action m.target (subtree m.id tree.attached) (without m.id tree.attached) (group_left m tree.attached allowed) (held-subtree rate region m.id tree.attached h) (held-without rate region m.id tree.attached h);
 }
 
 pub keeps_move : (old new : Stage) (m : NodeMove) → move_refusal m old.tree.attached ≡ None → new ≡ record old { tree = moved m.id m.action m.target old.tree } → Keeps old new

@@ -11,6 +11,8 @@ use Rattle.sn_def.specs.Defs.{definition_of}
 use Rattle.sn_synth.specs.Conditions.{AreControlsOf, IsFollowed, no_control}
 use Rattle.sn_reply.specs.declared.reason.Reason.{Reason}
 use Rattle.sn_reply.specs.Replies.{ReplyShape}
+use Rattle.sn_tree.specs.declared.node.NodeKind.{NodeKind}
+use Rattle.sn_tree.specs.declared.node.NodeKind.TheVariants as kinds
 use Rattle.sn_tree.specs.Trees.{Nodes, none, node, holds, with_payload, with_payloads}
 use Rattle.sn_tree.specs.Reworking.{reworked, changed_below}
 use Rattle.sn_tree.proofs.PayloadLaws.{relabelled, holds-payloads}
@@ -18,12 +20,13 @@ use Rattle.sn_world.specs.declared.stage.Held.{Held}
 use Rattle.sn_world.specs.declared.stage.Held.TheVariants as held
 use Rattle.sn_world.specs.declared.stage.Stage.{Stage}
 use Rattle.sn_world.specs.Nodes.{content_of}
-use Rattle.sn_world.specs.Pictures.{Pictures, held_extents, live_held, IsHeld, AreHeld}
+use Rattle.sn_world.specs.Pictures.{Pictures, held_extents, live_held, has_synth, IsHeld, KindAgrees, AreHeld}
 use Rattle.sn_world.specs.World.{Turn, world_of, turn_of}
 use Rattle.sn_world.specs.Rows.{unless}
 use Rattle.sn_world.specs.NewSynth.{control_of, with_value}
 use Rattle.sn_world.specs.ControlRuns.{ControlRun, ForNode, in_synth, with_values_from, with_run, with_runs, judge_node, set_controls, set_outcome}
 use Rattle.sn_nodecmd.specs.Reworks.{held_with}
+use Rattle.sn_world.proofs.HeldKinds.{kind-below}
 use Rattle.sn_world.proofs.Turning.{pictures-tree, with_nodes}
 
 -- ---- payloads changed by themselves, and as they are seen
@@ -59,6 +62,15 @@ module _ {P Q : Type 0} (f : P → Q) (h : P → P) (g : Q → Q) (same : (p : P
 
 -- ---- what holds of each node
 
+same-synth : (change : Definition → List Control → List Control) (h : Held) → has_synth (held_with change h) ≡ has_synth h
+same-synth change held.Group = refl
+same-synth change (held.Synth def controls state) = refl
+
+pub kind-held : (change : Definition → List Control → List Control) (kind : NodeKind) (h : Held) (below : Nodes Held) → KindAgrees kind h below → KindAgrees kind (held_with change h) (with_payloads (held_with change) below)
+kind-held change kinds.Synth h below is = (same-synth change h ∙ is.0, ap (with_payloads (held_with change)) is.1)
+kind-held change kinds.Group h below is = same-synth change h ∙ is
+kind-held change kinds.Parallel h below is = same-synth change h ∙ is
+
 module _ (change : Definition → List Control → List Control) (good : (d : Definition) (cs : List Control) → AreControlsOf d cs → AreControlsOf d (change d cs)) where
   one-held : (rate : ℕ) (region : Extent) (h : Held) → IsHeld rate region h → IsHeld rate region (held_with change h)
   one-held rate region held.Group is = is
@@ -66,16 +78,16 @@ module _ (change : Definition → List Control → List Control) (good : (d : De
 
   all-held : (rate : ℕ) (region : Extent) (t : Nodes Held) → AreHeld rate region t → AreHeld rate region (with_payloads (held_with change) t)
   all-held rate region none h = h
-  all-held rate region (node l below after) h = (one-held rate region l.payload h.0, (all-held rate region below h.1.0, all-held rate region after h.1.1))
+  all-held rate region (node l below after) h = (one-held rate region l.payload h.0, (all-held rate region below h.1.0, all-held rate region after h.1.1), kind-held change l.kind l.payload below h.2)
 
   pub held-reworked : (id : ℤ) (rate : ℕ) (region : Extent) (t : Nodes Held) → AreHeld rate region t → AreHeld rate region (reworked (held_with change) id t)
   held-reworked id rate region none h = h
   held-reworked id rate region (node l below after) h =
       cond_both (int_eq l.id id) (node (with_payload (held_with change l.payload) l) (with_payloads (held_with change) below) after) (if holds id below then node l (reworked (held_with change) id below) after else node l below (reworked (held_with change) id after)) (AreHeld rate region)
-      (λ _. (one-held rate region l.payload h.0, (all-held rate region below h.1.0, h.1.1)))
+      (λ _. (one-held rate region l.payload h.0, (all-held rate region below h.1.0, h.1.1), kind-held change l.kind l.payload below h.2))
       (λ _. cond_both (holds id below) (node l (reworked (held_with change) id below) after) (node l below (reworked (held_with change) id after)) (AreHeld rate region)
-      (λ _. (h.0, (held-reworked id rate region below h.1.0, h.1.1)))
-      (λ _. (h.0, (h.1.0, held-reworked id rate region after h.1.1))))
+      (λ e. (h.0, (held-reworked id rate region below h.1.0, h.1.1), kind-below l.kind l.payload below (reworked (held_with change) id below) id h.2 e))
+      (λ _. (h.0, (h.1.0, held-reworked id rate region after h.1.1), h.2)))
 
 module _ (change : Definition → List Control → List Control) where
   same-extents : (h : Held) → held_extents (held_with change h) ≡ held_extents h

@@ -11,9 +11,9 @@ use Rattle.sn_tree.specs.declared.node.NodeView.{NodeView}
 use Rattle.sn_tree.specs.declared.node.TreeFault.TheVariants as faults
 use Rattle.sn_tree.specs.declared.node.Action.{Action}
 use Rattle.sn_tree.specs.declared.node.Action.TheVariants.{Head, Tail, Before, After}
-use Rattle.sn_tree.specs.Trees.{Label, Nodes, Sides, none, node, holds, count, beside, put, leaf, subtree, without, with_payloads}
+use Rattle.sn_tree.specs.Trees.{Label, Nodes, Sides, none, node, holds, count, beside, put, leaf, label_of, subtree, without, with_payloads}
 use Rattle.sn_tree.specs.Views.{views_below}
-use Rattle.sn_tree.specs.Faults.{first_fault, detach_fault, is_inside, is_in_synth, is_beside_root}
+use Rattle.sn_tree.specs.Faults.{first_fault, detach_fault, is_inside, is_in_synth, is_beside_root, labels_synth}
 use Rattle.sn_tree.specs.Model.{Journal, NodeTree}
 use Rattle.sn_tree.specs.Steps.{followed, inserted, inserting, detached, detaching}
 use Rattle.sn_tree.proofs.PayloadLaws.{holds-payloads, synth-payloads, put-payloads, without-payloads, views-payloads}
@@ -26,7 +26,7 @@ use Rattle.sn_world.specs.Nodes.{Content, group, content_of}
 use Rattle.sn_world.specs.Notices.{told}
 use Rattle.sn_world.specs.Freeing.{told_ends, freed, free_refusal}
 use Rattle.sn_world.specs.NewNodes.{is_used, next_after, add_action, action_for, replaces, left_by, placed, told_if, told_replaced, node_refusal, with_group, act_with}
-use Rattle.sn_world.specs.Pictures.{live_held, amount}
+use Rattle.sn_world.specs.Pictures.{KindAgrees, live_held, amount}
 use Rattle.sn_world.specs.Rows.{first_of}
 use Rattle.sn_world.specs.World.{World, Turn, world_of, turn_of}
 use Rattle.sn_world.proofs.Counting.{amount-put, amount-leaf, amount-joined, amount-without}
@@ -34,6 +34,7 @@ use Rattle.sn_world.proofs.FreedLemmas.{count-joined}
 use Rattle.sn_world.proofs.Inserting.{held-put}
 use Rattle.sn_world.proofs.Replacing.{goes_before, held-without, fewer, left-payloads, count-left}
 use Rattle.sn_tree.proofs.Replacing.{still_held}
+use Rattle.sn_nodecmd.proofs.Judged.{outside_synth}
 use Rattle.sn_nodecmd.specs.Adding.{added}
 use Rattle.sn_nodecmd.specs.Folding.{room_in, saved_in, KeepsTree, Keeps}
 
@@ -91,12 +92,17 @@ group_amount : (weight : Extent → ℕ) (id : ℤ) (kind : NodeKind) → amount
 unfolding amount
 group_amount weight id kind = amount-leaf weight id kind held.Group
 
-pub keeps_inserted : (id : ℤ) (kind : NodeKind) (action : Action) (target : ℤ) (tree : NodeTree Held) → holds target tree.attached ≡ true → KeepsTree tree (inserted id kind action target held.Group tree)
-keeps_inserted id kind action target tree there = record {
+-- a target is there, and is no synth if a node goes inside it
+pub record IsOpenTo (action : Action) (target : ℤ) (t : Nodes Held) : Type 0 where
+  pub there : holds target t ≡ true
+  pub group : is_inside action ≡ true → labels_synth (label_of target t) ≡ false
+
+pub keeps_inserted : (id : ℤ) (kind : NodeKind) (action : Action) (target : ℤ) (tree : NodeTree Held) → KindAgrees kind held.Group none → IsOpenTo action target tree.attached → KeepsTree tree (inserted id kind action target held.Group tree)
+keeps_inserted id kind action target tree agrees can = record {
   saved = saved_followed 0 (inserting id kind action target None) tree.journal;
   room = omega (arith, room_followed 0 (inserting id kind action target None) tree.journal, count-put action target (leaf id kind held.Group) tree.attached);
-  extents = λ weight. omega (arith, amount-put weight action target (leaf id kind held.Group) tree.attached there, group_amount weight id kind);
-  held = λ rate region h. held-put rate region action target (leaf id kind held.Group) tree.attached (tt, (tt, tt)) h;
+  extents = λ weight. omega (arith, amount-put weight action target (leaf id kind held.Group) tree.attached can.there, group_amount weight id kind);
+  held = λ rate region h. held-put rate region action target (leaf id kind held.Group) tree.attached can.group (tt, (tt, tt), agrees) h;
 }
 
 -- ---- freeing
@@ -128,14 +134,16 @@ keeps_with old new tree next keeps is = record { tree = subst (KeepsTree old.tre
 
 -- ---- making
 
-target_there : (id : Option ℤ) (action target : ℤ) (t : Nodes Held) → node_refusal id action target t ≡ None → holds target t ≡ true
-target_there id action target t = at (is_used id t) (is_some (add_action action)) (holds target t) (is_in_synth (action_for action) target t) (is_beside_root (action_for action) target) (nat_lt 4096 (count (left_by (replaces action) target t) + 1))
+target_open : (id : Option ℤ) (action target : ℤ) (t : Nodes Held) → node_refusal id action target t ≡ None → IsOpenTo (action_for action) target t
+target_open id action target t = at (is_used id t) (is_some (add_action action)) (holds target t) (is_in_synth (action_for action) target t) (is_beside_root (action_for action) target) (nat_lt 4096 (count (left_by (replaces action) target t) + 1)) refl refl
   where
-    at : (used known there inside root many : Bool) → first_of ((used, Reasons.IdInUse) ∷ (not known, Reasons.AddAction) ∷ (not there, Reasons.NoSuchNode) ∷ (inside, Reasons.NotGroup) ∷ (root, Reasons.Root) ∷ (many, Reasons.TooManyNodes) ∷ []) ≡ None → there ≡ true
-    at true known there inside root many h = absurd cc
-    at false false there inside root many h = absurd cc
-    at false true true inside root many h = refl
-    at false true false inside root many h = absurd cc
+    at : (used known there inside root many : Bool) → holds target t ≡ there → is_in_synth (action_for action) target t ≡ inside
+        → first_of ((used, Reasons.IdInUse) ∷ (not known, Reasons.AddAction) ∷ (not there, Reasons.NoSuchNode) ∷ (inside, Reasons.NotGroup) ∷ (root, Reasons.Root) ∷ (many, Reasons.TooManyNodes) ∷ []) ≡ None → IsOpenTo (action_for action) target t
+    at true known there inside root many a b h = absurd cc
+    at false false there inside root many a b h = absurd cc
+    at false true false inside root many a b h = absurd cc
+    at false true true true root many a b h = absurd cc
+    at false true true false root many a b h = record { there = a; group = λ is. outside_synth (is_inside (action_for action)) (labels_synth (label_of target t)) b is }
 
 pub node_refusal_in : (stage : Stage) (words : List ℕ) (id : Option ℤ) (action target : ℤ) → node_refusal id action target (world_of stage words).nodes ≡ node_refusal id action target stage.tree.attached
 node_refusal_in stage words id action target = λ i. first_of (
@@ -162,13 +170,13 @@ pub added_attached : (b : Bool) (id : ℤ) (kind : NodeKind) (action : Action) (
 added_attached true id kind action target h tree = refl
 added_attached false id kind action target h tree = refl
 
-keeps_added : (b : Bool) (id : ℤ) (kind : NodeKind) (action : Action) (target : ℤ) (tree : NodeTree Held) → (b ≡ true → action ≡ Before) → holds target tree.attached ≡ true → KeepsTree tree (added b id kind action target held.Group tree)
-keeps_added false id kind action target tree before there = keeps_inserted id kind action target tree there
-keeps_added true id kind action target tree before there =
-    let one : KeepsTree tree (inserted id kind action target held.Group tree) = keeps_inserted id kind action target tree there in
+keeps_added : (b : Bool) (id : ℤ) (kind : NodeKind) (action : Action) (target : ℤ) (tree : NodeTree Held) → (b ≡ true → action ≡ Before) → KindAgrees kind held.Group none → IsOpenTo action target tree.attached → KeepsTree tree (added b id kind action target held.Group tree)
+keeps_added false id kind action target tree before agrees can = keeps_inserted id kind action target tree agrees can
+keeps_added true id kind action target tree before agrees can =
+    let one : KeepsTree tree (inserted id kind action target held.Group tree) = keeps_inserted id kind action target tree agrees can in
     let two = keeps_detached target (inserted id kind action target held.Group tree) in
     let stays : holds target (put action target (leaf id kind held.Group) tree.attached) ≡ true =
-    subst (λ (a : Action). holds target (put a target (leaf id kind held.Group) tree.attached) ≡ true) (sym (before refl)) (still_held id target kind held.Group tree.attached there) in
+    subst (λ (a : Action). holds target (put a target (leaf id kind held.Group) tree.attached) ≡ true) (sym (before refl)) (still_held id target kind held.Group tree.attached can.there) in
     record {
       saved = two.saved ∙ one.saved;
       room = omega (arith, one.room, room_followed 1 (detaching target) (inserted id kind action target held.Group tree).journal, fewer target (put action target (leaf id kind held.Group) tree.attached) stays, count-put action target (leaf id kind held.Group) tree.attached, room_followed 0 (inserting id kind action target None) tree.journal);
@@ -176,10 +184,10 @@ keeps_added true id kind action target tree before there =
       held = λ rate region h. two.held rate region (one.held rate region h);
     }
 
-pub keeps_group : (old new : Stage) (kind : NodeKind) (id action target : ℤ) (next : Option ℤ) → node_refusal (Some id) action target old.tree.attached ≡ None
+pub keeps_group : (old new : Stage) (kind : NodeKind) (id action target : ℤ) (next : Option ℤ) → KindAgrees kind held.Group none → node_refusal (Some id) action target old.tree.attached ≡ None
     → new ≡ record old { tree = added (replaces action) id kind (action_for action) target held.Group old.tree; next_id = next } → Keeps old new
-keeps_group old new kind id action target next allowed is =
-    keeps_with old new (added (replaces action) id kind (action_for action) target held.Group old.tree) next (keeps_added (replaces action) id kind (action_for action) target old.tree (goes_before action) (target_there (Some id) action target old.tree.attached allowed)) is
+keeps_group old new kind id action target next agrees allowed is =
+    keeps_with old new (added (replaces action) id kind (action_for action) target held.Group old.tree) next (keeps_added (replaces action) id kind (action_for action) target old.tree (goes_before action) agrees (target_open (Some id) action target old.tree.attached allowed)) is
 
 pub group_made : (old new : Stage) (kind : NodeKind) (r : NewNode) (id : ℤ) (old_replies mid_replies new_replies : List ReplyShape)
     → ((w : World) → w.notify ≡ old.notify → told_if (replaces r.action) (views_below r.target old.tree.attached) (let t : Turn = record { world = w; replies = old_replies } in t) ≡ record { world = w; replies = mid_replies })

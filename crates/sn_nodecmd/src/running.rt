@@ -27,7 +27,7 @@ use sn_mem::Port;
 use sn_osc::{Arg, Body, Message};
 use sn_ports::NoMemory;
 use sn_reply::{Reason, Replies};
-use sn_tree::{Action, NodeKind};
+use sn_tree::Action;
 use sn_world::{DeepFree, FreeAll, Handled, NodeCommand, NodeId, RunFlag, Stage, pairs, singles};
 use std::alloc::Global;
 
@@ -154,11 +154,11 @@ fn run_row<P: Port>(
         NodeCommand::FillRuns => run_set(alloc, stage, RunForm::Fill, arguments),
         NodeCommand::MapControls => run_map(alloc, stage, arguments),
         NodeCommand::NewGroup => {
-            let groups = groups_of(alloc, NodeKind::Group, arguments)?;
+            let groups = groups_of(alloc, false, arguments)?;
             run(alloc, stage, groups, replies)
         }
         NodeCommand::NewParallel => {
-            let groups = groups_of(alloc, NodeKind::Parallel, arguments)?;
+            let groups = groups_of(alloc, true, arguments)?;
             run(alloc, stage, groups, replies)
         }
         NodeCommand::Free => run::<NodeId>(alloc, stage, singles(alloc, arguments)?, replies),

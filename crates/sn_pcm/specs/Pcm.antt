@@ -20,9 +20,9 @@ sample_bytes s x = cond (s.bits == 16) (bytes_16 x) (bytes_24 x)
 unfoldable pub pcm : Settings → List ℤ → List ℕ
 pcm s samples = flat_map (sample_bytes s) samples
 
--- a whole WAV file
-abbrev pub wav : Settings → List ℤ → List ℕ
-wav s samples = header_bytes s (length (pcm s samples)) ++ pcm s samples
+-- a whole WAV file, of the bytes of its samples
+abbrev pub wav : Settings → List ℕ → List ℕ
+wav s bytes = header_bytes s (length bytes) ++ bytes
 
 -- Each sample takes as many bytes as its bits say.
 abbrev pub HasPcmLength : Settings → List ℤ → Type 0

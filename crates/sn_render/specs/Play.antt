@@ -1,8 +1,8 @@
 -- What a stream of packets gives: the engine's own steps, one after another, where nothing is written in between.
-use Rattle.std.specs.Prelude.{ℕ, zero, suc, List, [], ◌∷◌, ◌++◌, None, length, slice_index_or, unwrap_or}
+use Rattle.std.specs.Prelude.{ℕ, zero, suc, List, [], ◌∷◌, None, slice_index_or, unwrap_or}
 use Rattle.sn_osc.specs.Shape.{Shape}
 use Rattle.sn_pcm.specs.declared.settings.Settings.{Settings}
-use Rattle.sn_pcm.specs.Sound.{header_bytes}
+use Rattle.sn_pcm.specs.Pcm.{wav}
 use Rattle.sn_queue.specs.Steps.{last_due}
 use Rattle.sn_engine.specs.Arriving.{with_offered}
 use Rattle.sn_engine.specs.Entries.{entries_of}
@@ -40,10 +40,6 @@ played s packets = to_end (last_of s packets) (begun s packets)
 -- what the first client is still to be sent
 abbrev pub to_first : List (List ℕ) → List ℕ
 to_first replies = slice_index_or replies 0 []
-
--- a whole WAV file
-abbrev pub wav : Settings → List ℕ → List ℕ
-wav s bytes = header_bytes s (length bytes) ++ bytes
 
 abbrev pub sound_of : Settings → List Shape → List ℕ
 sound_of s packets = wav s (played s packets).sound

@@ -22,6 +22,9 @@ const MOST_BYTES: usize = 65536;
 /// How deep bundles may nest.
 const MOST_BUNDLES: usize = 8;
 
+/// Most lines have at most so many bytes.
+const LINE_BYTES: u32 = 64;
+
 /// The tag that means at once.
 const AT_ONCE: u64 = 1;
 
@@ -107,7 +110,8 @@ fn is_message_line(alloc: Global, message: &Message, line: &[u8]) -> Result<bool
     ensures { IfOk result (λ b. b ≡ bytes_eq (message_line (message_of message.now)) line.now) }
 {
     let mut written = Text::new(alloc);
-    put_message(alloc, &mut written, message)?;
+    written.reserve(LINE_BYTES)?;
+    put_message(&mut written, message)?;
     Ok(written.as_slice() == line)
 }
 
@@ -116,7 +120,8 @@ fn is_bundle_line(alloc: Global, tag: u64, line: &[u8]) -> Result<bool, NoMemory
     ensures { IfOk result (λ b. b ≡ bytes_eq (bundle_line tag) line.now) }
 {
     let mut written = Text::new(alloc);
-    put_opening(alloc, &mut written, tag)?;
+    written.reserve(LINE_BYTES)?;
+    put_opening(&mut written, tag)?;
     Ok(written.as_slice() == line)
 }
 

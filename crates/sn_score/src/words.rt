@@ -1,11 +1,11 @@
 //! Words of a score, written.
 ghost use Rattle.std.specs.Prelude.{◌≡◌, ◌<◌, ◌++◌, flat_map, IfOk, OnOk};
-ghost use Rattle.std.specs.Fmt.{decimal};
+ghost use Rattle.std.specs.Fmt.{decimal, signed_decimal};
 ghost use Rattle.std.specs.List.{list_all};
 ghost use Rattle.sn_score.specs.Words.{digit, hex_byte, hex, quoted_byte, quoted, is_plain_byte, address_word, blob_word};
 
+use itoa::Buffer;
 use sn_ports::{NoMemory, Text};
-use std::alloc::Global;
 
 /// The hexadecimal digit of a number below 16.
 fn digit(number: u8) -> u8
@@ -97,8 +97,17 @@ pub(crate) fn put_address(out: &mut Text, address: &[u8]) -> Result<(), NoMemory
 }
 
 /// A number without a sign.
-pub(crate) fn put_natural(alloc: Global, out: &mut Text, number: u32) -> Result<(), NoMemory>
+pub(crate) fn put_natural(out: &mut Text, number: u32) -> Result<(), NoMemory>
     ensures { OnOk result (out.new.bytes ≡ out.old.bytes ++ decimal number) }
 {
-    out.append(Text::from_vec(format!(in alloc; "{number}")?.into_bytes()).as_slice())
+    let mut buffer = Buffer::new();
+    out.append(buffer.format(number).as_bytes())
+}
+
+/// A number, with `-` in front if it is negative.
+pub(crate) fn put_int(out: &mut Text, number: i32) -> Result<(), NoMemory>
+    ensures { OnOk result (out.new.bytes ≡ out.old.bytes ++ signed_decimal number) }
+{
+    let mut buffer = Buffer::new();
+    out.append(buffer.format(number).as_bytes())
 }

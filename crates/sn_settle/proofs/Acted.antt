@@ -149,14 +149,11 @@ no_act n g stage outs same = record {
   pictures = λ words p. p;
 }
 
-abbrev by_tests : Ending → NodeView → Turn → Bool → Bool → Bool → Turn
-by_tests e view t first second root = if first then paused_at e.node view t else if second then (if root then t else freed_at e.node view t) else t
+abbrev by_tests : Ending → NodeView → Turn → Bool → Bool → Turn
+by_tests e view t first second = if first then paused_at e.node view t else if second then freed_at e.node view t else t
 
 pub act_other : (e : Ending) (view : NodeView) (t : Turn) → int_eq e.action (pos 1) ≡ false → int_eq e.action (pos 2) ≡ false → acted_at e (Some view) t ≡ t
-act_other e view t is other = ap (λ b. by_tests e view t b (int_eq e.action (pos 2)) (int_eq e.node (pos 0))) is ∙ ap (λ b. by_tests e view t false b (int_eq e.node (pos 0))) other
-
-pub act_root : (e : Ending) (view : NodeView) (t : Turn) → int_eq e.action (pos 1) ≡ false → int_eq e.action (pos 2) ≡ true → int_eq e.node (pos 0) ≡ true → acted_at e (Some view) t ≡ t
-act_root e view t is second root = ap (λ b. by_tests e view t b (int_eq e.action (pos 2)) (int_eq e.node (pos 0))) is ∙ ap (λ b. by_tests e view t false b (int_eq e.node (pos 0))) second ∙ ap (λ b. by_tests e view t false true b) root
+act_other e view t is other = ap (λ b. by_tests e view t b (int_eq e.action (pos 2))) is ∙ ap (λ b. by_tests e view t false b) other
 
 neither : (a b : Bool) → (a || b) ≡ false → (a ≡ false) × (b ≡ false)
 neither true b e = absurd (true≢false e)

@@ -2,4 +2,5 @@ pub mod Sending
 pub mod Reading
 pub mod Few
 pub mod Acted
+pub mod Rooted
 pub mod Settled

@@ -1,12 +1,13 @@
 //! Done actions: synths that are paused and freed.
 ghost use Rattle.std.specs.Prelude.{◌≡◌, ◌≤◌, ◌*◌, ◌||◌, ℕ, pos, List, length, true, false, None, Some};
+ghost use Rattle.std.specs.List.{All};
 ghost use Rattle.std.specs.Ordering.{int_eq};
 ghost use Rattle.sn_tree.specs.Trees.{holds, view_of};
 ghost use Rattle.sn_tree.specs.Steps.{running, detached};
 ghost use Rattle.sn_world.specs.Pictures.{Pictures};
 ghost use Rattle.sn_world.specs.Settling.{place_of, paused_at, freed_at, acted_at, acted, all_acted};
 ghost use Rattle.sn_settle.specs.Telling.{HaveRoom};
-ghost use Rattle.sn_settle.specs.Acting.{IsActed};
+ghost use Rattle.sn_settle.specs.Acting.{IsActed, IsBelowRoot};
 
 use crate::telling::tell;
 use sn_ports::Text;
@@ -69,7 +70,7 @@ fn pause(stage: &mut Stage, ending: &Ending, view: &NodeView, outs: &mut [Text])
 /// Frees a synth that stands so, and tells of it.
 fn free(stage: &mut Stage, ending: &Ending, view: &NodeView, outs: &mut [Text])
     requires there { view_of ending.now.node stage.old.tree.attached ≡ Some view.now }
-    requires other { int_eq ending.now.node (pos 0) ≡ false }
+    requires other { IsBelowRoot ending.now }
     requires pictures { (words : List ℕ) × Pictures stage.old words }
     requires clients { length outs.old ≤ 4 }
     requires room { HaveRoom 48 outs.old }
@@ -83,6 +84,7 @@ fn free(stage: &mut Stage, ending: &Ending, view: &NodeView, outs: &mut [Text])
 /// Does what a unit's end asks for with a synth that stands so.
 fn act_here(stage: &mut Stage, ending: &Ending, view: &NodeView, outs: &mut [Text])
     requires there { view_of ending.now.node stage.old.tree.attached ≡ Some view.now }
+    requires other { IsBelowRoot ending.now }
     requires pictures { (words : List ℕ) × Pictures stage.old words }
     requires clients { length outs.old ≤ 4 }
     requires room { HaveRoom 48 outs.old }
@@ -93,10 +95,6 @@ fn act_here(stage: &mut Stage, ending: &Ending, view: &NodeView, outs: &mut [Tex
         return;
     }
     if ending.action != 2 {
-        return;
-    }
-    // The root is a group, so no ending names it. What follows asks for another node.
-    if ending.node == 0 {
         return;
     }
     free(stage, ending, view, outs);
@@ -118,6 +116,7 @@ fn asks(ending: &Ending) -> bool
 
 /// Does what a unit's end asks for. The node is sought only if something is asked.
 fn act(stage: &mut Stage, ending: &Ending, outs: &mut [Text])
+    requires other { IsBelowRoot ending.now }
     requires pictures { (words : List ℕ) × Pictures stage.old words }
     requires clients { length outs.old ≤ 4 }
     requires room { HaveRoom 48 outs.old }
@@ -132,8 +131,9 @@ fn act(stage: &mut Stage, ending: &Ending, outs: &mut [Text])
     act_here(stage, ending, &view, outs);
 }
 
-/// Does what the ends of units ask for, one after the other.
+/// Does what the ends of units ask for, one after the other. None is of the root, which is a group.
 pub fn act_all(stage: &mut Stage, endings: &[Ending], outs: &mut [Text])
+    requires others { All IsBelowRoot endings.now }
     requires pictures { (words : List ℕ) × Pictures stage.old words }
     requires clients { length outs.old ≤ 4 }
     requires room { HaveRoom (48 * length endings.now) outs.old }

@@ -53,6 +53,10 @@ pub fn settle<P: Port>(
         return false;
     }
     settle_words(port, stage);
+    // Hints for the proof alone: the root is a group, and holds all other nodes.
+    stage.tree.root_holds_all();
+    stage.tree.root_is_a_group();
+    stage.tree.root_is_on_top(0);
     act_all(stage, endings.as_slice(), outs);
     true
 }

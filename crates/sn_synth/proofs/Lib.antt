@@ -5,3 +5,5 @@ pub mod Indices
 pub mod Picturing
 pub mod Plain
 pub mod Keeping
+pub mod ByFoot
+pub mod Widening

@@ -11,6 +11,7 @@ use Rattle.sn_def.specs.Units.{row_of}
 use Rattle.sn_def.specs.declared.kind.Kind.{Kind}
 use Rattle.sn_def.specs.StateWords.{words_of}
 use Rattle.sn_filt.specs.Rings.{most_frames}
+use Rattle.sn_mem.specs.declared.extents.Extent.{Extent}
 use Rattle.sn_mem.specs.declared.extents.Foot.{Foot}
 use Rattle.sn_mem.specs.declared.buffers.BufferPlace.{BufferPlace}
 use Rattle.sn_mem.specs.Words.{MayWrite}
@@ -66,6 +67,12 @@ pub record MayPlay (f : Foot) (places : List (Option BufferPlace)) (controls : L
 -- those of all units
 abbrev pub MayPlayAll : Foot → List (Option BufferPlace) → List SynthControl → Definition → Type 0
 MayPlayAll f places controls d = All (MayPlay f places controls) d.units
+
+-- What a synth asks of a foot: it writes its state, reads the buses that its controls follow, and plays its units.
+pub record MayRun (f : Foot) (places : List (Option BufferPlace)) (controls : List SynthControl) (d : Definition) (state : Extent) : Type 0 where
+  pub keeps : MayWrite f state.at state.len
+  pub follows : MayFollow f controls
+  pub plays : MayPlayAll f places controls d
 
 -- the same by the values of the controls and the blocks of the inputs
 pub record Reaches (kind : Kind) (f : Foot) (places : List (Option BufferPlace)) (n : ℕ) (inputs : List (List ℤ)) : Type 0 where

@@ -21,3 +21,4 @@ pub mod Attaching
 pub mod Sharing
 pub mod Rooting
 pub mod Gathering
+pub mod Nearing

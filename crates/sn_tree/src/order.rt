@@ -6,7 +6,8 @@ ghost use Rattle.sn_tree.specs.declared.entry.Entry.{Entry};
 ghost use Rattle.sn_tree.specs.declared.node.NodeKind.TheVariants.{Group};
 ghost use Rattle.sn_tree.specs.Trees.{none, count, ids, next_after, first_of, children, label_of, put, leaf, without, subtree, joined, changed, with_running, first_label, without_first};
 ghost use Rattle.sn_tree.specs.Faults.{insert_fault, replace_fault, attach_fault, detach_fault, move_fault, set_run_fault, fault_of};
-ghost use Rattle.sn_tree.specs.Steps.{attaching, moving, replacing};
+ghost use Rattle.std.specs.Ordering.{int_eq};
+ghost use Rattle.sn_tree.specs.Steps.{AllDistinct, attaching, moving, replacing};
 ghost use Rattle.sn_tree.specs.Aside.{brought};
 ghost use Rattle.sn_tree.specs.declared.node.Action.TheVariants.{Before};
 ghost use Rattle.sn_tree.specs.Order.{IsFlat, flat, tree_of};
@@ -19,7 +20,7 @@ use crate::entry::{Entry, Place};
 use crate::moves::subtree_of;
 use crate::node::{NodeKind, Spot, TreeFault};
 use crate::scratch::Scratch;
-use crate::search::{first_in, key_in, next_of, place_for_new, place_to_replace};
+use crate::search::{first_in, key_in, key_near, next_of, place_for_new, place_to_replace};
 use sn_ports::NoMemory;
 use std::alloc::Global;
 use std::marker::Model;
@@ -205,6 +206,14 @@ impl Order {
         ensures { result ≡ option_map (λ l. l.payload) (label_of id self.now.attached) }
     {
         key_in(&self.entries[..self.attached], id)
+    }
+
+    /// The same, with a hint: the place at which the node may stand.
+    pub fn key_near(&self, id: i32, place: u32) -> Option<Option<usize>>
+        requires distinct { AllDistinct int_eq (ids self.now.attached) }
+        ensures { result ≡ option_map (λ l. l.payload) (label_of id self.now.attached) }
+    {
+        key_near(&self.entries[..self.attached], id, place)
     }
 
     /// Where a new node goes, or why it can't be put.

@@ -3,6 +3,7 @@ ghost use Rattle.std.specs.Prelude.{◌≡◌, ◌≤◌, ◌+◌, None, Some, l
 ghost use Rattle.std.specs.List.{position};
 ghost use Rattle.std.specs.Ordering.{int_eq};
 ghost use Rattle.sn_tree.specs.Trees.{holds, ids, next_after, first_of, children, label_of};
+ghost use Rattle.sn_tree.specs.Steps.{AllDistinct};
 ghost use Rattle.std.specs.Option.{option_map};
 ghost use Rattle.sn_tree.specs.Faults.{first_fault, spot_fault, insert_fault, replace_fault, detach_fault, is_beside_root, is_inside, is_synth};
 ghost use Rattle.sn_tree.specs.declared.node.Action.TheVariants.{Before};
@@ -147,6 +148,26 @@ pub fn key_in(entries: &[Entry], id: i32) -> Option<Option<usize>>
         return None;
     };
     Some(entries[position].key)
+}
+
+/// Whether an entry is that of this node.
+fn has_id(entry: &Entry, id: i32) -> bool
+    ensures { result ≡ int_eq entry.now.id id }
+{
+    entry.id == id
+}
+
+/// The same, with a hint: the place at which the node may stand.
+pub fn key_near(entries: &[Entry], id: i32, place: u32) -> Option<Option<usize>>
+    requires flat { IsFlat entries.now }
+    requires distinct { AllDistinct int_eq (ids (tree_of entries.now)) }
+    ensures { result ≡ option_map (λ l. l.payload) (label_of id (tree_of entries.now)) }
+{
+    let at = place as usize;
+    if at < entries.len() && has_id(&entries[at], id) {
+        return Some(entries[at].key);
+    }
+    key_in(entries, id)
 }
 
 /// Where a new node goes, or why it can't be put.

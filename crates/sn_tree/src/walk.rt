@@ -84,4 +84,12 @@ impl<'a, P> Iterator for Walk<'a, P> {
     }
 }
 
+impl<P> Walk<'_, P> {
+    /// How many nodes stand behind the one that was given last, paused ones and those below them among them. It tells the
+    /// place of that node, which is a hint for `Tree::payload_near`. Nothing is promised of it.
+    pub fn left(&self) -> usize {
+        self.entries.len()
+    }
+}
+
 impl<'a, P> FusedIterator for Walk<'a, P> {}

@@ -12,7 +12,6 @@ use Rattle.sn_def.specs.Reading.{text_at}
 use Rattle.sn_def.specs.StateWords.{state_words}
 use Rattle.sn_def.specs.declared.fault.DefFault.{DefFault}
 use Rattle.sn_reply.specs.declared.reason.Reason.{Reason}
-use Rattle.sn_tree.specs.declared.node.NodeKind.{NodeKind}
 use Rattle.sn_tree.specs.declared.node.NodeKind.TheVariants as kinds
 use Rattle.sn_tree.specs.declared.node.NodeView.{NodeView}
 use Rattle.sn_tree.specs.Trees.{put, leaf, subtree, without, changed, with_running, children, view_of}
@@ -43,7 +42,7 @@ use Rattle.sn_world.specs.Free as forgetting
 use Rattle.sn_world.specs.Freeing.{node_id, judge_free, act_free, freed}
 use Rattle.sn_world.specs.Mappings.{Mapping, mapping, judge_map, map_outcome, with_buses}
 use Rattle.sn_world.specs.Moving.{move_from, judge_move, act_move}
-use Rattle.sn_world.specs.NewNodes.{id_for, node_refusal, placed, is_asked, new_node, of_kind, new_group, judge_group, with_group, act_with, act_group, told_replaced}
+use Rattle.sn_world.specs.NewNodes.{id_for, node_refusal, placed, is_asked, new_node, of_kind, group_kind, new_group, judge_group, with_group, act_with, act_group, told_replaced}
 use Rattle.sn_world.specs.NewSynth.{NewSynth, ControlValue, ControlName, control_name, control_value, text_of, asked_with, new_synth, made, made_free, place_for, with_synth, new_at, new_with, new_of, new_outcome}
 use Rattle.sn_world.specs.NodeOrder.{NodeOrder, node_order, order_outcome, place_refusal, moves_of}
 use Rattle.sn_world.specs.Nodes.{Content, group, synth}
@@ -251,20 +250,20 @@ asked_node (int id) (blob b) z = tt
 asked_node (string s) y z = tt
 asked_node (blob b) y z = tt
 
-asked_kind : (kind : NodeKind) (o : Option NewNode) → IfSome o IsAsked → IfSome (of_kind kind o) IsAskedGroup
-asked_kind kind None a = tt
-asked_kind kind (Some r) a = a
+asked_kind : (parallel : Bool) (o : Option NewNode) → IfSome o IsAsked → IfSome (of_kind parallel o) IsAskedGroup
+asked_kind parallel None a = tt
+asked_kind parallel (Some r) a = a
 
 asked_more : (o : Option NewGroup) (q : Option (List NewGroup)) → IfSome o IsAskedGroup → IfSome q AreAsked → IfSome (another o q) AreAsked
 asked_more None q a b = tt
 asked_more (Some r) None a b = tt
 asked_more (Some r) (Some rs) a b = (a, b)
 
-asked_triples : (kind : NodeKind) (xs : List Argument) → IfSome (triples (new_group kind) xs) AreAsked
-asked_triples kind [] = tt
-asked_triples kind (x ∷ []) = tt
-asked_triples kind (x ∷ y ∷ []) = tt
-asked_triples kind (x ∷ y ∷ z ∷ rest) = asked_more (new_group kind x y z) (triples (new_group kind) rest) (asked_kind kind (new_node x y z) (asked_node x y z)) (asked_triples kind rest)
+asked_triples : (parallel : Bool) (xs : List Argument) → IfSome (triples (new_group parallel) xs) AreAsked
+asked_triples parallel [] = tt
+asked_triples parallel (x ∷ []) = tt
+asked_triples parallel (x ∷ y ∷ []) = tt
+asked_triples parallel (x ∷ y ∷ z ∷ rest) = asked_more (new_group parallel x y z) (triples (new_group parallel) rest) (asked_kind parallel (new_node x y z) (asked_node x y z)) (asked_triples parallel rest)
 
 asked_some : (q : Option (List NewGroup)) → IfSome q AreAsked → IfSome (some_of q) AreAsked
 asked_some None a = tt
@@ -274,11 +273,11 @@ asked_some (Some (r ∷ rs)) a = a
 group_chosen : (r : NewGroup) (t : Turn) → IsAskedGroup r → AreChosen t.world → AreChosen (act_group r t).world
 group_chosen r t asked h = at (id_for t.world.next_id r.node.id) refl
   where
-    at : (o : Option ℤ) → id_for t.world.next_id r.node.id ≡ o → AreChosen (act_with r.kind r.node o t).world
+    at : (o : Option ℤ) → id_for t.world.next_id r.node.id ≡ o → AreChosen (act_with (group_kind r.parallel) r.node o t).world
     at None e = h
     at (Some id) e =
-        told_chosen Went id (record (told_replaced r.node t) { world = with_group r.kind r.node id t.world })
-        (given_new id t.world.nodes (placed r.node (leaf id r.kind group) t.world.nodes) (λ x k. held_placed x r.node id r.kind group t.world.nodes k) r.node.id asked t.world.next_id e h)
+        told_chosen Went id (record (told_replaced r.node t) { world = with_group (group_kind r.parallel) r.node id t.world })
+        (given_new id t.world.nodes (placed r.node (leaf id (group_kind r.parallel) group) t.world.nodes) (λ x k. held_placed x r.node id (group_kind r.parallel) group t.world.nodes k) r.node.id asked t.world.next_id e h)
 
 group_steps : (rs : List NewGroup) (t : Turn) → AreAsked rs → AreChosen t.world → Keeps (steps judge_group act_group rs t)
 group_steps [] t a h = h
@@ -363,8 +362,8 @@ module _ (from : ℕ) (t : Turn) (h : AreChosen t.world) where
   node_row_keeps nodes.SetRuns xs = set_keeps (asked_runs values_run xs)
   node_row_keeps nodes.FillRuns xs = set_keeps (asked_runs fill_run xs)
   node_row_keeps nodes.MapControls xs = map_keeps (asked_of (pairs mapping) xs)
-  node_row_keeps nodes.NewGroup xs = group_keeps (some_of (triples (new_group kinds.Group) xs)) t (asked_some (triples (new_group kinds.Group) xs) (asked_triples kinds.Group xs)) h
-  node_row_keeps nodes.NewParallel xs = group_keeps (some_of (triples (new_group kinds.Parallel) xs)) t (asked_some (triples (new_group kinds.Parallel) xs) (asked_triples kinds.Parallel xs)) h
+  node_row_keeps nodes.NewGroup xs = group_keeps (some_of (triples (new_group false) xs)) t (asked_some (triples (new_group false) xs) (asked_triples false xs)) h
+  node_row_keeps nodes.NewParallel xs = group_keeps (some_of (triples (new_group true) xs)) t (asked_some (triples (new_group true) xs) (asked_triples true xs)) h
   node_row_keeps nodes.Free xs = row_keeps judge_free act_free (λ r u k. freed_chosen r.id u k) (some_of (singles node_id xs)) t h
   node_row_keeps nodes.FreeAll xs = row_keeps judge_free_all act_free_all (λ r u k. each_freed (top_ids (children r.group u.world.nodes)) u k) (some_of (singles free_all xs)) t h
   node_row_keeps nodes.DeepFree xs = row_keeps judge_deep_free act_deep_free (λ r u k. each_freed (synth_ids (children r.group u.world.nodes)) u k) (some_of (singles deep_free xs)) t h
@@ -418,9 +417,8 @@ gone_chosen id view t h = chosen_within t.world.nodes (without id t.world.nodes)
 acted_chosen : (e : Ending) (o : Option NodeView) (t : Turn) → AreChosen t.world → AreChosen (acted_at e o t).world
 acted_chosen e None t h = h
 acted_chosen e (Some view) t h =
-    let root : Turn = if int_eq e.node (pos 0) then t else freed_at e.node view t in
-    if_chosen (int_eq e.action (pos 1)) (paused_at e.node view t) (if int_eq e.action (pos 2) then root else t) (paused_chosen e.node view t h)
-    (if_chosen (int_eq e.action (pos 2)) root t (if_chosen (int_eq e.node (pos 0)) t (freed_at e.node view t) h (gone_chosen e.node view t h)) h)
+    if_chosen (int_eq e.action (pos 1)) (paused_at e.node view t) (if int_eq e.action (pos 2) then freed_at e.node view t else t) (paused_chosen e.node view t h)
+    (if_chosen (int_eq e.action (pos 2)) (freed_at e.node view t) t (gone_chosen e.node view t h) h)
 
 all_chosen : (es : List Ending) (t : Turn) → AreChosen t.world → AreChosen (all_acted es t).world
 all_chosen [] t h = h

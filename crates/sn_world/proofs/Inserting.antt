@@ -13,7 +13,8 @@ use Rattle.sn_pool.specs.Regions.{are_free, first_free, least_place}
 use Rattle.sn_tree.specs.declared.node.NodeKind.{NodeKind}
 use Rattle.sn_tree.specs.declared.node.Action.{Action}
 use Rattle.sn_tree.specs.declared.node.Action.TheVariants.{Head, Tail, Before, After}
-use Rattle.sn_tree.specs.Trees.{Label, Nodes, none, node, holds, joined, beside, put, leaf, with_payloads}
+use Rattle.sn_tree.specs.Faults.{is_inside, is_synth, labels_synth}
+use Rattle.sn_tree.specs.Trees.{Label, Nodes, none, node, holds, joined, beside, put, leaf, label_of, with_payloads}
 use Rattle.sn_tree.specs.Model.{NodeTree}
 use Rattle.sn_world.specs.declared.stage.Held.{Held}
 use Rattle.sn_world.specs.declared.stage.Held.TheVariants as held
@@ -22,10 +23,11 @@ use Rattle.sn_mem.specs.Buffers.{Buffer, buffers_of, live_places, overlaps}
 use Rattle.sn_world.specs.Buffers.{AreBuffers}
 use Rattle.sn_world.specs.Definitions.{Definitions, definitions_of}
 use Rattle.sn_world.specs.Nodes.{Content, content_of, extents_of, live_in}
-use Rattle.sn_world.specs.Pictures.{held_extents, live_held, IsHeld, AreHeld, Pictures}
+use Rattle.sn_world.specs.Pictures.{held_extents, live_held, IsHeld, KindAgrees, AreHeld, Pictures}
 use Rattle.sn_world.specs.World.{World, world_of}
 use Rattle.sn_world.specs.NewNodes.{left_by, gone_by}
 use Rattle.sn_mem.proofs.BufferWords.{overlaps-append, AgreesOn, same_buffers}
+use Rattle.sn_world.proofs.HeldKinds.{kind-below, kind-inside}
 use Rattle.sn_world.proofs.Walking.{parts_of, held_from}
 use Rattle.sn_world.proofs.Replacing.{overlaps-left, times-left, overlaps-placed, times-placed, held-left, same_placed}
 
@@ -66,22 +68,26 @@ live_in-payloads (node l below after) ws = λ i. own_extents l.payload ws i ++ (
 module _ (rate : ℕ) (region : Extent) where
   held-joined : (s t : Nodes Held) → AreHeld rate region s → AreHeld rate region t → AreHeld rate region (joined s t)
   held-joined none t hs ht = ht
-  held-joined (node l below after) t hs ht = (hs.0, (hs.1.0, held-joined after t hs.1.1 ht))
+  held-joined (node l below after) t hs ht = (hs.0, (hs.1.0, held-joined after t hs.1.1 ht), hs.2)
 
-  held-beside : (action : Action) (new : Nodes Held) (l : Label Held) (below after : Nodes Held) → AreHeld rate region new → AreHeld rate region (node l below after) → AreHeld rate region (beside action new l below after)
-  held-beside Head new l below after hn h = (h.0, (held-joined new below hn h.1.0, h.1.1))
-  held-beside Tail new l below after hn h = (h.0, (held-joined below new h.1.0 hn, h.1.1))
-  held-beside Before new l below after hn h = held-joined new (node l below after) hn h
-  held-beside After new l below after hn h = (h.0, (h.1.0, held-joined new after hn h.1.1))
+  held-beside : (action : Action) (new : Nodes Held) (l : Label Held) (below after : Nodes Held) → (is_inside action ≡ true → is_synth l.kind ≡ false) → AreHeld rate region new → AreHeld rate region (node l below after) → AreHeld rate region (beside action new l below after)
+  held-beside Head new l below after group hn h = (h.0, (held-joined new below hn h.1.0, h.1.1), kind-inside l.kind l.payload below (joined new below) (group refl) h.2)
+  held-beside Tail new l below after group hn h = (h.0, (held-joined below new h.1.0 hn, h.1.1), kind-inside l.kind l.payload below (joined below new) (group refl) h.2)
+  held-beside Before new l below after group hn h = held-joined new (node l below after) hn h
+  held-beside After new l below after group hn h = (h.0, (h.1.0, held-joined new after hn h.1.1), h.2)
 
-  pub held-put : (action : Action) (target : ℤ) (new t : Nodes Held) → AreHeld rate region new → AreHeld rate region t → AreHeld rate region (put action target new t)
-  held-put action target new none hn h = h
-  held-put action target new (node l below after) hn h =
+  -- inside no synth
+  pub held-put : (action : Action) (target : ℤ) (new t : Nodes Held) → (is_inside action ≡ true → labels_synth (label_of target t) ≡ false) → AreHeld rate region new → AreHeld rate region t → AreHeld rate region (put action target new t)
+  held-put action target new none group hn h = h
+  held-put action target new (node l below after) group hn h =
+      let found : Bool → Bool → Bool = λ here inner. labels_synth (if here then Some l else if inner then label_of target below else label_of target after) in
       cond_both (int_eq l.id target) (beside action new l below after) (if holds target below then node l (put action target new below) after else node l below (put action target new after)) (AreHeld rate region)
-      (λ _. held-beside action new l below after hn h)
-      (λ _. cond_both (holds target below) (node l (put action target new below) after) (node l below (put action target new after)) (AreHeld rate region)
-      (λ _. (h.0, (held-put action target new below hn h.1.0, h.1.1)))
-      (λ _. (h.0, (h.1.0, held-put action target new after hn h.1.1))))
+      (λ e. held-beside action new l below after (λ i. subst (λ b. found b (holds target below) ≡ false) e (group i)) hn h)
+      (λ e.
+      let other : is_inside action ≡ true → found false (holds target below) ≡ false = λ i. subst (λ b. found b (holds target below) ≡ false) e (group i) in
+      cond_both (holds target below) (node l (put action target new below) after) (node l below (put action target new after)) (AreHeld rate region)
+      (λ f. (h.0, (held-put action target new below (λ i. subst (λ b. found false b ≡ false) f (other i)) hn h.1.0, h.1.1), kind-below l.kind l.payload below (put action target new below) target h.2 f))
+      (λ f. (h.0, (h.1.0, held-put action target new after (λ i. subst (λ b. found false b ≡ false) f (other i)) hn h.1.1), h.2)))
 
 -- ---- a stage and its words after a node was put
 
@@ -95,7 +101,9 @@ pub record IsPut (b : Bool) (id : ℤ) (kind : NodeKind) (action : Action) (targ
   pub before : b ≡ true → action ≡ Before
   pub there : holds target old.tree.attached ≡ true
   pub other : int_eq id target ≡ false
+  pub group : is_inside action ≡ true → labels_synth (label_of target old.tree.attached) ≡ false
   pub held : IsHeld old.rate old.pool.region h
+  pub agrees : KindAgrees kind h none
   pub free : (x : ℕ) → 0 < overlaps x (held_extents h) → overlaps x (left_live b target old) ≡ 0
   pub buffers : new.buffers ≡ old.buffers
   pub tree : new.tree ≡ record { attached = left_by b target (put action target (leaf id kind h) old.tree.attached); detached = none; journal = None }
@@ -157,7 +165,7 @@ module _ (b : Bool) (id : ℤ) (kind : NodeKind) (action : Action) (target : ℤ
     base = ap (λ (e : Extent). e.at) is.region ∙ before.base;
     bounded = omega (arith, ap (λ (e : Extent). e.len) is.region, before.bounded);
     fits = omega (arith, ap (λ (e : Extent). e.len) is.region, before.fits, is.length);
-    synths = moved old.rate new.rate old.pool.region new.pool.region _ _ is.rate is.region attached (held-left old.rate old.pool.region b target (put action target (leaf id kind h) old.tree.attached) (held-put old.rate old.pool.region action target (leaf id kind h) old.tree.attached (is.held, (tt, tt)) before.synths));
+    synths = moved old.rate new.rate old.pool.region new.pool.region _ _ is.rate is.region attached (held-left old.rate old.pool.region b target (put action target (leaf id kind h) old.tree.attached) (held-put old.rate old.pool.region action target (leaf id kind h) old.tree.attached is.group (is.held, (tt, tt), is.agrees) before.synths));
     buffers = subst (λ (g : Extent). AreBuffers g new.buffers) (sym is.region) (subst (AreBuffers old.pool.region) (sym is.buffers) before.buffers);
     live = put_live;
     apart = put_once;
@@ -171,7 +179,7 @@ module _ (b : Bool) (id : ℤ) (kind : NodeKind) (action : Action) (target : ℤ
     where
       at : (n : ℕ) → overlaps x (held_extents h) ≡ n → n ≡ 0
       at zero e = refl
-      at (suc n) e = absurd (omega (arith, low, before.base, held_from old.rate old.pool.region (leaf id kind h) x (is.held, (tt, tt)) (omega (arith, own_of_leaf id kind h x, e))))
+      at (suc n) e = absurd (omega (arith, low, before.base, held_from old.rate old.pool.region (leaf id kind h) x (is.held, (tt, tt), is.agrees) (omega (arith, own_of_leaf id kind h x, e))))
 
   put_agrees : AgreesOn (left_live b target old) us ws
   unfolding AgreesOn

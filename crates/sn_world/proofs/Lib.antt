@@ -17,6 +17,7 @@ pub mod Changes
 pub mod DefsLemmas
 pub mod OpeningLaws
 pub mod Inserting
+pub mod HeldKinds
 pub mod Replacing
 pub mod SettleLaws
 pub mod SettleWalks

@@ -51,7 +51,7 @@ opens_pictured rate memory clients n stage o some small bounded fits = record {
   base = rw o.pool refl;
   bounded = rw o.pool bounded;
   fits = rw o.pool (omega (arith, fits, length-replicate {A = ℕ} n 0));
-  synths = rw o.tree (tt, (tt, tt));
+  synths = rw o.tree (tt, (tt, tt), refl);
   buffers = opening_are stage.pool.region stage.buffers o.buffers;
   live = λ e some. rw (o.pool, o.tree, opening_live stage.buffers o.buffers) (no-times e);
   apart = λ x. rw (o.tree, opening_live stage.buffers o.buffers) (omega arith);

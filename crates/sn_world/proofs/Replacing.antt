@@ -21,6 +21,7 @@ use Rattle.sn_world.specs.NewNodes.{action_for, replaces, left_by, gone_by}
 use Rattle.sn_world.proofs.Counting.{amount-none, amount-put, amount-leaf, amount-without, overlaps-amount, times-amount}
 use Rattle.sn_mem.proofs.BufferWords.{AgreesOn}
 use Rattle.sn_world.proofs.Walking.{parts_of, same_content, same_label, same_node, same_nodes}
+use Rattle.sn_world.proofs.HeldKinds.{kind-below}
 
 -- ---- the action
 
@@ -59,8 +60,8 @@ held-without rate region id (node l below after) h =
     cond_both (int_eq l.id id) after (if holds id below then node l (without id below) after else node l below (without id after)) (AreHeld rate region)
     (λ _. h.1.1)
     (λ _. cond_both (holds id below) (node l (without id below) after) (node l below (without id after)) (AreHeld rate region)
-    (λ _. (h.0, (held-without rate region id below h.1.0, h.1.1)))
-    (λ _. (h.0, (h.1.0, held-without rate region id after h.1.1))))
+    (λ e. (h.0, (held-without rate region id below h.1.0, h.1.1), kind-below l.kind l.payload below (without id below) id h.2 e))
+    (λ _. (h.0, (h.1.0, held-without rate region id after h.1.1), h.2)))
 
 pub held-left : (rate : ℕ) (region : Extent) (b : Bool) (target : ℤ) (t : Nodes Held) → AreHeld rate region t → AreHeld rate region (left_by b target t)
 held-left rate region true target t h = held-without rate region target t h

@@ -17,6 +17,7 @@ use Rattle.sn_world.specs.declared.stage.Stage.{Stage}
 use Rattle.sn_world.specs.Nodes.{Content}
 use Rattle.sn_world.specs.Pictures.{Pictures, held_extents, live_held, AreHeld}
 use Rattle.sn_world.specs.World.{Turn, world_of}
+use Rattle.sn_world.proofs.HeldKinds.{kind-below}
 
 -- ---- a node is seen where it is there
 
@@ -56,8 +57,8 @@ held-turned rate region id on (node l below after) h =
     cond_both (int_eq l.id id) (node (with_running on l) below after) (if holds id below then node l (changed id (with_running on) below) after else node l below (changed id (with_running on) after)) (AreHeld rate region)
     (λ _. h)
     (λ _. cond_both (holds id below) (node l (changed id (with_running on) below) after) (node l below (changed id (with_running on) after)) (AreHeld rate region)
-    (λ _. (h.0, (held-turned rate region id on below h.1.0, h.1.1)))
-    (λ _. (h.0, (h.1.0, held-turned rate region id on after h.1.1))))
+    (λ e. (h.0, (held-turned rate region id on below h.1.0, h.1.1), kind-below l.kind l.payload below (changed id (with_running on) below) id h.2 e))
+    (λ _. (h.0, (h.1.0, held-turned rate region id on after h.1.1), h.2)))
 
 pub live-turned : (id : ℤ) (on : Bool) (t : Nodes Held) → live_held (changed id (with_running on) t) ≡ live_held t
 live-turned id on none = refl

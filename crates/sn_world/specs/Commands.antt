@@ -1,5 +1,5 @@
 -- What a message does, whichever command it is.
-use Rattle.std.specs.Prelude.{◌≡◌, ℕ, zero, suc, ◌-◌, Bool, true, is_none, List, [], Option, Some, None, Result, Ok, Err, if◌then◌else◌, codes}
+use Rattle.std.specs.Prelude.{◌≡◌, ℕ, zero, suc, ◌-◌, Bool, true, false, is_none, List, [], Option, Some, None, Result, Ok, Err, if◌then◌else◌, codes}
 use Rattle.std.specs.Str.{bytes_eq}
 use Rattle.sn_osc.specs.Shape.{Argument, BodyShape, bare, arguments, foreign, MessageShape}
 use Rattle.sn_osc.specs.Reading.{read}
@@ -7,7 +7,6 @@ use Rattle.sn_reply.specs.declared.reason.Reason.{Reason}
 use Rattle.sn_reply.specs.declared.reason.Reason.TheVariants.{UnknownCommand, ArgumentType, Arguments}
 use Rattle.sn_reply.specs.Failing.{fail_message}
 use Rattle.sn_tree.specs.declared.node.Action.TheVariants.{Head, Tail, Before, After}
-use Rattle.sn_tree.specs.declared.node.NodeKind.TheVariants as kinds
 use Rattle.sn_world.specs.declared.command.BusCommand.{BusCommand}
 use Rattle.sn_world.specs.declared.command.BusCommand.TheVariants as buses
 use Rattle.sn_world.specs.declared.command.NodeCommand.{NodeCommand}
@@ -211,8 +210,8 @@ node_row nodes.SetControls = set_controls_row
 node_row nodes.SetRuns = set_runs_row
 node_row nodes.FillRuns = fill_runs_row
 node_row nodes.MapControls = map_row
-node_row nodes.NewGroup = group_row kinds.Group
-node_row nodes.NewParallel = group_row kinds.Parallel
+node_row nodes.NewGroup = group_row false
+node_row nodes.NewParallel = group_row true
 node_row nodes.Free = free_row
 node_row nodes.FreeAll = free_all_row
 node_row nodes.DeepFree = deep_free_row

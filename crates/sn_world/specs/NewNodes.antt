@@ -5,6 +5,7 @@ use Rattle.sn_osc.specs.Shape.{Argument, int, string, blob}
 use Rattle.sn_reply.specs.declared.reason.Reason.{Reason}
 use Rattle.sn_reply.specs.declared.reason.Reason.TheVariants as Reasons
 use Rattle.sn_tree.specs.declared.node.NodeKind.{NodeKind}
+use Rattle.sn_tree.specs.declared.node.NodeKind.TheVariants as kinds
 use Rattle.sn_tree.specs.declared.node.Action.{Action}
 use Rattle.sn_tree.specs.declared.node.Action.TheVariants.{Head, Tail, Before, After}
 use Rattle.sn_tree.specs.declared.node.NodeView.{NodeView}
@@ -108,12 +109,17 @@ new_node (int id) (blob b) z = None
 new_node (string s) y z = None
 new_node (blob b) y z = None
 
-abbrev pub of_kind : NodeKind → Option NewNode → Option NewGroup
-of_kind kind None = None
-of_kind kind (Some r) = Some (record { kind = kind; node = r })
+-- the kind of a group, by whether its members may be rendered beside each other
+abbrev pub group_kind : Bool → NodeKind
+group_kind false = kinds.Group
+group_kind true = kinds.Parallel
 
-abbrev pub new_group : NodeKind → Argument → Argument → Argument → Option NewGroup
-new_group kind x y z = of_kind kind (new_node x y z)
+abbrev pub of_kind : Bool → Option NewNode → Option NewGroup
+of_kind parallel None = None
+of_kind parallel (Some r) = Some (record { parallel = parallel; node = r })
+
+abbrev pub new_group : Bool → Argument → Argument → Argument → Option NewGroup
+new_group parallel x y z = of_kind parallel (new_node x y z)
 
 abbrev pub judge_group : World → NewGroup → Option Reason
 judge_group w r = node_refusal (id_for w.next_id r.node.id) r.node.action r.node.target w.nodes
@@ -127,7 +133,7 @@ act_with kind r None t = t
 act_with kind r (Some id) t = told Went id (record (told_replaced r t) { world = with_group kind r id t.world })
 
 abbrev pub act_group : NewGroup → Turn → Turn
-act_group r t = act_with r.kind r.node (id_for t.world.next_id r.node.id) t
+act_group r t = act_with (group_kind r.parallel) r.node (id_for t.world.next_id r.node.id) t
 
-abbrev pub group_row : NodeKind → ℕ → List Argument → Turn → Result Turn Reason
-group_row kind from xs = row judge_group act_group (some_of (triples (new_group kind) xs))
+abbrev pub group_row : Bool → ℕ → List Argument → Turn → Result Turn Reason
+group_row parallel from xs = row judge_group act_group (some_of (triples (new_group parallel) xs))

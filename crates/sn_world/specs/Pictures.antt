@@ -1,5 +1,5 @@
 -- When a stage and its words stand for a world.
-use Rattle.std.specs.Prelude.{◌≡◌, ◌≤◌, ◌<◌, ◌+◌, ℕ, true, ◌++◌, List, [], ◌∷◌, length, slice_index, Option, None}
+use Rattle.std.specs.Prelude.{◌≡◌, ◌≤◌, ◌<◌, ◌+◌, ℕ, Bool, true, false, ◌++◌, List, [], ◌∷◌, length, slice_index, Option, None}
 use Rattle.sn_mem.specs.declared.extents.Extent.{Extent}
 use Rattle.sn_mem.specs.declared.extents.Foot.{Foot}
 use Rattle.sn_mem.specs.Words.{writes}
@@ -9,6 +9,8 @@ use Rattle.sn_def.specs.Definition.{Definition}
 use Rattle.sn_def.specs.StateWords.{state_words}
 use Rattle.sn_pool.specs.Pools.{LiesIn, times}
 use Rattle.sn_synth.specs.Conditions.{AreControlsOf}
+use Rattle.sn_tree.specs.declared.node.NodeKind.{NodeKind}
+use Rattle.sn_tree.specs.declared.node.NodeKind.TheVariants as kinds
 use Rattle.sn_tree.specs.Trees.{Nodes, none, node}
 use Rattle.sn_world.specs.declared.stage.Held.{Held}
 use Rattle.sn_world.specs.declared.stage.Held.TheVariants as held
@@ -46,9 +48,19 @@ abbrev pub IsApart : List (Option BufferPlace) → Held → Type 0
 IsApart places held.Group = Unit {0}
 IsApart places (held.Synth def controls state) = AreApart state places
 
+abbrev pub has_synth : Held → Bool
+has_synth held.Group = false
+has_synth (held.Synth def controls state) = true
+
+-- a node is a synth by its kind exactly if it holds one, and no node stands below a synth
+abbrev pub KindAgrees : NodeKind → Held → Nodes Held → Type 0
+KindAgrees kinds.Synth h below = (has_synth h ≡ true) × (below ≡ none)
+KindAgrees kinds.Group h below = has_synth h ≡ false
+KindAgrees kinds.Parallel h below = has_synth h ≡ false
+
 abbrev pub AreHeld : ℕ → Extent → Nodes Held → Type 0
 AreHeld rate region none = Unit {0}
-AreHeld rate region (node label below after) = IsHeld rate region label.payload × (AreHeld rate region below × AreHeld rate region after)
+AreHeld rate region (node label below after) = IsHeld rate region label.payload × (AreHeld rate region below × AreHeld rate region after) × KindAgrees label.kind label.payload below
 
 -- The pool gives from the words behind the buses. Each extent with a word is live in it as often as it is that of a synth or a buffer,
 -- and no word is that of two of them.

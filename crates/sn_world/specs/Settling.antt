@@ -118,13 +118,12 @@ paused_at id view t =
 abbrev pub freed_at : ℤ → NodeView → Turn → Turn
 freed_at id view t = told_all (notice.End (place_of id view) ∷ []) (record t { world = record t.world { nodes = without id t.world.nodes } })
 
--- Action 1 pauses and action 2 frees. Nothing is done with a synth that is there no more. The root is a group, so no
--- ending names it.
+-- Action 1 pauses and action 2 frees. Nothing is done with a synth that is there no more.
 abbrev pub acted_at : Ending → Option NodeView → Turn → Turn
 acted_at e None t = t
 acted_at e (Some view) t =
     if int_eq e.action (pos 1) then paused_at e.node view t
-    else if int_eq e.action (pos 2) then (if int_eq e.node (pos 0) then t else freed_at e.node view t)
+    else if int_eq e.action (pos 2) then freed_at e.node view t
     else t
 
 abbrev pub acted : Ending → Turn → Turn

@@ -1,5 +1,3 @@
-use sn_tree::NodeKind;
-
 /// The number of a control bus.
 #[derive(Clone, Copy, Debug, PartialEq, Eq)]
 pub struct BusNumber {
@@ -36,10 +34,10 @@ pub struct NewNode {
     pub target: i32,
 }
 
-/// A group that is made, and of which kind: a plain one, or one whose members may be rendered beside each other.
+/// A group that is made, and whether its members may be rendered beside each other.
 #[derive(Clone, Copy, Debug, PartialEq, Eq)]
 pub struct NewGroup {
-    pub kind: NodeKind,
+    pub parallel: bool,
     pub node: NewNode,
 }
 

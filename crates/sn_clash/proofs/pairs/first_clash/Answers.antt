@@ -6,7 +6,7 @@ use Rattle.sn_foot.specs.declared.resource.Resource.{Resource}
 use Rattle.sn_clash.specs.declared.clash.Clash.{Clash}
 use Rattle.sn_foot.specs.Footprints.{is_there}
 use Rattle.sn_clash.specs.Clashing.{clashes_among, clashes_with}
-use Rattle.sn_clash.specs.Using.{listed}
+use Rattle.sn_clash.specs.Marking.{listed}
 use Rattle.sn_clash.specs.Passing.{member_of, members_of}
 use Rattle.sn_clash.proofs.Members.{no_pair, some_pair}
 use Rattle.sn_clash.proofs.pairs.first_clash.Goals as goal

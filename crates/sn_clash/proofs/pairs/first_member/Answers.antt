@@ -1,11 +1,11 @@
 use Rattle.std.proofs.Common.{◌≡◌, ◌≤◌, ◌∙◌, ◌+◌, ℕ, Bool, List, ap, refl, sym, subst, arith, length, take}
 use Rattle.std.specs.List.{list_any}
 use Rattle.sn_foot.specs.declared.resource.Resource.{Resource}
-use Rattle.sn_clash.specs.declared.uses.Use.{Use}
+use Rattle.sn_foot.specs.declared.uses.Use.{Use}
 use Rattle.sn_clash.specs.declared.marks.Mark.{Mark}
 use Rattle.sn_foot.specs.Footprints.{clash_on, is_there}
 use Rattle.sn_clash.specs.Clashing.{resources}
-use Rattle.sn_clash.specs.Using.{footprint_in}
+use Rattle.sn_foot.specs.Uses.{footprint_in}
 use Rattle.sn_clash.specs.Marking.{mark_uses, marked_in}
 use Rattle.sn_clash.specs.Passing.{members_of, no_use}
 use Rattle.sn_clash.proofs.Marking.{long_uses, nothing_marked, together}

@@ -5,10 +5,10 @@ use Rattle.std.proofs.lemmas.Int.{to_z-of_z}
 use Rattle.sn_foot.specs.declared.resource.Resource.{Resource}
 use Rattle.sn_foot.specs.Footprints.{Footprint, clash_on, is_there}
 use Rattle.sn_clash.specs.declared.clash.Clash.{Clash}
-use Rattle.sn_clash.specs.declared.uses.Use.{Use}
+use Rattle.sn_foot.specs.declared.uses.Use.{Use}
 use Rattle.sn_clash.specs.declared.entry.Entry.{Entry}
 use Rattle.sn_clash.specs.Clashing.{Member, clashes_with, resources}
-use Rattle.sn_clash.specs.Using.{footprint_in}
+use Rattle.sn_foot.specs.Uses.{footprint_in}
 use Rattle.sn_clash.specs.Marking.{marked_in}
 use Rattle.sn_clash.specs.Passing.{member_of, members_of}
 use Rattle.sn_clash.proofs.Members.{past_member, with_member}

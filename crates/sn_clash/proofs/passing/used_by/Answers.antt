@@ -1,6 +1,6 @@
 use Rattle.std.proofs.Common.{◌∙◌, List, ap}
-use Rattle.sn_clash.specs.declared.uses.Use.{Use}
-use Rattle.sn_clash.specs.Putting.{put_held}
+use Rattle.sn_foot.specs.declared.uses.Use.{Use}
+use Rattle.sn_foot.specs.Putting.{put_held}
 use Rattle.sn_clash.proofs.Putting.{own_use}
 use Rattle.sn_clash.proofs.passing.used_by.Goals as goal
 

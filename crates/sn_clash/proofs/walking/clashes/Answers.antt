@@ -11,11 +11,11 @@ use Rattle.sn_clash.proofs.walking.clashes.Goals as goal
 pub returns-clause-world : goal.returns-clause-world
 returns-clause-world c =
     let stage = c.args.stage.now in
-    IfOk-weaker c.walk_groups.result (λ (found : List Clash). found ≡ clashes_in stage) (λ (found : List Clash). (words : List ℕ) → found ≡ clashes_of (world_of stage words))
-    (λ found e words. e ∙ sym (same_clashes stage words)) c.walk_groups.ensures
+    IfOk-weaker c.all_clashes.result (λ (found : List Clash). found ≡ clashes_in stage) (λ (found : List Clash). (words : List ℕ) → found ≡ clashes_of (world_of stage words))
+    (λ found e words. e ∙ sym (same_clashes stage words)) c.all_clashes.ensures
 
 pub returns-clause-small : goal.returns-clause-small
 returns-clause-small c =
     let stage = c.args.stage.now in
-    IfOk-weaker c.walk_groups.result (λ (found : List Clash). found ≡ clashes_in stage) (All IsSmall)
-    (λ found e. subst (All IsSmall) (sym e) (small_in stage)) c.walk_groups.ensures
+    IfOk-weaker c.all_clashes.result (λ (found : List Clash). found ≡ clashes_in stage) (All IsSmall)
+    (λ found e. subst (All IsSmall) (sym e) (small_in stage)) c.all_clashes.ensures

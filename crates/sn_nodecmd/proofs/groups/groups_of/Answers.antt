@@ -7,4 +7,4 @@ use Rattle.sn_nodecmd.proofs.groups.groups_of.Goals as goal
 pub returns-else-is_empty : goal.returns-else-is_empty
 returns-else-is_empty c =
     let some : 1 ≤ length c.loop-rest.rest.now = grind (arith, common_steps) in
-    sym (ap (after c.loop-rest.found.items) (triples-few (new_group c.args.kind) c.loop-rest.rest.now some (omega arith))) ∙ c.loop-rest.invariant
+    sym (ap (after c.loop-rest.found.items) (triples-few (new_group c.args.parallel) c.loop-rest.rest.now some (omega arith))) ∙ c.loop-rest.invariant

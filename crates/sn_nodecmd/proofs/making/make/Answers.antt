@@ -37,7 +37,7 @@ returns-clause-row g c =
     row_done c.args.stage.now (g.P.Port.words c.args.port.now) c.requires.pictures (request_of c.args.asked.now) (definition_of c.args.def.value) c.in-Some.node.id c.in-Some.ensures c.args.replies.now c.in_default-refusal.ensures
     c.add_synth.new.stage (g.P.Port.words c.clear.new.port) c.in_ok-controls.controls (λ s. held.Synth c.args.def c.in_ok-controls.controls s) c.in-Some-2.state c.next_after-stage.result c.add_synth.new.replies (c.in_ok-controls.ensures.set ∙ ap {B = List Control} (λ v. with_values (definition_of v) (request_of c.args.asked.now).values (defaults (definition_of v))) c.deref.ensures) c.next_after-stage.ensures
     (made_is c.in-Some.node.id c.args.asked.now.node (definition_of c.args.def.value) c.in_ok-controls.controls (λ s. held.Synth c.args.def c.in_ok-controls.controls s) c.args.stage.now c.add_synth.new.stage (g.P.Port.words c.args.port.now) (g.P.Port.words c.clear.new.port) c.in-Some-2.state
-    (record { own = refl; content = λ us. refl; held = λ rate region is. is }) (subst (λ v. AreControlsOf (definition_of v) c.in_ok-controls.controls) c.deref.ensures c.in_ok-controls.ensures.each)
+    (record { own = refl; plays = refl; content = λ us. refl; held = λ rate region is. is }) (subst (λ v. AreControlsOf (definition_of v) c.in_ok-controls.controls) c.deref.ensures c.in_ok-controls.ensures.each)
     c.in_default-refusal.ensures
     c.in_ok-state.field-0 c.in_ok-state.ensures.adds c.in-Some-2.is c.clear.ensures.words)
     (subst (λ o. TellsOf c.in-Some.node.id c.args.asked.now.node c.args.stage.now c.add_synth.new.stage c.args.replies.now c.add_synth.new.replies (Ok o)) c.in-Some-2.is c.in_ok-state.ensures.told)
@@ -47,7 +47,7 @@ returns-clause-pictures g c =
     next_pictures c.add_synth.new.stage (g.P.Port.words c.clear.new.port) c.next_after-stage.result
     (made_pictures c.in-Some.node.id c.args.asked.now.node (definition_of c.args.def.value) c.in_ok-controls.controls (λ s. held.Synth c.args.def c.in_ok-controls.controls s) c.args.stage.now c.add_synth.new.stage (g.P.Port.words c.args.port.now) (g.P.Port.words c.clear.new.port) c.in-Some-2.state
     (made_is c.in-Some.node.id c.args.asked.now.node (definition_of c.args.def.value) c.in_ok-controls.controls (λ s. held.Synth c.args.def c.in_ok-controls.controls s) c.args.stage.now c.add_synth.new.stage (g.P.Port.words c.args.port.now) (g.P.Port.words c.clear.new.port) c.in-Some-2.state
-    (record { own = refl; content = λ us. refl; held = λ rate region is. is }) (subst (λ v. AreControlsOf (definition_of v) c.in_ok-controls.controls) c.deref.ensures c.in_ok-controls.ensures.each)
+    (record { own = refl; plays = refl; content = λ us. refl; held = λ rate region is. is }) (subst (λ v. AreControlsOf (definition_of v) c.in_ok-controls.controls) c.deref.ensures c.in_ok-controls.ensures.each)
     c.in_default-refusal.ensures
     c.in_ok-state.field-0 c.in_ok-state.ensures.adds c.in-Some-2.is c.clear.ensures.words)
     c.requires.pictures)
@@ -56,7 +56,7 @@ pub returns-clause-len : goal.returns-clause-len
 returns-clause-len g c =
     made_length c.in-Some.node.id c.args.asked.now.node (definition_of c.args.def.value) c.in_ok-controls.controls (λ s. held.Synth c.args.def c.in_ok-controls.controls s) c.args.stage.now c.add_synth.new.stage (g.P.Port.words c.args.port.now) (g.P.Port.words c.clear.new.port) c.in-Some-2.state
     (made_is c.in-Some.node.id c.args.asked.now.node (definition_of c.args.def.value) c.in_ok-controls.controls (λ s. held.Synth c.args.def c.in_ok-controls.controls s) c.args.stage.now c.add_synth.new.stage (g.P.Port.words c.args.port.now) (g.P.Port.words c.clear.new.port) c.in-Some-2.state
-    (record { own = refl; content = λ us. refl; held = λ rate region is. is }) (subst (λ v. AreControlsOf (definition_of v) c.in_ok-controls.controls) c.deref.ensures c.in_ok-controls.ensures.each)
+    (record { own = refl; plays = refl; content = λ us. refl; held = λ rate region is. is }) (subst (λ v. AreControlsOf (definition_of v) c.in_ok-controls.controls) c.deref.ensures c.in_ok-controls.ensures.each)
     c.in_default-refusal.ensures
     c.in_ok-state.field-0 c.in_ok-state.ensures.adds c.in-Some-2.is c.clear.ensures.words)
     c.requires.pictures
@@ -65,7 +65,7 @@ pub returns-clause-others : goal.returns-clause-others
 returns-clause-others g c =
     made_outside c.in-Some.node.id c.args.asked.now.node (definition_of c.args.def.value) c.in_ok-controls.controls (λ s. held.Synth c.args.def c.in_ok-controls.controls s) c.args.stage.now c.add_synth.new.stage (g.P.Port.words c.args.port.now) (g.P.Port.words c.clear.new.port) c.in-Some-2.state
     (made_is c.in-Some.node.id c.args.asked.now.node (definition_of c.args.def.value) c.in_ok-controls.controls (λ s. held.Synth c.args.def c.in_ok-controls.controls s) c.args.stage.now c.add_synth.new.stage (g.P.Port.words c.args.port.now) (g.P.Port.words c.clear.new.port) c.in-Some-2.state
-    (record { own = refl; content = λ us. refl; held = λ rate region is. is }) (subst (λ v. AreControlsOf (definition_of v) c.in_ok-controls.controls) c.deref.ensures c.in_ok-controls.ensures.each)
+    (record { own = refl; plays = refl; content = λ us. refl; held = λ rate region is. is }) (subst (λ v. AreControlsOf (definition_of v) c.in_ok-controls.controls) c.deref.ensures c.in_ok-controls.ensures.each)
     c.in_default-refusal.ensures
     c.in_ok-state.field-0 c.in_ok-state.ensures.adds c.in-Some-2.is c.clear.ensures.words)
     c.requires.pictures

@@ -1,4 +1,4 @@
-use Rattle.std.proofs.Common.{◌≡◌, ℕ, List, Option, Result, subst, sym}
+use Rattle.std.proofs.Common.{◌≡◌, ℕ, true, false, List, Option, Result, subst, sym}
 use Rattle.sn_osc.specs.Shape.{Argument}
 use Rattle.sn_ports.specs.declared.failed.NoMemory.{NoMemory}
 use Rattle.sn_reply.specs.declared.reason.Reason.{Reason}
@@ -6,7 +6,6 @@ use Rattle.sn_world.specs.declared.command.NodeCommand.{NodeCommand}
 use Rattle.sn_world.specs.World.{Turn}
 use Rattle.sn_world.specs.Commands.{node_row}
 use Rattle.sn_world.specs.Answers.{Follows}
-use Rattle.sn_tree.specs.declared.node.NodeKind.TheVariants as kinds
 use Rattle.sn_world.specs.RunFlags.{run_flag, judge_run, act_run}
 use Rattle.sn_world.specs.NewNodes.{new_group, judge_group, act_group}
 use Rattle.sn_world.specs.Freeing.{node_id, judge_free, act_free}
@@ -54,7 +53,7 @@ pub returns-in_ok-groups-in-NewGroup-clause-pictures : goal.returns-in_ok-groups
 returns-in_ok-groups-in-NewGroup-clause-pictures g c = c.run-in-NewGroup.ensures.pictures (g.P.Port.words c.args.port.now) c.requires.pictures
 
 pub run-requires-in-NewGroup-clause-few : goal.run-requires-in-NewGroup-clause-few
-run-requires-in-NewGroup-clause-few g c = few_read _ _ _ c.in_ok-groups-in-NewGroup.ensures (triples-few_of (new_group kinds.Group) c.args.arguments.now) c.requires.few
+run-requires-in-NewGroup-clause-few g c = few_read _ _ _ c.in_ok-groups-in-NewGroup.ensures (triples-few_of (new_group false) c.args.arguments.now) c.requires.few
 
 pub returns-in_ok-groups-in-NewParallel-clause-row : goal.returns-in_ok-groups-in-NewParallel-clause-row
 returns-in_ok-groups-in-NewParallel-clause-row g c = for_arm _ _ _ _ c.run-in-NewParallel.result c.in-NewParallel.is (row_by judge_group act_group _ _ c.run-in-NewParallel.result _ _ c.in_ok-groups-in-NewParallel.ensures (c.run-in-NewParallel.ensures.row (g.P.Port.words c.args.port.now)))
@@ -63,7 +62,7 @@ pub returns-in_ok-groups-in-NewParallel-clause-pictures : goal.returns-in_ok-gro
 returns-in_ok-groups-in-NewParallel-clause-pictures g c = c.run-in-NewParallel.ensures.pictures (g.P.Port.words c.args.port.now) c.requires.pictures
 
 pub run-requires-in-NewParallel-clause-few : goal.run-requires-in-NewParallel-clause-few
-run-requires-in-NewParallel-clause-few g c = few_read _ _ _ c.in_ok-groups-in-NewParallel.ensures (triples-few_of (new_group kinds.Parallel) c.args.arguments.now) c.requires.few
+run-requires-in-NewParallel-clause-few g c = few_read _ _ _ c.in_ok-groups-in-NewParallel.ensures (triples-few_of (new_group true) c.args.arguments.now) c.requires.few
 
 pub returns-in_ok-singles-in-Free-clause-row : goal.returns-in_ok-singles-in-Free-clause-row
 returns-in_ok-singles-in-Free-clause-row g c = for_arm _ _ _ _ c.run-in-Free.result c.in-Free.is (row_by judge_free act_free _ _ c.run-in-Free.result _ _ c.in_ok-singles-in-Free.ensures (c.run-in-Free.ensures.row (g.P.Port.words c.args.port.now)))

@@ -1,5 +1,7 @@
 use Rattle.std.proofs.Common.{◌≤◌, ◌<◌, ◌+◌, length, drop, get_or, pos, arith, length-drop}
+use Rattle.std.proofs.lemmas.List.Elements.{All-get_or}
 use Rattle.sn_world.specs.declared.endings.Ending.{Ending}
+use Rattle.sn_settle.specs.Acting.{IsBelowRoot}
 use Rattle.sn_settle.proofs.Reading.{drop_first, drop_past}
 use Rattle.sn_settle.proofs.Acted.{acted_none, acted_next, acted_room, acted_all}
 use Rattle.sn_settle.proofs.acting.act_all.Goals as goal
@@ -9,6 +11,11 @@ loop-ending-init c = acted_none c.args.endings.now c.args.stage.now c.args.outs.
 
 pub act-requires-clause-pictures : goal.act-requires-clause-pictures
 act-requires-clause-pictures c = (c.requires.pictures.0, c.loop-ending.invariant.pictures c.requires.pictures.0 c.requires.pictures.1)
+
+pub act-requires-clause-other : goal.act-requires-clause-other
+act-requires-clause-other c =
+    let lt : c.loop-ending.ending-index < length c.args.endings.now = omega arith in
+    All-get_or IsBelowRoot c.args.endings.now c.loop-ending.ending-index (record { node = pos 0; action = pos 0 }) lt c.requires.others
 
 pub act-requires-clause-room : goal.act-requires-clause-room
 act-requires-clause-room c =

@@ -1,4 +1,4 @@
-use Rattle.std.proofs.Common.{◌≡◌, ◌≤◌, ◌*◌, ◌++◌, ◌∙◌, length, get_or, ap, sym, subst, arith, List, [], ℕ}
+use Rattle.std.proofs.Common.{◌≡◌, ◌≤◌, ◌*◌, ◌++◌, ◌∙◌, length, get_or, ap, sym, subst, arith, List, [], ℕ, All}
 use Rattle.std.proofs.lemmas.Bool.{eqb-true}
 use Rattle.sn_tree.specs.Trees.{running_labels}
 use Rattle.sn_world.specs.declared.endings.Ending.{Ending}
@@ -7,7 +7,8 @@ use Rattle.sn_world.specs.Settling.{all_acted}
 use Rattle.sn_world.specs.SettleWords.{walk_endings, settled_walk}
 use Rattle.sn_world.specs.World.{Turn, world_of}
 use Rattle.sn_settle.specs.Telling.{HaveRoom}
-use Rattle.sn_settle.specs.Acting.{IsActed}
+use Rattle.sn_settle.specs.Acting.{IsActed, IsBelowRoot}
+use Rattle.sn_settle.proofs.Rooted.{endings_below}
 use Rattle.sn_settle.proofs.Reading.{nothing, none_there}
 use Rattle.sn_settle.proofs.Sending.{room_kept}
 use Rattle.sn_settle.proofs.Settled.{long, outside_kept, ended, settled_is, all_sent, pictured, none_acted, same_words, can_look, room_to_act}
@@ -42,6 +43,14 @@ act_all-requires-clause-room g c =
     let ws = g.P.Port.words c.args.port.now in
     let are : c.as_slice-2.result.now ≡ walk_endings stage.rate (running_labels stage.tree.attached) ws = c.as_slice-2.ensures ∙ c.look_at_all.ensures.seen.noted.items ∙ ap (λ (xs : List Ending). xs ++ walk_endings stage.rate (running_labels stage.tree.attached) ws) c.clear.ensures.items in
     subst (λ (es : List Ending). HaveRoom (48 * length es) c.look_at_all.new.outs) (sym are) (room_to_act stage c.args.block ws c.requires.pictures c.args.outs.now c.look_at_all.new.outs c.requires.bytes c.look_at_all.ensures.seen.told)
+
+pub act_all-requires-clause-others : goal.act_all-requires-clause-others
+act_all-requires-clause-others g c =
+    let stage = c.args.stage.now in
+    let ws = g.P.Port.words c.args.port.now in
+    let are : c.as_slice-2.result.now ≡ walk_endings stage.rate (running_labels stage.tree.attached) ws = c.as_slice-2.ensures ∙ c.look_at_all.ensures.seen.noted.items ∙ ap (λ (xs : List Ending). xs ++ walk_endings stage.rate (running_labels stage.tree.attached) ws) c.clear.ensures.items in
+    subst (All IsBelowRoot) (sym are)
+    (endings_below stage.rate stage.pool.region stage.tree.attached ws c.requires.pictures.synths c.root_holds_all.ensures c.root_is_a_group.ensures c.root_is_on_top.ensures)
 
 pub returns-clause-world : goal.returns-clause-world
 returns-clause-world g c =

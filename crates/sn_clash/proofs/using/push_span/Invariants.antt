@@ -1,7 +1,0 @@
--- So many are put.
-use Rattle.std.proofs.Common.{◌≡◌}
-use Rattle.sn_clash.specs.Putting.{put_span}
-use Rattle.sn_clash.proofs.using.push_span.Given as goal
-
-abbrev pub invariant-loop-more : goal.invariant-loop-more
-invariant-loop-more l = l.uses.items ≡ put_span l.access l.bank l.first l.more l.fn.uses.items

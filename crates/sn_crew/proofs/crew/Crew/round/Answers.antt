@@ -1,0 +1,53 @@
+use Rattle.std.proofs.Common.{rules, ◌≡◌, ◌∙◌, length, sym, ap, subst}
+use Rattle.sn_machine.specs.declared.views.View.{View}
+use Rattle.sn_machine.specs.States.{memory_in}
+use Rattle.sn_machine.specs.Steps.{last_list, split_worker}
+use Rattle.sn_round.specs.Scripts.{list_at, sequential}
+use Rattle.sn_table.specs.Answers.{main_view}
+use Rattle.sn_table.specs.Sweeps.{Serves}
+use Rattle.sn_table.proofs.Standing.{serves_gone, serves_on}
+use Rattle.sn_crew.proofs.Ending.{rounded_since}
+use Rattle.sn_crew.proofs.crew.Crew.round.Goals as goal
+
+pub seat_all-requires-clause-work : goal.seat_all-requires-clause-work
+seat_all-requires-clause-work g c κs within =
+    let W = g.W.Work in
+    let n = W.jobs c.args.work.now in
+    let feet = W.foot_of c.args.work.now in
+    let f = W.outcome c.args.work.now in
+    let m = main_view c.arm.new.main in
+    subst (λ (v : View). Serves n feet f (split_worker v)) (sym c.go.ensures.step) (serves_gone n feet f m c.args.plan.now (memory_in m.main.phase) c.requires.work)
+
+pub finish-requires-clause-work : goal.finish-requires-clause-work
+finish-requires-clause-work g c κs within =
+    let W = g.W.Work in
+    let n = W.jobs c.args.work.now in
+    let feet = W.foot_of c.args.work.now in
+    let f = W.outcome c.args.work.now in
+    let m = main_view c.arm.new.main in
+    let first = subst (λ (v : View). Serves n feet f (split_worker v)) (sym c.go.ensures.step) (serves_gone n feet f m c.args.plan.now (memory_in m.main.phase) c.requires.work) in
+    let a = main_view c.go.new.main in
+    let b = main_view c.seat_all.new.main in
+    let e = main_view c.join_all.new.main in
+    serves_on n feet f b e _ _ c.join_all.ensures.stands (serves_on n feet f a b _ _ c.seat_all.ensures.stands first)
+
+pub returns-clause-round : goal.returns-clause-round
+returns-clause-round g c =
+    let f = g.W.Work.outcome c.args.work.now in
+    let jobs = c.args.plan.now in
+    let n = length jobs in
+    let last = λ (v : View). last_list v.main.phase in
+    let rested = λ (v : View). v.main.rested in
+    let stores = λ (v : View). v.main.stores in
+    let joined = c.join_all.ensures.stands in
+    let seated = c.seat_all.ensures.stands in
+    let size : length c.join_all.new.hands ≡ length c.args.self.now.hands.items = search rules in
+    rounded_since (main_view c.args.main.now) (main_view c.join_all.new.main) (main_view c.finish.new.main) jobs _ _ _ _
+    (joined.rested ∙ (seated.rested ∙ (ap rested c.go.ensures.step ∙ ap rested c.arm.ensures.step)))
+    (joined.stores ∙ (seated.stores ∙ (ap stores c.go.ensures.step ∙ ap stores c.arm.ensures.step)))
+    (ap last_list joined.phase
+    ∙ (ap last_list seated.phase
+    ∙ (ap last c.go.ensures.step
+    ∙ ap (λ (v : View). list_at (sequential f n (memory_in v.main.phase)) n) c.arm.ensures.step)))
+    size
+    c.finish.ensures.round

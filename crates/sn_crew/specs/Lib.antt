@@ -1,0 +1,4 @@
+pub mod Deques
+pub mod Hands
+pub mod Looks
+pub mod Rounded

@@ -1,0 +1,122 @@
+//! One worker's deque, with ways to take from those of the others.
+ghost use Rattle.std.specs.Prelude.{◌≡◌, ◌+◌, ◌<◌, ◌≤◌, ◌^◌, length, IfOk};
+ghost use Rattle.sn_crew.specs.Looks.{FitsJobs};
+
+use crate::deques::{OtherDeque, OwnDeque, give, pop};
+use crate::hints::{Counts, Hints, Look};
+use crossbeam_deque::Steal;
+use sn_ports::NoMemory;
+use std::alloc::Global;
+
+/// No deque has more hints: a round has at most so many jobs, and each becomes ready once.
+const MOST_HINTS: u32 = 65536;
+
+/// One worker's deque, with ways to take from those of the others. `Empty` says that the deque was empty at one moment
+/// of the call, and `Again` that a steal met another one.
+#[derive(Drop)]
+pub struct DequeHints {
+    own: OwnDeque,
+    // The number of its own deque.
+    place: u32,
+    others: Vec<OtherDeque>,
+    pub(crate) counts: Vec<Counts>,
+    ghost one_each: { length counts.items ≡ length others.items + 1 },
+    ghost placed: { place < length counts.items },
+    ghost few: { length counts.items < 2 ^ 32 },
+}
+
+/// Whether a hint is a job of the round.
+fn judge(hint: u32, jobs: u32) -> Look
+    ensures { FitsJobs jobs result }
+{
+    if hint < jobs {
+        Look::Hint(hint)
+    } else {
+        Look::Stray(hint)
+    }
+}
+
+impl DequeHints {
+    /// A worker's own deque, which has this number, and the others in their order.
+    pub(crate) fn of(
+        alloc: Global,
+        own: OwnDeque,
+        place: u32,
+        others: Vec<OtherDeque>,
+    ) -> Result<DequeHints, NoMemory>
+        requires place { place ≤ length others.items }
+        requires few { length others.items < 16 }
+        ensures { IfOk result (λ h. length h.counts.items ≡ length others.items + 1) }
+    {
+        let none = Counts {
+            empties: 0,
+            agains: 0,
+            strays: 0,
+        };
+        let counts = Vec::from_elem(alloc, none, others.len() + 1)?;
+        Ok(DequeHints {
+            own,
+            place,
+            others,
+            counts,
+        })
+    }
+
+    /// Puts a hint at the end of its own deque. If there is no memory for it, it is dropped. It answers whether it was
+    /// put.
+    pub(crate) fn give(&mut self, hint: u32) -> bool
+        requires { hint < 65536 }
+        ensures { self.new.counts ≡ self.old.counts }
+    {
+        give(&mut self.own, hint)
+    }
+
+    /// Drops the hints that an earlier round has left in its own deque.
+    pub(crate) fn clear(&mut self)
+        ensures { self.new.counts ≡ self.old.counts }
+    {
+        for _ in 0..MOST_HINTS {
+            if pop(&mut self.own).is_none() {
+                return;
+            }
+        }
+    }
+
+    fn find(&mut self, deque: u32, jobs: u32) -> Look
+        requires { deque < length self.old.counts.items }
+        ensures answer { FitsJobs jobs result }
+        ensures counts { self.new.counts ≡ self.old.counts }
+    {
+        if deque == self.place {
+            return match pop(&mut self.own) {
+                Some(hint) => judge(hint, jobs),
+                None => Look::Empty,
+            };
+        }
+        let at = if deque < self.place { deque } else { deque - 1 };
+        match self.others[at as usize].steal() {
+            Steal::Success(hint) => judge(hint, jobs),
+            Steal::Empty => Look::Empty,
+            Steal::Retry => Look::Again,
+        }
+    }
+}
+
+impl Hints for DequeHints {
+    ghost use Rattle.std.specs.Prelude.{length, slice_index_or};
+    ghost use Rattle.sn_crew.specs.Looks.{no_counts};
+
+    ghost size = { λ h. length h.counts.items };
+
+    ghost counts = { λ h e. slice_index_or h.counts.items e no_counts };
+
+    fn deques(&self) -> u32 {
+        self.counts.len() as u32
+    }
+
+    fn look(&mut self, deque: u32, jobs: u32) -> Look {
+        let found = self.find(deque, jobs);
+        self.counts[deque as usize].raise(&found);
+        found
+    }
+}

@@ -1,0 +1,45 @@
+//! Laws of changes of words that see and change a foot alone, and of units that do.
+ghost use Rattle.std.specs.Prelude.{◌≡◌, ℕ, List, ℤ, Option};
+ghost use Rattle.sn_def.specs.declared.kind.Kind.{Kind};
+ghost use Rattle.sn_def.specs.declared.control.Now.{Now};
+ghost use Rattle.sn_mem.specs.declared.extents.Foot.{Foot};
+ghost use Rattle.sn_mem.specs.declared.buffers.BufferPlace.{BufferPlace};
+ghost use Rattle.sn_mem.specs.Words.{MayWrite, touches};
+ghost use Rattle.sn_mem.specs.Frames.{framed};
+ghost use Rattle.sn_io.specs.ByFoot.{Agree, BlocksAgree, IsByFoot, IsPart};
+ghost use Rattle.sn_io.specs.OverWords.{bus_unit_over};
+ghost use Rattle.sn_io.specs.BuffersOverWords.{buffer_unit_over};
+ghost use Rattle.sn_io.specs.Conditions.{MayReach, MayReachBuffer};
+
+/// A law: a change that sees and changes a foot alone is the same if it is kept to the foot.
+pub fn kept_to_its_foot()
+    ensures { (f : Foot) (change : List ℕ → List ℕ) (ws : List ℕ) → IsByFoot f change → framed f change ws ≡ change ws }
+{}
+
+/// A law: any change that is kept to a foot sees and changes the foot alone.
+pub fn framed_by_foot()
+    ensures { (f : Foot) (change : List ℕ → List ℕ) → IsByFoot f (framed f change) }
+{}
+
+/// A law: two changes that see and change a foot alone do so one after the other, and so does no
+/// change.
+pub fn by_foot_in_turn()
+    ensures nothing { (f : Foot) → IsByFoot f (λ ws. ws) }
+    ensures two { (f : Foot) (first second : List ℕ → List ℕ) → IsByFoot f first → IsByFoot f second → IsByFoot f (λ ws. second (first ws)) }
+{}
+
+/// A law: a change that sees and changes a part of a foot alone sees and changes the foot alone.
+pub fn by_wider_foot()
+    ensures { (part whole : Foot) (change : List ℕ → List ℕ) → IsPart part whole → IsByFoot part change → IsByFoot whole change }
+{}
+
+/// A law: if words agree where a foot may touch them, and the foot has what a unit on buses reaches,
+/// they agree there after the unit's block, and its outputs are the same.
+pub fn bus_unit_by_foot()
+    ensures { (kind : Kind) (now : Now) (f : Foot) (n : ℕ) (us ws : List ℕ) (at len : ℕ) (inputs : List (List ℤ)) → MayWrite f at len → MayReach kind f n inputs → Agree (touches f) us ws → BlocksAgree (touches f) (bus_unit_over kind now n us at len inputs) (bus_unit_over kind now n ws at len inputs) }
+{}
+
+/// A law: the same for a unit on a buffer.
+pub fn buffer_unit_by_foot()
+    ensures { (kind : Kind) (now : Now) (f : Foot) (n : ℕ) (places : List (Option BufferPlace)) (us ws : List ℕ) (at len : ℕ) (inputs : List (List ℤ)) → MayWrite f at len → MayReachBuffer kind f inputs places → Agree (touches f) us ws → BlocksAgree (touches f) (buffer_unit_over kind now n places us at len inputs) (buffer_unit_over kind now n places ws at len inputs) }
+{}

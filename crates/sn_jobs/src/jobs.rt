@@ -1,0 +1,41 @@
+//! Jobs that are put one after another.
+ghost use Rattle.std.specs.Prelude.{◌≡◌, ◌<◌, ◌≤◌, ◌+◌, ℕ, true, IfOk, OnOk, length};
+ghost use Rattle.std.specs.List.{All};
+ghost use Rattle.sn_round.specs.Jobs.{AreJobs, times};
+
+use sn_ports::NoMemory;
+use sn_round::Job;
+use std::alloc::Global;
+
+/// No jobs.
+#[tactic(auto, using(crate::proofs::Rising::no_jobs_are))]
+pub fn no_jobs(alloc: Global) -> Vec<Job>
+    ensures { AreJobs result.items }
+{
+    Vec::new(alloc)
+}
+
+/// Whether numbers rise, from one on and below another.
+fn rise(from: u32, end: u32, numbers: &[u32]) -> bool
+    ensures from { result ≡ true → All (λ n. from ≤ n) numbers.now }
+    ensures below { result ≡ true → All (λ n. n < end) numbers.now }
+    ensures once { result ≡ true → (n : ℕ) → times n numbers.now ≤ 1 }
+{
+    match numbers {
+        [] => true,
+        [first, rest @ ..] => from <= *first && *first < end && rise(*first + 1, end, rest),
+    }
+}
+
+/// Puts a job at the end, where its predecessors stand before it. It answers whether they do.
+#[tactic(auto, using(crate::proofs::Rising::jobs_more))]
+pub fn put(jobs: &mut Vec<Job>, job: Job) -> Result<bool, NoMemory>
+    requires jobs { AreJobs jobs.old.items }
+    ensures jobs { AreJobs jobs.new.items }
+{
+    if jobs.len() > 1000 || !rise(0, jobs.len() as u32, job.before.as_slice()) {
+        return Ok(false);
+    }
+    jobs.push(job)?;
+    Ok(true)
+}

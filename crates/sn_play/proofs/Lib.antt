@@ -1,0 +1,9 @@
+pub mod Among
+pub mod Walked
+pub mod JobFeet
+pub mod PlanWalk
+pub mod Stages
+pub mod Finding
+pub mod Named
+pub mod Copied
+pub mod JobRuns

@@ -1,0 +1,5 @@
+use Rattle.sn_play.proofs.Stages.{feet_suffice}
+use Rattle.sn_play.proofs.laws.job_feet_suffice.Goals as goal
+
+pub returns : goal.returns
+returns c = λ js i words p planned lt. feet_suffice c.args.stage.now c.root_holds_all.ensures words p js planned i lt

@@ -1,0 +1,162 @@
+//! Nodes that run by their ids, one after the other.
+ghost use Rattle.std.specs.Prelude.{◌≡◌, ◌<◌, ◌^◌, length};
+ghost use Rattle.std.specs.List.{All};
+ghost use Rattle.sn_io.specs.ByFoot.{IsByFoot};
+ghost use Rattle.sn_world.specs.WalkWords.{held_words};
+ghost use Rattle.sn_play.specs.Named.{CanRun, held_at, words_by_ids};
+
+use sn_def::Now;
+use sn_mem::{BUS_WORDS, Foot, LocalPort, Port, Scratch};
+use sn_synth::run_synth;
+use sn_world::{Held, Stage};
+use std::mem;
+
+/// Runs what a node holds by itself.
+fn run_held<P: Port>(
+    port: &mut P,
+    stage: &Stage,
+    block: u64,
+    node: i32,
+    held: &Held,
+    scratch: &mut Scratch,
+)
+    requires rate { 0 < stage.now.rate }
+    requires base { stage.now.pool.region.at ≡ 10368 }
+    requires block { block < 2 ^ 63 }
+    requires held { CanRun stage.now (P.foot port.old) held.now }
+    ensures words { P.words port.new ≡ held_words stage.now.rate block node stage.now.buffers held.now (P.words port.old) }
+    ensures foot { P.foot port.new ≡ P.foot port.old }
+    ensures rest { P.rest port.new ≡ P.rest port.old }
+{
+    match held {
+        Held::Group => {}
+        Held::Synth {
+            def,
+            controls,
+            state,
+        } => {
+            let now = Now {
+                rate: stage.rate,
+                block,
+                node,
+                unit: 0,
+            };
+            run_synth(port, def, controls, &stage.buffers, *state, scratch, &now);
+        }
+    }
+}
+
+/// Runs the attached node of an id, which may stand at a place.
+fn run_node<P: Port>(
+    port: &mut P,
+    stage: &Stage,
+    block: u64,
+    node: i32,
+    place: u32,
+    scratch: &mut Scratch,
+)
+    requires rate { 0 < stage.now.rate }
+    requires base { stage.now.pool.region.at ≡ 10368 }
+    requires block { block < 2 ^ 63 }
+    requires held { CanRun stage.now (P.foot port.old) (held_at stage.now node) }
+    ensures words { P.words port.new ≡ held_words stage.now.rate block node stage.now.buffers (held_at stage.now node) (P.words port.old) }
+    ensures foot { P.foot port.new ≡ P.foot port.old }
+    ensures rest { P.rest port.new ≡ P.rest port.old }
+{
+    match stage.tree.payload_near(node, place) {
+        Some(held) => run_held(port, stage, block, node, held, scratch),
+        None => {}
+    }
+}
+
+/// Runs the attached nodes of some ids for a block, in order. The first of them may stand at the
+/// first of the places, and so on.
+fn run_nodes<P: Port>(
+    port: &mut P,
+    stage: &Stage,
+    block: u64,
+    nodes: &[i32],
+    places: &[u32],
+    scratch: &mut Scratch,
+)
+    requires rate { 0 < stage.now.rate }
+    requires base { stage.now.pool.region.at ≡ 10368 }
+    requires block { block < 2 ^ 63 }
+    requires nodes { All (λ id. CanRun stage.now (P.foot port.old) (held_at stage.now id)) nodes.now }
+    ensures words { P.words port.new ≡ words_by_ids stage.now block nodes.now (P.words port.old) }
+    ensures foot { P.foot port.new ≡ P.foot port.old }
+    ensures rest { P.rest port.new ≡ P.rest port.old }
+{
+    for (number, node) in nodes.iter().enumerate() {
+        let place = places.get(number).copied().unwrap_or(0);
+        run_node(port, stage, block, *node, place, scratch);
+    }
+}
+
+/// The same, with the words of the buses in a copy while the nodes run.
+fn run_in_copy<P: Port>(
+    port: &mut P,
+    foot: &Foot,
+    stage: &Stage,
+    block: u64,
+    nodes: &[i32],
+    places: &[u32],
+    copy: &mut [u64],
+    scratch: &mut Scratch,
+)
+    requires rate { 0 < stage.now.rate }
+    requires base { stage.now.pool.region.at ≡ 10368 }
+    requires block { block < 2 ^ 63 }
+    requires size { length copy.old < 2 ^ 32 }
+    requires foot { foot.now ≡ P.foot port.old }
+    requires nodes { All (λ id. CanRun stage.now (P.foot port.old) (held_at stage.now id)) nodes.now }
+    requires by_foot { IsByFoot (P.foot port.old) (words_by_ids stage.now block nodes.now) }
+    ensures words { P.words port.new ≡ words_by_ids stage.now block nodes.now (P.words port.old) }
+    ensures foot { P.foot port.new ≡ P.foot port.old }
+    ensures rest { P.rest port.new ≡ P.rest port.old }
+{
+    let mut local = LocalPort::new(port, foot, copy);
+    run_nodes(&mut local, stage, block, nodes, places, scratch);
+    local.flush(foot);
+}
+
+/// Runs the nodes of a job: one alone over the port itself, several with the words of the buses in
+/// the scratch. Over a port of the job's foot this is the same.
+pub fn run_job<P: Port>(
+    port: &mut P,
+    foot: &Foot,
+    stage: &Stage,
+    block: u64,
+    nodes: &[i32],
+    places: &[u32],
+    scratch: &mut Scratch,
+)
+    requires rate { 0 < stage.now.rate }
+    requires base { stage.now.pool.region.at ≡ 10368 }
+    requires block { block < 2 ^ 63 }
+    requires foot { foot.now ≡ P.foot port.old }
+    requires nodes { All (λ id. CanRun stage.now (P.foot port.old) (held_at stage.now id)) nodes.now }
+    requires by_foot { IsByFoot (P.foot port.old) (words_by_ids stage.now block nodes.now) }
+    ensures words { P.words port.new ≡ words_by_ids stage.now block nodes.now (P.words port.old) }
+    ensures foot { P.foot port.new ≡ P.foot port.old }
+    ensures rest { P.rest port.new ≡ P.rest port.old }
+{
+    if nodes.len() < 2 {
+        run_nodes(port, stage, block, nodes, places, scratch);
+        return;
+    }
+    let alloc = *scratch.buses.allocator();
+    let mut buses = mem::replace(&mut scratch.buses, Vec::new(alloc));
+    let size = buses.len().min(BUS_WORDS);
+    run_in_copy(
+        port,
+        foot,
+        stage,
+        block,
+        nodes,
+        places,
+        &mut buses[..size],
+        scratch,
+    );
+    scratch.buses = buses;
+}

@@ -1,0 +1,5 @@
+pub mod Places
+pub mod Lasts
+pub mod Orders
+pub mod Listing
+pub mod Rounding

@@ -1,0 +1,58 @@
+//! Laws of unrolled plans.
+ghost use Rattle.std.specs.Prelude.{◌≡◌, ◌<◌, ◌≤◌, ◌+◌, ◌*◌, ◌^◌, ℕ, List, true, length};
+ghost use Rattle.sn_mem.specs.declared.extents.Extent.{Extent};
+ghost use Rattle.sn_mem.specs.Words.{has};
+ghost use Rattle.sn_round.specs.declared.jobs.Job.{Job};
+ghost use Rattle.sn_round.specs.Jobs.{AreJobs, AreWithin, IsRaceFree, Ordered, job_at};
+ghost use Rattle.sn_span.specs.Rounds.{AreOfRounds, IsSpan, last_of};
+ghost use Rattle.sn_span.specs.Unrolling.{by_block, capture_of, job_in, start, unrolled};
+
+use sn_round::Work;
+
+/// A law: a plan in so many blocks has the jobs and a capture for each block, it is a list of jobs, and it is free of
+/// races if the plan is.
+pub fn unrolled_is_race_free()
+    ensures count { (jobs : List Job) (outputs : List Extent) (at blocks : ℕ) → length (unrolled jobs outputs at blocks) ≡ start (length jobs) blocks }
+    ensures jobs { (jobs : List Job) (outputs : List Extent) (at blocks : ℕ) → AreJobs jobs → start (length jobs) blocks < 2 ^ 32 → AreJobs (unrolled jobs outputs at blocks) }
+    ensures race_free { (jobs : List Job) (outputs : List Extent) (at blocks : ℕ) → AreJobs jobs → IsRaceFree jobs → IsRaceFree (unrolled jobs outputs at blocks) }
+{}
+
+/// A law: job i of block k is that of the plan, with its foot and with its predecessors in the block, and the capture of
+/// block k comes after the block's jobs.
+pub fn unrolled_goes_by_blocks()
+    ensures jobs { (jobs : List Job) (outputs : List Extent) (at blocks k i : ℕ) → k < blocks → i < length jobs
+        → job_at (unrolled jobs outputs at blocks) (start (length jobs) k + i) ≡ job_in jobs k i }
+    ensures captures { (jobs : List Job) (outputs : List Extent) (at blocks k : ℕ) → k < blocks
+        → job_at (unrolled jobs outputs at blocks) (start (length jobs) k + length jobs) ≡ capture_of jobs outputs at k }
+{}
+
+/// A law: what goes by blocks is, at the number of job i of block k, that of job i and block k, and at the number of the
+/// capture of block k that of the capture.
+pub fn numbers_tell_blocks()
+    ensures job { (job : ℕ → ℕ → List ℕ → List ℕ) (capture : ℕ → List ℕ → List ℕ) (n k i : ℕ) → i < n → by_block job capture n (start n k + i) ≡ job k i }
+    ensures capture { (job : ℕ → ℕ → List ℕ → List ℕ) (capture : ℕ → List ℕ → List ℕ) (n k : ℕ) → by_block job capture n (start n k + n) ≡ capture k }
+{}
+
+/// A law: the capture of a block is ordered after each job of its block, and before each job and capture of the later
+/// blocks.
+pub fn captures_are_barriers()
+    ensures after { (jobs : List Job) (outputs : List Extent) (at blocks k i : ℕ) → AreJobs jobs → k < blocks → i < length jobs
+        → Ordered (unrolled jobs outputs at blocks) (start (length jobs) k + i) (start (length jobs) k + length jobs) }
+    ensures before { (jobs : List Job) (outputs : List Extent) (at blocks k h i : ℕ) → AreJobs jobs → k < h → h < blocks → i ≤ length jobs
+        → Ordered (unrolled jobs outputs at blocks) (start (length jobs) k + length jobs) (start (length jobs) h + i) }
+{}
+
+/// A law: the feet lie in a memory if those of the plan, the outputs and the copies do.
+pub fn unrolled_lies_in_memory()
+    ensures { (jobs : List Job) (outputs : List Extent) (at blocks size : ℕ) → AreWithin size jobs → ((x : ℕ) → has outputs x ≡ true → x < size) → at + 512 * blocks ≤ size → AreWithin size (unrolled jobs outputs at blocks) }
+{}
+
+/// A law: the last words of a span are those of its rounds one after the other, and each copy is what the capture makes of
+/// the words after its round.
+pub fn spans_end_as_their_rounds<W: Work>(work: &W)
+    ensures { (jobs : List Job) (outputs : List Extent) (copies : Extent) (blocks : ℕ) (f : ℕ → ℕ → List ℕ → List ℕ) (base : List ℕ)
+        → IsSpan jobs outputs copies blocks f (W.jobs work.now) (W.foot_of work.now) (W.outcome work.now)
+        → AreOfRounds (length jobs) copies.at blocks f (W.outcome work.now) base (last_of (W.outcome work.now) (start (length jobs) blocks) base) }
+{
+    let _ = work;
+}

@@ -1,0 +1,11 @@
+//! The plan of several blocks in one round.
+#![tactic(auto)]
+
+mod blocks;
+mod laws;
+
+pub use blocks::unroll;
+pub use laws::{
+    captures_are_barriers, numbers_tell_blocks, spans_end_as_their_rounds, unrolled_goes_by_blocks,
+    unrolled_is_race_free, unrolled_lies_in_memory,
+};

@@ -1,0 +1,9 @@
+pub mod Tables
+pub mod Answers
+pub mod Kept
+pub mod Sweeps
+pub mod Rounds
+pub mod Inside
+pub mod MainRests
+pub mod Arming
+pub mod Seats

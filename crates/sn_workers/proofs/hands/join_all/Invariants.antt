@@ -1,0 +1,15 @@
+use Rattle.std.proofs.Common.{◌≡◌, ◌<◌, ◌≤◌, ◌-◌, ℕ, true, length, slice_index_or}
+use Rattle.sn_table.specs.Answers.{main_view, IsMainOf}
+use Rattle.sn_table.specs.Seats.{IsBack, Stands}
+use Rattle.sn_workers.specs.declared.hands.Hand.{Hand}
+use Rattle.sn_workers.specs.Hands.{Seated}
+use Rattle.sn_workers.proofs.hands.join_all.Given as goal
+
+abbrev pub invariant-loop-k : goal.invariant-loop-k
+invariant-loop-k l = record {
+  main : IsMainOf l.shared l.main;
+  stands : Stands (main_view l.fn.main) (length l.fn.hands) (length l.fn.hands - l.k) (main_view l.main);
+  joined : 0 < l.k → (main_view l.main).main.joined ≡ true;
+  back : (i : ℕ) (d : Hand) → l.k ≤ i → i < length l.fn.hands → Seated (IsBack l.shared) (slice_index_or l.hands i d).seat;
+  count : length l.hands ≡ length l.fn.hands;
+}

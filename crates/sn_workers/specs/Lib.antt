@@ -1,0 +1,3 @@
+pub mod Hands
+pub mod Mixing
+pub mod Ready

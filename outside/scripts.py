@@ -84,7 +84,7 @@ def case_line(case, line, blobs):
         case.events.append(int(rest))
     elif word == ">":
         case.replies += osc.frame(message(rest, blobs))
-    elif word not in ("source", "sound", "replies"):
+    elif word not in ("source", "sound", "replies", "meet", "apart", "again"):
         case.element(message(line, blobs))
 
 

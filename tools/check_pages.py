@@ -68,12 +68,12 @@ def unit_of_page(inputs, outputs, words):
 
 def units_of_code():
     table = (ROOT / "crates/sn_def/src/table.rt").read_text()
-    step = r"\s*\.\w+\((?:[^()]|\([^()]*\))*\)"
-    row = re.compile(rf'row!\(\w+ b"([^"]+)" \[([^\]]*)\] => (\d), (\w+)(?:\((\d+)\))?\)((?:{step})*)')
-    for name, marks, outputs, words, count, more in row.findall(table):
+    step = r"\w+!\(\s*(?:\w+(?:\(\d\))?,\s*)?"
+    row = re.compile(rf'((?:{step})*)row!\(\w+ b"([^"]+)" \[([^\]]*)\] => (\d), (\w+)(?:\((\d+)\))?\)')
+    for more, name, marks, outputs, words, count in row.findall(table):
         marks = [mark for mark in marks.split(", ") if mark]
-        use = re.search(r"\.(reading|writing)\(\s*Bank::(\w+)", more)
-        done = re.search(r"Ends::Input\(\s*(\d)", more)
+        use = re.search(r"(reading|writing)!\(\s*(\w+)", more)
+        done = re.search(r"Input\((\d)", more)
         yield name, {
             "inputs": marks, "signals": 8 if use and use[1] == "writing" else 0,
             "outputs": "1 to 8" if use and use[1] == "reading" else outputs,

@@ -91,21 +91,30 @@ pub fn header(alloc: Global, settings: &Settings, blocks: u64) -> Result<Text, N
         return Err(NoMemory);
     };
     let mut out = Text::new(alloc);
-    out.append(b"RIFF")?;
-    out.append(&len.wrapping_add(36).to_le_bytes())?;
-    out.append(b"WAVEfmt ")?;
     // Two numbers of 16 bits stand in a word: PCM and the channels, the width of a frame and the bits of a sample.
     for word in [
-        16,
-        settings.channels.wrapping_mul(65536).wrapping_add(1),
-        settings.rate,
-        settings.rate.wrapping_mul(width),
-        settings.bits.wrapping_mul(65536).wrapping_add(width),
+        *b"RIFF",
+        len.wrapping_add(36).to_le_bytes(),
+        *b"WAVE",
+        *b"fmt ",
+        16_u32.to_le_bytes(),
+        settings
+            .channels
+            .wrapping_mul(65536)
+            .wrapping_add(1)
+            .to_le_bytes(),
+        settings.rate.to_le_bytes(),
+        settings.rate.wrapping_mul(width).to_le_bytes(),
+        settings
+            .bits
+            .wrapping_mul(65536)
+            .wrapping_add(width)
+            .to_le_bytes(),
+        *b"data",
+        len.to_le_bytes(),
     ] {
-        out.append(&word.to_le_bytes())?;
+        out.append(&word)?;
     }
-    out.append(b"data")?;
-    out.append(&len.to_le_bytes())?;
     Ok(out)
 }
 

@@ -39,6 +39,27 @@ impl Port {
     }
 }
 
+/// A gate that holds two jobs until both have come to it, for so many turns at most.
+#[derive(Drop)]
+pub struct Hold {
+    pub one: u32,
+    pub other: u32,
+    pub turns: u32,
+    /// Both are to come.
+    pub meets: bool,
+}
+
+/// Further renderings of a case, each of which is to give the same.
+#[derive(Drop)]
+pub struct Again {
+    /// By so many workers.
+    pub workers: Vec<u32>,
+    /// So often by each number of them.
+    pub times: u32,
+    /// The seed of the turns for which a job waits at the gate.
+    pub seed: u64,
+}
+
 /// A stream of commands with its settings, and what is to come of it.
 #[derive(Drop)]
 pub struct Case {
@@ -63,6 +84,9 @@ pub struct Case {
     pub same: Option<String>,
     /// The connection that is served, where the stream is not rendered.
     pub connection: Option<Connection>,
+    /// The gate that the jobs pass, where two are held at it.
+    pub hold: Option<Hold>,
+    pub again: Option<Again>,
     pub source_port: Port,
     pub sound_port: Port,
     pub reply_port: Port,
@@ -85,6 +109,8 @@ impl Case {
             ending: None,
             same: None,
             connection: None,
+            hold: None,
+            again: None,
             source_port: Port::new(alloc, 4096),
             sound_port: Port::new(alloc, 65536),
             reply_port: Port::new(alloc, 65536),

@@ -31,30 +31,50 @@ fn number_of(fault: StreamFault) -> u32 {
     }
 }
 
+fn said(alloc: Global, line: &str) -> Result<String, NoMemory> {
+    Ok(String::from_str(alloc, line)?)
+}
+
+/// A line with a number in it.
+fn counted(alloc: Global, before: &str, number: i128, after: &str) -> Result<String, NoMemory> {
+    Ok(format!(in alloc; "{before}{number}{after}")?)
+}
+
+/// The line of a stream that is no list of framed packets.
+fn stream_line(
+    alloc: Global,
+    packet: u32,
+    place: u64,
+    fault: StreamFault,
+) -> Result<String, NoMemory> {
+    let number = number_of(fault);
+    Ok(format!(in alloc; "bad stream: packet {packet}, byte {place}, fault P{number}")?)
+}
+
 /// The line of a run's end.
 pub fn outcome_line(alloc: Global, outcome: Outcome) -> Result<String, NoMemory> {
-    let line = match outcome {
-        Outcome::Done { blocks } => format!(in alloc; "done {blocks} blocks")?,
-        Outcome::NoMemory => return Err(NoMemory),
-        Outcome::BadWords { index } => format!(in alloc; "bad word {index}")?,
+    match outcome {
+        Outcome::Done { blocks } => counted(alloc, "done ", i128::from(blocks), " blocks"),
+        Outcome::NoMemory => Err(NoMemory),
+        Outcome::BadWords { index } => counted(alloc, "bad word ", i128::from(index), ""),
         Outcome::BadStream {
             packet,
             place,
             fault,
-        } => {
-            let number = number_of(fault);
-            format!(in alloc; "bad stream: packet {packet}, byte {place}, fault P{number}")?
-        }
+        } => stream_line(alloc, packet, place, fault),
         Outcome::LongStream { bytes } => {
-            let most = bytes.wrapping_sub(1);
-            format!(in alloc; "stream over {most} bytes")?
+            counted(alloc, "stream over ", i128::from(bytes) - 1, " bytes")
         }
-        Outcome::LongSound { blocks } => format!(in alloc; "sound too long: {blocks} blocks")?,
-        Outcome::ReadFault => String::from_str(alloc, "read fault")?,
-        Outcome::SoundFault => String::from_str(alloc, "sound fault")?,
-        Outcome::ReplyFault => String::from_str(alloc, "reply fault")?,
-    };
-    Ok(line)
+        Outcome::LongSound { blocks } => counted(
+            alloc,
+            "sound too long: ",
+            i128::from(blocks),
+            " blocks",
+        ),
+        Outcome::ReadFault => said(alloc, "read fault"),
+        Outcome::SoundFault => said(alloc, "sound fault"),
+        Outcome::ReplyFault => said(alloc, "reply fault"),
+    }
 }
 
 /// How much a run writes that ends so.
@@ -68,17 +88,16 @@ pub fn outcome_writes(outcome: Outcome) -> Written {
 
 /// The line of a connection's end.
 pub fn ended_line(alloc: Global, ended: Ended) -> Result<String, NoMemory> {
-    let line = match ended {
-        Ended::Quit => String::from_str(alloc, "quit")?,
-        Ended::NoMemory => return Err(NoMemory),
-        Ended::Closed => String::from_str(alloc, "closed")?,
-        Ended::Cut { kept } => format!(in alloc; "cut after {kept} bytes")?,
-        Ended::BadFrame { size } => format!(in alloc; "bad frame size {size}")?,
-        Ended::LinkFault => String::from_str(alloc, "link fault")?,
-        Ended::SoundFault => String::from_str(alloc, "sound fault")?,
-        Ended::Worn { .. } => String::from_str(alloc, "worn out")?,
-    };
-    Ok(line)
+    match ended {
+        Ended::Quit => said(alloc, "quit"),
+        Ended::NoMemory => Err(NoMemory),
+        Ended::Closed => said(alloc, "closed"),
+        Ended::Cut { kept } => counted(alloc, "cut after ", i128::from(kept), " bytes"),
+        Ended::BadFrame { size } => counted(alloc, "bad frame size ", i128::from(size), ""),
+        Ended::LinkFault => said(alloc, "link fault"),
+        Ended::SoundFault => said(alloc, "sound fault"),
+        Ended::Worn { .. } => said(alloc, "worn out"),
+    }
 }
 
 /// How much a connection writes that ends so.

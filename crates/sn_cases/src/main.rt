@@ -3,6 +3,7 @@
 
 mod bytes;
 mod case;
+mod drawn;
 mod ending;
 mod engine;
 mod script;

@@ -13,10 +13,14 @@
 //! `source PIECE CALL ..` lets a call move at most so many bytes and the calls of these numbers fail, from 0; so do `sound` and
 //! `replies`.
 //!
+//! `meet ONE OTHER TURNS` holds each of two jobs until the other has come too, for so many turns at most: they are to run at the same
+//! time. `apart ONE OTHER TURNS` says that they are not to. `again TIMES SEED WORKERS ..` renders a case so often by each of these numbers
+//! of workers, where each job waits for a drawn number of turns before it runs.
+//!
 //! `over TAG` makes a case a connection whose block 0 begins at a time, without a header of its sound: `ticks N` lets come what stands
 //! above it, and then N blocks are due. The calls of `replies` are then those of the link.
 use crate::bytes::{Given, bundle_head, message, put_sized};
-use crate::case::{Case, Connection, Port, Step};
+use crate::case::{Again, Case, Connection, Hold, Port, Step};
 use sn_ports::{NoMemory, Text};
 use std::alloc::Global;
 
@@ -113,11 +117,11 @@ fn put_hex(out: &mut Text, line: &str) -> Result<bool, NoMemory> {
     Ok(true)
 }
 
-fn put_words(alloc: Global, case: &mut Case, line: &str) -> Result<(), NoMemory> {
+fn put_words(alloc: Global, case: &mut Case, line: &str) -> Result<bool, NoMemory> {
     for word in line.split_whitespace() {
         case.words.push(Text::from_slice(alloc, word.as_bytes())?)?;
     }
-    Ok(())
+    Ok(true)
 }
 
 /// Begins a bundle with a time tag.
@@ -191,18 +195,74 @@ fn put_ticks(alloc: Global, case: &mut Case, count: &str) -> Result<bool, NoMemo
     }
 }
 
-fn put_port(port: &mut Port, line: &str) -> Result<bool, NoMemory> {
+/// The numbers of a line, or `None` if one of its words is none.
+fn numbers(alloc: Global, line: &str) -> Result<Option<Vec<u32>>, NoMemory> {
+    let mut found = Vec::new(alloc);
+    for word in line.split_whitespace() {
+        match word.parse::<u32>() {
+            Ok(number) => found.push(number)?,
+            Err(_) => return Ok(None),
+        }
+    }
+    Ok(Some(found))
+}
+
+/// Holds two jobs at the gate of a case, by the numbers of a line.
+fn hold_jobs(case: &mut Case, numbers: &[u32], meets: bool) -> bool {
+    match numbers {
+        [one, other, turns] => {
+            case.hold = Some(Hold {
+                one: *one,
+                other: *other,
+                turns: *turns,
+                meets,
+            });
+            true
+        }
+        _ => false,
+    }
+}
+
+/// Holds two jobs of a case at its gate.
+fn put_hold(alloc: Global, case: &mut Case, line: &str, meets: bool) -> Result<bool, NoMemory> {
+    match numbers(alloc, line)? {
+        Some(numbers) => Ok(hold_jobs(case, &numbers, meets)),
+        None => Ok(false),
+    }
+}
+
+/// How a case is rendered again by the numbers of a line.
+fn again(alloc: Global, numbers: &[u32]) -> Result<Option<Again>, NoMemory> {
+    match numbers {
+        [times, seed, workers @ ..] => Ok(Some(Again {
+            workers: Vec::from_slice(alloc, workers)?,
+            times: *times,
+            seed: u64::from(*seed),
+        })),
+        _ => Ok(None),
+    }
+}
+
+/// Lets a case be rendered again by other numbers of workers.
+fn put_again(alloc: Global, case: &mut Case, line: &str) -> Result<bool, NoMemory> {
+    let Some(numbers) = numbers(alloc, line)? else {
+        return Ok(false);
+    };
+    case.again = again(alloc, &numbers)?;
+    Ok(case.again.is_some())
+}
+
+/// Lets a call move at most so many bytes, and the calls of these numbers fail.
+fn put_port(alloc: Global, port: &mut Port, line: &str) -> Result<bool, NoMemory> {
     let (piece, calls) = line.split_once(' ').unwrap_or((line, ""));
     let Ok(piece) = piece.parse::<u32>() else {
         return Ok(false);
     };
+    let Some(fails) = numbers(alloc, calls)? else {
+        return Ok(false);
+    };
     port.piece = piece;
-    for word in calls.split_whitespace() {
-        match word.parse::<u32>() {
-            Ok(call) => port.fails.push(call)?,
-            Err(_) => return Ok(false),
-        }
-    }
+    port.fails = fails;
     Ok(true)
 }
 
@@ -224,69 +284,105 @@ fn put_blocks(case: &mut Case, number: &str) -> bool {
     }
 }
 
-/// A line of what is to come, or none. It answers whether the line says something.
-fn outcome_line(
+fn put_ending(alloc: Global, case: &mut Case, line: &str) -> Result<bool, NoMemory> {
+    case.ending = Some(String::from_str(alloc, line)?);
+    Ok(true)
+}
+
+fn put_sum(case: &mut Case, hex: &str) -> bool {
+    case.sum = u64::from_str_radix(hex, 16).ok();
+    case.sum.is_some()
+}
+
+/// Bytes of the stream without a size.
+fn put_bytes(case: &mut Case, hex: &str) -> Result<bool, NoMemory> {
+    case.close_bundle()?;
+    put_hex(&mut case.stream, hex)
+}
+
+/// A line of a case: its first word, and what follows.
+#[derive(Clone, Copy)]
+struct Line<'a> {
+    whole: &'a str,
+    word: &'a str,
+    rest: &'a str,
+}
+
+/// A line of what goes in. It answers whether the line says something.
+fn stream_line(
     alloc: Global,
+    blobs: &[Blob],
     case: &mut Case,
-    word: &str,
-    rest: &str,
-) -> Result<Option<bool>, NoMemory> {
-    match word {
-        "ends" => {
-            case.ending = Some(String::from_str(alloc, rest)?);
-            Ok(Some(true))
-        }
-        "blocks" => Ok(Some(put_blocks(case, rest))),
-        "=" => Ok(Some(put_hex(&mut case.sound, rest)?)),
-        "sum" => {
-            case.sum = u64::from_str_radix(rest, 16).ok();
-            Ok(Some(case.sum.is_some()))
-        }
-        "same" => Ok(Some(put_same(alloc, case, rest)?)),
-        _ => Ok(None),
+    line: Line<'_>,
+) -> Result<bool, NoMemory> {
+    match line.word {
+        "with" => put_words(alloc, case, line.rest),
+        "at" => put_bundle(alloc, case, line.rest),
+        "raw" => put_raw(alloc, case, line.rest),
+        "bytes" => put_bytes(case, line.rest),
+        _ => put_command(alloc, blobs, case, line.whole),
     }
 }
 
-/// A line of the outside, or none. It answers whether the line says something.
-fn outside_line(
+/// A line of how calls move and fail, or of what goes in.
+fn port_line(
     alloc: Global,
+    blobs: &[Blob],
     case: &mut Case,
-    word: &str,
-    rest: &str,
-) -> Result<Option<bool>, NoMemory> {
-    match word {
-        "over" => Ok(Some(put_connection(alloc, case, rest))),
-        "ticks" => Ok(Some(put_ticks(alloc, case, rest)?)),
-        "bytes" => {
-            case.close_bundle()?;
-            Ok(Some(put_hex(&mut case.stream, rest)?))
-        }
-        "source" => Ok(Some(put_port(&mut case.source_port, rest)?)),
-        "sound" => Ok(Some(put_port(&mut case.sound_port, rest)?)),
-        "replies" => Ok(Some(put_port(&mut case.reply_port, rest)?)),
-        _ => Ok(None),
+    line: Line<'_>,
+) -> Result<bool, NoMemory> {
+    match line.word {
+        "source" => put_port(alloc, &mut case.source_port, line.rest),
+        "sound" => put_port(alloc, &mut case.sound_port, line.rest),
+        "replies" => put_port(alloc, &mut case.reply_port, line.rest),
+        _ => stream_line(alloc, blobs, case, line),
+    }
+}
+
+/// A line of how a case is tried, or another one.
+fn trial_line(
+    alloc: Global,
+    blobs: &[Blob],
+    case: &mut Case,
+    line: Line<'_>,
+) -> Result<bool, NoMemory> {
+    match line.word {
+        "over" => Ok(put_connection(alloc, case, line.rest)),
+        "ticks" => put_ticks(alloc, case, line.rest),
+        "again" => put_again(alloc, case, line.rest),
+        "meet" => put_hold(alloc, case, line.rest, true),
+        "apart" => put_hold(alloc, case, line.rest, false),
+        _ => port_line(alloc, blobs, case, line),
+    }
+}
+
+/// A line of what is to come, or another one.
+fn outcome_line(
+    alloc: Global,
+    blobs: &[Blob],
+    case: &mut Case,
+    line: Line<'_>,
+) -> Result<bool, NoMemory> {
+    match line.word {
+        "ends" => put_ending(alloc, case, line.rest),
+        "blocks" => Ok(put_blocks(case, line.rest)),
+        "=" => put_hex(&mut case.sound, line.rest),
+        "sum" => Ok(put_sum(case, line.rest)),
+        "same" => put_same(alloc, case, line.rest),
+        ">" => put_reply(alloc, blobs, case, line.rest),
+        _ => trial_line(alloc, blobs, case, line),
     }
 }
 
 /// A line of a case. It answers whether the line says something.
 fn case_line(alloc: Global, blobs: &[Blob], case: &mut Case, line: &str) -> Result<bool, NoMemory> {
     let (word, rest) = line.split_once(' ').unwrap_or((line, ""));
-    if let Some(says) = outcome_line(alloc, case, word, rest)? {
-        return Ok(says);
-    }
-    if let Some(says) = outside_line(alloc, case, word, rest)? {
-        return Ok(says);
-    }
-    match word {
-        "with" => {
-            put_words(alloc, case, rest)?;
-            Ok(true)
-        }
-        "at" => put_bundle(alloc, case, rest),
-        "raw" => put_raw(alloc, case, rest),
-        ">" => put_reply(alloc, blobs, case, rest),
-        _ => put_command(alloc, blobs, case, line),
-    }
+    let line = Line {
+        whole: line,
+        word,
+        rest,
+    };
+    outcome_line(alloc, blobs, case, line)
 }
 
 /// A line so many times, where the number stands before it. It answers whether the line says something.
@@ -333,49 +429,61 @@ impl Reader {
     }
 
     /// A line of the text that is being read.
-    fn text_line(&mut self, line: &str) -> Result<(), NoMemory> {
+    fn text_line(&mut self, line: &str) -> Result<bool, NoMemory> {
         if line == "." {
             self.is_in_text = false;
-            return Ok(());
+        } else if let Some(blob) = self.blobs.last_mut() {
+            blob.bytes.append(line.as_bytes())?;
+            blob.bytes.append(b"\n")?;
         }
-        match self.blobs.last_mut() {
-            Some(blob) => {
-                blob.bytes.append(line.as_bytes())?;
-                blob.bytes.append(b"\n")
+        Ok(true)
+    }
+
+    fn begin_case(&mut self, name: &str) -> Result<bool, NoMemory> {
+        self.script.cases.push(Case::new(self.alloc, name)?)?;
+        Ok(true)
+    }
+
+    fn begin_text(&mut self, name: &str) -> Result<bool, NoMemory> {
+        self.put_blob(name, Text::new(self.alloc))?;
+        self.is_in_text = true;
+        Ok(true)
+    }
+
+    /// A blob by its name and its message. It answers whether the line says something.
+    fn blob_line(&mut self, rest: &str) -> Result<bool, NoMemory> {
+        let (name, command) = rest.split_once(' ').unwrap_or((rest, ""));
+        match message_of(self.alloc, &self.blobs, command)? {
+            Some(bytes) => {
+                self.put_blob(name, bytes)?;
+                Ok(true)
             }
-            None => Ok(()),
+            None => Ok(false),
+        }
+    }
+
+    /// A line of the case that was begun last. It answers whether the line says something.
+    fn line_of_case(&mut self, line: &str) -> Result<bool, NoMemory> {
+        match self.script.cases.last_mut() {
+            Some(case) => case_lines(self.alloc, &self.blobs, case, line),
+            None => Ok(false),
         }
     }
 
     /// A line by itself. It answers whether the line says something.
     fn line(&mut self, line: &str) -> Result<bool, NoMemory> {
         if self.is_in_text {
-            self.text_line(line)?;
-            return Ok(true);
+            return self.text_line(line);
         }
         if line.is_empty() || line.starts_with('#') {
             return Ok(true);
         }
-        if let Some(name) = line.strip_prefix("case ") {
-            self.script.cases.push(Case::new(self.alloc, name)?)?;
-            return Ok(true);
-        }
-        if let Some(name) = line.strip_prefix("text ") {
-            self.put_blob(name, Text::new(self.alloc))?;
-            self.is_in_text = true;
-            return Ok(true);
-        }
-        if let Some(rest) = line.strip_prefix("blob ") {
-            let (name, command) = rest.split_once(' ').unwrap_or((rest, ""));
-            let Some(bytes) = message_of(self.alloc, &self.blobs, command)? else {
-                return Ok(false);
-            };
-            self.put_blob(name, bytes)?;
-            return Ok(true);
-        }
-        match self.script.cases.last_mut() {
-            Some(case) => case_lines(self.alloc, &self.blobs, case, line),
-            None => Ok(false),
+        let (word, rest) = line.split_once(' ').unwrap_or((line, ""));
+        match word {
+            "case" => self.begin_case(rest),
+            "text" => self.begin_text(rest),
+            "blob" => self.blob_line(rest),
+            _ => self.line_of_case(line),
         }
     }
 }

@@ -79,10 +79,6 @@ pub fn served<H: AllocGlobal + Threads + Sync>(
         &mut sound,
         &Open,
     );
-    Ok(Came {
-        line: ended_line(alloc, ended)?,
-        written: ended_writes(ended),
-        sound: Text::from_slice(alloc, sound.taken())?,
-        replies: Text::from_slice(alloc, link.sent())?,
-    })
+    let line = ended_line(alloc, ended)?;
+    Came::of(alloc, line, ended_writes(ended), sound.taken(), link.sent())
 }

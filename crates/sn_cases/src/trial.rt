@@ -1,10 +1,12 @@
 //! A case, tried.
 use crate::bytes::{header, sum_of};
-use crate::case::{Case, Port};
+use crate::case::{Again, Case, Hold, Port};
+use crate::drawn::DrawnGate;
 use crate::ending::{Written, outcome_line, outcome_writes};
 use crate::serving::served;
+use sn_crew::HoldGate;
 use sn_pcm::Settings;
-use sn_ports::{MemorySink, MemorySource, NoMemory, Open, Text};
+use sn_ports::{Gate, MemorySink, MemorySource, NoMemory, Open, Text, Word};
 use sn_server::{Outcome, render};
 use sn_words::settings;
 use std::alloc::Global;
@@ -20,6 +22,27 @@ pub struct Came {
     pub written: Written,
     pub sound: Text,
     pub replies: Text,
+    /// Two jobs ran at the same time, or not, as they should.
+    pub is_held: bool,
+}
+
+impl Came {
+    /// This line, and these bytes of sound and of replies.
+    pub fn of(
+        alloc: Global,
+        line: String,
+        written: Written,
+        sound: &[u8],
+        replies: &[u8],
+    ) -> Result<Came, NoMemory> {
+        Ok(Came {
+            line,
+            written,
+            sound: Text::from_slice(alloc, sound)?,
+            replies: Text::from_slice(alloc, replies)?,
+            is_held: true,
+        })
+    }
 }
 
 /// Where bytes differ from those that should come, and some that came from there on.
@@ -40,6 +63,7 @@ pub enum Verdict {
     Ending(String),
     Replies(Difference),
     Sound(Difference),
+    Meeting,
 }
 
 impl Verdict {
@@ -52,6 +76,7 @@ impl Verdict {
             Verdict::Ending(_) => "another end",
             Verdict::Replies(_) => "other replies",
             Verdict::Sound(_) => "another sound",
+            Verdict::Meeting => "another meeting",
         }
     }
 }
@@ -61,44 +86,85 @@ pub fn sink(alloc: Global, port: &Port) -> Result<MemorySink, NoMemory> {
     MemorySink::new(alloc, CAPACITY, port.piece.max(1), port.calls(alloc)?)
 }
 
+/// What a rendering in memory reads and writes.
+#[derive(Drop)]
+struct Ports {
+    source: MemorySource,
+    sound: MemorySink,
+    replies: MemorySink,
+}
+
+/// The stream of a case, and sinks for what comes of it.
+fn ports_of(alloc: Global, case: &Case) -> Result<Ports, NoMemory> {
+    let bytes = Text::from_slice(alloc, case.stream.as_slice())?;
+    let port = &case.source_port;
+    Ok(Ports {
+        source: MemorySource::new(bytes, port.piece.max(1), port.calls(alloc)?),
+        sound: sink(alloc, &case.sound_port)?,
+        replies: sink(alloc, &case.reply_port)?,
+    })
+}
+
+/// What came of a rendering.
+fn came_of(
+    alloc: Global,
+    outcome: Outcome,
+    sound: &[u8],
+    replies: &[u8],
+) -> Result<Came, NoMemory> {
+    let line = outcome_line(alloc, outcome)?;
+    Came::of(alloc, line, outcome_writes(outcome), sound, replies)
+}
+
+/// Renders the stream of a case in memory, whose jobs pass a gate.
+fn rendered_through<H: AllocGlobal + Threads + Sync, G: Gate>(
+    rt: &H,
+    case: &Case,
+    settings: &Settings,
+    gate: &G,
+) -> Result<Came, NoMemory> {
+    let alloc = rt.alloc();
+    let mut ports = ports_of(alloc, case)?;
+    let outcome = render(
+        rt,
+        alloc,
+        settings,
+        &mut ports.source,
+        &mut ports.sound,
+        &mut ports.replies,
+        gate,
+    );
+    came_of(alloc, outcome, ports.sound.taken(), ports.replies.taken())
+}
+
+/// Renders the stream of a case, of which two jobs are held.
+fn rendered_held<H: AllocGlobal + Threads + Sync>(
+    rt: &H,
+    case: &Case,
+    settings: &Settings,
+    hold: &Hold,
+) -> Result<Came, NoMemory> {
+    let gate = HoldGate::new(hold.one, hold.other, hold.turns);
+    let mut came = rendered_through(rt, case, settings, &gate)?;
+    came.is_held = gate.met() == hold.meets;
+    Ok(came)
+}
+
 /// Renders the stream of a case in memory.
 fn rendered<H: AllocGlobal + Threads + Sync>(
     rt: &H,
     case: &Case,
     settings: &Settings,
 ) -> Result<Came, NoMemory> {
-    let alloc = rt.alloc();
-    let bytes = Text::from_slice(alloc, case.stream.as_slice())?;
-    let port = &case.source_port;
-    let mut source = MemorySource::new(bytes, port.piece.max(1), port.calls(alloc)?);
-    let mut sound = sink(alloc, &case.sound_port)?;
-    let mut replies = sink(alloc, &case.reply_port)?;
-    let outcome = render(
-        rt,
-        alloc,
-        settings,
-        &mut source,
-        &mut sound,
-        &mut replies,
-        &Open,
-    );
-    Ok(Came {
-        line: outcome_line(alloc, outcome)?,
-        written: outcome_writes(outcome),
-        sound: Text::from_slice(alloc, sound.taken())?,
-        replies: Text::from_slice(alloc, replies.taken())?,
-    })
+    match &case.hold {
+        Some(hold) => rendered_held(rt, case, settings, hold),
+        None => rendered_through(rt, case, settings, &Open),
+    }
 }
 
 /// What comes of words that are refused.
 fn refused(alloc: Global, index: u32) -> Result<Came, NoMemory> {
-    let outcome = Outcome::BadWords { index };
-    Ok(Came {
-        line: outcome_line(alloc, outcome)?,
-        written: outcome_writes(outcome),
-        sound: Text::new(alloc),
-        replies: Text::new(alloc),
-    })
+    came_of(alloc, Outcome::BadWords { index }, &[], &[])
 }
 
 /// What comes of a case.
@@ -115,26 +181,38 @@ fn run_case<H: AllocGlobal + Threads + Sync>(rt: &H, case: &Case) -> Result<Came
     }
 }
 
+/// The line that should come at the end of a case.
+fn wanted_line(alloc: Global, case: &Case) -> Result<String, NoMemory> {
+    let blocks = case.blocks;
+    match &case.ending {
+        Some(line) => Ok(String::from_str(alloc, line.as_str())?),
+        None => Ok(format!(in alloc; "done {blocks} blocks")?),
+    }
+}
+
+/// The settings that words choose, if they choose any.
+fn chosen(words: &[Word]) -> Option<Settings> {
+    if u32::try_from(words.len()).is_err() {
+        return None;
+    }
+    settings(words).ok()
+}
+
+/// The header of the sound of a case, where it has one.
+fn wanted_header(alloc: Global, case: &Case) -> Result<Text, NoMemory> {
+    match chosen(&case.words) {
+        Some(settings) if case.connection.is_none() => header(alloc, &settings, case.blocks),
+        _ => Ok(Text::new(alloc)),
+    }
+}
+
 /// What should come of a case.
 fn wanted_of(alloc: Global, case: &Case) -> Result<Came, NoMemory> {
-    let mut sound = Text::new(alloc);
-    if u32::try_from(case.words.len()).is_ok() && case.connection.is_none() {
-        if let Ok(settings) = settings(&case.words) {
-            sound = header(alloc, &settings, case.blocks)?;
-        }
-    }
+    let line = wanted_line(alloc, case)?;
+    let mut sound = wanted_header(alloc, case)?;
     sound.append(case.sound.as_slice())?;
-    let blocks = case.blocks;
-    let line = match &case.ending {
-        Some(line) => String::from_str(alloc, line.as_str())?,
-        None => format!(in alloc; "done {blocks} blocks")?,
-    };
-    Ok(Came {
-        line,
-        written: Written::Whole,
-        sound,
-        replies: Text::from_slice(alloc, case.replies.as_slice())?,
-    })
+    let (sound, replies) = (sound.as_slice(), case.replies.as_slice());
+    Came::of(alloc, line, Written::Whole, sound, replies)
 }
 
 /// Where two lists of bytes differ first.
@@ -183,6 +261,9 @@ fn judged(
         let ours = String::from_str(alloc, came.line.as_str())?;
         return Ok(Verdict::Ending(ours));
     }
+    if !came.is_held {
+        return Ok(Verdict::Meeting);
+    }
     let (ours, theirs) = (came.replies.as_slice(), wanted.replies.as_slice());
     if let Some(found) = difference_of(alloc, came.written, ours, theirs)? {
         return Ok(Verdict::Replies(found));
@@ -206,6 +287,56 @@ fn case_named<'a>(cases: &'a [Case], name: &str) -> Option<&'a Case> {
     None
 }
 
+/// The words of a case, with another number of workers.
+fn words_with(alloc: Global, case: &Case, workers: u32) -> Result<Vec<Word>, NoMemory> {
+    let mut words = Vec::new(alloc);
+    for word in case.words.iter() {
+        if word.as_slice().starts_with(b"workers=") {
+            let other = format!(in alloc; "workers={workers}")?;
+            words.push(Text::from_slice(alloc, other.as_bytes())?)?;
+        } else {
+            words.push(Text::from_slice(alloc, word.as_slice())?)?;
+        }
+    }
+    Ok(words)
+}
+
+/// Renders a case again by so many workers, and compares what comes with what came before.
+fn rendered_again<H: AllocGlobal + Threads + Sync>(
+    rt: &H,
+    case: &Case,
+    workers: u32,
+    seed: u64,
+    before: &Came,
+) -> Result<Verdict, NoMemory> {
+    let alloc = rt.alloc();
+    let words = words_with(alloc, case, workers)?;
+    let Some(settings) = chosen(&words) else {
+        return Ok(Verdict::Unknown);
+    };
+    let came = rendered_through(rt, case, &settings, &DrawnGate::new(seed))?;
+    judged(alloc, case, &came, before.line.as_str(), before)
+}
+
+/// Renders a case again as it says. The first rendering that differs is the verdict.
+fn try_again<H: AllocGlobal + Threads + Sync>(
+    rt: &H,
+    case: &Case,
+    again: &Again,
+    before: &Came,
+) -> Result<Verdict, NoMemory> {
+    for workers in again.workers.iter() {
+        for time in 0..again.times {
+            let seed = again.seed ^ u64::from(time);
+            match rendered_again(rt, case, *workers, seed, before)? {
+                Verdict::Agrees => {}
+                other => return Ok(other),
+            }
+        }
+    }
+    Ok(Verdict::Agrees)
+}
+
 /// Tries one of the cases of a script.
 pub fn try_case<H: AllocGlobal + Threads + Sync>(
     rt: &H,
@@ -216,6 +347,12 @@ pub fn try_case<H: AllocGlobal + Threads + Sync>(
     let ours = run_case(rt, case)?;
     let wanted = wanted_of(alloc, case)?;
     let line = wanted.line.as_str();
+    if let Some(again) = &case.again {
+        match judged(alloc, case, &ours, line, &wanted)? {
+            Verdict::Agrees => return try_again(rt, case, again, &ours),
+            other => return Ok(other),
+        }
+    }
     match &case.same {
         None => judged(alloc, case, &ours, line, &wanted),
         Some(name) => match case_named(cases, name.as_str()) {

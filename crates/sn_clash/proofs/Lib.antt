@@ -2,6 +2,7 @@ pub mod Firsts
 pub mod Marking
 pub mod Least
 pub mod Putting
+pub mod Thinned
 pub mod Together
 pub mod Members
 pub mod Stacking

@@ -15,7 +15,7 @@ use Rattle.sn_foot.proofs.Putting.{low_number}
 use Rattle.sn_clash.specs.declared.marks.Mark.{Mark}
 use Rattle.sn_foot.specs.Uses.{footprint_in, is_same, uses_in}
 use Rattle.sn_def.specs.Facts.{is_access}
-use Rattle.sn_clash.specs.Marking.{mark_of, mark_use, mark_uses, marked_in, more, place, unmarked}
+use Rattle.sn_clash.specs.Marking.{is_marked, mark_of, mark_use, mark_uses, marked_in, more, place, unmarked}
 use Rattle.sn_clash.specs.Passing.{either, no_use}
 
 pub guarded : (t a b : Bool) → (t ≡ true → a ≡ b) → (t && a) ≡ (t && b)
@@ -49,56 +49,52 @@ low_place (Buffer n) h = omega (arith, h)
 
 -- ---- uses
 
-abbrev bit : Access → Mark → Bool
-bit Read m = m.read
-bit Write m = m.written
-
-more_bit : (a b : Access) (m : Mark) → bit a (more b m) ≡ (bit a m || (is_access a b && true))
+more_bit : (a b : Access) (m : Mark) → is_marked a (more b m) ≡ (is_marked a m || (is_access a b && true))
 more_bit Read Read m = sym (or-true m.read)
 more_bit Read Write m = sym (or-false m.read)
 more_bit Write Read m = sym (or-false m.written)
 more_bit Write Write m = sym (or-true m.written)
 
-one_marked : (a : Access) (u : Use) (marks : List Mark) (r : Resource) → place r < length marks →
-    bit a (mark_of (mark_use u marks) r) ≡ (bit a (mark_of marks r) || (is_access a u.access && is_same u.resource r))
+pub one_marked : (a : Access) (u : Use) (marks : List Mark) (r : Resource) → place r < length marks →
+    is_marked a (mark_of (mark_use u marks) r) ≡ (is_marked a (mark_of marks r) || (is_access a u.access && is_same u.resource r))
 one_marked a u marks r lt =
-    let old : Bool = bit a (mark_of marks r) in
+    let old : Bool = is_marked a (mark_of marks r) in
     ⊎_elim
     (λ (e : place u.resource ≡ place r).
-    ap (λ (m : Mark). bit a m)
+    ap (λ (m : Mark). is_marked a m)
     (ap (λ k. slice_index_or (slice_set marks k (more u.access (slice_index_or marks k unmarked))) (place r) unmarked) e
     ∙ get_or-set_same marks (place r) (more u.access (mark_of marks r)) unmarked lt)
     ∙ more_bit a u.access (mark_of marks r)
     ∙ ap (λ b. old || (is_access a u.access && b)) (sym (sym (same_place u.resource r) ∙ eq-eqb (place u.resource) (place r) e)))
     (λ (d : place u.resource ≡ place r → ⊥).
-    ap (λ (m : Mark). bit a m) (get_or-set_other marks (place u.resource) (place r) (more u.access (mark_of marks u.resource)) unmarked (λ e. d (sym e)))
+    ap (λ (m : Mark). is_marked a m) (get_or-set_other marks (place u.resource) (place r) (more u.access (mark_of marks u.resource)) unmarked (λ e. d (sym e)))
     ∙ sym (or-false old)
     ∙ ap (λ b. old || b) (sym (and-false (is_access a u.access)) ∙ ap (λ b. is_access a u.access && b) (sym (sym (same_place u.resource r) ∙ ne_eqb (place u.resource) (place r) d))))
     (cases_eq (place u.resource) (place r))
 
-long_use : (u : Use) (marks : List Mark) → length (mark_use u marks) ≡ length marks
+pub long_use : (u : Use) (marks : List Mark) → length (mark_use u marks) ≡ length marks
 long_use u marks = length-set marks (place u.resource) (more u.access (mark_of marks u.resource))
 
 pub long_uses : (us : List Use) (marks : List Mark) → length (mark_uses us marks) ≡ length marks
 long_uses [] marks = refl
 long_uses (u ∷ us) marks = long_uses us (mark_use u marks) ∙ long_use u marks
 
-all_marked : (a : Access) (us : List Use) (marks : List Mark) (r : Resource) → place r < length marks → bit a (mark_of (mark_uses us marks) r) ≡ (bit a (mark_of marks r) || uses_in a us r)
-all_marked a [] marks r lt = sym (or-false (bit a (mark_of marks r)))
+all_marked : (a : Access) (us : List Use) (marks : List Mark) (r : Resource) → place r < length marks → is_marked a (mark_of (mark_uses us marks) r) ≡ (is_marked a (mark_of marks r) || uses_in a us r)
+all_marked a [] marks r lt = sym (or-false (is_marked a (mark_of marks r)))
 all_marked a (u ∷ us) marks r lt =
     all_marked a us (mark_use u marks) r (subst (λ k. place r < k) (sym (long_use u marks)) lt)
     ∙ ap (λ b. b || uses_in a us r) (one_marked a u marks r lt)
-    ∙ or_assoc (bit a (mark_of marks r)) (is_access a u.access && is_same u.resource r) (uses_in a us r)
+    ∙ or_assoc (is_marked a (mark_of marks r)) (is_access a u.access && is_same u.resource r) (uses_in a us r)
 
 -- ---- footprints
 
 module _ (buffers : List (Option BufferPlace)) where
   marked_bit : (a : Access) (us : List Use) (marks : List Mark) (r : Resource) → length marks ≡ 3072 →
-      (is_there buffers r && bit a (mark_of (mark_uses us marks) r)) ≡ ((is_there buffers r && bit a (mark_of marks r)) || (is_there buffers r && uses_in a us r))
+      (is_there buffers r && is_marked a (mark_of (mark_uses us marks) r)) ≡ ((is_there buffers r && is_marked a (mark_of marks r)) || (is_there buffers r && uses_in a us r))
   marked_bit a us marks r long =
-      guarded (is_there buffers r) (bit a (mark_of (mark_uses us marks) r)) (bit a (mark_of marks r) || uses_in a us r)
+      guarded (is_there buffers r) (is_marked a (mark_of (mark_uses us marks) r)) (is_marked a (mark_of marks r) || uses_in a us r)
       (λ h. all_marked a us marks r (subst (λ k. place r < k) (sym long) (low_place r (low_number buffers r h))))
-      ∙ and-or_distrib_left (is_there buffers r) (bit a (mark_of marks r)) (uses_in a us r)
+      ∙ and-or_distrib_left (is_there buffers r) (is_marked a (mark_of marks r)) (uses_in a us r)
 
   pub together : (us : List Use) (marks : List Mark) → length marks ≡ 3072 →
       marked_in (is_there buffers) (mark_uses us marks) ≡ either (marked_in (is_there buffers) marks) (footprint_in (is_there buffers) us)

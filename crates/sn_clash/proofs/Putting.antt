@@ -10,16 +10,15 @@ use Rattle.sn_world.specs.declared.stage.Held.{Held}
 use Rattle.sn_foot.specs.declared.resource.Resource.{Resource}
 use Rattle.sn_foot.specs.declared.uses.Use.{Use}
 use Rattle.sn_foot.specs.Footprints.{held_reads, held_writes, is_there}
-use Rattle.sn_foot.specs.Uses.{footprint_in, is_same, uses_in}
-use Rattle.sn_foot.specs.Putting.{put_held}
-use Rattle.sn_foot.proofs.Putting.{held_put, low_number}
+use Rattle.sn_foot.specs.Uses.{PutsUses, footprint_in, is_same, uses_in}
+use Rattle.sn_foot.proofs.Putting.{low_number}
 use Rattle.sn_clash.specs.Passing.{either, used_by}
 use Rattle.sn_clash.proofs.Marking.{guarded}
 
-pub own_use : (buffers : List (Option BufferPlace)) (h : Held) (new : List Use) → new ≡ put_held h [] → footprint_in (is_there buffers) new ≡ used_by (is_there buffers) h
-own_use buffers h new e = λ i. record {
-  reads = λ r. guarded (is_there buffers r) (uses_in Read new r) (held_reads h r) (λ t. ap (λ (us : List Use). uses_in Read us r) e ∙ held_put Read h [] r (low_number buffers r t)) i;
-  writes = λ r. guarded (is_there buffers r) (uses_in Write new r) (held_writes h r) (λ t. ap (λ (us : List Use). uses_in Write us r) e ∙ held_put Write h [] r (low_number buffers r t)) i;
+pub own_use : (buffers : List (Option BufferPlace)) (h : Held) (new : List Use) → PutsUses h [] new → footprint_in (is_there buffers) new ≡ used_by (is_there buffers) h
+own_use buffers h new put = λ i. record {
+  reads = λ r. guarded (is_there buffers r) (uses_in Read new r) (held_reads h r) (λ t. put Read r (low_number buffers r t)) i;
+  writes = λ r. guarded (is_there buffers r) (uses_in Write new r) (held_writes h r) (λ t. put Write r (low_number buffers r t)) i;
 }
 
 -- ---- lists together

@@ -1,11 +1,12 @@
 -- Marks of how resources are used, in a list by their places.
-use Rattle.std.specs.Prelude.{ℕ, ◌+◌, ◌*◌, ◌==◌, nat_lt, Bool, true, false, ◌&&◌, ◌||◌, if◌then◌else◌, List, [], ◌∷◌, slice_set, slice_index_or, Option, Some, None}
+use Rattle.std.specs.Prelude.{◌≡◌, ◌<◌, length, ℕ, ◌+◌, ◌*◌, ◌==◌, nat_lt, Bool, true, false, ◌&&◌, ◌||◌, if◌then◌else◌, List, [], ◌∷◌, slice_set, slice_index_or, Option, Some, None}
 use Rattle.sn_def.specs.declared.table.Access.{Access}
 use Rattle.sn_def.specs.declared.table.Access.TheVariants.{Read, Write}
 use Rattle.sn_foot.specs.declared.resource.Resource.{Resource}
 use Rattle.sn_foot.specs.declared.resource.Resource.TheVariants.{Audio, Control, Buffer}
 use Rattle.sn_foot.specs.Footprints.{Footprint, number_of}
 use Rattle.sn_foot.specs.declared.uses.Use.{Use}
+use Rattle.sn_foot.specs.Uses.{uses_in}
 use Rattle.sn_clash.specs.declared.marks.Mark.{Mark}
 
 -- ---- marks
@@ -26,6 +27,11 @@ mark_of marks r = slice_index_or marks (place r) unmarked
 abbrev pub more : Access → Mark → Mark
 more Read m = record { read = true; written = m.written }
 more Write m = record { read = m.read; written = true }
+
+-- it is marked that something is used so
+abbrev pub is_marked : Access → Mark → Bool
+is_marked Read m = m.read
+is_marked Write m = m.written
 
 -- one more use is marked, where its resource has a place
 abbrev pub mark_use : Use → List Mark → List Mark
@@ -66,6 +72,14 @@ first_of (Some least) r = if comes_before least r then least else r
 abbrev pub first_hit : (Resource → Bool) → List Mark → List Use → Option Resource → Option Resource
 first_hit there marks [] least = least
 first_hit there marks (u ∷ us) least = first_hit there marks us (if hits there marks u then Some (first_of least u.resource) else least)
+
+-- ---- without repeats
+
+-- uses that say the same as others, of which those with a place are just what is marked
+pub record IsThinned (marks : List Mark) (kept uses : List Use) : Type 0 where
+  pub long : length marks ≡ 3072
+  pub same : (a : Access) (r : Resource) → uses_in a kept r ≡ uses_in a uses r
+  pub marked : (a : Access) (r : Resource) → place r < 3072 → is_marked a (mark_of marks r) ≡ uses_in a kept r
 
 -- an answer as a list
 abbrev pub listed : {A : Type 0} → Option A → List A

@@ -5,8 +5,10 @@ ghost use Rattle.sn_foot.specs.Uses.{footprint_in};
 ghost use Rattle.sn_clash.specs.Passing.{either, gathered, members_of};
 
 use crate::entry::Entry;
+use crate::thinning::thinned;
 use sn_foot::Use;
 use sn_ports::NoMemory;
+use std::alloc::Global;
 
 /// Puts uses at the end of others.
 fn appended(uses: Vec<Use>, more: &[Use]) -> Result<Vec<Use>, NoMemory>
@@ -28,7 +30,12 @@ fn together(first: Vec<Use>, second: Vec<Use>) -> Result<Vec<Use>, NoMemory>
 }
 
 /// What nodes use, put to other uses: those behind the first `kept`, which are taken out.
-pub fn gather(uses: Vec<Use>, passed: &mut Vec<Entry>, kept: usize) -> Result<Vec<Use>, NoMemory>
+pub fn gather(
+    alloc: Global,
+    uses: Vec<Use>,
+    passed: &mut Vec<Entry>,
+    kept: usize,
+) -> Result<Vec<Use>, NoMemory>
     ensures uses { IfOk result (λ u. (there : resource.Resource → Bool) → footprint_in there u.items ≡ gathered (footprint_in there uses.items) (members_of there (drop kept passed.old.items))) }
     ensures left { OnOk result (passed.new.items ≡ take kept passed.old.items) }
 {
@@ -39,5 +46,6 @@ pub fn gather(uses: Vec<Use>, passed: &mut Vec<Entry>, kept: usize) -> Result<Ve
             None => return Ok(uses),
         }
     }
-    Ok(uses)
+    let all = thinned(alloc, uses)?;
+    Ok(all)
 }

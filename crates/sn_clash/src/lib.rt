@@ -9,6 +9,7 @@ mod marks;
 mod pairs;
 mod passing;
 mod sharing;
+mod thinning;
 mod walking;
 
 pub use clash::{Clash, Clashes};

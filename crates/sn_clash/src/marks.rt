@@ -3,7 +3,7 @@ ghost use Rattle.std.specs.Prelude.{◌≡◌, length, slice_index_or, ℕ, List
 ghost use Rattle.sn_mem.specs.declared.buffers.BufferPlace as buffer;
 ghost use Rattle.sn_foot.specs.Footprints.{is_there};
 ghost use Rattle.sn_foot.specs.Uses.{footprint_in};
-ghost use Rattle.sn_clash.specs.Marking.{mark_of, mark_use, mark_uses, marked_in, more, place, unmarked};
+ghost use Rattle.sn_clash.specs.Marking.{is_marked, mark_of, mark_use, mark_uses, marked_in, more, place, unmarked};
 
 use sn_def::Access;
 use sn_foot::{Resource, Use};
@@ -47,6 +47,16 @@ fn more(mark: Mark, access: Access) -> Mark
             read: mark.read,
             written: true,
         },
+    }
+}
+
+/// Whether it is marked that something is used so.
+fn is_marked(access: Access, mark: Mark) -> bool
+    ensures { result ≡ is_marked access mark }
+{
+    match access {
+        Access::Read => mark.read,
+        Access::Write => mark.written,
     }
 }
 
@@ -97,9 +107,16 @@ impl Marks {
         })
     }
 
+    /// Whether it is marked that the resource of a use is used so.
+    pub fn has(&self, used: &Use) -> bool
+        ensures { result ≡ is_marked used.now.access (mark_of self.now used.now.resource) }
+    {
+        is_marked(used.access, self.of(used.resource))
+    }
+
     /// Marks a use, where its resource has a place.
     #[tactic(auto, using(std::proofs::lemmas::List::set_past))]
-    fn mark(&mut self, used: &Use)
+    pub fn mark(&mut self, used: &Use)
         ensures { self.new ≡ mark_use used.now self.old }
     {
         let index = place(used.resource);

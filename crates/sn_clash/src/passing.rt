@@ -64,7 +64,7 @@ fn uses_at(
         return Ok(Vec::new(alloc));
     }
     let uses = used_by(alloc, held)?;
-    gather(uses, passed, kept)
+    gather(alloc, uses, passed, kept)
 }
 
 /// Puts the first clash of the members of a group at the end, if there is one.

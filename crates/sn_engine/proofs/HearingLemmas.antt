@@ -12,6 +12,14 @@ use Rattle.sn_mem.proofs.BusLaws.{audio_at}
 use Rattle.sn_world.specs.World.{World}
 use Rattle.sn_engine.specs.Hearing.{AreWritten}
 use Rattle.sn_engine.specs.Outputs.{frame_of, frames_of}
+use Rattle.sn_engine.specs.Remembered.{Remembered}
+
+-- nothing of the memory changed
+pub words_same : {u v : Remembered} → u ≡ v → u.words ≡ v.words
+words_same e = ap (λ (m : Remembered). m.words) e
+
+pub still_wide : {u v : Remembered} → u ≡ v → 10368 ≤ length v.words → 10368 ≤ length u.words
+still_wide e wide = omega (arith, ap length (words_same e), wide)
 
 chosen : (b : Bool) (x y : ℤ) → b ≡ true → cond b x y ≡ x
 chosen b x y e = ap (λ c. cond c x y) e

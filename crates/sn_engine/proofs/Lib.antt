@@ -14,3 +14,7 @@ pub mod ClientLemmas
 pub mod SeekingLemmas
 pub mod ToldLemmas
 pub mod QuietLemmas
+pub mod Pasts
+pub mod Memories
+pub mod BlockLemmas
+pub mod PlanLemmas

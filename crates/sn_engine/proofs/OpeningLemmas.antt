@@ -1,17 +1,24 @@
 -- An engine that was opened plays the opening world.
-use Rattle.std.proofs.Common.{◌≡◌, ◌<◌, ◌≤◌, IsTrue, rules, ℕ, ◌+◌, List, [], ◌∷◌, ◌++◌, map, replicate, Option, ap, ◌∙◌}
+use Rattle.std.proofs.Common.{◌≡◌, ◌<◌, ◌≤◌, ◌^◌, IsTrue, rules, arith, ℕ, ◌+◌, List, [], ◌∷◌, ◌++◌, map, replicate, Option, ap, ◌∙◌}
 use Rattle.std.proofs.lemmas.List.{map_push, replicate-append-replicate}
 use Rattle.sn_ports.specs.Octets.{Octets, bytes_of}
 use Rattle.sn_pcm.specs.Allowed.{is_rate, is_within}
 use Rattle.sn_pcm.specs.declared.settings.Settings.{Settings}
 use Rattle.sn_queue.specs.Waiting.{WaitingList}
 use Rattle.sn_clash.specs.declared.clash.Clash.{Clash}
+use Rattle.sn_machine.specs.declared.views.Rested.{Rested}
+use Rattle.sn_round.specs.declared.jobs.Job.{Job}
+use Rattle.sn_engine.specs.Playing.{Past, no_past}
+use Rattle.sn_engine.specs.Remembered.{Remembered}
 use Rattle.sn_engine.specs.Running.{Running, opened}
 use Rattle.sn_engine.specs.declared.standing.Standing.TheVariants.{Settled}
 use Rattle.sn_world.specs.declared.stage.Stage.{Stage}
 use Rattle.sn_world.specs.World.{World, world_of}
 use Rattle.sn_world.specs.Opening.{opening, IsOpening}
 use Rattle.sn_world.proofs.OpeningLaws.{opens}
+
+abbrev pub a_past : List Job → List Rested → ℕ → ℕ → Past
+a_past jobs rounds stores crew = record { jobs = jobs; rounds = rounds; stores = stores; crew = crew }
 
 abbrev pub begun : Settings → World → WaitingList → List Clash → List ℕ → List (List ℕ) → Running
 begun s world waiting clashes sound replies = record { settings = s; world = world; waiting = waiting; clashes = clashes; block = 0; standing = Settled; sound = sound; replies = replies }
@@ -34,3 +41,16 @@ rate_fits rate h = search rules
 
 pub memory_fits : (memory : ℕ) → IsTrue (is_within 65536 16777216 memory) → 10368 + memory < 4294967296
 memory_fits memory h = search rules
+
+pub memory_opens : (memory : ℕ) → IsTrue (is_within 65536 16777216 memory) → (1 ≤ 10368 + memory) × (10368 + memory < 2 ^ 31)
+memory_opens memory h = let most : memory ≤ 16777216 = search rules in (omega arith, omega (arith, most))
+
+pub workers_fit : (workers : ℕ) → IsTrue (is_within 1 16 workers) → (1 ≤ workers) × (workers ≤ 16)
+workers_fit workers h =
+    let some : 1 ≤ workers = search rules in
+    let few : workers ≤ 16 = search rules in (some, few)
+
+-- nothing was played yet
+pub opens_past : (workers words : ℕ) (jobs : List Job) (memory : Remembered) (crew : ℕ) → jobs ≡ [] → memory ≡ record { words = replicate words 0; rounds = []; stores = 0 } → crew ≡ workers
+    → a_past jobs memory.rounds memory.stores crew ≡ no_past workers
+opens_past workers words jobs memory crew none zeros all = λ i. a_past (none i) (zeros i).rounds (zeros i).stores (all i)

@@ -12,3 +12,6 @@ pub mod Refusing
 pub mod Clashing
 pub mod Seeking
 pub mod Holding
+pub mod Remembered
+pub mod Planning
+pub mod Playing

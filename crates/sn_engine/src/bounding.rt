@@ -5,9 +5,11 @@ ghost use Rattle.sn_world.specs.Pictures.{Pictures, WritesWorld};
 ghost use Rattle.sn_engine.specs.Answerable.{AllAnswerable};
 ghost use Rattle.sn_engine.specs.Boundary.{turn_at, waiting_at, clashes_at, replies_at, quits_at};
 ghost use Rattle.sn_engine.specs.Holding.{StillHold};
+ghost use Rattle.sn_engine.specs.Planning.{IsPlanOf, StillPlanned};
 
 use crate::acting::act_due;
 use crate::clashing::take_clashes;
+use crate::planning::Planned;
 use sn_clash::Clashes;
 use sn_mem::Port;
 use sn_ports::NoMemory;
@@ -17,8 +19,8 @@ use sn_world::Stage;
 use std::alloc::Global;
 
 /// The entries that are due at boundary `now` act in their order, and then the clashes are taken: those that were not there at the
-/// boundary before are told. Where none is due, and the clashes that are held still hold, nothing is to be done. Tells whether the
-/// server ends.
+/// boundary before are told. Last the stage is planned. Where none is due, and the clashes that are held still hold, nothing is to be
+/// done. Tells whether the server ends.
 pub fn act_boundary<P: Port>(
     alloc: Global,
     stage: &mut Stage,
@@ -26,12 +28,14 @@ pub fn act_boundary<P: Port>(
     queue: &mut Queue,
     now: u64,
     held: &mut Clashes,
+    planned: &mut Planned,
     hold: bool,
     said: &mut Replies,
 ) -> Result<bool, NoMemory>
     requires silent { said.old ≡ [] }
     requires waiting { AllAnswerable queue.old.waiting }
     requires hold { StillHold hold stage.old held.old }
+    requires planned { StillPlanned hold stage.old planned.old.jobs }
     requires pictures { Pictures stage.old (P.words port.old) }
     requires foot { WritesWorld (P.foot port.old) stage.old.pool.region }
     ensures world { OnOk result (world_of stage.new (P.words port.new) ≡ (turn_at now queue.old (world_of stage.old (P.words port.old))).world) }
@@ -40,6 +44,7 @@ pub fn act_boundary<P: Port>(
     ensures kept { queue.new ≡ record queue.old { waiting = queue.new.waiting } }
     ensures clashes { OnOk result (held.new ≡ clashes_at now queue.old (world_of stage.old (P.words port.old))) }
     ensures hold { OnOk result (StillHold true stage.new held.new) }
+    ensures planned { OnOk result (IsPlanOf stage.new planned.new.jobs) }
     ensures replies { OnOk result (said.new ≡ replies_at now queue.old held.old (world_of stage.old (P.words port.old))) }
     ensures waiting { AllAnswerable queue.new.waiting }
     ensures pictures { Pictures stage.new (P.words port.new) }
@@ -53,5 +58,6 @@ pub fn act_boundary<P: Port>(
     }
     let quits = act_due(alloc, stage, port, queue, now, said)?;
     take_clashes(alloc, stage, held, said)?;
+    *planned = Planned::of(alloc, stage, held)?;
     Ok(quits)
 }

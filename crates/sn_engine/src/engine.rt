@@ -9,21 +9,26 @@ ghost use Rattle.sn_reply.specs.Frames.{EachBegins};
 ghost use Rattle.sn_engine.specs.Arriving.{IsSpelled, next_boundary, offered, with_offered, IsPartlyOffered, KeepsOthers};
 ghost use Rattle.sn_engine.specs.Entries.{entries_of};
 ghost use Rattle.sn_engine.specs.Refusing.{with_bad_packet};
+ghost use Rattle.sn_engine.specs.Planning.{IsPlanOfWorld};
+ghost use Rattle.sn_engine.specs.Playing.{no_past, with_round, KeepsRounds, KeepsRested};
 ghost use Rattle.sn_engine.specs.Running.{Running, IsQuiet, opened, at_boundary, flow_at, KeepsRest, with_block, with_settled};
 ghost use Rattle.sn_engine.specs.declared.standing.Standing.TheVariants.{Settled, Bounded, Rendered, Spent};
 
 use crate::bounding::act_boundary;
 use crate::entry::entries;
+use crate::hearing::hear_block;
+use crate::memory::Memory;
 use crate::offering::offer_entries;
+use crate::planning::Planned;
 use crate::refusing::bad_packet;
 use crate::room::reserve_settling;
 use crate::settling::settle_before;
 use crate::standing::{Flow, Standing};
-use crate::walking::{hear_block, run_nodes};
 use sn_clash::Clashes;
-use sn_mem::{PlainPort, Scratch};
+use sn_crew::Crew;
 use sn_osc::Packet;
 use sn_pcm::{Settings, frames};
+use sn_play::Block;
 use sn_ports::{Failed, Gate, Link, NoMemory, Sink, Text, send_all, write_all};
 use sn_queue::Queue;
 use sn_reply::{Replies, send};
@@ -40,14 +45,14 @@ const BLOCK_SAMPLES: usize = 512;
 
 const BLOCK_BYTES: u32 = 1536;
 
-/// What is played: the nodes, the words of the buses and of the pool, the entries that wait, and the bytes that are still to be
-/// written.
+/// What is played: the nodes, the words of the buses and of the pool with the crew that shares them, the entries that wait, and the
+/// bytes that are still to be written.
 #[derive(Drop)]
 pub struct Engine {
     settings: Settings,
     stage: Stage,
-    port: PlainPort,
-    scratch: Scratch,
+    memory: Memory,
+    crew: Crew,
     // The samples of the last block, frame by frame.
     samples: Vec<i32>,
     // The units that ended in the last block.
@@ -55,9 +60,10 @@ pub struct Engine {
     // How many bytes each client may be sent of the settling that comes.
     room: u32,
     queue: Queue,
-    // The clashes of the last boundary, and whether nothing changed since they were taken.
+    // The clashes and the plan of the last boundary, and whether nothing changed since they were made.
     clashes: Clashes,
-    clashes_hold: bool,
+    planned: Planned,
+    holds: bool,
     block: u64,
     standing: Standing,
     sound: Text,
@@ -73,22 +79,26 @@ impl Model for Engine {
     ghost use Rattle.sn_tree.specs.Model.{nodes_code};
     ghost use Rattle.sn_world.specs.World.{world_of};
     ghost use Rattle.sn_world.specs.Pictures.{Pictures};
-    ghost use Rattle.sn_engine.specs.Running.{Running};
+    ghost use Rattle.sn_engine.specs.Playing.{Playing};
     ghost use Rattle.sn_engine.specs.Answerable.{AllAnswerable};
     ghost use Rattle.sn_tree.specs.Trees.{running_labels};
     ghost use Rattle.sn_world.specs.SettleWords.{walk_room};
     ghost use Rattle.sn_engine.specs.Keeping.{HasRoom, IsRoom};
     ghost use Rattle.sn_engine.specs.Holding.{StillHold};
+    ghost use Rattle.sn_engine.specs.Planning.{StillPlanned, HoldsBounded};
 
-    ghost Value = { Running };
+    ghost Value = { Playing };
 
     ghost coded = { Prim.hlevel (codes, nodes_code, finite.code) };
 
-    ghost view = { λ e. record { settings = e.settings; world = world_of e.stage e.port.words.items; waiting = e.queue; clashes = e.clashes; block = e.block; standing = e.standing; sound = e.sound.bytes; replies = map bytes_of e.replies.items } };
+    ghost view = { λ e. record {
+      running = record { settings = e.settings; world = world_of e.stage e.memory.words; waiting = e.queue; clashes = e.clashes; block = e.block; standing = e.standing; sound = e.sound.bytes; replies = map bytes_of e.replies.items };
+      past = record { jobs = e.planned.jobs; rounds = e.memory.rounds; stores = e.memory.stores; crew = length e.crew.hands.items };
+    } };
 
-    ghost invariant = { λ e. Pictures e.stage e.port.words.items × AllAnswerable e.queue.waiting × HasRoom e.standing e.sound.spare (vec_capacity e.samples) (walk_room (running_labels e.stage.tree.attached)) e.endings.spare e.replies.items
+    ghost invariant = { λ e. Pictures e.stage e.memory.words × AllAnswerable e.queue.waiting × HasRoom e.standing e.sound.spare (vec_capacity e.samples) (walk_room (running_labels e.stage.tree.attached)) e.endings.spare e.replies.items
         × IsRoom e.standing e.room (walk_room (running_labels e.stage.tree.attached)) × (e.room < 2 ^ 30) × (length e.replies.items ≤ 4)
-        × StillHold e.clashes_hold e.stage e.clashes };
+        × StillHold e.holds e.stage e.clashes × StillPlanned e.holds e.stage e.planned.jobs × HoldsBounded e.standing e.holds };
 }
 
 /// Nothing to send to so many clients.
@@ -140,72 +150,82 @@ impl Engine {
         clients: u32,
     ) -> Result<Self, NoMemory>
         requires clients { clients ≤ 4 }
-        ensures { IfOk result (λ e. e ≡ opened settings.now base limit clients) }
+        ensures running { IfOk result (λ e. e.running ≡ opened settings.now base limit clients) }
+        ensures past { IfOk result (λ e. e.past ≡ no_past settings.now.workers) }
     {
+        let stage = Stage::new(alloc, settings.rate, settings.memory, clients)?;
+        let planned = Planned::nothing(alloc, &stage)?;
+        let memory = Memory::open(alloc, BUS_WORDS + settings.memory)?;
+        let crew = Crew::open(alloc, settings.workers)?;
+        let queue = Queue::new(alloc, base, settings.rate, limit);
+        let clashes = Clashes::new(alloc);
+        let sound = Text::new(alloc);
+        let replies = silent(alloc, clients)?;
         Ok(Engine {
             settings: *settings,
-            stage: Stage::new(alloc, settings.rate, settings.memory, clients)?,
-            port: PlainPort::new(alloc, BUS_WORDS + settings.memory)?,
-            scratch: Scratch::new(alloc)?,
+            stage,
+            memory,
+            crew,
             samples: Vec::new(alloc),
             endings: Endings::new(alloc),
             room: 0,
-            queue: Queue::new(alloc, base, settings.rate, limit),
-            clashes: Clashes::new(alloc),
-            clashes_hold: false,
+            queue,
+            clashes,
+            planned,
+            holds: false,
             block: 0,
             standing: Standing::Settled,
-            sound: Text::new(alloc),
-            replies: silent(alloc, clients)?,
+            sound,
+            replies,
         })
     }
 
     /// The greatest due number of the entries that wait.
     pub fn last(&self) -> Option<u64>
-        ensures { result ≡ last_due self.now.waiting }
+        ensures { result ≡ last_due self.now.running.waiting }
     {
         self.queue.last()
     }
 
     /// How many blocks were rendered.
     pub fn block(&self) -> u64
-        ensures { result ≡ self.now.block }
+        ensures { result ≡ self.now.running.block }
     {
         self.block
     }
 
     /// How far it is.
     pub fn standing(&self) -> Standing
-        ensures { result ≡ self.now.standing }
+        ensures { result ≡ self.now.running.standing }
     {
         self.standing
     }
 
     /// How many clients it has.
     pub fn clients(&self) -> u32
-        ensures { result ≡ length self.now.replies }
+        ensures { result ≡ length self.now.running.replies }
     {
         self.replies.len() as u32
     }
 
     /// How many entries were ever put.
     pub fn puts(&self) -> u64
-        ensures { result ≡ self.now.waiting.puts }
+        ensures { result ≡ self.now.running.waiting.puts }
     {
         self.queue.puts()
     }
 
     /// How many bytes of sound are still to be written.
     pub fn sound_len(&self) -> usize
-        ensures { result ≡ length self.now.sound }
+        ensures { result ≡ length self.now.running.sound }
     {
         self.sound.len()
     }
 
     /// The next boundary that has not been run.
     fn next_boundary(&self) -> u64
-        requires block { self.now.block < 2 ^ 62 }
-        ensures { result ≡ next_boundary self.now }
+        requires block { self.now.running.block < 2 ^ 62 }
+        ensures { result ≡ next_boundary self.now.running }
     {
         match self.standing {
             Standing::Bounded => self.block + 1,
@@ -217,16 +237,17 @@ impl Engine {
     /// and is answered by `/fail`; gives how many were refused. After `NoMemory` the entries before it stay, and what clients were to be sent
     /// stays too, with a front of what this answers.
     pub fn offer(&mut self, alloc: Global, packet: Packet, from: u32) -> Result<u32, NoMemory>
-        requires block { next_boundary self.old < 2 ^ 62 }
-        requires puts { self.old.waiting.puts + length (entries_of (shape packet)) ≤ 2 ^ 62 }
+        requires block { next_boundary self.old.running < 2 ^ 62 }
+        requires puts { self.old.running.waiting.puts + length (entries_of (shape packet)) ≤ 2 ^ 62 }
         requires spelled { IsSpelled (shape packet) }
-        ensures ok { OnOk result (self.new ≡ with_offered from (entries_of (shape packet)) self.old) }
-        ensures refused { IfOk result (λ k. k ≡ (offered from (entries_of (shape packet)) self.old).refused) }
-        ensures part { OnErr result (IsPartlyOffered (next_boundary self.old) from (entries_of (shape packet)) self.old.waiting self.new.waiting) }
-        ensures others { KeepsOthers self.old self.new }
-        ensures clients { length self.new.replies ≡ length self.old.replies }
-        ensures behind { EachBegins self.old.replies self.new.replies }
-        ensures front { OnErr result (EachBegins self.new.replies (with_offered from (entries_of (shape packet)) self.old).replies) }
+        ensures ok { OnOk result (self.new.running ≡ with_offered from (entries_of (shape packet)) self.old.running) }
+        ensures refused { IfOk result (λ k. k ≡ (offered from (entries_of (shape packet)) self.old.running).refused) }
+        ensures part { OnErr result (IsPartlyOffered (next_boundary self.old.running) from (entries_of (shape packet)) self.old.running.waiting self.new.running.waiting) }
+        ensures others { KeepsOthers self.old.running self.new.running }
+        ensures past { self.new.past ≡ self.old.past }
+        ensures clients { length self.new.running.replies ≡ length self.old.running.replies }
+        ensures behind { EachBegins self.old.running.replies self.new.running.replies }
+        ensures front { OnErr result (EachBegins self.new.running.replies (with_offered from (entries_of (shape packet)) self.old.running).replies) }
     {
         let boundary = self.next_boundary();
         let entries = entries(alloc, packet)?;
@@ -236,37 +257,40 @@ impl Engine {
         Ok(refused)
     }
 
-    /// The boundary before the next block: the entries that are due act in their order, and the memory of the block is reserved. After
-    /// `NoMemory` the engine is spent: clients are still to be sent what they were, with a front of what this answers, and the sound that
-    /// waits stays.
+    /// The boundary before the next block: the entries that are due act in their order, the jobs of the block are planned, and its memory
+    /// is reserved. After `NoMemory` the engine is spent: clients are still to be sent what they were, with a front of what this answers,
+    /// and the sound that waits stays.
     pub fn boundary(&mut self, alloc: Global) -> Result<Flow, NoMemory>
-        requires settled { self.old.standing ≡ Settled }
-        ensures ok { OnOk result (self.new ≡ at_boundary self.old) }
-        ensures flow { IfOk result (λ flow. flow ≡ flow_at self.old) }
-        ensures spent { OnErr result (self.new.standing ≡ Spent) }
-        ensures others { KeepsRest self.old self.new }
-        ensures clients { length self.new.replies ≡ length self.old.replies }
-        ensures behind { EachBegins self.old.replies self.new.replies }
-        ensures front { OnErr result (EachBegins self.new.replies (at_boundary self.old).replies) }
+        requires settled { self.old.running.standing ≡ Settled }
+        ensures ok { OnOk result (self.new.running ≡ at_boundary self.old.running) }
+        ensures flow { IfOk result (λ flow. flow ≡ flow_at self.old.running) }
+        ensures spent { OnErr result (self.new.running.standing ≡ Spent) }
+        ensures others { KeepsRest self.old.running self.new.running }
+        ensures past { KeepsRested self.old.past self.new.past }
+        ensures planned { OnOk result (IsPlanOfWorld self.new.running.world self.new.past.jobs) }
+        ensures clients { length self.new.running.replies ≡ length self.old.running.replies }
+        ensures behind { EachBegins self.old.running.replies self.new.running.replies }
+        ensures front { OnErr result (EachBegins self.new.running.replies (at_boundary self.old.running).replies) }
     {
         self.standing = Standing::Spent;
         self.samples.clear();
         self.samples.reserve(BLOCK_SAMPLES)?;
         self.sound.reserve(BLOCK_BYTES)?;
         let mut said = Replies::new(alloc);
-        let hold = self.clashes_hold;
-        self.clashes_hold = false;
+        let hold = self.holds;
+        self.holds = false;
         let quits = act_boundary(
             alloc,
             &mut self.stage,
-            &mut self.port,
+            &mut self.memory,
             &mut self.queue,
             self.block,
             &mut self.clashes,
+            &mut self.planned,
             hold,
             &mut said,
         )?;
-        self.clashes_hold = true;
+        self.holds = true;
         send(alloc, &mut self.replies, 0, said)?;
         self.room = reserve_settling(&self.stage, &mut self.endings, &mut self.replies)?;
         self.standing = Standing::Bounded;
@@ -281,16 +305,24 @@ impl Engine {
         1
     }
 
-    /// The next block: the walk over the nodes, and its sound. It takes no memory.
-    pub fn blocks<H: Threads + Sync, G: Gate>(&mut self, _rt: &H, n: u32, _gate: &G)
+    /// The next block: a round of the jobs of the plan, which the crew shares, and its sound. The world after it is that of the walk over
+    /// the nodes, whatever their number of workers. Each job passes the gate before it runs. It takes no memory.
+    pub fn blocks<H: Threads + Sync, G: Gate>(&mut self, rt: &H, n: u32, gate: &G)
         requires quiet { IsQuiet n }
-        requires bounded { self.old.standing ≡ Bounded }
-        requires block { self.old.block < 2 ^ 62 }
-        ensures { self.new ≡ with_block self.old }
+        requires bounded { self.old.running.standing ≡ Bounded }
+        requires block { self.old.running.block < 2 ^ 62 }
+        ensures running { self.new.running ≡ with_block self.old.running }
+        ensures past { self.new.past ≡ with_round self.old.past }
     {
-        run_nodes(&mut self.port, &self.stage, self.block, &mut self.scratch);
+        let block = Block {
+            stage: &self.stage,
+            plan: &self.planned.jobs,
+            places: &self.planned.places,
+            block: self.block,
+        };
+        self.memory.round(rt, &mut self.crew, &block, gate);
         hear_block(
-            &mut self.port,
+            &mut self.memory,
             &self.stage,
             self.settings.channels,
             self.block,
@@ -304,39 +336,42 @@ impl Engine {
     /// Settles the block that was rendered: its triggers are told, and the units that ended in it pause or free their synths. It takes no
     /// memory.
     pub fn settle(&mut self)
-        requires rendered { self.old.standing ≡ Rendered }
-        requires block { self.old.block < 2 ^ 63 }
-        ensures { self.new ≡ with_settled self.old }
+        requires rendered { self.old.running.standing ≡ Rendered }
+        requires block { self.old.running.block < 2 ^ 63 }
+        ensures running { self.new.running ≡ with_settled self.old.running }
+        ensures past { KeepsRounds self.old.past self.new.past }
     {
         let ended = settle_before(
             &mut self.stage,
-            &mut self.port,
+            &mut self.memory,
             self.block,
             &mut self.endings,
             &mut self.replies,
         );
-        self.clashes_hold = self.clashes_hold && !ended;
+        self.holds = self.holds && !ended;
         self.standing = Standing::Settled;
         self.room = 0;
     }
 
     /// Writes the sound that is still to be written. After a fault the sink took a front of it, and the rest is dropped.
     pub fn drain_sound<O: Sink>(&mut self, sink: &mut O) -> Result<(), Failed>
-        ensures taken { TakesAll (O.taken sink.old) (O.taken sink.new) result self.old.sound }
+        ensures taken { TakesAll (O.taken sink.old) (O.taken sink.new) result self.old.running.sound }
         ensures cause { HasCause (O.faults sink.old) (O.faults sink.new) result }
         ensures unfailed { OnOk result (O.faults sink.new ≡ O.faults sink.old) }
-        ensures kept { self.new ≡ record self.old { sound = [] } }
+        ensures kept { self.new.running ≡ record self.old.running { sound = [] } }
+        ensures past { self.new.past ≡ self.old.past }
     {
         drain(&mut self.sound, sink)
     }
 
     /// Writes the replies that are still to be sent to a client. After a fault the sink took a front of them, and the rest is dropped.
     pub fn drain_replies<R: Sink>(&mut self, client: u32, sink: &mut R) -> Result<(), Failed>
-        requires client { client < length self.old.replies }
-        ensures taken { TakesAll (R.taken sink.old) (R.taken sink.new) result (slice_index_or self.old.replies client []) }
+        requires client { client < length self.old.running.replies }
+        ensures taken { TakesAll (R.taken sink.old) (R.taken sink.new) result (slice_index_or self.old.running.replies client []) }
         ensures cause { HasCause (R.faults sink.old) (R.faults sink.new) result }
         ensures unfailed { OnOk result (R.faults sink.new ≡ R.faults sink.old) }
-        ensures kept { self.new ≡ record self.old { replies = slice_set self.old.replies client [] } }
+        ensures kept { self.new.running ≡ record self.old.running { replies = slice_set self.old.running.replies client [] } }
+        ensures past { self.new.past ≡ self.old.past }
     {
         drain(&mut self.replies[client as usize], sink)
     }
@@ -344,23 +379,25 @@ impl Engine {
     /// Sends a client over a link the replies that are still to be sent to it. After a fault a front of them was sent, and the rest is
     /// dropped.
     pub fn send_replies<L: Link>(&mut self, client: u32, link: &mut L) -> Result<(), Failed>
-        requires client { client < length self.old.replies }
-        ensures sent { TakesAll (L.sent link.old) (L.sent link.new) result (slice_index_or self.old.replies client []) }
+        requires client { client < length self.old.running.replies }
+        ensures sent { TakesAll (L.sent link.old) (L.sent link.new) result (slice_index_or self.old.running.replies client []) }
         ensures events { KeepsEvents (L.left link.old) (L.left link.new) }
         ensures cause { HasCause (L.faults link.old) (L.faults link.new) result }
         ensures unfailed { OnOk result (L.faults link.new ≡ L.faults link.old) }
-        ensures kept { self.new ≡ record self.old { replies = slice_set self.old.replies client [] } }
+        ensures kept { self.new.running ≡ record self.old.running { replies = slice_set self.old.running.replies client [] } }
+        ensures past { self.new.past ≡ self.old.past }
     {
         send_text(&mut self.replies[client as usize], link)
     }
 
     /// Answers a client whose bytes are no packet. After `NoMemory` what clients were to be sent stays, with a front of this answer.
     pub fn refuse_packet(&mut self, alloc: Global, from: u32) -> Result<(), NoMemory>
-        ensures ok { OnOk result (self.new ≡ with_bad_packet from self.old) }
-        ensures others { self.new ≡ record self.old { replies = self.new.replies } }
-        ensures clients { length self.new.replies ≡ length self.old.replies }
-        ensures behind { EachBegins self.old.replies self.new.replies }
-        ensures front { OnErr result (EachBegins self.new.replies (with_bad_packet from self.old).replies) }
+        ensures ok { OnOk result (self.new.running ≡ with_bad_packet from self.old.running) }
+        ensures others { self.new.running ≡ record self.old.running { replies = self.new.running.replies } }
+        ensures past { self.new.past ≡ self.old.past }
+        ensures clients { length self.new.running.replies ≡ length self.old.running.replies }
+        ensures behind { EachBegins self.old.running.replies self.new.running.replies }
+        ensures front { OnErr result (EachBegins self.new.running.replies (with_bad_packet from self.old.running).replies) }
     {
         let said = bad_packet(alloc, from)?;
         send(alloc, &mut self.replies, self.room, said)
@@ -368,8 +405,8 @@ impl Engine {
 
     /// How many bytes of replies are still to be sent to a client.
     pub fn replies_len(&self, client: u32) -> usize
-        requires client { client < length self.now.replies }
-        ensures { result ≡ length (slice_index_or self.now.replies client []) }
+        requires client { client < length self.now.running.replies }
+        ensures { result ≡ length (slice_index_or self.now.running.replies client []) }
     {
         self.replies[client as usize].len()
     }

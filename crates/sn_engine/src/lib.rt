@@ -7,13 +7,15 @@ mod bounding;
 mod clashing;
 mod engine;
 mod entry;
+mod hearing;
 mod laws;
+mod memory;
 mod offering;
+mod planning;
 mod refusing;
 mod room;
 mod settling;
 mod standing;
-mod walking;
 
 pub use engine::Engine;
 pub use laws::{chosen_ids_are_below, no_completion_is_left};

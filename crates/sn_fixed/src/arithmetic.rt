@@ -68,20 +68,18 @@ pub fn scaled_sample(products: i128) -> i32
     sat_wide(products.div_euclid(i128::from(ONE)))
 }
 
-/// The sample nearest to the sum of two samples.
-#[tactic(auto, unfolding(crate::specs::Fixed::sat))]
+/// The sample nearest to the sum of two samples. The exact sum is clamped, since that takes no branch.
 pub fn add(a: i32, b: i32) -> i32
     ensures { result ≡ sat (a +ℤ b) }
 {
-    a.saturating_add(b)
+    sat(i64::from(a) + i64::from(b))
 }
 
 /// The sample nearest to the difference of two samples.
-#[tactic(auto, unfolding(crate::specs::Fixed::sat))]
 pub fn sub(a: i32, b: i32) -> i32
     ensures { result ≡ sat (a -ℤ b) }
 {
-    a.saturating_sub(b)
+    sat(i64::from(a) - i64::from(b))
 }
 
 /// The sample nearest to the product of two samples, which is brought to their scale (by 2^-24) and rounded down first.

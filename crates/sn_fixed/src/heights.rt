@@ -15,6 +15,16 @@ pub struct Heights {
     ghost filled: { AreHeights items.items 32769 },
 }
 
+/// The place up to the middle that has the height of place `h`. It is found without a branch.
+#[tactic(auto, using(crate::proofs::HalfWave::mirrored))]
+fn folded(h: u32) -> u32
+    requires { h ≤ 65536 }
+    ensures height { height result ≡ height h }
+    ensures bound { result ≤ 32768 }
+{
+    if h <= 32768 { h } else { 65_536 - h }
+}
+
 impl Heights {
     /// All heights, computed.
     pub fn new(alloc: Global) -> Result<Heights, AllocError> {
@@ -26,17 +36,13 @@ impl Heights {
     }
 
     /// The height of the half wave at place `h` of 65,536.
-    #[tactic(auto, using(crate::proofs::HalfWave::mirrored, crate::proofs::HalfWave::height_small))]
+    #[tactic(auto, using(crate::proofs::HalfWave::height_small))]
     fn height(&self, h: u32) -> u32
         requires { h ≤ 65536 }
         ensures value { result ≡ height h }
         ensures bound { result ≤ 16777216 }
     {
-        if h <= 32768 {
-            self.items[h as usize]
-        } else {
-            self.items[65536 - h as usize]
-        }
+        self.items[folded(h) as usize]
     }
 
     /// The sine of a phase as a sample: what the function `sine` gives.

@@ -33,7 +33,7 @@ is_itself (Audio n) = eq-eqb n n refl
 is_itself (Control n) = eq-eqb n n refl
 is_itself (Buffer n) = eq-eqb n n refl
 
-same_is : (q r : Resource) → is_same q r ≡ true → q ≡ r
+pub same_is : (q r : Resource) → is_same q r ≡ true → q ≡ r
 same_is (Audio m) (Audio n) h = ap Audio (eqb-true m n h)
 same_is (Audio m) (Control n) h = absurd (true≢false (sym h))
 same_is (Audio m) (Buffer n) h = absurd (true≢false (sym h))

@@ -23,7 +23,7 @@ use Rattle.sn_foot.specs.declared.resource.Resource.{Resource}
 use Rattle.sn_foot.specs.declared.resource.Resource.TheVariants as resources
 use Rattle.sn_foot.specs.declared.uses.Use.{Use}
 use Rattle.sn_foot.specs.Footprints.{follows, is_among, is_bus, is_number, is_there, number_of}
-use Rattle.sn_foot.specs.Uses.{held_uses, is_same, unit_uses, uses_in}
+use Rattle.sn_foot.specs.Uses.{PutsUses, held_uses, is_same, unit_uses, uses_in}
 use Rattle.sn_foot.specs.Putting.{number_at, put_controls, put_held, put_nodes, put_number, put_span, put_units, put_used, resource, span}
 
 -- ---- a loop's steps
@@ -82,7 +82,7 @@ bank_is bank f g r lt e = ap (λ b. is_bank bank (bank_of r) && b) (e (number_of
 
 -- ---- a span
 
-at_end : (a : Access) (us : List Use) (u : Use) (r : Resource) → uses_in a (us ++ u ∷ []) r ≡ (uses_in a us r || (is_access a u.access && is_same u.resource r))
+pub at_end : (a : Access) (us : List Use) (u : Use) (r : Resource) → uses_in a (us ++ u ∷ []) r ≡ (uses_in a us r || (is_access a u.access && is_same u.resource r))
 at_end a us u r =
     list_any-append (λ (v : Use). is_access a v.access && is_same v.resource r) us (u ∷ [])
     ∙ ap (λ b. uses_in a us r || b) (or-false (is_access a u.access && is_same u.resource r))
@@ -199,7 +199,7 @@ synth_put a controls units us r low =
     ∙ ap (λ b. b || left) (controls_put a controls us r)
     ∙ or_assoc (uses_in a us r) (list_any (λ (c : SynthControl). control_uses a c r) controls) left
 
-pub held_put : (a : Access) (h : Held) (us : List Use) (r : Resource) → number_of r < 1024 → uses_in a (put_held h us) r ≡ (uses_in a us r || held_uses a h r)
+held_put : (a : Access) (h : Held) (us : List Use) (r : Resource) → number_of r < 1024 → uses_in a (put_held h us) r ≡ (uses_in a us r || held_uses a h r)
 held_put Read held.Group us r low = sym (or-false (uses_in Read us r))
 held_put Write held.Group us r low = sym (or-false (uses_in Write us r))
 held_put Read (held.Synth def controls state) us r low = synth_put Read controls (definition_of def.value).units us r low
@@ -207,6 +207,9 @@ held_put Write (held.Synth def controls state) us r low =
     let units : List UnitLine = (definition_of def.value).units in
     synth_put Write controls units us r low
     ∙ ap (λ b. uses_in Write us r || (b || list_any (λ (u : UnitLine). unit_uses Write controls u r) units)) (sym (none_of controls))
+
+pub puts_uses : (h : Held) (before after : List Use) → after ≡ put_held h before → PutsUses h before after
+puts_uses h before after e = λ a r low. ap (λ (us : List Use). uses_in a us r) e ∙ held_put a h before r low
 
 pub nodes_put : (a : Access) (hs : List Held) (us : List Use) (r : Resource) → number_of r < 1024 → uses_in a (put_nodes hs us) r ≡ (uses_in a us r || list_any (λ (h : Held). held_uses a h r) hs)
 nodes_put a [] us r low = sym (or-false (uses_in a us r))

@@ -1,5 +1,5 @@
 -- What a list of uses says of resources, and where these lie.
-use Rattle.std.specs.Prelude.{◌==◌, Bool, false, ◌&&◌, List, [], ◌∷◌, ◌++◌, Option}
+use Rattle.std.specs.Prelude.{◌≡◌, ◌<◌, ◌==◌, Bool, false, ◌&&◌, ◌||◌, List, [], ◌∷◌, ◌++◌, Option}
 use Rattle.std.specs.List.{list_any}
 use Rattle.sn_mem.specs.declared.extents.Extent.{Extent}
 use Rattle.sn_mem.specs.declared.buffers.BufferPlace.{BufferPlace}
@@ -12,7 +12,7 @@ use Rattle.sn_world.specs.declared.stage.Held.{Held}
 use Rattle.sn_foot.specs.declared.resource.Resource.{Resource}
 use Rattle.sn_foot.specs.declared.resource.Resource.TheVariants.{Audio, Control, Buffer}
 use Rattle.sn_foot.specs.declared.uses.Use.{Use}
-use Rattle.sn_foot.specs.Footprints.{Footprint, held_reads, held_writes, is_there, place_of, unit_reads, unit_writes, where_used}
+use Rattle.sn_foot.specs.Footprints.{Footprint, held_reads, held_writes, is_there, number_of, place_of, unit_reads, unit_writes, where_used}
 
 abbrev pub is_same : Resource → Resource → Bool
 is_same (Audio m) (Audio n) = m == n
@@ -46,3 +46,7 @@ held_uses Write h r = held_writes h r
 -- whether nodes use a resource that is there
 abbrev pub nodes_use : List (Option BufferPlace) → Access → List Held → Resource → Bool
 nodes_use buffers access hs r = is_there buffers r && list_any (λ h. held_uses access h r) hs
+
+-- after a node was put to uses, what has a number below 1,024 is used just where it was used before, or by the node itself
+abbrev pub PutsUses : Held → List Use → List Use → Type 0
+PutsUses h before after = (access : Access) (r : Resource) → number_of r < 1024 → uses_in access after r ≡ (uses_in access before r || held_uses access h r)

@@ -4,6 +4,7 @@ ghost use Rattle.sn_def.specs.declared.table.Access.TheVariants.{Read};
 ghost use Rattle.sn_def.specs.declared.table.Bank.TheVariants.{Control};
 ghost use Rattle.sn_def.specs.Units.{row_of};
 ghost use Rattle.sn_foot.specs.Putting.{number_at, put_controls, put_held, put_nodes, put_number, put_span, put_units, put_used, resource};
+ghost use Rattle.sn_foot.specs.Uses.{PutsUses};
 
 use crate::resource::Resource;
 use crate::units::{index_of, span};
@@ -113,8 +114,8 @@ fn push_controls(uses: &mut Vec<Use>, controls: &[SynthControl]) -> Result<(), N
     Ok(())
 }
 
-/// Puts what a node uses by itself at the end.
-pub fn push_held(uses: &mut Vec<Use>, held: &Held) -> Result<(), NoMemory>
+/// Puts what a node uses by itself at the end, as the rows of its units say.
+fn push_node(uses: &mut Vec<Use>, held: &Held) -> Result<(), NoMemory>
     ensures { OnOk result (uses.new.items ≡ put_held held.now uses.old.items) }
 {
     match held {
@@ -126,12 +127,19 @@ pub fn push_held(uses: &mut Vec<Use>, held: &Held) -> Result<(), NoMemory>
     }
 }
 
+/// Puts what a node uses by itself at the end. A bus or buffer below 1,024 is then used if it was before, or by the node.
+pub fn push_held(uses: &mut Vec<Use>, held: &Held) -> Result<(), NoMemory>
+    ensures { OnOk result (PutsUses held.now uses.old.items uses.new.items) }
+{
+    push_node(uses, held)
+}
+
 /// Puts what nodes use at the end.
 fn push_nodes(uses: &mut Vec<Use>, nodes: &[&Held]) -> Result<(), NoMemory>
     ensures { OnOk result (uses.new.items ≡ put_nodes (map (λ h. h.now) nodes.now) uses.old.items) }
 {
     for held in nodes {
-        push_held(uses, held)?;
+        push_node(uses, held)?;
     }
     Ok(())
 }

@@ -1,5 +1,5 @@
 -- How many jobs there are at most, and how often a synth is among them.
-use Rattle.std.proofs.Common.{◌≡◌, ◌≤◌, ◌<◌, ℕ, ◌+◌, ℤ, Bool, true, false, if◌then◌else◌, List, [], ◌∷◌, ◌++◌, Option, Some, sym, refl, ◌∙◌, subst, arith, true≢false, ⊎_elim}
+use Rattle.std.proofs.Common.{◌≡◌, ◌≤◌, ◌<◌, ℕ, ◌+◌, ℤ, Bool, true, false, not, if◌then◌else◌, List, [], ◌∷◌, ◌++◌, Option, Some, sym, refl, ap, ◌∙◌, subst, arith, true≢false, ⊎_elim}
 use Rattle.std.specs.Ordering.{int_eq}
 use Rattle.std.proofs.lemmas.Bool.{cases_Bool, cond_both, or_cases, false_from_ne_true}
 use Rattle.std.proofs.lemmas.Bool.Decides.{Decides-int_eq}
@@ -14,9 +14,10 @@ use Rattle.sn_world.specs.declared.stage.Held.{Held}
 use Rattle.sn_graph.specs.declared.nodes.Voice.{Voice}
 use Rattle.sn_graph.specs.Voices.{Running, none, synth, group, voices, has, Once}
 use Rattle.sn_graph.specs.Rows.{Row, done, job, split, size, size_all}
-use Rattle.sn_graph.specs.Plans.{close, followed, members, joined, keep, part, row_of, rows_of}
-use Rattle.sn_graph.specs.Stages.{with_node, running_of}
+use Rattle.sn_graph.specs.Plans.{close, followed, is_listed, members, joined, keep, row_of, rows_of}
+use Rattle.sn_graph.specs.Stages.{with_group, with_node, running_of}
 use Rattle.sn_graph.proofs.Labels.{kind_at, kind_after, kind_below, kind_here, not_some, some_is, subtree_after, subtree_below, subtree_here}
+use Rattle.sn_graph.proofs.Hearing.{voices_group}
 use Rattle.sn_graph.proofs.Shapes.{weight}
 use Rattle.sn_graph.proofs.Drafting.{size-followed}
 
@@ -53,20 +54,15 @@ size-close : (run : List Voice) (r : Row) → size (close run r) ≡ runs run + 
 size-close [] r = omega arith
 size-close (v ∷ vs) r = refl
 
-size-part : (run : List Voice) (r through rest : Row) (n : ℕ) → size through ≤ runs run + n → size rest ≤ n → size (part run r through rest) ≤ runs run + (size r + n)
-size-part run done through rest n t l = omega arith
-size-part run (job vs a) through rest n t l = omega (arith, size-close run (followed (job vs a) rest), size-followed (job vs a) rest)
-size-part run (split ms a) through rest n t l = omega (arith, size-close run (followed (split ms a) rest), size-followed (split ms a) rest)
-
-bare : (a b : ℕ) → a ≤ 0 + b → a ≤ b
-bare a b h = omega arith
+size-after : (run : List Voice) (r rest : Row) → size (close run (followed r rest)) ≡ runs run + (size r + size rest)
+size-after run r rest = omega (arith, size-close run (followed r rest), size-followed r rest)
 
 mutual
   few_row : (run : List Voice) (t : Running) → size (row_of run t) ≤ runs run + weight t
   few_row run none = omega (arith, size-close run done)
   few_row run (synth v rest) = omega (arith, few_row (run ++ v ∷ []) rest, some_run run v)
-  few_row run (group true inner rest) = omega (arith, size-part run (joined (rows_of inner)) (row_of run rest) (row_of [] rest) (weight rest) (few_row run rest) (bare (size (row_of [] rest)) (weight rest) (few_row [] rest)), size-joined (rows_of inner), few_rows inner)
-  few_row run (group false inner rest) = omega (arith, size-part run (row_of [] inner) (row_of run rest) (row_of [] rest) (weight rest) (few_row run rest) (bare (size (row_of [] rest)) (weight rest) (few_row [] rest)), few_row [] inner)
+  few_row run (group true inner rest) = omega (arith, size-after run (joined (rows_of inner)) (row_of [] rest), few_row [] rest, size-joined (rows_of inner), few_rows inner)
+  few_row run (group false inner rest) = omega (arith, size-after run (row_of [] inner) (row_of [] rest), few_row [] rest, few_row [] inner)
 
   few_rows : (t : Running) → sizes (rows_of t) ≤ weight t
   few_rows none = omega arith
@@ -91,6 +87,9 @@ one_from : (b : Bool) → b ≡ true → one_if b ≡ 1
 one_from true h = refl
 one_from false h = absurd (true≢false (sym h))
 
+heard_group : (a : ℤ) (flag : Bool) (below after : Running) → heard a (voices (with_group flag below after)) ≡ heard a (voices below) + heard a (voices after)
+heard_group a flag below after = ap (heard a) (voices_group flag below after) ∙ heard-append a (voices below) (voices after)
+
 has_heard : (a : ℤ) (vs : List Voice) → has vs a ≡ true → 1 ≤ heard a vs
 has_heard a [] h = absurd (true≢false (sym h))
 has_heard a (v ∷ vs) h = ⊎_elim
@@ -113,11 +112,22 @@ occurrences_below a id (trees.node label below after) =
     (λ h. omega (arith, all, occurrences_below a id below))
     (λ h. omega (arith, all, occurrences_below a id after)))
 
+weight_group : (flag : Bool) (below after : Running) → weight (with_group flag below after) ≤ 1 + weight below + weight after
+weight_group flag none after = omega arith
+weight_group flag (synth v rest) after = omega arith
+weight_group flag (group f inner rest) after = omega arith
+
+-- a plain group has no job of its own
+few_plain : (below : Running) → size (row_of [] (with_group false below none)) ≤ weight below
+few_plain none = omega arith
+few_plain (synth v rest) = omega (arith, size-followed (row_of [] (synth v rest)) done, few_row [] (synth v rest))
+few_plain (group f inner rest) = omega (arith, size-followed (row_of [] (group f inner rest)) done, few_row [] (group f inner rest))
+
 module _ (buffers : List (Option BufferPlace)) (clashing : List ℤ) where
   weight_node : (kind : NodeKind) (label : Label Held) (below after : Running) → weight (with_node buffers clashing kind label below after) ≤ 1 + weight below + weight after
   weight_node kinds.Synth label below after = omega arith
-  weight_node kinds.Group label below after = omega arith
-  weight_node kinds.Parallel label below after = omega arith
+  weight_node kinds.Group label below after = weight_group false below after
+  weight_node kinds.Parallel label below after = weight_group (not (is_listed clashing label.id)) below after
 
   weight_all : (t : Nodes Held) → weight (running_of buffers clashing t) ≤ count t
   weight_all trees.none = omega arith
@@ -128,11 +138,10 @@ module _ (buffers : List (Option BufferPlace)) (clashing : List ℤ) where
       (λ h. omega (arith, weight_node label.kind label b a, weight_all below, weight_all after))
       (λ h. omega (arith, weight_all after))
 
-  -- a plain group has no job of its own
   few_group : (kind : NodeKind) (label : Label Held) (below : Running) → kind ≡ kinds.Group → size (row_of [] (with_node buffers clashing kind label below none)) ≤ weight below
   few_group kind label below plain =
       subst (λ (k : NodeKind). size (row_of [] (with_node buffers clashing k label below none)) ≤ weight below) (sym plain)
-      (omega (arith, size-part [] (row_of [] below) done done 0 (omega arith) (omega arith), few_row [] below))
+      (few_plain below)
 
   few_top : (label : Label Held) (below : Nodes Held) → label.kind ≡ kinds.Group → size (row_of [] (running_of buffers clashing (trees.node label below trees.none))) ≤ count below
   few_top label below plain =
@@ -161,8 +170,8 @@ module _ (buffers : List (Option BufferPlace)) (clashing : List ℤ) where
 
   heard_node : (a : ℤ) (kind : NodeKind) (label : Label Held) (below after : Running) → heard a (voices (with_node buffers clashing kind label below after)) ≤ one_if (int_eq label.id a) + (heard a (voices below) + heard a (voices after))
   heard_node a kinds.Synth label below after = omega arith
-  heard_node a kinds.Group label below after = omega (arith, heard-append a (voices below) (voices after))
-  heard_node a kinds.Parallel label below after = omega (arith, heard-append a (voices below) (voices after))
+  heard_node a kinds.Group label below after = omega (arith, heard_group a false below after)
+  heard_node a kinds.Parallel label below after = omega (arith, heard_group a (not (is_listed clashing label.id)) below after)
 
   heard_all : (a : ℤ) (t : Nodes Held) → heard a (voices (running_of buffers clashing t)) ≤ occurrences int_eq a (ids t)
   heard_all a trees.none = omega arith

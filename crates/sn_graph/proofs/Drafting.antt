@@ -1,20 +1,18 @@
 -- Runs and rows as the planner puts them.
-use Rattle.std.proofs.Common.{◌≡◌, ℕ, suc, ◌+◌, ◌^◌, ◌<◌, ◌≤◌, Bool, true, false, if◌then◌else◌, Bor, List, [], ◌∷◌, ◌++◌, length, map, sym, refl, ap, ◌∙◌, subst, ⊎_elim, arith, append_assoc, length-append, true≢false}
+use Rattle.std.proofs.Common.{◌≡◌, ℕ, suc, ◌+◌, ◌^◌, ◌<◌, ◌≤◌, Bool, true, false, if◌then◌else◌, Bor, List, [], ◌∷◌, ◌++◌, length, map, sym, refl, ap, ◌∙◌, subst, ⊎_elim, arith, append_assoc, length-append}
 use Rattle.std.proofs.lemmas.List.{append-nil}
 use Rattle.std.specs.List.{All}
 use Rattle.std.proofs.lemmas.List.Elements.{All-append}
 use Rattle.sn_foot.specs.Canonical.{Ends}
-use Rattle.std.proofs.lemmas.Bool.{cases_Bool, cond-true, cond-false, or_parts, or_cases}
+use Rattle.std.proofs.lemmas.Bool.{cases_Bool, cond-true, cond-false}
 use Rattle.sn_round.specs.declared.jobs.Job.{Job}
 use Rattle.sn_graph.specs.declared.nodes.Voice.{Voice}
 use Rattle.sn_graph.specs.Voices.{AreWithin, all_reads, all_writes, Running, none, synth, group, voices}
 use Rattle.sn_graph.specs.Rows.{Row, done, job, split, job_of, size, size_all, last, lasts, jobs, jobs_all}
-use Rattle.sn_graph.specs.Plans.{has_voice, close, followed, members, joined, keep, part, row_of, rows_of, inner_row}
-use Rattle.sn_graph.proofs.Shapes.{heard}
+use Rattle.sn_graph.specs.Plans.{close, followed, members, joined, keep, row_of, rows_of, inner_row}
 use Rattle.std.proofs.Common.{Option, Some, None}
-use Rattle.sn_graph.specs.Drafts.{is_over, listed, Puts, IsJoint}
+use Rattle.sn_graph.specs.Drafts.{listed, Puts, IsJoint}
 use Rattle.sn_graph.proofs.Planning.{length-jobs}
-use Rattle.sn_graph.proofs.Parting.{heard-row, heard-rows, heard-joined}
 use Rattle.sn_graph.proofs.Filling as filling
 
 -- what is left to be put of a row w is the row r
@@ -66,34 +64,6 @@ pub close-followed : (run : List Voice) (r : Row) → close run r ≡ followed (
 close-followed [] r = refl
 close-followed (s ∷ ss) r = refl
 
--- a part with a job ends the open run
-pub part_ends : (run : List Voice) (r through rest : Row) → 1 ≤ size r → part run r through rest ≡ close run (followed r rest)
-part_ends run done through rest l = absurd (omega arith)
-part_ends run (job ss a) through rest l = refl
-part_ends run (split ms a) through rest l = refl
-
--- nodes without a synth have no job
-mutual
-  pub silent_row : (run : List Voice) (nodes : Running) → has_voice nodes ≡ false → row_of run nodes ≡ close run done
-  silent_row run none h = refl
-  silent_row run (synth s rest) h = absurd (true≢false h)
-  silent_row run (group true inner rest) h = let d = or_parts (has_voice inner) (has_voice rest) h in
-      rw (silent_rows inner d.0) (silent_row run rest d.1)
-  silent_row run (group false inner rest) h = let d = or_parts (has_voice inner) (has_voice rest) h in
-      rw (silent_row [] inner d.0) (silent_row run rest d.1)
-
-  pub silent_rows : (nodes : Running) → has_voice nodes ≡ false → rows_of nodes ≡ []
-  silent_rows none h = refl
-  silent_rows (synth s rest) h = absurd (true≢false h)
-  silent_rows (group true inner rest) h = let d = or_parts (has_voice inner) (has_voice rest) h in
-      rw (silent_rows inner d.0) (silent_rows rest d.1)
-  silent_rows (group false inner rest) h = let d = or_parts (has_voice inner) (has_voice rest) h in
-      rw (silent_row [] inner d.0) (silent_rows rest d.1)
-
-pub silent_inner : (g : Bool) (inner : Running) → has_voice inner ≡ false → inner_row g inner ≡ done
-silent_inner true inner h = rw (silent_rows inner h) refl
-silent_inner false inner h = silent_row [] inner h
-
 pub puts-length : (before after : List Job) (e f : Option ℕ) (r : Row) → Puts before after e f r → length after ≡ length before + size r
 puts-length before after e f r p =
     omega (arith, ap length p.jobs_put, length-append before (jobs (length before) (listed e) r), length-jobs (length before) (listed e) r)
@@ -132,61 +102,24 @@ leaves-length before now e f r w h =
       length-jobs (length now) (listed f) r,
     )
 
--- nodes with a synth have a job
-pub not_silent : (nodes : Running) → has_voice nodes ≡ true → 1 ≤ length (voices nodes)
-not_silent none h = absurd (true≢false (sym h))
-not_silent (synth s rest) h = omega arith
-not_silent (group g inner rest) h =
-    ⊎_elim
-    (λ (k : has_voice inner ≡ true). omega (arith, not_silent inner k, length-append (voices inner) (voices rest)))
-    (λ (k : has_voice rest ≡ true). omega (arith, not_silent rest k, length-append (voices inner) (voices rest)))
-    (or_cases (has_voice inner) (has_voice rest) h)
-
-pub has_job : (r : Row) → 1 ≤ length (heard r) → 1 ≤ size r
-has_job done h = h
-has_job (job ss rest) h = omega arith
-has_job (split ms rest) h = omega arith
-
-pub heard_inner : (g : Bool) (inner : Running) → has_voice inner ≡ true → 1 ≤ size (inner_row g inner)
-heard_inner true inner h = has_job (joined (rows_of inner)) (rw (heard-joined (rows_of inner), heard-rows inner) (not_silent inner h))
-heard_inner false inner h = has_job (row_of [] inner) (rw (heard-row [] inner) (not_silent inner h))
-
-pub over_some : (run : List Voice) (inner : Running) → 1 ≤ length run → is_over run inner ≡ has_voice inner
-over_some [] inner l = absurd (omega arith)
-over_some (v ∷ vs) inner l = refl
-
--- where no run is open, a part with no job changes nothing
-part_first : (r rest : Row) → part [] r rest rest ≡ followed r rest
-part_first done rest = refl
-part_first (job ss a) rest = refl
-part_first (split ms a) rest = refl
-
--- at a group where the open run is over, the run comes first, and then the group
-group_over : (run : List Voice) (flag : Bool) (inner rest : Running) → is_over run inner ≡ true → row_of run (group flag inner rest) ≡ followed (close run done) (followed (inner_row flag inner) (row_of [] rest))
-group_over [] flag inner rest h = part_first (inner_row flag inner) (row_of [] rest)
-group_over (v ∷ vs) flag inner rest h =
-    let r : Row = inner_row flag inner in
-    part_ends (v ∷ vs) r (row_of (v ∷ vs) rest) (row_of [] rest) (heard_inner flag inner h) ∙ close-followed (v ∷ vs) (followed r (row_of [] rest))
+-- at a group the open run comes first, and then the group
+group_row : (run : List Voice) (flag : Bool) (inner rest : Running) → row_of run (group flag inner rest) ≡ followed (close run done) (followed (inner_row flag inner) (row_of [] rest))
+group_row run flag inner rest = close-followed run (followed (inner_row flag inner) (row_of [] rest))
 
 -- a group in a row: it was put after the open run
-pub group_put : (before now mid after : List Job) (e f g k : Option ℕ) (run : List Voice) (flag : Bool) (inner rest : Running) (w : Row) → Leaves before now e f (row_of run (group flag inner rest)) w → is_over run inner ≡ true
+pub group_put : (before now mid after : List Job) (e f g k : Option ℕ) (run : List Voice) (flag : Bool) (inner rest : Running) (w : Row) → Leaves before now e f (row_of run (group flag inner rest)) w
     → Puts now mid f g (close run done) → Puts mid after g k (inner_row flag inner) → Leaves before after e k (row_of [] rest) w
-group_put before now mid after e f g k run flag inner rest w h over p q =
+group_put before now mid after e f g k run flag inner rest w h p q =
     let r : Row = inner_row flag inner in
-    let q2 : row_of run (group flag inner rest) ≡ followed (close run done) (followed r (row_of [] rest)) = group_over run flag inner rest over in
+    let q2 : row_of run (group flag inner rest) ≡ followed (close run done) (followed r (row_of [] rest)) = group_row run flag inner rest in
     leaves_more before mid after e g k r (row_of [] rest) w (leaves_more before now mid e f g (close run done) (followed r (row_of [] rest)) w (subst (λ (x : Row). Leaves before now e f x w) q2 h) p) q
 
--- a group without a synth
-group_silent : (run : List Voice) (flag : Bool) (inner rest : Running) → is_over run inner ≡ false → row_of run (group flag inner rest) ≡ row_of run rest
-group_silent [] flag inner rest h = absurd (true≢false h)
-group_silent (v ∷ vs) flag inner rest h = ap (λ (x : Row). part (v ∷ vs) x (row_of (v ∷ vs) rest) (row_of [] rest)) (silent_inner flag inner h)
-
 -- there is room for the open run and the group
-pub room_for : (before now : List Job) (e f : Option ℕ) (run : List Voice) (flag : Bool) (inner rest : Running) (w : Row) → Leaves before now e f (row_of run (group flag inner rest)) w → is_over run inner ≡ true
+pub room_for : (before now : List Job) (e f : Option ℕ) (run : List Voice) (flag : Bool) (inner rest : Running) (w : Row) → Leaves before now e f (row_of run (group flag inner rest)) w
     → length now + size (close run done) + size (inner_row flag inner) ≤ length before + size w
-room_for before now e f run flag inner rest w h over =
+room_for before now e f run flag inner rest w h =
     let r : Row = inner_row flag inner in
-    let q2 : row_of run (group flag inner rest) ≡ followed (close run done) (followed r (row_of [] rest)) = group_over run flag inner rest over in
+    let q2 : row_of run (group flag inner rest) ≡ followed (close run done) (followed r (row_of [] rest)) = group_row run flag inner rest in
     omega (arith, leaves-length before now e f (row_of run (group flag inner rest)) w h, ap size q2, size-followed (close run done) (followed r (row_of [] rest)), size-followed r (row_of [] rest))
 
 -- a member was put
@@ -295,18 +228,15 @@ module _ {before now : List Job} {e f : Option ℕ} {w : Row} where
   pub fit_row : {r : Row} → Leaves before now e f r w → length before + size w < 2 ^ 32 → length now < 2 ^ 32
   fit_row {r} h l = omega (arith, leaves-length before now e f r w h)
 
-  pub fit_group : (run : List Voice) {n inner rest : Running} {flag : Bool} {mid : List Job} {g : Option ℕ} → Leaves before now e f (row_of run n) w → n ≡ group flag inner rest → is_over run inner ≡ true → length before + size w < 2 ^ 32
+  pub fit_group : (run : List Voice) {n inner rest : Running} {flag : Bool} {mid : List Job} {g : Option ℕ} → Leaves before now e f (row_of run n) w → n ≡ group flag inner rest → length before + size w < 2 ^ 32
       → Puts now mid f g (close run done) → length mid + size (inner_row flag inner) < 2 ^ 32
-  fit_group run {n} {inner} {rest} {flag} {mid} {g} h q k l p =
-      omega (arith, puts-length now mid f g (close run done) p, room_for before now e f run flag inner rest w (subst (λ (m : Running). Leaves before now e f (row_of run m) w) q h) k)
+  fit_group run {n} {inner} {rest} {flag} {mid} {g} h q l p =
+      omega (arith, puts-length now mid f g (close run done) p, room_for before now e f run flag inner rest w (subst (λ (m : Running). Leaves before now e f (row_of run m) w) q h))
 
-  pub next_group : (run : List Voice) {n inner rest : Running} {flag : Bool} {mid after : List Job} {g k : Option ℕ} → Leaves before now e f (row_of run n) w → n ≡ group flag inner rest → is_over run inner ≡ true
+  pub next_group : (run : List Voice) {n inner rest : Running} {flag : Bool} {mid after : List Job} {g k : Option ℕ} → Leaves before now e f (row_of run n) w → n ≡ group flag inner rest
       → Puts now mid f g (close run done) → Puts mid after g k (inner_row flag inner) → Leaves before after e k (row_of [] rest) w
-  next_group run {n} {inner} {rest} {flag} {mid} {after} {g} {k} h q over p r =
-      group_put before now mid after e f g k run flag inner rest w (subst (λ (m : Running). Leaves before now e f (row_of run m) w) q h) over p r
-
-  pub next_silent : (run : List Voice) {n inner rest : Running} {flag : Bool} → Leaves before now e f (row_of run n) w → n ≡ group flag inner rest → is_over run inner ≡ false → Leaves before now e f (row_of run rest) w
-  next_silent run {n} {inner} {rest} {flag} h q k = subst (λ (r : Row). Leaves before now e f r w) (ap (row_of run) q ∙ group_silent run flag inner rest k) h
+  next_group run {n} {inner} {rest} {flag} {mid} {after} {g} {k} h q p r =
+      group_put before now mid after e f g k run flag inner rest w (subst (λ (m : Running). Leaves before now e f (row_of run m) w) q h) p r
 
   pub end_row : (run : List Voice) {n : Running} {after : List Job} {g : Option ℕ} → Leaves before now e f (row_of run n) w → n ≡ none → Puts now after f g (close run done) → Puts before after e g w
   end_row run {n} {after} {g} h q p = leaves_none before now after e f g (close run done) w (subst (λ (m : Running). Leaves before now e f (row_of run m) w) q h) p
@@ -402,6 +332,3 @@ module _ (run : List Voice) (n : Running) {rest inner : Running} {flag : Bool} w
 
   pub within_rest : AreWithin (run ++ voices n) → n ≡ group flag inner rest → AreWithin (voices rest)
   within_rest w e = within_right (voices inner) (voices rest) (within_group w e)
-
-  pub within_past : AreWithin (run ++ voices n) → n ≡ group flag inner rest → AreWithin (run ++ voices rest)
-  within_past w e = within_both run (voices rest) (within_left run (voices n) w) (within_rest w e)

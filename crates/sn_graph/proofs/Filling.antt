@@ -7,7 +7,7 @@ use Rattle.sn_round.specs.Jobs.{times}
 use Rattle.sn_graph.specs.declared.nodes.Voice.{Voice}
 use Rattle.sn_graph.specs.Voices.{Running, none, synth, group}
 use Rattle.sn_graph.specs.Rows.{Row, Members, done, job, split, one, more, job_of, size, size_all, last, lasts, jobs, jobs_all}
-use Rattle.sn_graph.specs.Plans.{close, followed, members, joined, keep, part, row_of, rows_of, edges}
+use Rattle.sn_graph.specs.Plans.{close, followed, members, joined, keep, row_of, rows_of, edges}
 use Rattle.sn_graph.proofs.Shapes.{Fits, FitsAll, IsFull, AreFull}
 
 pub full-followed : (x y : Row) → IsFull x → IsFull y → IsFull (followed x y)
@@ -37,17 +37,15 @@ full-keep done rs f g = g
 full-keep (job ss a) rs f g = (omega arith, f, g)
 full-keep (split ms a) rs f g = (omega arith, f, g)
 
-pub full-part : (run : List Voice) (r through rest : Row) → IsFull r → IsFull through → IsFull rest → IsFull (part run r through rest)
-full-part run done through rest f g h = g
-full-part run (job ss a) through rest f g h = full-close run (followed (job ss a) rest) (full-followed (job ss a) rest f h)
-full-part run (split ms a) through rest f g h = full-close run (followed (split ms a) rest) (full-followed (split ms a) rest f h)
+full-after : (run : List Voice) (r rest : Row) → IsFull r → IsFull rest → IsFull (close run (followed r rest))
+full-after run r rest f g = full-close run (followed r rest) (full-followed r rest f g)
 
 mutual
   pub full-row : (run : List Voice) (nodes : Running) → IsFull (row_of run nodes)
   full-row run none = full-close run done tt
   full-row run (synth s rest) = full-row (run ++ s ∷ []) rest
-  full-row run (group true inner rest) = full-part run (joined (rows_of inner)) (row_of run rest) (row_of [] rest) (full-joined (rows_of inner) (full-rows inner)) (full-row run rest) (full-row [] rest)
-  full-row run (group false inner rest) = full-part run (row_of [] inner) (row_of run rest) (row_of [] rest) (full-row [] inner) (full-row run rest) (full-row [] rest)
+  full-row run (group true inner rest) = full-after run (joined (rows_of inner)) (row_of [] rest) (full-joined (rows_of inner) (full-rows inner)) (full-row [] rest)
+  full-row run (group false inner rest) = full-after run (row_of [] inner) (row_of [] rest) (full-row [] inner) (full-row [] rest)
 
   pub full-rows : (nodes : Running) → AllFull (rows_of nodes)
   full-rows none = tt

@@ -10,6 +10,7 @@ pub mod Lowest
 pub mod Jobwise
 pub mod Coming
 pub mod Resources
+pub mod Hearing
 pub mod Linking
 pub mod Staging
 pub mod Labels

@@ -12,10 +12,10 @@ use Rattle.sn_tree.specs.Members.{tops, members}
 use Rattle.sn_world.specs.declared.stage.Held.{Held}
 use Rattle.sn_graph.specs.declared.nodes.Voice.{Voice}
 use Rattle.sn_graph.specs.declared.parts.Part.{Part}
-use Rattle.sn_graph.specs.Voices.{Running, none}
+use Rattle.sn_graph.specs.Voices.{Running, none, synth, group}
 use Rattle.sn_graph.specs.Plans.{is_listed}
-use Rattle.sn_graph.specs.Stages.{voice_of, with_node, running_of}
-use Rattle.sn_graph.specs.Pieces.{Piece, paused, voice, below, piece_of, pieces, before, linked, running_piece, piece, with_member, built}
+use Rattle.sn_graph.specs.Stages.{voice_of, with_group, with_node, running_of}
+use Rattle.sn_graph.specs.Pieces.{Piece, nothing, voice, below, group_piece, piece_of, pieces, before, linked, running_piece, piece, with_member, built}
 
 -- ---- the list of the kept ones
 
@@ -37,26 +37,31 @@ drop_one (suc n) (x ∷ xs) = let e : suc n + 1 ≡ suc (n + 1) = omega arith in
 
 -- ---- one node
 
+before_group : (flag : Bool) (inner after : Running) → before (group_piece flag inner) after ≡ with_group flag inner after
+before_group flag none after = refl
+before_group flag (synth v rest) after = refl
+before_group flag (group f deeper rest) after = refl
+
 module _ (buffers : List (Option BufferPlace)) (clashing : List ℤ) where
   abbrev labelled : ℤ → NodeKind → Bool → Held → Label Held
   labelled id kind running held = record { id = id; kind = kind; running = running; payload = held }
 
-  pub piece_paused : (id : ℤ) (kind : NodeKind) (running : Bool) (held : Held) (inner : Running) → running ≡ false → paused ≡ piece buffers clashing (labelled id kind running held) inner
-  piece_paused id kind running held inner h = sym (cond-false running (running_piece buffers clashing kind (labelled id kind running held) inner) paused h)
+  pub piece_paused : (id : ℤ) (kind : NodeKind) (running : Bool) (held : Held) (inner : Running) → running ≡ false → nothing ≡ piece buffers clashing (labelled id kind running held) inner
+  piece_paused id kind running held inner h = sym (cond-false running (running_piece buffers clashing kind (labelled id kind running held) inner) nothing h)
 
   running_is : (id : ℤ) (kind other : NodeKind) (running : Bool) (held : Held) (inner : Running) (p : Piece) → running ≡ true → kind ≡ other → p ≡ running_piece buffers clashing other (labelled id kind running held) inner → p ≡ piece buffers clashing (labelled id kind running held) inner
   running_is id kind other running held inner p h e is =
       is ∙ ap (λ k. running_piece buffers clashing k (labelled id kind running held) inner) (sym e)
-      ∙ sym (cond-true running (running_piece buffers clashing kind (labelled id kind running held) inner) paused h)
+      ∙ sym (cond-true running (running_piece buffers clashing kind (labelled id kind running held) inner) nothing h)
 
   pub piece_synth : (id : ℤ) (kind : NodeKind) (running : Bool) (held : Held) (inner : Running) (v : Voice) → running ≡ true → kind ≡ kinds.Synth → v ≡ voice_of buffers id held → voice v ≡ piece buffers clashing (labelled id kind running held) inner
   piece_synth id kind running held inner v h e is = running_is id kind kinds.Synth running held inner (voice v) h e (ap voice is)
 
-  pub piece_group : (id : ℤ) (kind : NodeKind) (running : Bool) (held : Held) (inner : Running) → running ≡ true → kind ≡ kinds.Group → below false inner ≡ piece buffers clashing (labelled id kind running held) inner
-  piece_group id kind running held inner h e = running_is id kind kinds.Group running held inner (below false inner) h e refl
+  pub piece_group : (id : ℤ) (kind : NodeKind) (running : Bool) (held : Held) (inner : Running) → running ≡ true → kind ≡ kinds.Group → group_piece false inner ≡ piece buffers clashing (labelled id kind running held) inner
+  piece_group id kind running held inner h e = running_is id kind kinds.Group running held inner (group_piece false inner) h e refl
 
-  pub piece_parallel : (id : ℤ) (kind : NodeKind) (running : Bool) (held : Held) (inner : Running) (b : Bool) → running ≡ true → kind ≡ kinds.Parallel → b ≡ is_listed clashing id → below (not b) inner ≡ piece buffers clashing (labelled id kind running held) inner
-  piece_parallel id kind running held inner b h e is = running_is id kind kinds.Parallel running held inner (below (not b) inner) h e (ap (λ c. below (not c) inner) is)
+  pub piece_parallel : (id : ℤ) (kind : NodeKind) (running : Bool) (held : Held) (inner : Running) (b : Bool) → running ≡ true → kind ≡ kinds.Parallel → b ≡ is_listed clashing id → group_piece (not b) inner ≡ piece buffers clashing (labelled id kind running held) inner
+  piece_parallel id kind running held inner b h e is = running_is id kind kinds.Parallel running held inner (group_piece (not b) inner) h e (ap (λ c. group_piece (not c) inner) is)
 
   -- ---- all nodes
 
@@ -71,10 +76,10 @@ module _ (buffers : List (Option BufferPlace)) (clashing : List ℤ) where
 
   before_by_kind : (kind : NodeKind) (label : Label Held) (inner after : Running) → before (running_piece buffers clashing kind label inner) after ≡ with_node buffers clashing kind label inner after
   before_by_kind kinds.Synth label inner after = refl
-  before_by_kind kinds.Group label inner after = refl
-  before_by_kind kinds.Parallel label inner after = refl
+  before_by_kind kinds.Group label inner after = before_group false inner after
+  before_by_kind kinds.Parallel label inner after = before_group (not (is_listed clashing label.id)) inner after
 
-  before_if : (b : Bool) (p : Piece) (r after : Running) → before p after ≡ r → before (if b then p else paused) after ≡ (if b then r else after)
+  before_if : (b : Bool) (p : Piece) (r after : Running) → before p after ≡ r → before (if b then p else nothing) after ≡ (if b then r else after)
   before_if true p r after e = e
   before_if false p r after e = refl
 

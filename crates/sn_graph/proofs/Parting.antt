@@ -6,7 +6,7 @@ use Rattle.std.specs.Ordering.{int_eq}
 use Rattle.sn_graph.specs.declared.nodes.Voice.{Voice}
 use Rattle.sn_graph.specs.Voices.{Running, none, synth, group, voices, has}
 use Rattle.sn_graph.specs.Rows.{Row, done, job, split, more}
-use Rattle.sn_graph.specs.Plans.{close, followed, members, joined, keep, part, row_of, rows_of}
+use Rattle.sn_graph.specs.Plans.{close, followed, members, joined, keep, row_of, rows_of}
 use Rattle.sn_graph.proofs.Shapes.{is_parted, heard, heard_all, heard_list, parts, parts_all, parts_list}
 
 pub has-append : (xs ys : List Voice) (a : ℤ) → has (xs ++ ys) a ≡ (has xs a || has ys a)
@@ -36,10 +36,8 @@ heard-keep done rs = refl
 heard-keep (job ss a) rs = refl
 heard-keep (split ms a) rs = refl
 
-pub heard-part : (run : List Voice) (r through rest : Row) → heard through ≡ run ++ heard rest → heard (part run r through rest) ≡ run ++ (heard r ++ heard rest)
-heard-part run done through rest e = e
-heard-part run (job ss a) through rest e = heard-close run (followed (job ss a) rest) ∙ ap (λ (l : List Voice). run ++ l) (heard-followed (job ss a) rest)
-heard-part run (split ms a) through rest e = heard-close run (followed (split ms a) rest) ∙ ap (λ (l : List Voice). run ++ l) (heard-followed (split ms a) rest)
+heard-after : (run : List Voice) (r rest : Row) → heard (close run (followed r rest)) ≡ run ++ (heard r ++ heard rest)
+heard-after run r rest = heard-close run (followed r rest) ∙ ap (λ (l : List Voice). run ++ l) (heard-followed r rest)
 
 -- the joined synths of the jobs are those of the nodes
 mutual
@@ -47,10 +45,10 @@ mutual
   heard-row run none = heard-close run done
   heard-row run (synth s rest) = heard-row (run ++ s ∷ []) rest ∙ append_assoc run (s ∷ []) (voices rest)
   heard-row run (group true inner rest) =
-      heard-part run (joined (rows_of inner)) (row_of run rest) (row_of [] rest) (heard-row run rest ∙ ap (λ (l : List Voice). run ++ l) (sym (heard-row [] rest)))
+      heard-after run (joined (rows_of inner)) (row_of [] rest)
       ∙ rw (heard-joined (rows_of inner), heard-rows inner, heard-row [] rest) refl
   heard-row run (group false inner rest) =
-      heard-part run (row_of [] inner) (row_of run rest) (row_of [] rest) (heard-row run rest ∙ ap (λ (l : List Voice). run ++ l) (sym (heard-row [] rest)))
+      heard-after run (row_of [] inner) (row_of [] rest)
       ∙ rw (heard-row [] inner, heard-row [] rest) refl
 
   pub heard-rows : (nodes : Running) → heard_list (rows_of nodes) ≡ voices nodes
@@ -82,10 +80,8 @@ parts-keep done rs a b = refl
 parts-keep (job ss x) rs a b = refl
 parts-keep (split ms x) rs a b = refl
 
-pub parts-part : (run : List Voice) (r through rest : Row) (a b : ℤ) → parts through a b ≡ parts rest a b → parts (part run r through rest) a b ≡ (parts r a b || parts rest a b)
-parts-part run done through rest a b e = e
-parts-part run (job ss x) through rest a b e = parts-close run (followed (job ss x) rest) a b ∙ parts-followed (job ss x) rest a b
-parts-part run (split ms x) through rest a b e = parts-close run (followed (split ms x) rest) a b ∙ parts-followed (split ms x) rest a b
+parts-after : (run : List Voice) (r rest : Row) (a b : ℤ) → parts (close run (followed r rest)) a b ≡ (parts r a b || parts rest a b)
+parts-after run r rest a b = parts-close run (followed r rest) a b ∙ parts-followed r rest a b
 
 -- what is parted in the row is parted in the nodes
 mutual
@@ -93,10 +89,10 @@ mutual
   parts-row run none a b = parts-close run done a b
   parts-row run (synth s rest) a b = parts-row (run ++ s ∷ []) rest a b
   parts-row run (group true inner rest) a b =
-      parts-part run (joined (rows_of inner)) (row_of run rest) (row_of [] rest) a b (parts-row run rest a b ∙ sym (parts-row [] rest a b))
+      parts-after run (joined (rows_of inner)) (row_of [] rest) a b
       ∙ rw (parts-joined (rows_of inner) a b, parts-rows inner a b, parts-row [] rest a b) refl
   parts-row run (group false inner rest) a b =
-      parts-part run (row_of [] inner) (row_of run rest) (row_of [] rest) a b (parts-row run rest a b ∙ sym (parts-row [] rest a b))
+      parts-after run (row_of [] inner) (row_of [] rest) a b
       ∙ rw (parts-row [] inner a b, parts-row [] rest a b) refl
 
   pub parts-rows : (nodes : Running) (a b : ℤ) → parts_list (rows_of nodes) a b ≡ is_parted true nodes a b

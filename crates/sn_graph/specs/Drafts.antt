@@ -1,19 +1,11 @@
 -- What the planner has put so far.
-use Rattle.std.specs.Prelude.{◌≡◌, ℕ, Bool, true, List, [], ◌∷◌, ◌++◌, length, Option, Some, None}
+use Rattle.std.specs.Prelude.{◌≡◌, ℕ, List, [], ◌∷◌, ◌++◌, length, Option, Some, None}
 use Rattle.sn_round.specs.declared.jobs.Job.{Job}
-use Rattle.sn_graph.specs.declared.nodes.Voice.{Voice}
-use Rattle.sn_graph.specs.Voices.{Running}
 use Rattle.sn_graph.specs.Rows.{Row, jobs, last, job_of}
-use Rattle.sn_graph.specs.Plans.{has_voice}
 
 abbrev pub listed : Option ℕ → List ℕ
 listed None = []
 listed (Some n) = n ∷ []
-
--- an open run is over at a group in which a synth is, and so is one that has no synth yet
-abbrev pub is_over : List Voice → Running → Bool
-is_over [] inner = true
-is_over (v ∷ vs) inner = has_voice inner
 
 -- the jobs of a row were put after those that were there, and which is the last then
 pub record Puts (before after : List Job) (e f : Option ℕ) (r : Row) : Type 0 where

@@ -8,29 +8,29 @@ use Rattle.sn_world.specs.declared.stage.Held.{Held}
 use Rattle.sn_graph.specs.declared.nodes.Voice.{Voice}
 use Rattle.sn_graph.specs.declared.parts.Part.TheVariants as given
 use Rattle.sn_graph.specs.declared.parts.Part.{Part}
-use Rattle.sn_graph.specs.Voices.{Running, none, synth, group}
+use Rattle.sn_graph.specs.Voices.{Running, none, synth, group, is_none}
 use Rattle.sn_graph.specs.Inputs.{nodes_of}
 use Rattle.sn_graph.specs.Plans.{is_listed}
 use Rattle.sn_graph.specs.Stages.{voice_of}
 
--- a node by itself, with what runs below it
+-- a node by itself, with what is kept below it, or nothing if it is left out
 pub data Piece : Type 0 where
-  paused : Piece
+  nothing : Piece
   voice : Voice → Piece
   below : Bool → Running → Piece
 
 abbrev pub piece_of : Part → Piece
-piece_of given.Paused = paused
+piece_of given.Nothing = nothing
 piece_of (given.Synth v) = voice v
 piece_of (given.Group flag inner) = below flag (nodes_of inner)
 
--- those that are kept, of which the first one was put last
+-- those that were put, of which the first one was put last
 abbrev pub pieces : List Part → List Piece
 pieces parts = reverse (map piece_of parts)
 
 -- a node before others
 abbrev pub before : Piece → Running → Running
-before paused rest = rest
+before nothing rest = rest
 before (voice v) rest = synth v rest
 before (below flag inner) rest = group flag inner rest
 
@@ -38,14 +38,17 @@ abbrev pub linked : List Piece → Running → Running
 linked [] rest = rest
 linked (p ∷ ps) rest = before p (linked ps rest)
 
+abbrev pub group_piece : Bool → Running → Piece
+group_piece flag inner = if is_none inner then nothing else below flag inner
+
 module _ (buffers : List (Option BufferPlace)) (clashing : List ℤ) where
   abbrev pub running_piece : NodeKind → Label Held → Running → Piece
   running_piece kinds.Synth label inner = voice (voice_of buffers label.id label.payload)
-  running_piece kinds.Group label inner = below false inner
-  running_piece kinds.Parallel label inner = below (not (is_listed clashing label.id)) inner
+  running_piece kinds.Group label inner = group_piece false inner
+  running_piece kinds.Parallel label inner = group_piece (not (is_listed clashing label.id)) inner
 
   abbrev pub piece : Label Held → Running → Piece
-  piece label inner = if label.running then running_piece label.kind label inner else paused
+  piece label inner = if label.running then running_piece label.kind label inner else nothing
 
   -- a node takes those just below it
   abbrev pub with_member : Label Held × ℕ → List Piece → List Piece

@@ -9,12 +9,6 @@ use Rattle.sn_graph.specs.declared.nodes.Voice.{Voice}
 use Rattle.sn_graph.specs.Voices.{Running, none, synth, group, voices, foot_of, ids_of, has}
 use Rattle.sn_graph.specs.Rows.{Row, Members, done, job, split, one, more, jobs}
 
--- a synth is among them
-abbrev pub has_voice : Running → Bool
-has_voice none = false
-has_voice (synth s rest) = true
-has_voice (group flag inner rest) = has_voice inner || has_voice rest
-
 -- an open run of synths is one job
 abbrev pub close : List Voice → Row → Row
 close [] r = r
@@ -41,18 +35,13 @@ keep done rs = rs
 keep (job vs a) rs = job vs a ∷ rs
 keep (split ms a) rs = split ms a ∷ rs
 
--- a part without a job does not end the open run
-abbrev pub part : List Voice → Row → Row → Row → Row
-part run done through rest = through
-part run (job vs a) through rest = close run (followed (job vs a) rest)
-part run (split ms a) through rest = close run (followed (split ms a) rest)
-
--- The row of nodes that are rendered in order, after an open run of synths, and the rows of the members of a split group.
+-- The row of nodes that are rendered in order, after an open run of synths, which a group ends; and the rows of the members
+-- of a split group.
 abbrev mutual
   pub row_of : List Voice → Running → Row
   row_of run none = close run done
   row_of run (synth v rest) = row_of (run ++ v ∷ []) rest
-  row_of run (group flag inner rest) = part run (if flag then joined (rows_of inner) else row_of [] inner) (row_of run rest) (row_of [] rest)
+  row_of run (group flag inner rest) = close run (followed (if flag then joined (rows_of inner) else row_of [] inner) (row_of [] rest))
 
   pub rows_of : Running → List Row
   rows_of none = []

@@ -1,5 +1,5 @@
 -- Running synths, and the nodes that hold them.
-use Rattle.std.specs.Prelude.{◌≡◌, ℤ, Bool, false, ◌||◌, List, [], ◌∷◌, ◌++◌}
+use Rattle.std.specs.Prelude.{◌≡◌, ◌≤◌, ℤ, Bool, true, false, ◌||◌, List, [], ◌∷◌, ◌++◌, length}
 use Rattle.std.specs.Ordering.{int_eq}
 use Rattle.sn_mem.specs.declared.extents.Extent.{Extent}
 use Rattle.sn_mem.specs.declared.extents.Foot.{Foot}
@@ -7,17 +7,28 @@ use Rattle.sn_graph.specs.declared.nodes.Voice.{Voice}
 use Rattle.std.specs.List.{All}
 use Rattle.sn_foot.specs.Canonical.{Ends, canonical}
 
--- The children of a group that run, each group with its own. The flag of a group says whether it is split.
+-- The children of a group that are kept, each group with its own. The flag of a group says whether it is split.
 pub data Running : Type 0 where
   none : Running
   synth : Voice → Running → Running
   group : Bool → Running → Running → Running
+
+abbrev pub is_none : Running → Bool
+is_none none = true
+is_none (synth v rest) = false
+is_none (group flag inner rest) = false
 
 -- all running synths, in the order of the walk
 abbrev pub voices : Running → List Voice
 voices none = []
 voices (synth v rest) = v ∷ voices rest
 voices (group flag inner rest) = voices inner ++ voices rest
+
+-- each group holds a synth
+abbrev pub AreHeard : Running → Type 0
+AreHeard none = Unit {0}
+AreHeard (synth v rest) = AreHeard rest
+AreHeard (group flag inner rest) = (1 ≤ length (voices inner)) × (AreHeard inner × AreHeard rest)
 
 abbrev pub ids_of : List Voice → List ℤ
 ids_of [] = []

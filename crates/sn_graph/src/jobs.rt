@@ -1,11 +1,11 @@
-//! The jobs of running nodes.
+//! The jobs of nodes that are heard.
 ghost use Rattle.std.specs.Prelude.{◌≡◌, ◌+◌, ◌<◌, ◌^◌, ◌++◌, [], None, if◌then◌else◌, length, IfOk, OnOk, map};
 ghost use Rattle.sn_round.specs.Jobs.{IsRaceFree};
 ghost use Rattle.sn_graph.specs.Voices.{AreWithin, Once, all_reads, all_writes, foot_of, ids_of, voices};
 ghost use Rattle.sn_graph.specs.Rows.{size, done, job_of};
-ghost use Rattle.sn_graph.specs.Plans.{IsPlanned, SplitsAreClear, close, has_voice, inner_row, joined, plan_of, row_of, rows_of};
+ghost use Rattle.sn_graph.specs.Plans.{IsPlanned, SplitsAreClear, close, inner_row, joined, plan_of, row_of, rows_of};
 ghost use Rattle.sn_graph.specs.Inputs.{nodes_of};
-ghost use Rattle.sn_graph.specs.Drafts.{IsJoint, Puts, is_over, listed};
+ghost use Rattle.sn_graph.specs.Drafts.{IsJoint, Puts, listed};
 
 use crate::nodes::{Running, Voice};
 use sn_foot::canonical;
@@ -13,27 +13,6 @@ use sn_mem::{Extent, Foot};
 use sn_ports::NoMemory;
 use sn_round::{Ids, Job, Jobs, Plan};
 use std::alloc::Global;
-
-/// Whether a synth is among the nodes.
-fn has_voice(nodes: &Running) -> bool
-    ensures { result ≡ has_voice (nodes_of nodes.now) }
-{
-    match nodes {
-        Running::None => false,
-        Running::Synth(_, _) => true,
-        Running::Group(_, inner, rest) => has_voice(inner) || has_voice(rest),
-    }
-}
-
-/// Whether an open run is over at a group: in the group is a synth, or the run has none yet.
-fn is_over(run: &[&Voice], inner: &Running) -> bool
-    ensures { result ≡ is_over (map (λ v. v.now) run.now) (nodes_of inner.now) }
-{
-    if run.is_empty() {
-        return true;
-    }
-    has_voice(inner)
-}
 
 /// Puts extents at the end.
 fn append(extents: &mut Vec<Extent>, more: &[Extent]) -> Result<(), NoMemory>
@@ -198,11 +177,9 @@ fn put_row(
             Running::Group(split, inner, next) => {
                 rest = next;
                 let open = run.as_slice();
-                if is_over(open, inner) {
-                    last = end_run(alloc, jobs, open, last)?;
-                    last = put_group(alloc, jobs, *split, inner, last)?;
-                    run.clear();
-                }
+                last = end_run(alloc, jobs, open, last)?;
+                last = put_group(alloc, jobs, *split, inner, last)?;
+                run.clear();
             }
         }
     }
@@ -262,7 +239,7 @@ fn put_members(
     put_joint(alloc, jobs, lasts, entry)
 }
 
-/// The plan of running nodes.
+/// The plan of nodes that are heard.
 pub fn plan_of_nodes(alloc: Global, nodes: &Running) -> Result<Plan, NoMemory>
     requires few { size (row_of [] (nodes_of nodes.now)) < 2 ^ 32 }
     requires within { AreWithin (voices (nodes_of nodes.now)) }

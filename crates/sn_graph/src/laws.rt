@@ -12,7 +12,8 @@ ghost use Rattle.sn_foot.specs.Footprints.{Clash as FootprintsClash, foot_at, fo
 ghost use Rattle.sn_graph.specs.Clear.{IsClashing};
 ghost use Rattle.sn_graph.specs.Disjoint.{AreDisjoint};
 ghost use Rattle.sn_graph.specs.Plans.{is_listed};
-ghost use Rattle.sn_graph.specs.Stages.{clashing_in};
+ghost use Rattle.sn_graph.specs.Stages.{clashing_in, nodes_in};
+ghost use Rattle.sn_graph.specs.Voices.{AreHeard};
 
 use sn_world::Stage;
 
@@ -44,4 +45,11 @@ pub fn clashes_name_the_groups(stage: &Stage)
     ensures { (id : ℤ) → (is_listed (clashing_in stage.now) id ≡ true) ↔ IsClashing stage.now.buffers stage.now.tree.attached id }
 {
     stage.tree.ids_are_distinct();
+}
+
+/// A law: in each group of the nodes that a plan is made of, a synth runs. Paused nodes and silent groups are left out first.
+pub fn silent_groups_are_left_out(stage: &Stage)
+    ensures { AreHeard (nodes_in stage.now) }
+{
+    let _ = stage;
 }

@@ -11,7 +11,7 @@ mod stages;
 pub use jobs::plan_of_nodes;
 pub use laws::{
     clashes_name_the_groups, feet_clash_as_footprints, nodes_clash_as_footprints,
-    worlds_are_disjoint,
+    silent_groups_are_left_out, worlds_are_disjoint,
 };
 pub use nodes::{Running, Voice};
 pub use stages::plan;

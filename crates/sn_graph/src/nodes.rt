@@ -1,4 +1,4 @@
-//! The nodes that run, with what each synth touches.
+//! The nodes that are heard, with what each synth touches.
 use sn_mem::Foot;
 
 /// A running synth, and the words that it may touch.
@@ -10,7 +10,7 @@ pub struct Voice {
     pub foot: Foot,
 }
 
-/// The children of a group that run, in order. The flag of a group says whether it is split, so that its members may run
+/// The children of a group that are heard, in order. The flag of a group says whether it is split, so that its members may run
 /// beside each other.
 #[derive(Drop)]
 pub enum Running {

@@ -4,11 +4,11 @@ ghost use Rattle.std.specs.List.{All};
 ghost use Rattle.sn_mem.specs.Buffers.{live_places};
 ghost use Rattle.sn_foot.specs.Canonical.{Ends};
 ghost use Rattle.sn_foot.specs.Footprints.{states_of};
-ghost use Rattle.sn_graph.specs.Voices.{none};
+ghost use Rattle.sn_graph.specs.Voices.{is_none, none};
 ghost use Rattle.sn_graph.specs.Inputs.{nodes_of};
 ghost use Rattle.sn_graph.specs.Stages.{voice_of};
 ghost use Rattle.sn_clash.specs.Rows.{row_of};
-ghost use Rattle.sn_graph.specs.Pieces.{before, linked, piece, piece_of, pieces, with_member};
+ghost use Rattle.sn_graph.specs.Pieces.{before, group_piece, linked, piece, piece_of, pieces, with_member};
 
 use crate::named::NamedGroups;
 use crate::nodes::{Running, Voice};
@@ -19,11 +19,11 @@ use sn_tree::{Member, NodeKind};
 use sn_world::Held;
 use std::alloc::Global;
 
-/// A node by itself, with what runs below it.
+/// A node by itself, with what is heard below it.
 #[derive(Drop)]
 pub enum Part {
-    /// A node that is paused, which is left out with all below it.
-    Paused,
+    /// A node that is left out: a paused one with all below it, or a group in which no synth runs.
+    Nothing,
     /// A synth.
     Synth(Voice),
     /// A group, whether it is split, and those below it.
@@ -35,7 +35,7 @@ fn before(alloc: Global, part: Part, rest: Running) -> Result<Running, NoMemory>
     ensures { IfOk result (λ nodes. nodes_of nodes ≡ before (piece_of part) (nodes_of rest)) }
 {
     match part {
-        Part::Paused => Ok(rest),
+        Part::Nothing => Ok(rest),
         Part::Synth(voice) => Ok(Running::Synth(voice, Box::new(alloc, rest)?)),
         Part::Group(split, inner) => Ok(Running::Group(
             split,
@@ -96,6 +96,26 @@ fn voice_of(alloc: Global, buffers: &Buffers, member: &Member<'_, Held>) -> Resu
     })
 }
 
+/// Whether there are no nodes.
+fn is_none(nodes: &Running) -> bool
+    ensures { result ≡ is_none (nodes_of nodes.now) }
+{
+    match nodes {
+        Running::None => true,
+        Running::Synth(_, _) | Running::Group(_, _, _) => false,
+    }
+}
+
+/// A group with these below it. Without any it is left out.
+fn group_of(split: bool, inner: Running) -> Part
+    ensures { piece_of result ≡ group_piece split (nodes_of inner) }
+{
+    if is_none(&inner) {
+        return Part::Nothing;
+    }
+    Part::Group(split, inner)
+}
+
 /// A node with these below it.
 fn part_of(
     alloc: Global,
@@ -109,12 +129,12 @@ fn part_of(
     ensures { IfOk result (λ part. piece_of part ≡ piece buffers.now clashing.now (row_of member.now).0 (nodes_of inner)) }
 {
     if !member.running {
-        return Ok(Part::Paused);
+        return Ok(Part::Nothing);
     }
     match member.kind {
         NodeKind::Synth => Ok(Part::Synth(voice_of(alloc, buffers, member)?)),
-        NodeKind::Group => Ok(Part::Group(false, inner)),
-        NodeKind::Parallel => Ok(Part::Group(!clashing.has(&member.id), inner)),
+        NodeKind::Group => Ok(group_of(false, inner)),
+        NodeKind::Parallel => Ok(group_of(!clashing.has(&member.id), inner)),
     }
 }
 

@@ -23,7 +23,7 @@ use sn_round::Plan;
 use sn_world::Stage;
 use std::alloc::Global;
 
-/// The nodes that run, with what each synth touches. The walk is gone over from its end on.
+/// The nodes that are heard, with what each synth touches. The walk is gone over from its end on.
 fn running_nodes(
     alloc: Global,
     stage: &Stage,

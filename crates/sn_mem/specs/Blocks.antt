@@ -1,5 +1,6 @@
 -- Blocks of 64 samples, and runs of words.
-use Rattle.std.specs.Prelude.{ℕ, zero, suc, ◌+◌, ◌%◌, List, [], ◌∷◌, ◌++◌, ℤ, pos, slice_index, slice_index_or, slice_set}
+use Rattle.std.specs.Prelude.{◌≡◌, ◌<◌, ℕ, zero, suc, ◌+◌, ◌%◌, List, [], ◌∷◌, ◌++◌, ℤ, pos, slice_index, slice_index_or, slice_set}
+use Rattle.std.specs.List.{All}
 use Rattle.std.specs.Int.{w32, cast_signed, cast_unsigned}
 
 -- a block by its number, and one of its samples
@@ -8,6 +9,13 @@ block bs i = slice_index_or bs i []
 
 abbrev pub sample : List (List ℤ) → ℕ → ℕ → ℤ
 sample bs i k = slice_index_or (block bs i) k (pos 0)
+
+-- 64 samples that are all equal, and blocks of such samples
+abbrev pub IsSteady : List ℤ → Type 0
+IsSteady xs = (k : ℕ) → k < 64 → slice_index_or xs k (pos 0) ≡ slice_index_or xs 0 (pos 0)
+
+abbrev pub AreSteady : List (List ℤ) → Type 0
+AreSteady bs = All IsSteady bs
 
 -- a sample lies in the low 32 bits of its word
 abbrev pub word_for : ℤ → ℕ

@@ -17,16 +17,19 @@ pub const MOST_BLOCKS: usize = 512;
 pub struct Blocks {
     items: Vec<Block>,
     used: usize,
+    // Whether each block is known to be of 64 equal samples. It holds nothing that a clause sees.
+    steady: bool,
 }
 
 impl Model for Blocks {
-    ghost use Rattle.std.specs.Prelude.{List, ℤ, take, ◌≡◌, ◌≤◌, vec_len};
+    ghost use Rattle.std.specs.Prelude.{List, ℤ, take, true, ◌≡◌, ◌≤◌, vec_len};
+    ghost use Rattle.sn_mem.specs.Blocks.{AreSteady};
 
     ghost Value = { List (List ℤ) };
 
     ghost view = { λ b. take b.used b.items.items };
 
-    ghost invariant = { λ b. (vec_len b.items ≡ 512) × (b.used ≤ 512) };
+    ghost invariant = { λ b. (vec_len b.items ≡ 512) × (b.used ≤ 512) × (b.steady ≡ true → AreSteady (take b.used b.items.items)) };
 }
 
 impl Blocks {
@@ -35,7 +38,11 @@ impl Blocks {
         ensures { IfOk result (λ b. b ≡ []) }
     {
         let items = vec![in alloc; [0i32; 64]; MOST_BLOCKS]?;
-        Ok(Blocks { items, used: 0 })
+        Ok(Blocks {
+            items,
+            used: 0,
+            steady: true,
+        })
     }
 
     /// How many blocks there are.
@@ -51,6 +58,7 @@ impl Blocks {
         ensures { self.new ≡ [] }
     {
         self.used = 0;
+        self.steady = true;
     }
 
     /// Puts a block at the end.
@@ -58,6 +66,7 @@ impl Blocks {
         requires { length self.old < 512 }
         ensures { self.new ≡ self.old ++ samples.now ∷ [] }
     {
+        self.steady = false;
         self.items[self.used] = *samples;
         self.used += 1;
     }
@@ -86,6 +95,7 @@ impl Blocks {
         requires { count ≤ 512 }
         ensures { length self.new ≡ count }
     {
+        self.steady = false;
         self.used = count;
     }
 
@@ -97,12 +107,22 @@ impl Blocks {
         &self.items[number]
     }
 
-    /// The sample of a block at a frame.
+    /// Whether each block is known to be of 64 equal samples. Whatever it gives, `at` gives the same.
+    pub(crate) fn is_steady(&self) -> bool {
+        self.steady
+    }
+
+    /// The sample of a block at a frame. Where all blocks are known to be of equal samples it is read at the first
+    /// frame, so that a loop over frames reads it once.
     pub fn at(&self, number: usize, frame: usize) -> i32
         requires number { number < length self.now }
         requires frame { frame < 64 }
         ensures { result ≡ sample self.now number frame }
     {
-        self.items[number][frame]
+        if self.steady {
+            self.items[number][0]
+        } else {
+            self.items[number][frame]
+        }
     }
 }

@@ -1,9 +1,9 @@
 //! Units that go from frame to frame with a small state.
 ghost use Rattle.std.specs.Prelude.{◌≡◌, ◌<◌, ◌≤◌, ◌∷◌, [], ℕ, ℤ, List, length};
 ghost use Rattle.sn_mem.specs.Words.{MayWrite};
-ghost use Rattle.sn_mem.specs.Blocks.{recurred};
+ghost use Rattle.sn_mem.specs.Blocks.{recurred, scan};
 
-use crate::blocks::Blocks;
+use crate::blocks::{Block, Blocks};
 use crate::port::Port;
 use crate::runs::{load_words, store_words};
 use crate::stored::Stored;
@@ -30,6 +30,28 @@ pub trait Recurrence: Copy {
         ensures arity { arity self.new ≡ arity self.old };
 }
 
+/// Runs a unit from a state for the frames of a block. Gives the state after them.
+#[inline(always)]
+fn run_frames<U: Recurrence>(
+    unit: &U,
+    begin: U::State,
+    inputs: &Blocks,
+    samples: &mut Block,
+) -> U::State
+    requires { U.arity unit.now ≤ length inputs.now }
+    ensures state { result ≡ (scan (U.step unit.now) begin inputs.now 64).0 }
+    ensures samples { samples.new ≡ (scan (U.step unit.now) begin inputs.now 64).1 }
+{
+    let mut running = *unit;
+    let mut state = begin;
+    for frame in 0..64 {
+        let (after, sample) = running.next(state, inputs, frame);
+        state = after;
+        samples[frame] = sample;
+    }
+    state
+}
+
 /// Runs a unit for a block, with its state in the words from `at` on.
 pub fn run_recurrence<U: Recurrence, P: Port>(
     unit: &U,
@@ -48,14 +70,14 @@ pub fn run_recurrence<U: Recurrence, P: Port>(
     let mut words = [0u64; 8];
     let words = &mut words[..U::State::size()];
     load_words(port, at, words);
-    let mut state = U::State::load(words);
-    let mut running = *unit;
+    let begin = U::State::load(words);
     let mut samples = [0i32; 64];
-    for frame in 0..64 {
-        let (after, sample) = running.next(state, inputs, frame);
-        state = after;
-        samples[frame] = sample;
-    }
+    // The same twice, so that the first loop reads the inputs once and not at each frame.
+    let state = if inputs.is_steady() {
+        run_frames(unit, begin, inputs, &mut samples)
+    } else {
+        run_frames(unit, begin, inputs, &mut samples)
+    };
     outputs.clear();
     outputs.push(&samples);
     state.store(words);

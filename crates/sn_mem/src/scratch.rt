@@ -94,7 +94,8 @@ impl Scratch {
         Scratch::with_heights(alloc, Arc::new(alloc, heights)?)
     }
 
-    /// Room for all that another synth may need at the same time, with the same heights.
+    /// Room for all that another synth may need at the same time, with the same heights. No clause says
+    /// what it holds, since no definition sees a scratch: whichever one a synth runs with, it does the same.
     pub fn beside(&self, alloc: Global) -> Result<Scratch, NoMemory> {
         Scratch::with_heights(alloc, Arc::try_clone(&self.heights)?)
     }

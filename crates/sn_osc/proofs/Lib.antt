@@ -4,6 +4,7 @@ pub mod ShapeLemmas
 pub mod ElementLoop
 pub mod PacketStart
 pub mod Fields
+pub mod Octets
 pub mod Messages
 pub mod PacketLaws
 pub mod Encoded

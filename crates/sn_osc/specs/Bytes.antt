@@ -6,6 +6,9 @@ use Rattle.sn_osc.specs.Shape.{Argument, int, string, blob, BodyShape, bare, arg
 
 -- ---- bytes
 
+abbrev pub are_octets : List ℕ → Bool
+are_octets bytes = list_all (λ b. nat_lt b 256) bytes
+
 -- 4 bytes, big-endian, two's complement
 abbrev pub int_bytes : ℤ → List ℕ
 int_bytes n = to_be_bytes w32 (cast_unsigned w32 n)

@@ -1,7 +1,7 @@
 //! How many bytes the spelling of a packet has, up to 2^31 of them.
-ghost use Rattle.std.specs.Prelude.{◌≡◌, ◌≤◌, ◌^◌, ◌+◌, ◌-◌, ◌%◌, length, map, min};
+ghost use Rattle.std.specs.Prelude.{◌≡◌, ◌≤◌, ◌^◌, ◌+◌, ◌-◌, ◌%◌, length, map, min, IsTrue};
 ghost use Rattle.sn_osc.specs.Shape.{bundle, argument_of, body_of, message_of, shape, shapes};
-ghost use Rattle.sn_osc.specs.Bytes.{string_bytes, blob_bytes, argument_bytes, arguments_bytes, body_bytes, message_bytes, packet_bytes};
+ghost use Rattle.sn_osc.specs.Bytes.{are_octets, string_bytes, blob_bytes, argument_bytes, arguments_bytes, tags_bytes, body_bytes, message_bytes, packet_bytes};
 
 use crate::packet::{Arg, Body, Bundle, Message, Packet};
 
@@ -17,19 +17,22 @@ fn sum(a: u64, b: u64) -> u64
 }
 
 fn slice_len(bytes: &[u8]) -> u64
-    ensures { result ≡ min (length bytes.now) (2 ^ 31) }
+    ensures len { result ≡ min (length bytes.now) (2 ^ 31) }
+    ensures octets { IsTrue (are_octets bytes.now) }
 {
     (bytes.len() as u64).min(TOO_MANY)
 }
 
 fn string_len(s: &[u8]) -> u64
-    ensures { result ≡ min (length (string_bytes s.now)) (2 ^ 31) }
+    ensures len { result ≡ min (length (string_bytes s.now)) (2 ^ 31) }
+    ensures octets { IsTrue (are_octets (string_bytes s.now)) }
 {
     sum(slice_len(s), 4 - s.len() as u64 % 4)
 }
 
 fn blob_len(content: &[u8]) -> u64
-    ensures { result ≡ min (length (blob_bytes content.now)) (2 ^ 31) }
+    ensures len { result ≡ min (length (blob_bytes content.now)) (2 ^ 31) }
+    ensures octets { IsTrue (are_octets (blob_bytes content.now)) }
 {
     sum(
         sum(4, slice_len(content)),
@@ -38,7 +41,8 @@ fn blob_len(content: &[u8]) -> u64
 }
 
 fn argument_len(argument: &Arg) -> u64
-    ensures { result ≡ min (length (argument_bytes (argument_of argument.now))) (2 ^ 31) }
+    ensures len { result ≡ min (length (argument_bytes (argument_of argument.now))) (2 ^ 31) }
+    ensures octets { IsTrue (are_octets (argument_bytes (argument_of argument.now))) }
 {
     match argument {
         Arg::Int(_) => 4,
@@ -48,7 +52,8 @@ fn argument_len(argument: &Arg) -> u64
 }
 
 fn arguments_len(arguments: &[Arg]) -> u64
-    ensures { result ≡ min (length (arguments_bytes (map argument_of arguments.now))) (2 ^ 31) }
+    ensures len { result ≡ min (length (arguments_bytes (map argument_of arguments.now))) (2 ^ 31) }
+    ensures octets { IsTrue (are_octets (arguments_bytes (map argument_of arguments.now))) }
 {
     let mut len = 0;
     for argument in arguments {
@@ -58,7 +63,8 @@ fn arguments_len(arguments: &[Arg]) -> u64
 }
 
 fn body_len(body: &Body) -> u64
-    ensures { result ≡ min (length (body_bytes (body_of body.now))) (2 ^ 31) }
+    ensures len { result ≡ min (length (body_bytes (body_of body.now))) (2 ^ 31) }
+    ensures octets { IsTrue (are_octets (body_bytes (body_of body.now))) }
 {
     match body {
         Body::Bare => 0,
@@ -66,7 +72,10 @@ fn body_len(body: &Body) -> u64
             tags_len(arguments.as_slice().len()),
             arguments_len(arguments.as_slice()),
         ),
-        Body::Foreign { tags, rest } => sum(tags_len(tags.len()), slice_len(rest.as_slice())),
+        Body::Foreign { tags, rest } => sum(
+            foreign_tags_len(tags.as_slice()),
+            slice_len(rest.as_slice()),
+        ),
     }
 }
 
@@ -78,8 +87,17 @@ fn tags_len(tags: usize) -> u64
     sum(len, 4 - len % 4)
 }
 
+/// The length of a comma and these tags, as a string.
+fn foreign_tags_len(tags: &[u8]) -> u64
+    ensures len { result ≡ min (length (tags_bytes tags.now)) (2 ^ 31) }
+    ensures octets { IsTrue (are_octets (tags_bytes tags.now)) }
+{
+    tags_len(tags.len())
+}
+
 fn message_len(message: &Message) -> u64
-    ensures { result ≡ min (length (message_bytes (message_of message.now))) (2 ^ 31) }
+    ensures len { result ≡ min (length (message_bytes (message_of message.now))) (2 ^ 31) }
+    ensures octets { IsTrue (are_octets (message_bytes (message_of message.now))) }
 {
     sum(
         string_len(message.address.as_slice()),
@@ -89,7 +107,8 @@ fn message_len(message: &Message) -> u64
 
 #[cycle(lengths)]
 fn bundle_len(item: &Bundle) -> u64
-    ensures { result ≡ min (length (packet_bytes (bundle item.now.tag (shapes item.now.elements.items)))) (2 ^ 31) }
+    ensures len { result ≡ min (length (packet_bytes (bundle item.now.tag (shapes item.now.elements.items)))) (2 ^ 31) }
+    ensures octets { IsTrue (are_octets (packet_bytes (bundle item.now.tag (shapes item.now.elements.items)))) }
 {
     let mut len = 16;
     for element in &item.elements {
@@ -98,10 +117,11 @@ fn bundle_len(item: &Bundle) -> u64
     len
 }
 
-/// The number of bytes of the packet's spelling, or 2^31 where there are more.
+/// How many bytes the packet's spelling has, or 2^31 where there are more. Each of them is below 256.
 #[cycle(lengths)]
 pub fn packet_len(packet: &Packet) -> u64
-    ensures { result ≡ min (length (packet_bytes (shape packet.now))) (2 ^ 31) }
+    ensures len { result ≡ min (length (packet_bytes (shape packet.now))) (2 ^ 31) }
+    ensures octets { IsTrue (are_octets (packet_bytes (shape packet.now))) }
 {
     match packet {
         Packet::Message(message) => message_len(message),

@@ -22,5 +22,6 @@ pub use laws::{
     joined_frames, no_fault, no_prefix, one_fault_of_a_stream, one_framing, one_list_of_packets,
     one_packet, one_spelling, whole_frames,
 };
+pub use lengths::packet_len;
 pub use packet::{Arg, Args, Body, Bundle, Elements, Message, Packet};
 pub use spelling::spellable;

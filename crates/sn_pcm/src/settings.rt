@@ -10,7 +10,7 @@ pub struct Settings {
     pub channels: u32,
     /// Bits of a sample in the sound: 16 or 24.
     pub bits: u32,
-    /// Workers: 1 to 16. One of them runs each block whole, so their number makes no difference.
+    /// Workers, which share the jobs of each block: 1 to 16. Their number changes no byte.
     pub workers: u32,
     /// Words of 8 bytes in the pool of buffers and unit states: 65,536 to 16,777,216.
     pub memory: u32,

@@ -42,9 +42,9 @@ impl From<NoMemory> for Stop {
 
 /// Writes the sound that was gathered, where it has `least` bytes.
 fn write_sound<O: Sink>(engine: &mut Engine, least: usize, sink: &mut O) -> Result<(), Stop>
-    ensures written { OnOk result (IsWritten engine.old.sound engine.new.sound (O.taken sink.old) (O.taken sink.new)) }
-    ensures front { OnErr result (TakesFront (O.taken sink.old) (O.taken sink.new) engine.old.sound) }
-    ensures kept { OnOk result (engine.new ≡ record engine.old { sound = engine.new.sound }) }
+    ensures written { OnOk result (IsWritten engine.old.running.sound engine.new.running.sound (O.taken sink.old) (O.taken sink.new)) }
+    ensures front { OnErr result (TakesFront (O.taken sink.old) (O.taken sink.new) engine.old.running.sound) }
+    ensures kept { OnOk result (engine.new.running ≡ record engine.old.running { sound = engine.new.running.sound }) }
     ensures memory { result ≡ Err Stop.NoMemory → ⊥ }
     ensures reply { result ≡ Err Stop.ReplyFault → ⊥ }
     ensures cause { result ≡ Err Stop.SoundFault → Rose (O.faults sink.old) (O.faults sink.new) }
@@ -62,11 +62,11 @@ fn write_sound<O: Sink>(engine: &mut Engine, least: usize, sink: &mut O) -> Resu
 
 /// Writes the replies that were gathered, where they have `least` bytes.
 fn write_replies<R: Sink>(engine: &mut Engine, least: usize, sink: &mut R) -> Result<(), Stop>
-    requires alone { length engine.old.replies ≡ 1 }
-    ensures written { OnOk result (IsWritten (to_first engine.old.replies) (to_first engine.new.replies) (R.taken sink.old) (R.taken sink.new)) }
-    ensures front { OnErr result (TakesFront (R.taken sink.old) (R.taken sink.new) (to_first engine.old.replies)) }
-    ensures alone { length engine.new.replies ≡ 1 }
-    ensures kept { OnOk result (engine.new ≡ record engine.old { replies = engine.new.replies }) }
+    requires alone { length engine.old.running.replies ≡ 1 }
+    ensures written { OnOk result (IsWritten (to_first engine.old.running.replies) (to_first engine.new.running.replies) (R.taken sink.old) (R.taken sink.new)) }
+    ensures front { OnErr result (TakesFront (R.taken sink.old) (R.taken sink.new) (to_first engine.old.running.replies)) }
+    ensures alone { length engine.new.running.replies ≡ 1 }
+    ensures kept { OnOk result (engine.new.running ≡ record engine.old.running { replies = engine.new.running.replies }) }
     ensures memory { result ≡ Err Stop.NoMemory → ⊥ }
     ensures sound { result ≡ Err Stop.SoundFault → ⊥ }
     ensures cause { result ≡ Err Stop.ReplyFault → Rose (R.faults sink.old) (R.faults sink.new) }
@@ -91,11 +91,11 @@ fn render_block<H: Threads + Sync, O: Sink, R: Sink, G: Gate>(
     replies: &mut R,
     gate: &G,
 ) -> Result<(), Stop>
-    requires block { engine.old.block < 2 ^ 62 }
-    requires settled { engine.old.standing ≡ Settled }
-    requires alone { length engine.old.replies ≡ 1 }
-    ensures block { OnOk result (HasWritten (O.taken sound.old) (O.taken sound.new) (R.taken replies.old) (R.taken replies.new) (after_block engine.old) engine.new) }
-    ensures fronts { OnErr result (TakeFronts (O.taken sound.old) (O.taken sound.new) (R.taken replies.old) (R.taken replies.new) (after_block engine.old).sound (to_first (after_block engine.old).replies)) }
+    requires block { engine.old.running.block < 2 ^ 62 }
+    requires settled { engine.old.running.standing ≡ Settled }
+    requires alone { length engine.old.running.replies ≡ 1 }
+    ensures block { OnOk result (HasWritten (O.taken sound.old) (O.taken sound.new) (R.taken replies.old) (R.taken replies.new) (after_block engine.old.running) engine.new.running) }
+    ensures fronts { OnErr result (TakeFronts (O.taken sound.old) (O.taken sound.new) (R.taken replies.old) (R.taken replies.new) (after_block engine.old.running).sound (to_first (after_block engine.old.running).replies)) }
     ensures sound { result ≡ Err Stop.SoundFault → Rose (O.faults sound.old) (O.faults sound.new) }
     ensures reply { result ≡ Err Stop.ReplyFault → Rose (R.faults replies.old) (R.faults replies.new) }
     ensures sound_later { O.faults sound.old ≤ O.faults sound.new }
@@ -117,10 +117,10 @@ fn render_end<O: Sink, R: Sink>(
     sound: &mut O,
     replies: &mut R,
 ) -> Result<(), Stop>
-    requires settled { engine.old.standing ≡ Settled }
-    requires alone { length engine.old.replies ≡ 1 }
-    ensures end { OnOk result (TakeBoth (O.taken sound.old) (O.taken sound.new) (R.taken replies.old) (R.taken replies.new) (at_boundary engine.old).sound (to_first (at_boundary engine.old).replies)) }
-    ensures fronts { OnErr result (TakeFronts (O.taken sound.old) (O.taken sound.new) (R.taken replies.old) (R.taken replies.new) (at_boundary engine.old).sound (to_first (at_boundary engine.old).replies)) }
+    requires settled { engine.old.running.standing ≡ Settled }
+    requires alone { length engine.old.running.replies ≡ 1 }
+    ensures end { OnOk result (TakeBoth (O.taken sound.old) (O.taken sound.new) (R.taken replies.old) (R.taken replies.new) (at_boundary engine.old.running).sound (to_first (at_boundary engine.old.running).replies)) }
+    ensures fronts { OnErr result (TakeFronts (O.taken sound.old) (O.taken sound.new) (R.taken replies.old) (R.taken replies.new) (at_boundary engine.old.running).sound (to_first (at_boundary engine.old.running).replies)) }
     ensures sound { result ≡ Err Stop.SoundFault → Rose (O.faults sound.old) (O.faults sound.new) }
     ensures reply { result ≡ Err Stop.ReplyFault → Rose (R.faults replies.old) (R.faults replies.new) }
     ensures sound_later { O.faults sound.old ≤ O.faults sound.new }
@@ -148,11 +148,11 @@ pub fn render_blocks<H: Threads + Sync, O: Sink, R: Sink, G: Gate>(
     replies: &mut R,
     gate: &G,
 ) -> Result<(), Stop>
-    requires begun { engine.block ≡ 0 }
-    requires stands { IsAtBoundary engine }
+    requires begun { engine.running.block ≡ 0 }
+    requires stands { IsAtBoundary engine.running }
     requires blocks { blocks < 2 ^ 62 }
-    ensures ended { OnOk result (TakeBoth (O.taken sound.old) (O.taken sound.new) (R.taken replies.old) (R.taken replies.new) (to_end blocks engine).sound (to_first (to_end blocks engine).replies)) }
-    ensures fronts { OnErr result (TakeFronts (O.taken sound.old) (O.taken sound.new) (R.taken replies.old) (R.taken replies.new) (to_end blocks engine).sound (to_first (to_end blocks engine).replies)) }
+    ensures ended { OnOk result (TakeBoth (O.taken sound.old) (O.taken sound.new) (R.taken replies.old) (R.taken replies.new) (to_end blocks engine.running).sound (to_first (to_end blocks engine.running).replies)) }
+    ensures fronts { OnErr result (TakeFronts (O.taken sound.old) (O.taken sound.new) (R.taken replies.old) (R.taken replies.new) (to_end blocks engine.running).sound (to_first (to_end blocks engine.running).replies)) }
     ensures sound { result ≡ Err Stop.SoundFault → Rose (O.faults sound.old) (O.faults sound.new) }
     ensures reply { result ≡ Err Stop.ReplyFault → Rose (R.faults replies.old) (R.faults replies.new) }
     ensures unfailed { NoneElseFailed result (O.faults sound.old) (O.faults sound.new) (R.faults replies.old) (R.faults replies.new) }

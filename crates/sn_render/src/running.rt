@@ -24,9 +24,9 @@ use std::thread::Threads;
 
 /// Offers packets that arrive at boundary 0 from client 0, in order.
 fn offer_all(alloc: Global, engine: &mut Engine, packets: Elements) -> Result<(), NoMemory>
-    requires begun { IsBegun engine.old }
-    requires put { ArePut (map shape packets.items) engine.old.waiting.puts }
-    ensures { OnOk result (engine.new ≡ arrive (map shape packets.items) engine.old) }
+    requires begun { IsBegun engine.old.running }
+    requires put { ArePut (map shape packets.items) engine.old.running.waiting.puts }
+    ensures { OnOk result (engine.new.running ≡ arrive (map shape packets.items) engine.old.running) }
 {
     for packet in packets {
         engine.offer(alloc, packet, 0)?;
@@ -37,7 +37,7 @@ fn offer_all(alloc: Global, engine: &mut Engine, packets: Elements) -> Result<()
 /// An engine at boundary 0, at which all packets have arrived.
 fn opened(alloc: Global, settings: &Settings, packets: Elements) -> Result<Engine, NoMemory>
     requires { ArePut (map shape packets.items) 0 }
-    ensures { IfOk result (λ e. e ≡ begun settings.now (map shape packets.items)) }
+    ensures { IfOk result (λ e. e.running ≡ begun settings.now (map shape packets.items)) }
 {
     let mut engine = Engine::open(alloc, settings, 0, None, 1)?;
     offer_all(alloc, &mut engine, packets)?;
@@ -72,13 +72,13 @@ fn play<H: Threads + Sync, O: Sink, R: Sink, G: Gate>(
     replies: &mut R,
     gate: &G,
 ) -> Result<(), Stop>
-    requires begun { engine.block ≡ 0 }
-    requires stands { IsAtBoundary engine }
+    requires begun { engine.running.block ≡ 0 }
+    requires stands { IsAtBoundary engine.running }
     requires short { IsTooLong settings.now blocks → ⊥ }
     ensures ended { OnOk result (TakeBoth (O.taken sound.old) (O.taken sound.new) (R.taken replies.old) (R.taken replies.new)
-        (header_bytes settings.now (data_len settings.now blocks) ++ (to_end blocks engine).sound) (to_first (to_end blocks engine).replies)) }
+        (header_bytes settings.now (data_len settings.now blocks) ++ (to_end blocks engine.running).sound) (to_first (to_end blocks engine.running).replies)) }
     ensures fronts { OnErr result (TakeFronts (O.taken sound.old) (O.taken sound.new) (R.taken replies.old) (R.taken replies.new)
-        (header_bytes settings.now (data_len settings.now blocks) ++ (to_end blocks engine).sound) (to_first (to_end blocks engine).replies)) }
+        (header_bytes settings.now (data_len settings.now blocks) ++ (to_end blocks engine.running).sound) (to_first (to_end blocks engine.running).replies)) }
     ensures sound { result ≡ Err Stop.SoundFault → Rose (O.faults sound.old) (O.faults sound.new) }
     ensures reply { result ≡ Err Stop.ReplyFault → Rose (R.faults replies.old) (R.faults replies.new) }
     ensures unfailed { NoneElseFailed result (O.faults sound.old) (O.faults sound.new) (R.faults replies.old) (R.faults replies.new) }

@@ -11,10 +11,9 @@ use Rattle.std.proofs.lemmas.Fmt.{digits_decimal, digits_value-decimal}
 use Rattle.std.proofs.lemmas.Int.{to_z-of_z, ints}
 use Rattle.std.proofs.lemmas.Str.{digit_value_digit}
 use Rattle.std.proofs.lemmas.Str.Parse.{IsDigitsTest, IsNumeralModel, numerals_by_value}
-use Rattle.sn_osc.specs.Bytes.{begins_with, fits_int}
+use Rattle.sn_osc.specs.Bytes.{are_octets, begins_with, fits_int}
 use Rattle.sn_osc.proofs.Fields.{and_yes, fits-from_test}
 use Rattle.sn_score.specs.Words.{digit, hex}
-use Rattle.sn_score.specs.Score.{are_octets}
 use Rattle.sn_score.specs.Fields.{nibble, hex_value, unhex, natural_after, natural, signed}
 
 -- a list with an element is not empty

@@ -8,12 +8,11 @@ use Rattle.std.proofs.lemmas.Fmt.{decimal_nonempty}
 use Rattle.std.proofs.lemmas.List.{length-append}
 use Rattle.std.proofs.lemmas.List.Folds.{list_all-append}
 use Rattle.sn_osc.specs.Shape.{Argument, int, string, blob, BodyShape, bare, arguments, foreign, MessageShape}
-use Rattle.sn_osc.specs.Bytes.{string_bytes, blob_bytes, argument_bytes, arguments_bytes, body_bytes, message_bytes, tags_bytes, tag_of, begins_with, has_no_null, is_argument, is_body, is_message}
+use Rattle.sn_osc.specs.Bytes.{are_octets, string_bytes, blob_bytes, argument_bytes, arguments_bytes, body_bytes, message_bytes, tags_bytes, tag_of, begins_with, has_no_null, is_argument, is_body, is_message}
 use Rattle.sn_osc.proofs.Fields.{and_yes, not_yes}
 use Rattle.sn_osc.proofs.PacketLaws.{or_no}
 use Rattle.sn_score.specs.Words.{quoted, is_plain_byte, address_word, blob_word, hex}
 use Rattle.sn_score.specs.Lines.{argument_word, body_words, fields, message_line}
-use Rattle.sn_score.specs.Score.{are_octets}
 use Rattle.sn_score.specs.Fields.{string_at, word_at, argument_at, arguments_at, foreign_at, body_at, address_at, message_at}
 use Rattle.sn_score.proofs.Digits.{not_empty, has_no, unhex_again, no_in_hex, signed_again, no_in_signed, first_of_signed}
 use Rattle.sn_score.proofs.Packets.{octets_apart}

@@ -1,16 +1,16 @@
 -- Packets that fit, and rows of packets.
-use Rattle.std.proofs.Common.{◌≡◌, ℕ, zero, suc, ◌+◌, ◌/◌, ◌%◌, ◌^◌, ◌<◌, ◌≤◌, true, ltb, List, [], ◌∷◌, ◌++◌, length, get_or, flat_map, refl, sym, ap, ◌∙◌, append_assoc, append-nil, arith}
-use Rattle.std.specs.Int.{w32, w64, to_be_bytes, byte_at, bytes_high_first}
+use Rattle.std.proofs.Common.{◌≡◌, ℕ, ◌+◌, ◌≤◌, true, ltb, List, [], ◌∷◌, ◌++◌, length, flat_map, refl, sym, ap, ◌∙◌, append_assoc, append-nil, arith}
+use Rattle.std.specs.Int.{w32, w64, to_be_bytes}
 use Rattle.std.specs.List.{AllByRecursion}
-use Rattle.std.proofs.lemmas.Bool.{lt-ltb}
 use Rattle.std.proofs.lemmas.List.{length-append}
 use Rattle.std.proofs.lemmas.List.Folds.{list_all-append}
 use Rattle.sn_osc.specs.Shape.{Shape, Shapes, bundle, none, more, shapes_from}
-use Rattle.sn_osc.specs.Bytes.{bundle_head, packet_bytes, elements_bytes, is_packet, are_packets}
+use Rattle.sn_osc.specs.Bytes.{are_octets, bundle_head, packet_bytes, elements_bytes, is_packet, are_packets}
 use Rattle.sn_osc.proofs.Fields.{and_yes}
+use Rattle.sn_osc.proofs.Octets.{element_octets}
 use Rattle.sn_osc.proofs.Encoded.{packet_is, packet_spelled}
 use Rattle.sn_score.specs.Lines.{packet_text, elements_text}
-use Rattle.sn_score.specs.Score.{are_octets, Fits}
+use Rattle.sn_score.specs.Score.{Fits}
 
 -- ---- all of a list, with one more
 
@@ -19,24 +19,6 @@ all_push P [] x all p = (p, tt)
 all_push P (y ∷ ys) x all p = (all.0, all_push P ys x all.1 p)
 
 -- ---- bytes
-
-below : (x : ℕ) → x % 256 < 256
-below x = omega arith
-
-octet_at : (i n : ℕ) → ltb (byte_at i n) 256 ≡ true
-octet_at zero n = lt-ltb _ _ (below n)
-octet_at (suc i) n = lt-ltb _ _ (below (n / 256 ^ suc i))
-
-pub octets_of_number : (k n : ℕ) → are_octets (bytes_high_first k n) ≡ true
-octets_of_number zero n = refl
-octets_of_number (suc k) n = rw (octet_at k n, octets_of_number k n) refl
-
-pub octets_from : (bytes : List ℕ) → ((i : ℕ) → get_or bytes i 0 < 256) → are_octets bytes ≡ true
-octets_from [] h = refl
-octets_from (b ∷ bytes) h = rw (lt-ltb b 256 (h 0), octets_from bytes (λ i. h (suc i))) refl
-
-pub octets_joined : (a b : List ℕ) → are_octets a ≡ true → are_octets b ≡ true → are_octets (a ++ b) ≡ true
-octets_joined a b h k = list_all-append (λ x. ltb x 256) a b ∙ rw (h, k) refl
 
 pub octets_apart : (a b : List ℕ) → are_octets (a ++ b) ≡ true → (are_octets a ≡ true) × (are_octets b ≡ true)
 octets_apart a b h = and_yes (are_octets a) (are_octets b) (sym (list_all-append (λ x. ltb x 256) a b) ∙ h)
@@ -69,8 +51,7 @@ pub are_elements : (deep around : ℕ) (xs : List Shape) → Elements deep aroun
 are_elements deep around [] h = (refl, refl)
 are_elements deep around (x ∷ xs) h =
     let others = are_elements deep around xs h.1 in
-    let size = to_be_bytes w32 (length (packet_bytes x)) in
-    (rw (h.0.0, others.0) refl, octets_joined (size ++ packet_bytes x) (elements_bytes (shapes_from xs)) (octets_joined size (packet_bytes x) (octets_of_number 4 (length (packet_bytes x))) h.0.1) others.1)
+    (rw (h.0.0, others.0) refl, element_octets x (shapes_from xs) h.0.1 others.1)
 
 pub elements_apart : (deep around : ℕ) (x : Shape) (xs : Shapes) → are_packets deep around (more x xs) ≡ true → are_octets (elements_bytes (more x xs)) ≡ true → IsElement deep around x × (are_packets deep around xs ≡ true) × (are_octets (elements_bytes xs) ≡ true)
 elements_apart deep around x xs h k =
@@ -78,9 +59,6 @@ elements_apart deep around x xs h k =
     let size = to_be_bytes w32 (length (packet_bytes x)) in
     let octets = octets_apart (size ++ packet_bytes x) (elements_bytes xs) k in
     ((tests.0, (octets_apart size (packet_bytes x) octets.0).1), tests.1, octets.1)
-
-pub bundle_octets : (tag : ℕ) (inner : Shapes) → are_octets (elements_bytes inner) ≡ true → are_octets (packet_bytes (bundle tag inner)) ≡ true
-bundle_octets tag inner h = octets_joined (bundle_head ++ to_be_bytes w64 tag) (elements_bytes inner) (octets_joined bundle_head (to_be_bytes w64 tag) refl (octets_of_number 8 tag)) h
 
 pub inner_octets : (tag : ℕ) (inner : Shapes) → are_octets (packet_bytes (bundle tag inner)) ≡ true → are_octets (elements_bytes inner) ≡ true
 inner_octets tag inner h = (octets_apart (bundle_head ++ to_be_bytes w64 tag) (elements_bytes inner) h).1

@@ -3,11 +3,11 @@ use Rattle.std.proofs.Common.{◌≡◌, ℕ, zero, suc, ◌/◌, ◌%◌, ◌<�
 use Rattle.std.proofs.lemmas.Bool.{ltb-true, eqb-true, leb-true}
 use Rattle.std.proofs.lemmas.List.{length-append, take_at, drop_at}
 use Rattle.std.proofs.lemmas.List.Folds.{list_all-append}
+use Rattle.sn_osc.specs.Bytes.{are_octets}
 use Rattle.sn_osc.proofs.Fields.{and_yes, not_yes}
 use Rattle.sn_osc.proofs.PacketLaws.{or_no}
 use Rattle.sn_score.specs.Words.{digit, hex_byte, quoted_byte, quoted}
 use Rattle.sn_score.specs.Lines.{fields}
-use Rattle.sn_score.specs.Score.{are_octets}
 use Rattle.sn_score.specs.Fields.{word_len, is_closed, byte_at, bytes_at, unquoted}
 use Rattle.sn_score.proofs.Digits.{not_empty, hex_again, has_no, no_in_digit}
 

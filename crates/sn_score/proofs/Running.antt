@@ -9,10 +9,10 @@ use Rattle.std.proofs.lemmas.List.Folds.{list_all-append}
 use Rattle.std.proofs.lemmas.List.Splits.{length-slice_split}
 use Rattle.std.proofs.lemmas.Slice.Eq.{bytes_eq-Decides}
 use Rattle.sn_osc.specs.Shape.{MessageShape, Shape, Shapes, message, bundle, none, more, shapes_from}
-use Rattle.sn_osc.specs.Bytes.{message_bytes, packet_bytes, elements_bytes, is_message, is_packet, are_packets, counts_as, is_early}
+use Rattle.sn_osc.specs.Bytes.{are_octets, message_bytes, packet_bytes, elements_bytes, is_message, is_packet, are_packets, counts_as, is_early}
 use Rattle.sn_osc.proofs.Fields.{and_yes, not_yes}
 use Rattle.sn_score.specs.Lines.{fields, message_line, bundle_line, line, packet_text, elements_text}
-use Rattle.sn_score.specs.Score.{are_octets, AllFit, Score, score_text}
+use Rattle.sn_score.specs.Score.{AllFit, Score, score_text}
 use Rattle.sn_score.specs.Fields.{natural, tag_at}
 use Rattle.sn_score.specs.Reached.{Row, Reached, at_start, put, has_room, room_after, inside, opened, bundle_of, is_spelled, after_message_line, has_place, after_opening, after_line, at_end, lines_at, pieces, read}
 use Rattle.sn_score.proofs.Digits.{has_no, natural_again, no_in_decimal}

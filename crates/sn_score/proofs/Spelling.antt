@@ -1,14 +1,13 @@
 -- In how many bytes a packet spells, and what a message's line gives by that.
-use Rattle.std.proofs.Common.{◌≡◌, ◌↔◌, ℕ, ◌^◌, ◌<◌, ◌≤◌, Bool, true, false, cond, leb, ◌&&◌, List, length, Option, Some, None, refl, sym, ap, ◌∙◌, arith, inl, inr}
+use Rattle.std.proofs.Common.{◌≡◌, ◌↔◌, ℕ, ◌^◌, ◌<◌, ◌≤◌, Bool, true, false, cond, leb, ◌&&◌, List, length, min, Option, Some, None, refl, sym, ap, ◌∙◌, arith, inl, inr}
 use Rattle.std.specs.Prelude.{IsTrue}
 use Rattle.std.specs.Str.{bytes_eq}
 use Rattle.std.proofs.lemmas.Bool.{cases_lt, lt-leb, le-leb, and_from}
 use Rattle.sn_osc.specs.Shape.{MessageShape, Shape, message}
-use Rattle.sn_osc.specs.Bytes.{message_bytes, packet_bytes, is_message}
+use Rattle.sn_osc.specs.Bytes.{are_octets, message_bytes, packet_bytes, is_message}
 use Rattle.sn_osc.specs.Grammar.{IsSpellable}
 use Rattle.sn_osc.proofs.Encoded.{spellable_is, spellable_tests}
 use Rattle.sn_score.specs.Lines.{message_line}
-use Rattle.sn_score.specs.Score.{are_octets}
 use Rattle.sn_score.specs.Reached.{Reached, with_packet, is_spelled, after_message_line}
 use Rattle.sn_score.specs.Answers.{IsSpellingLen}
 
@@ -20,11 +19,11 @@ no_spelling x b is fails = λ allowed. elim (cases_lt (length (packet_bytes x)) 
   | inr le ↦ omega (arith, le)
 ]
 
-pub long_spelling : (x : Shape) (n : ℕ) → n ≡ length (packet_bytes x) → 65536 < n → IsSpellingLen None x
+pub long_spelling : (x : Shape) (n : ℕ) → n ≡ min (length (packet_bytes x)) (2 ^ 31) → 65536 < n → IsSpellingLen None x
 long_spelling x n is long = λ allowed. omega (arith, is, long)
 
-pub some_spelling : (x : Shape) (b : Bool) (bytes : List ℕ) (n : ℕ) → (IsTrue b ↔ IsSpellable x) → b ≡ true → bytes ≡ packet_bytes x → are_octets bytes ≡ true → n ≡ length bytes → n ≤ 65536 → IsSpellingLen (Some n) x
-some_spelling x b bytes n is passes same octets count short = ((spellable_tests x (is.0 passes)).0, sym (ap are_octets same) ∙ octets, count ∙ ap length same, short)
+pub some_spelling : (x : Shape) (b : Bool) (n : ℕ) → (IsTrue b ↔ IsSpellable x) → b ≡ true → are_octets (packet_bytes x) ≡ true → n ≡ min (length (packet_bytes x)) (2 ^ 31) → n ≤ 65536 → IsSpellingLen (Some n) x
+some_spelling x b n is passes octets count short = ((spellable_tests x (is.0 passes)).0, octets, omega (arith, count, short), short)
 
 -- ---- a message's line
 

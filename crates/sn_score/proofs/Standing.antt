@@ -4,14 +4,15 @@ use Rattle.std.specs.Str.{bytes_eq}
 use Rattle.std.proofs.lemmas.Bool.{ltb-true, lt-ltb, leb-true, le-leb, and_from}
 use Rattle.std.proofs.lemmas.Slice.Eq.{bytes_eq-Decides}
 use Rattle.sn_osc.specs.Shape.{MessageShape, Shape, message, shapes_from}
-use Rattle.sn_osc.specs.Bytes.{message_bytes, packet_bytes, elements_bytes, begins_with, is_message, is_packet, are_packets, counts_as, is_early}
+use Rattle.sn_osc.specs.Bytes.{are_octets, message_bytes, packet_bytes, elements_bytes, begins_with, is_message, is_packet, are_packets, counts_as, is_early}
 use Rattle.sn_osc.proofs.Fields.{and_yes}
+use Rattle.sn_osc.proofs.Octets.{bundle_octets}
 use Rattle.sn_score.specs.Lines.{message_line, bundle_line, line, packet_text}
-use Rattle.sn_score.specs.Score.{are_octets, Fits, AllFit}
+use Rattle.sn_score.specs.Score.{Fits, AllFit}
 use Rattle.sn_score.specs.Fields.{natural_after, word_len, message_at, tag_at}
 use Rattle.sn_score.specs.Reached.{Row, Reached, at_start, put, room_of, need_of, has_room, room_after, inside, opened, bundle_of, closed, is_spelled, after_message_line, has_place, after_opening, after_line}
 use Rattle.sn_score.proofs.Digits.{not_empty}
-use Rattle.sn_score.proofs.Packets.{all_push, fits_from, IsElement, Elements, are_elements, bundle_octets, bundle_len, push_len, elements_as_text, push_text}
+use Rattle.sn_score.proofs.Packets.{all_push, fits_from, IsElement, Elements, are_elements, bundle_len, push_len, elements_as_text, push_text}
 
 -- ---- the state of reading
 

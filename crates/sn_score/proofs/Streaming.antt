@@ -5,14 +5,14 @@ use Rattle.std.specs.Int.{w32, to_be_bytes}
 use Rattle.std.proofs.lemmas.Bool.{and_from, le-leb, eq-eqb}
 use Rattle.std.proofs.lemmas.List.{length-append}
 use Rattle.sn_osc.specs.Shape.{Shape, message, bundle}
-use Rattle.sn_osc.specs.Bytes.{packet_bytes, frame_bytes}
+use Rattle.sn_osc.specs.Bytes.{are_octets, packet_bytes, frame_bytes}
 use Rattle.sn_osc.specs.Frames.{is_frame_size, Frames}
 use Rattle.sn_osc.specs.Grammar.{Spells}
 use Rattle.sn_osc.proofs.Encoded.{packet_is, packet_spelled}
 use Rattle.sn_osc.proofs.PacketLaws.{packet_whole}
 use Rattle.sn_osc.proofs.Streams.{no_more, frame_len}
 use Rattle.sn_score.specs.Lines.{line, message_line, bundle_line, packet_text, elements_text}
-use Rattle.sn_score.specs.Score.{are_octets, Fits, AllFit, Score, score_text}
+use Rattle.sn_score.specs.Score.{Fits, AllFit, Score, score_text}
 use Rattle.sn_score.proofs.Packets.{fits_tests, octets_apart}
 
 -- ---- from packets to a stream

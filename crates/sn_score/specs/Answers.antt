@@ -1,6 +1,6 @@
 -- What a reader answers, against what reading gives.
 use Rattle.std.specs.Prelude.{◌≡◌, ◌≤◌, ◌<◌, ℕ, List, length, map, reverse, Option, Some, None, Result, Ok, Err, IsTrue}
-use Rattle.sn_osc.specs.Bytes.{packet_bytes, is_packet}
+use Rattle.sn_osc.specs.Bytes.{are_octets, packet_bytes, is_packet}
 use Rattle.std.specs.Borrow.{Bor}
 use Rattle.sn_osc.specs.Shape.{Shape, shape}
 use Rattle.sn_score.specs.declared.fault.Refused.{Refused}
@@ -9,7 +9,6 @@ use Rattle.sn_score.specs.declared.fault.Unscored.{Unscored}
 use Rattle.sn_score.specs.declared.fault.Unscored.TheVariants as unscored
 use Rattle.sn_score.specs.declared.draft.Level.{Level}
 use Rattle.sn_score.specs.declared.draft.Draft.{Draft}
-use Rattle.sn_score.specs.Score.{are_octets}
 use Rattle.sn_score.specs.Reached.{Row, Reached, Read}
 
 abbrev pub row_of : Level → Row

@@ -3,9 +3,8 @@ use Rattle.std.specs.Prelude.{◌+◌, ◌-◌, ℕ, List, [], ◌∷◌, ◌++�
 use Rattle.std.specs.List.{slice_split}
 use Rattle.std.specs.Str.{bytes_eq}
 use Rattle.sn_osc.specs.Shape.{MessageShape, Shape, message, bundle, shapes_from}
-use Rattle.sn_osc.specs.Bytes.{begins_with, message_bytes, is_message, counts_as, is_early}
+use Rattle.sn_osc.specs.Bytes.{are_octets, begins_with, message_bytes, is_message, counts_as, is_early}
 use Rattle.sn_score.specs.Lines.{message_line, bundle_line}
-use Rattle.sn_score.specs.Score.{are_octets}
 use Rattle.sn_score.specs.Fields.{message_at, tag_at}
 
 -- packets one after the other: those of the score, or the elements of a bundle, with its tag and the tag that it counts as

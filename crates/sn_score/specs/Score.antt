@@ -1,12 +1,10 @@
 -- The text of a list of packets.
-use Rattle.std.specs.Prelude.{◌≡◌, ◌≤◌, ℕ, List, length, flat_map, Bool, nat_lt, IsTrue}
-use Rattle.std.specs.List.{list_all, AllByRecursion}
+use Rattle.std.specs.Prelude.{◌≡◌, ◌≤◌, ℕ, List, length, flat_map, IsTrue}
+use Rattle.std.specs.List.{AllByRecursion}
+use Rattle.sn_osc.specs.Bytes.{are_octets}
 use Rattle.sn_osc.specs.Shape.{Shape}
 use Rattle.sn_osc.specs.Grammar.{Spells}
 use Rattle.sn_score.specs.Lines.{packet_text}
-
-abbrev pub are_octets : List ℕ → Bool
-are_octets bytes = list_all (λ b. nat_lt b 256) bytes
 
 -- the packet spells in at most 65,536 bytes
 pub record Fits (x : Shape) : Type 0 where

@@ -5,14 +5,13 @@ ghost use Rattle.std.specs.Str.{bytes_eq};
 ghost use Rattle.sn_osc.specs.Shape.{shape, message_of};
 ghost use Rattle.sn_osc.specs.Bytes.{counts_as, is_early};
 ghost use Rattle.sn_score.specs.Lines.{message_line, bundle_line};
-ghost use Rattle.sn_score.specs.Score.{are_octets};
 ghost use Rattle.sn_score.specs.Reached.{score_row, inside, at_start, put, room_of, need_of, has_room, with_packet, has_place, opened, bundle_of, closed, after_message, after_opening, after_line, packets_of};
 ghost use Rattle.sn_score.specs.Answers.{Gives, IsSpellingLen, row_of, reached};
 
 use crate::fault::Refused;
 use crate::fields::{begins_with, message, tag};
 use crate::lines::{put_message, put_opening};
-use sn_osc::{Bundle, Elements, Message, Packet, encode, spellable};
+use sn_osc::{Bundle, Elements, Message, Packet, packet_len, spellable};
 use sn_ports::{NoMemory, Text};
 use std::alloc::Global;
 
@@ -125,27 +124,18 @@ fn is_bundle_line(alloc: Global, tag: u64, line: &[u8]) -> Result<bool, NoMemory
     Ok(written.as_slice() == line)
 }
 
-/// How many bytes there are.
-fn count(bytes: &[u8]) -> usize
-    ensures count { result ≡ length bytes.now }
-    ensures octets { IsTrue (are_octets bytes.now) }
-{
-    bytes.len()
-}
-
 /// How many bytes the packet spells in, where they are at most 65,536.
-fn spelling_len(alloc: Global, packet: &Packet) -> Result<Option<usize>, NoMemory>
-    ensures { IfOk result (λ o. IsSpellingLen o (shape packet.now)) }
+fn spelling_len(packet: &Packet) -> Option<usize>
+    ensures { IsSpellingLen result (shape packet.now) }
 {
     if !spellable(packet) {
-        return Ok(None);
+        return None;
     }
-    let bytes = encode(alloc, packet)?;
-    let len = count(bytes.as_slice());
+    let len = packet_len(packet) as usize;
     if len > MOST_BYTES {
-        return Ok(None);
+        return None;
     }
-    Ok(Some(len))
+    Some(len)
 }
 
 impl Draft {
@@ -223,8 +213,7 @@ impl Draft {
             return Err(Refused::Fault);
         }
         let packet = Packet::Message(message);
-        let len = spelling_len(alloc, &packet)?;
-        match len {
+        match spelling_len(&packet) {
             Some(bytes) => self.with_packet(packet, bytes),
             None => Err(Refused::Fault),
         }

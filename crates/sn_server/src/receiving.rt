@@ -22,12 +22,12 @@ use std::alloc::Global;
 
 /// Offers the packet that the bytes spell, or answers that they spell none.
 fn take_packet(alloc: Global, engine: &mut Engine, bytes: &[u8]) -> Result<(), NoMemory>
-    requires settled { engine.old.standing ≡ Settled }
-    requires block { engine.old.block < 2 ^ 62 }
-    requires puts { engine.old.waiting.puts + length bytes.now ≤ 2 ^ 62 }
+    requires settled { engine.old.running.standing ≡ Settled }
+    requires block { engine.old.running.block < 2 ^ 62 }
+    requires puts { engine.old.running.waiting.puts + length bytes.now ≤ 2 ^ 62 }
     requires size { 4 ≤ length bytes.now }
-    ensures packet { OnOk result (engine.new ≡ with_packet (read bytes.now) engine.old) }
-    ensures puts { OnOk result (engine.new.waiting.puts ≤ engine.old.waiting.puts + length bytes.now) }
+    ensures packet { OnOk result (engine.new.running ≡ with_packet (read bytes.now) engine.old.running) }
+    ensures puts { OnOk result (engine.new.running.waiting.puts ≤ engine.old.running.waiting.puts + length bytes.now) }
 {
     match decode(alloc, bytes) {
         Ok(packet) => {
@@ -45,13 +45,13 @@ fn take_packets(
     engine: &mut Engine,
     framer: &mut Framer,
 ) -> Result<Option<Ended>, NoMemory>
-    requires settled { engine.old.standing ≡ Settled }
-    requires block { engine.old.block < 2 ^ 62 }
-    requires puts { engine.old.waiting.puts + length framer.old.kept ≤ 2 ^ 62 }
-    ensures engine { OnOk result (engine.new ≡ with_packets (unpacked framer.old.kept).packets engine.old) }
+    requires settled { engine.old.running.standing ≡ Settled }
+    requires block { engine.old.running.block < 2 ^ 62 }
+    requires puts { engine.old.running.waiting.puts + length framer.old.kept ≤ 2 ^ 62 }
+    ensures engine { OnOk result (engine.new.running ≡ with_packets (unpacked framer.old.kept).packets engine.old.running) }
     ensures framer { OnOk result (framer.new ≡ record framer.old { kept = (unpacked framer.old.kept).rest }) }
     ensures stops { IfOk result (λ bad. Stops (first_frame framer.new.kept) bad) }
-    ensures puts { OnOk result (engine.new.waiting.puts + length framer.new.kept ≤ engine.old.waiting.puts + length framer.old.kept) }
+    ensures puts { OnOk result (engine.new.running.waiting.puts + length framer.new.kept ≤ engine.old.running.waiting.puts + length framer.old.kept) }
 {
     loop {
         match framer.next() {
@@ -65,10 +65,10 @@ fn take_packets(
 
 /// Sends the replies that are still to be sent. After a fault a front of them was sent.
 pub fn send_replies<L: Link>(engine: &mut Engine, link: &mut L) -> Result<(), Ended>
-    requires alone { length engine.old.replies ≡ 1 }
-    ensures sent { OnOk result (Appends (L.sent link.old) (L.sent link.new) (to_first engine.old.replies)) }
-    ensures front { TakesFront (L.sent link.old) (L.sent link.new) (to_first engine.old.replies) }
-    ensures kept { engine.new ≡ record engine.old { replies = [] ∷ [] } }
+    requires alone { length engine.old.running.replies ≡ 1 }
+    ensures sent { OnOk result (Appends (L.sent link.old) (L.sent link.new) (to_first engine.old.running.replies)) }
+    ensures front { TakesFront (L.sent link.old) (L.sent link.new) (to_first engine.old.running.replies) }
+    ensures kept { engine.new.running ≡ record engine.old.running { replies = [] ∷ [] } }
     ensures only { IfErr result (λ how. how ≡ Ended.LinkFault) }
     ensures cause { result ≡ Err Ended.LinkFault → Rose (L.faults link.old) (L.faults link.new) }
     ensures later { L.faults link.old ≤ L.faults link.new }
@@ -89,16 +89,16 @@ pub fn receive<L: Link>(
     piece: &[u8],
     link: &mut L,
 ) -> Result<(), Ended>
-    requires ready { IsReady engine.old framer.old }
-    requires block { engine.old.block < 2 ^ 62 }
+    requires ready { IsReady engine.old.running framer.old }
+    requires block { engine.old.running.block < 2 ^ 62 }
     requires fed { framer.old.fed + length piece.now ≤ 2 ^ 62 }
     requires new { framer.old.fed < 2 ^ 62 }
     requires few { length piece.now ≤ 65536 }
-    ensures follows { (v : Live) (sound_old sound_new sent_old : Option (List ℕ)) → IsLive sound_old sound_new sent_old (L.sent link.old) v engine.old framer.old
-        → Follows sound_old sound_new sent_old (L.sent link.new) v (receive piece.now v) engine.new framer.new result }
-    ensures ready { OnOk result (IsReady engine.new framer.new) }
+    ensures follows { (v : Live) (sound_old sound_new sent_old : Option (List ℕ)) → IsLive sound_old sound_new sent_old (L.sent link.old) v engine.old.running framer.old
+        → Follows sound_old sound_new sent_old (L.sent link.new) v (receive piece.now v) engine.new.running framer.new result }
+    ensures ready { OnOk result (IsReady engine.new.running framer.new) }
     ensures fed { OnOk result (framer.new.fed ≡ framer.old.fed + length piece.now) }
-    ensures block { OnOk result (engine.new.block ≡ engine.old.block) }
+    ensures block { OnOk result (engine.new.running.block ≡ engine.old.running.block) }
     ensures events { KeepsEvents (L.left link.old) (L.left link.new) }
     ensures open { IfErr result StaysOpen }
     ensures sound { result ≡ Err Ended.SoundFault → ⊥ }

@@ -47,15 +47,15 @@ fn take_event<H: Threads + Sync, L: Link, O: Sink, G: Gate>(
     sound: &mut O,
     gate: &G,
 ) -> Result<(), Ended>
-    requires ready { IsReady engine.old framer.old }
-    requires left { HasLeft engine.old framer.old }
+    requires ready { IsReady engine.old.running framer.old }
+    requires left { HasLeft engine.old.running framer.old }
     requires room { 0 < length room.old }
     requires few { length room.old ≤ 65536 }
-    ensures took { (v : Live) (sound_old sent_old : Option (List ℕ)) → IsLive sound_old (O.taken sound.old) sent_old (L.sent link.old) v engine.old framer.old
-        → Took (L.left link.old) (L.left link.new) sound_old (O.taken sound.new) sent_old (L.sent link.new) v engine.new framer.new result }
-    ensures ready { OnOk result (IsReady engine.new framer.new) }
-    ensures more { OnOk result (engine.old.block + framer.old.fed < engine.new.block + framer.new.fed) }
-    ensures later_block { OnOk result (engine.old.block ≤ engine.new.block) }
+    ensures took { (v : Live) (sound_old sent_old : Option (List ℕ)) → IsLive sound_old (O.taken sound.old) sent_old (L.sent link.old) v engine.old.running framer.old
+        → Took (L.left link.old) (L.left link.new) sound_old (O.taken sound.new) sent_old (L.sent link.new) v engine.new.running framer.new result }
+    ensures ready { OnOk result (IsReady engine.new.running framer.new) }
+    ensures more { OnOk result (engine.old.running.block + framer.old.fed < engine.new.running.block + framer.new.fed) }
+    ensures later_block { OnOk result (engine.old.running.block ≤ engine.new.running.block) }
     ensures later_fed { OnOk result (framer.old.fed ≤ framer.new.fed) }
     ensures close { IfErr result (λ how. AtClose how (L.left link.old) (L.left link.new)) }
     ensures link { result ≡ Err Ended.LinkFault → Rose (L.faults link.old) (L.faults link.new) }
@@ -85,15 +85,15 @@ fn serve_event<H: Threads + Sync, L: Link, O: Sink, G: Gate>(
     sound: &mut O,
     gate: &G,
 ) -> Result<(), Ended>
-    requires ready { IsReady engine.old framer.old }
+    requires ready { IsReady engine.old.running framer.old }
     requires room { 0 < length room.old }
     requires few { length room.old ≤ 65536 }
-    ensures took { (v : Live) (sound_old sent_old : Option (List ℕ)) → IsLive sound_old (O.taken sound.old) sent_old (L.sent link.old) v engine.old framer.old
-        → Took (L.left link.old) (L.left link.new) sound_old (O.taken sound.new) sent_old (L.sent link.new) v engine.new framer.new result }
-    ensures ready { OnOk result (IsReady engine.new framer.new) }
-    ensures left { OnOk result (HasLeft engine.old framer.old) }
-    ensures more { OnOk result (engine.old.block + framer.old.fed < engine.new.block + framer.new.fed) }
-    ensures later_block { OnOk result (engine.old.block ≤ engine.new.block) }
+    ensures took { (v : Live) (sound_old sent_old : Option (List ℕ)) → IsLive sound_old (O.taken sound.old) sent_old (L.sent link.old) v engine.old.running framer.old
+        → Took (L.left link.old) (L.left link.new) sound_old (O.taken sound.new) sent_old (L.sent link.new) v engine.new.running framer.new result }
+    ensures ready { OnOk result (IsReady engine.new.running framer.new) }
+    ensures left { OnOk result (HasLeft engine.old.running framer.old) }
+    ensures more { OnOk result (engine.old.running.block + framer.old.fed < engine.new.running.block + framer.new.fed) }
+    ensures later_block { OnOk result (engine.old.running.block ≤ engine.new.running.block) }
     ensures later_fed { OnOk result (framer.old.fed ≤ framer.new.fed) }
     ensures close { IfErr result (λ how. AtClose how (L.left link.old) (L.left link.new)) }
     ensures link { result ≡ Err Ended.LinkFault → Rose (L.faults link.old) (L.faults link.new) }

@@ -26,9 +26,9 @@ pub const MOST: u64 = 4611686018427387904;
 
 /// Writes the sound that is still to be written. After a fault a front of it was written.
 fn write_sound<O: Sink>(engine: &mut Engine, sound: &mut O) -> Result<(), Ended>
-    ensures written { OnOk result (Appends (O.taken sound.old) (O.taken sound.new) engine.old.sound) }
-    ensures front { TakesFront (O.taken sound.old) (O.taken sound.new) engine.old.sound }
-    ensures kept { engine.new ≡ record engine.old { sound = [] } }
+    ensures written { OnOk result (Appends (O.taken sound.old) (O.taken sound.new) engine.old.running.sound) }
+    ensures front { TakesFront (O.taken sound.old) (O.taken sound.new) engine.old.running.sound }
+    ensures kept { engine.new.running ≡ record engine.old.running { sound = [] } }
     ensures only { IfErr result (λ how. how ≡ Ended.SoundFault) }
     ensures cause { result ≡ Err Ended.SoundFault → Rose (O.faults sound.old) (O.faults sound.new) }
     ensures later { O.faults sound.old ≤ O.faults sound.new }
@@ -48,14 +48,14 @@ fn render_block<H: Threads + Sync, L: Link, O: Sink, G: Gate>(
     sound: &mut O,
     gate: &G,
 ) -> Result<(), Ended>
-    requires bounded { engine.old.standing ≡ Bounded }
-    requires alone { length engine.old.replies ≡ 1 }
-    requires block { engine.old.block < 2 ^ 62 }
-    ensures engine { OnOk result (engine.new ≡ record (with_settled (with_block engine.old)) { sound = []; replies = [] ∷ [] }) }
-    ensures written { OnOk result (Appends (O.taken sound.old) (O.taken sound.new) (with_settled (with_block engine.old)).sound) }
-    ensures sent { OnOk result (Appends (L.sent link.old) (L.sent link.new) (to_first (with_settled (with_block engine.old)).replies)) }
-    ensures sound_front { TakesFront (O.taken sound.old) (O.taken sound.new) (with_settled (with_block engine.old)).sound }
-    ensures reply_front { TakesFront (L.sent link.old) (L.sent link.new) (to_first (with_settled (with_block engine.old)).replies) }
+    requires bounded { engine.old.running.standing ≡ Bounded }
+    requires alone { length engine.old.running.replies ≡ 1 }
+    requires block { engine.old.running.block < 2 ^ 62 }
+    ensures engine { OnOk result (engine.new.running ≡ record (with_settled (with_block engine.old.running)) { sound = []; replies = [] ∷ [] }) }
+    ensures written { OnOk result (Appends (O.taken sound.old) (O.taken sound.new) (with_settled (with_block engine.old.running)).sound) }
+    ensures sent { OnOk result (Appends (L.sent link.old) (L.sent link.new) (to_first (with_settled (with_block engine.old.running)).replies)) }
+    ensures sound_front { TakesFront (O.taken sound.old) (O.taken sound.new) (with_settled (with_block engine.old.running)).sound }
+    ensures reply_front { TakesFront (L.sent link.old) (L.sent link.new) (to_first (with_settled (with_block engine.old.running)).replies) }
     ensures only { IfErr result (λ how. (how ≡ Ended.SoundFault) ⊎ (how ≡ Ended.LinkFault)) }
     ensures events { KeepsEvents (L.left link.old) (L.left link.new) }
     ensures link { result ≡ Err Ended.LinkFault → Rose (L.faults link.old) (L.faults link.new) }
@@ -79,12 +79,12 @@ fn tick<H: Threads + Sync, L: Link, O: Sink, G: Gate>(
     sound: &mut O,
     gate: &G,
 ) -> Result<(), Ended>
-    requires settled { engine.old.standing ≡ Settled }
-    requires alone { length engine.old.replies ≡ 1 }
-    requires block { engine.old.block < 2 ^ 62 }
-    ensures block { OnOk result (IsTicked (O.taken sound.old) (O.taken sound.new) (L.sent link.old) (L.sent link.new) engine.old engine.new) }
-    ensures quit { result ≡ Err Ended.Quit → HasQuit (O.taken sound.old) (O.taken sound.new) (L.sent link.old) (L.sent link.new) engine.old }
-    ensures part { IsTickPart (O.taken sound.old) (O.taken sound.new) (L.sent link.old) (L.sent link.new) engine.old }
+    requires settled { engine.old.running.standing ≡ Settled }
+    requires alone { length engine.old.running.replies ≡ 1 }
+    requires block { engine.old.running.block < 2 ^ 62 }
+    ensures block { OnOk result (IsTicked (O.taken sound.old) (O.taken sound.new) (L.sent link.old) (L.sent link.new) engine.old.running engine.new.running) }
+    ensures quit { result ≡ Err Ended.Quit → HasQuit (O.taken sound.old) (O.taken sound.new) (L.sent link.old) (L.sent link.new) engine.old.running }
+    ensures part { IsTickPart (O.taken sound.old) (O.taken sound.new) (L.sent link.old) (L.sent link.new) engine.old.running }
     ensures only { IfErr result IsTickEnd }
     ensures events { KeepsEvents (L.left link.old) (L.left link.new) }
     ensures link { result ≡ Err Ended.LinkFault → Rose (L.faults link.old) (L.faults link.new) }
@@ -104,8 +104,8 @@ fn tick<H: Threads + Sync, L: Link, O: Sink, G: Gate>(
 
 /// Refuses to go on where as many bytes came, or as many blocks were done, as may.
 pub fn check_worn(engine: &Engine, framer: &Framer) -> Result<(), Ended>
-    ensures ok { OnOk result (HasLeft engine.now framer.now) }
-    ensures worn { IfErr result (IsWornOut engine.now framer.now) }
+    ensures ok { OnOk result (HasLeft engine.now.running framer.now) }
+    ensures worn { IfErr result (IsWornOut engine.now.running framer.now) }
 {
     let bytes = framer.fed();
     let blocks = engine.block();
@@ -126,11 +126,11 @@ pub fn ticks<H: Threads + Sync, L: Link, O: Sink, G: Gate>(
     sound: &mut O,
     gate: &G,
 ) -> Result<(), Ended>
-    requires ready { IsReady engine.old framer.now }
-    ensures follows { (v : Live) (sound_old sent_old : Option (List ℕ)) → IsLive sound_old (O.taken sound.old) sent_old (L.sent link.old) v engine.old framer.now
-        → Follows sound_old (O.taken sound.new) sent_old (L.sent link.new) v (tick count v) engine.new framer.now result }
-    ensures ready { OnOk result (IsReady engine.new framer.now) }
-    ensures block { OnOk result (engine.new.block ≡ engine.old.block + count) }
+    requires ready { IsReady engine.old.running framer.now }
+    ensures follows { (v : Live) (sound_old sent_old : Option (List ℕ)) → IsLive sound_old (O.taken sound.old) sent_old (L.sent link.old) v engine.old.running framer.now
+        → Follows sound_old (O.taken sound.new) sent_old (L.sent link.new) v (tick count v) engine.new.running framer.now result }
+    ensures ready { OnOk result (IsReady engine.new.running framer.now) }
+    ensures block { OnOk result (engine.new.running.block ≡ engine.old.running.block + count) }
     ensures open { IfErr result StaysOpen }
     ensures events { KeepsEvents (L.left link.old) (L.left link.new) }
     ensures link { result ≡ Err Ended.LinkFault → Rose (L.faults link.old) (L.faults link.new) }

@@ -3,3 +3,5 @@ pub mod Lasts
 pub mod Orders
 pub mod Listing
 pub mod Rounding
+pub mod Capturing
+pub mod Spanning

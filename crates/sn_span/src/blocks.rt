@@ -1,7 +1,9 @@
 //! The jobs of several blocks.
-ghost use Rattle.std.specs.Prelude.{◌≡◌, ◌<◌, ◌≤◌, ◌+◌, ◌*◌, ◌++◌, ◌∷◌, [], IfOk, OnOk, length, map};
+ghost use Rattle.std.specs.Prelude.{◌≡◌, ◌<◌, ◌≤◌, ◌+◌, ◌*◌, ◌++◌, ◌∷◌, [], ℕ, List, IfOk, OnOk, length, map};
 ghost use Rattle.std.specs.List.{All};
 ghost use Rattle.sn_mem.specs.Blocks.{table};
+ghost use Rattle.sn_round.specs.Jobs.{IsRaceFree};
+ghost use Rattle.sn_span.specs.Rounds.{EndsAsRounds, HasCopies, KeepToFeet};
 ghost use Rattle.sn_span.specs.Unrolling.{block_of, capture_foot, capture_of, copy_at, entry, job_in, last_jobs, predecessors_in, start, unrolled};
 
 use sn_mem::{Extent, Extents, Foot};
@@ -140,11 +142,37 @@ fn put_block(
     Ok(())
 }
 
+/// The jobs of so many blocks.
+fn jobs_of_blocks(
+    alloc: Global,
+    plan: &Plan,
+    blocks: u32,
+    outputs: &Extents,
+    at: u32,
+) -> Result<Plan, NoMemory>
+    requires jobs { start (length plan.now) blocks ≤ 65536 }
+    requires copies { at + 512 * blocks < 4294967296 }
+    ensures { IfOk result (λ answer. answer ≡ unrolled plan.now outputs.now at blocks) }
+{
+    plan.is_well_formed();
+    let last = last_jobs(alloc, plan)?;
+    let mut jobs = Vec::new(alloc);
+    for block in 0..blocks {
+        put_block(alloc, plan, &last, outputs, at, block, &mut jobs)?;
+    }
+    Plan::new(alloc, jobs)
+}
+
 /// The plan of `blocks` blocks in one round: in each block the jobs of `plan`, and then a job that captures its outputs.
 ///
 /// If `plan` has n jobs, job i of block k has the number `k * (n + 1) + i`, and the capture of block k comes after its
 /// jobs, as number `k * (n + 1) + n`. It may read the extents `outputs`, and write the 512 words from
 /// `copies.at + 512 * k` on. It follows all jobs of its block, and all later ones follow it.
+///
+/// The plan is free of races if `plan` is. Let the jobs of a block make of the words what they make in a round of
+/// `plan`, let each capture copy the sound of its block (`captured`), and let nothing else touch the copies. Then the
+/// words after a round of this plan are, but for the copies, those after the rounds of `plan`, and the copy of each
+/// block holds the samples that are heard of the outputs after its round.
 pub fn unroll(
     alloc: Global,
     plan: &Plan,
@@ -154,13 +182,11 @@ pub fn unroll(
 ) -> Result<Plan, NoMemory>
     requires jobs { start (length plan.now) blocks ≤ 65536 }
     requires copies { copies.at + 512 * blocks < 4294967296 }
-    ensures { IfOk result (λ answer. answer ≡ unrolled plan.now outputs.now copies.at blocks) }
+    ensures plan { IfOk result (λ all. all ≡ unrolled plan.now outputs.now copies.at blocks) }
+    ensures race_free { IsRaceFree plan.now → IfOk result (λ all. IsRaceFree all) }
+    ensures rounds { (b : ℕ) (f : ℕ → ℕ → List ℕ → List ℕ) (base : List ℕ) → HasCopies plan.now outputs.now copies blocks (length base) → KeepToFeet plan.now blocks f
+        → IfOk result (λ all. EndsAsRounds plan.now outputs.now copies.at blocks b f base all) }
 {
     plan.is_well_formed();
-    let last = last_jobs(alloc, plan)?;
-    let mut jobs = Vec::new(alloc);
-    for block in 0..blocks {
-        put_block(alloc, plan, &last, outputs, copies.at, block, &mut jobs)?;
-    }
-    Plan::new(alloc, jobs)
+    jobs_of_blocks(alloc, plan, blocks, outputs, copies.at)
 }

@@ -5,4 +5,6 @@
 #[cfg(test)]
 mod feet;
 #[cfg(test)]
+mod large;
+#[cfg(test)]
 mod plans;

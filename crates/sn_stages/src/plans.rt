@@ -53,7 +53,7 @@ pub fn all_end(tree: &Tree<Held>) -> bool
 }
 
 /// The plan of the nodes, or nothing where a state ends behind the words. There are no buffers.
-fn planned(alloc: Global, tree: Tree<Held>) -> Result<Option<Plan>, NoMemory> {
+pub fn planned(alloc: Global, tree: Tree<Held>) -> Result<Option<Plan>, NoMemory> {
     if !all_end(&tree) {
         return Ok(None);
     }

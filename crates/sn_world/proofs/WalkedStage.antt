@@ -17,9 +17,6 @@ can_walk stage ws p = record { held = p.synths; apart = λ x. omega (arith, p.ap
 walked_stage : (stage : Stage) (b : ℕ) (ws : List ℕ) → Pictures stage ws → IsWalked stage.rate b stage.buffers stage.tree.attached ws (walk_words stage.rate b stage.buffers (running_labels stage.tree.attached) ws)
 walked_stage stage b ws p = walked stage.rate b stage.pool.region stage.buffers stage.tree.attached ws (record { can = can_walk stage ws p; each = p.buffers.each; apart = p.apart })
 
-pub length_walked : (stage : Stage) (b : ℕ) (ws us : List ℕ) → Pictures stage ws → us ≡ walk_words stage.rate b stage.buffers (running_labels stage.tree.attached) ws → length us ≡ length ws
-length_walked stage b ws us p is = ap length is ∙ (walked_stage stage b ws p).kept.length
-
 -- what changes only the words of nodes leaves the buffers
 pub buffers_walked : (stage : Stage) (ws us : List ℕ) → Pictures stage ws → IsKept (live_held stage.tree.attached) ws us → buffers_of us stage.buffers ≡ buffers_of ws stage.buffers
 unfolding AgreesOn

@@ -19,7 +19,7 @@ returns-clause-uses c = λ there.
     let i = c.loop-passed.invariant in
     let old = c.loop-passed.passed.items in
     let few : length old ≤ c.args.kept = omega (arith, c.loop-passed-test.false, c.len.ensures, c.loop-passed.passed.ok.0) in
-    sym (all_gathered there c.args.kept old (footprint_in there c.loop-passed.uses.items) few) ∙ i.uses there
+    c.in_ok-all.ensures there ∙ sym (all_gathered there c.args.kept old (footprint_in there c.loop-passed.uses.items) few) ∙ i.uses there
 
 pub returns-clause-left : goal.returns-clause-left
 returns-clause-left c =

@@ -25,6 +25,15 @@ returns-then-not-has_due-clause-hold g c = λ _. c.requires.hold c.if-hold.true
 pub returns-then-not-has_due-clause-replies : goal.returns-then-not-has_due-clause-replies
 returns-then-not-has_due-clause-replies g c = quiet.nothing_said c.args.now c.args.queue.now c.has_due.result c.has_due.ensures c.if-not-has_due.true (world_of c.args.stage.now (g.P.Port.words c.args.port.now)) c.args.held.now (c.requires.hold c.if-hold.true (g.P.Port.words c.args.port.now)) c.args.said.now c.requires.silent
 
+pub returns-then-not-has_due-clause-planned : goal.returns-then-not-has_due-clause-planned
+returns-then-not-has_due-clause-planned g c = c.requires.planned c.if-hold.true
+
+pub of-requires-clause-stands : goal.of-requires-clause-stands
+of-requires-clause-stands g c = record { words = g.P.Port.words c.act_due.new.port; pictures = c.act_due.ensures.pictures }
+
+pub of-requires-clause-clashes : goal.of-requires-clause-clashes
+of-requires-clause-clashes g c = c.in_ok-take_clashes.ensures.held
+
 pub returns-clause-world : goal.returns-clause-world
 returns-clause-world g c =
     ap (λ t. t.world) (acted_turn c.args.now c.args.queue.now (world_of c.args.stage.now (g.P.Port.words c.args.port.now)) (world_of c.act_due.new.stage (g.P.Port.words c.act_due.new.port)) c.args.said.now c.act_due.new.replies c.requires.silent c.in_ok-quits.ensures.acts)

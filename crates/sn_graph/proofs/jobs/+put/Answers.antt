@@ -1,4 +1,4 @@
-use Rattle.std.proofs.Common.{◌≡◌, ◌++◌, [], true, ℕ, Option, List, Bor, length, ltb, arith, sym, refl, ap, ◌∙◌, subst}
+use Rattle.std.proofs.Common.{◌≡◌, ◌++◌, [], ℕ, Option, List, Bor, length, ltb, arith, sym, refl, ap, ◌∙◌, subst}
 use Rattle.std.proofs.lemmas.Bool.{ltb-false, ltb-true}
 use Rattle.std.proofs.lemmas.Result.{IfOk-weaker}
 use Rattle.sn_graph.specs.declared.nodes.Voice.{Voice}
@@ -6,9 +6,9 @@ use Rattle.sn_graph.specs.Voices.{AreWithin, synth, group, voices}
 use Rattle.sn_graph.specs.Rows.{done}
 use Rattle.sn_graph.specs.Plans.{close, row_of}
 use Rattle.sn_graph.specs.Inputs.{nodes_of}
-use Rattle.sn_graph.specs.Drafts.{Puts, IsJoint, is_over, listed}
+use Rattle.sn_graph.specs.Drafts.{Puts, IsJoint, listed}
 use Rattle.sn_graph.proofs.Shapes.{weight}
-use Rattle.sn_graph.proofs.Drafting.{behind, Leaves, fit_row, fit_group, next_group, next_silent, end_row, fit_members, fit_member, next_synth, next_member, end_members, within_run, within_inner, within_rest, within_past, within_synth}
+use Rattle.sn_graph.proofs.Drafting.{behind, Leaves, fit_row, fit_group, next_group, end_row, fit_members, fit_member, next_synth, next_member, end_members, within_run, within_inner, within_rest, within_synth}
 use Rattle.sn_graph.proofs.jobs.+put.Goals as goal
 
 pub put_members-end_run-requires-clause-room : goal.put_members-end_run-requires-clause-room
@@ -71,40 +71,24 @@ put_row-end_run-requires-clause-within t c =
 
 pub put_row-put_group-requires : goal.put_row-put_group-requires
 put_row-put_group-requires t c =
-    let is : nodes_of c.loop-rest.rest.now ≡ group c.in-Group.split (nodes_of c.deref-then-is_over.result.now) (nodes_of c.deref-rest-in-Group.result.now) =
-    ap nodes_of c.in-Group.is ∙ (λ i. group c.in-Group.split (nodes_of (sym c.deref-then-is_over.ensures i)) (nodes_of (sym c.deref-rest-in-Group.ensures i))) in
-    let over : is_over (behind c.loop-rest.run.items) (nodes_of c.deref-then-is_over.result.now) ≡ true =
-    (λ i. is_over (behind (sym c.as_slice-open.ensures.value i)) (nodes_of ((c.deref-then-is_over.ensures ∙ sym c.deref.ensures) i))) ∙ (sym c.is_over.ensures ∙ c.if-is_over.true) in
+    let is : nodes_of c.loop-rest.rest.now ≡ group c.in-Group.split (nodes_of c.deref.result.now) (nodes_of c.deref-rest-in-Group.result.now) =
+    ap nodes_of c.in-Group.is ∙ (λ i. group c.in-Group.split (nodes_of (sym c.deref.ensures i)) (nodes_of (sym c.deref-rest-in-Group.ensures i))) in
     let w = ap weight is in
     let put = subst (λ (l : List (Bor Voice)). Puts c.loop-rest.jobs.items c.end_run.new.jobs.items c.loop-rest.last c.in_ok-last-in-Group.last (close (behind l) done)) c.as_slice-open.ensures.value c.in_ok-last-in-Group.ensures in
-    (omega (arith, w, c.loop-rest.invariant.less), (fit_group (behind c.loop-rest.run.items) c.loop-rest.invariant.left is over c.requires.room put, within_inner (behind c.loop-rest.run.items) (nodes_of c.loop-rest.rest.now) c.loop-rest.invariant.within is))
-
-pub put_row-loop-rest-preserved-then-is_over : goal.put_row-loop-rest-preserved-then-is_over
-put_row-loop-rest-preserved-then-is_over t c =
-    let is : nodes_of c.loop-rest.rest.now ≡ group c.in-Group.split (nodes_of c.deref-then-is_over.result.now) (nodes_of c.deref-rest-in-Group.result.now) =
-    ap nodes_of c.in-Group.is ∙ (λ i. group c.in-Group.split (nodes_of (sym c.deref-then-is_over.ensures i)) (nodes_of (sym c.deref-rest-in-Group.ensures i))) in
-    let over : is_over (behind c.loop-rest.run.items) (nodes_of c.deref-then-is_over.result.now) ≡ true =
-    (λ i. is_over (behind (sym c.as_slice-open.ensures.value i)) (nodes_of ((c.deref-then-is_over.ensures ∙ sym c.deref.ensures) i))) ∙ (sym c.is_over.ensures ∙ c.if-is_over.true) in
-    let w = ap weight is in
-    let put = subst (λ (l : List (Bor Voice)). Puts c.loop-rest.jobs.items c.end_run.new.jobs.items c.loop-rest.last c.in_ok-last-in-Group.last (close (behind l) done)) c.as_slice-open.ensures.value c.in_ok-last-in-Group.ensures in
-    let empty = sym c.clear.ensures.items in
-    record {
-      less = omega (arith, w, c.loop-rest.invariant.less);
-      left = subst (λ (l : List (Bor Voice)). Leaves c.args.jobs.now.items c.put_group.new.jobs.items c.args.entry c.in_ok-last-in-Group-2.last (row_of (behind l) (nodes_of c.deref-rest-in-Group.result.now)) (row_of [] (nodes_of c.args.nodes.now))) empty
-          (next_group (behind c.loop-rest.run.items) c.loop-rest.invariant.left is over put c.in_ok-last-in-Group-2.ensures);
-      within = subst (λ (l : List (Bor Voice)). AreWithin (behind l ++ voices (nodes_of c.deref-rest-in-Group.result.now))) empty (within_rest (behind c.loop-rest.run.items) (nodes_of c.loop-rest.rest.now) c.loop-rest.invariant.within is);
-    }
+    (omega (arith, w, c.loop-rest.invariant.less), (fit_group (behind c.loop-rest.run.items) c.loop-rest.invariant.left is c.requires.room put, within_inner (behind c.loop-rest.run.items) (nodes_of c.loop-rest.rest.now) c.loop-rest.invariant.within is))
 
 pub put_row-loop-rest-preserved : goal.put_row-loop-rest-preserved
 put_row-loop-rest-preserved t c =
     let is : nodes_of c.loop-rest.rest.now ≡ group c.in-Group.split (nodes_of c.deref.result.now) (nodes_of c.deref-rest-in-Group.result.now) =
     ap nodes_of c.in-Group.is ∙ (λ i. group c.in-Group.split (nodes_of (sym c.deref.ensures i)) (nodes_of (sym c.deref-rest-in-Group.ensures i))) in
     let w = ap weight is in
+    let put = subst (λ (l : List (Bor Voice)). Puts c.loop-rest.jobs.items c.end_run.new.jobs.items c.loop-rest.last c.in_ok-last-in-Group.last (close (behind l) done)) c.as_slice-open.ensures.value c.in_ok-last-in-Group.ensures in
+    let empty = sym c.clear.ensures.items in
     record {
       less = omega (arith, w, c.loop-rest.invariant.less);
-      left = next_silent (behind c.loop-rest.run.items) c.loop-rest.invariant.left is
-          ((λ i. is_over (behind (sym c.as_slice-open.ensures.value i)) (nodes_of c.deref.result.now)) ∙ (sym c.is_over.ensures ∙ c.if-is_over.false));
-      within = within_past (behind c.loop-rest.run.items) (nodes_of c.loop-rest.rest.now) c.loop-rest.invariant.within is;
+      left = subst (λ (l : List (Bor Voice)). Leaves c.args.jobs.now.items c.put_group.new.jobs.items c.args.entry c.in_ok-last-in-Group-2.last (row_of (behind l) (nodes_of c.deref-rest-in-Group.result.now)) (row_of [] (nodes_of c.args.nodes.now))) empty
+          (next_group (behind c.loop-rest.run.items) c.loop-rest.invariant.left is put c.in_ok-last-in-Group-2.ensures);
+      within = subst (λ (l : List (Bor Voice)). AreWithin (behind l ++ voices (nodes_of c.deref-rest-in-Group.result.now))) empty (within_rest (behind c.loop-rest.run.items) (nodes_of c.loop-rest.rest.now) c.loop-rest.invariant.within is);
     }
 
 pub put_row-end_run-requires-2 : goal.put_row-end_run-requires-2

@@ -4,8 +4,8 @@ use Rattle.sn_graph.specs.Inputs.{nodes_of}
 use Rattle.sn_graph.specs.Pieces.{before, piece_of}
 use Rattle.sn_graph.proofs.parts.before.Goals as goal
 
-pub returns-in-Paused : goal.returns-in-Paused
-returns-in-Paused c = ap (λ p. before (piece_of p) (nodes_of c.args.rest)) (sym c.in-Paused.is)
+pub returns-in-Nothing : goal.returns-in-Nothing
+returns-in-Nothing c = ap (λ p. before (piece_of p) (nodes_of c.args.rest)) (sym c.in-Nothing.is)
 
 pub returns-in_ok-new-in-Synth : goal.returns-in_ok-new-in-Synth
 returns-in_ok-new-in-Synth c = ap (λ r. synth c.in-Synth.voice (nodes_of r)) c.in_ok-new-in-Synth.ensures.ok ∙ ap (λ p. before (piece_of p) (nodes_of c.args.rest)) (sym c.in-Synth.is)

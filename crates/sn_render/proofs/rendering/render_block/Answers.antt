@@ -9,28 +9,28 @@ use Rattle.sn_render.proofs.rendering.render_block.Goals as goal
 
 pub write_replies-requires : goal.write_replies-requires
 write_replies-requires g c =
-    let done : c.settle.new.self ≡ after_block c.args.engine.now = c.settle.ensures ∙ ap with_settled (c.blocks-2.ensures ∙ ap with_block c.in_ok-boundary.ensures.ok) in
-    record { alone = ap (λ r. length r.replies) c.in_ok-write_sound.ensures.kept ∙ ap (λ r. length r.replies) done ∙ after_block_step.clients c.args.engine.now ∙ c.requires.alone }
+    let done : c.settle.new.self.running ≡ after_block c.args.engine.now.running = c.settle.ensures.running ∙ ap with_settled (c.blocks-2.ensures.running ∙ ap with_block c.in_ok-boundary.ensures.ok) in
+    record { alone = ap (λ r. length r.replies) c.in_ok-write_sound.ensures.kept ∙ ap (λ r. length r.replies) done ∙ after_block_step.clients c.args.engine.now.running ∙ c.requires.alone }
 
 pub returns-clause-block : goal.returns-clause-block
 returns-clause-block g c =
-    let done : c.settle.new.self ≡ after_block c.args.engine.now = c.settle.ensures ∙ ap with_settled (c.blocks-2.ensures ∙ ap with_block c.in_ok-boundary.ensures.ok) in
-    written_in_turn _ _ _ _ (after_block c.args.engine.now) c.settle.new.self c.write_sound.new.engine c.write_replies.new.engine done c.in_ok-write_sound.ensures.kept c.in_ok-write_replies.ensures.kept
-    (ap (λ r. length r.replies) done ∙ after_block_step.clients c.args.engine.now ∙ c.requires.alone) c.in_ok-write_replies.ensures.alone c.in_ok-write_sound.ensures.written c.in_ok-write_replies.ensures.written
+    let done : c.settle.new.self.running ≡ after_block c.args.engine.now.running = c.settle.ensures.running ∙ ap with_settled (c.blocks-2.ensures.running ∙ ap with_block c.in_ok-boundary.ensures.ok) in
+    written_in_turn _ _ _ _ (after_block c.args.engine.now.running) c.settle.new.self.running c.write_sound.new.engine.running c.write_replies.new.engine.running done c.in_ok-write_sound.ensures.kept c.in_ok-write_replies.ensures.kept
+    (ap (λ r. length r.replies) done ∙ after_block_step.clients c.args.engine.now.running ∙ c.requires.alone) c.in_ok-write_replies.ensures.alone c.in_ok-write_sound.ensures.written c.in_ok-write_replies.ensures.written
 
 pub returns-in_err-boundary-clause-fronts : goal.returns-in_err-boundary-clause-fronts
 returns-in_err-boundary-clause-fronts g c = on_any_err c.from_residual.result (record { sound = takes_none _ _; replies = takes_none _ _ })
 
 pub returns-in_err-write_sound-clause-fronts : goal.returns-in_err-write_sound-clause-fronts
 returns-in_err-write_sound-clause-fronts g c =
-    let done : c.settle.new.self ≡ after_block c.args.engine.now = c.settle.ensures ∙ ap with_settled (c.blocks-2.ensures ∙ ap with_block c.in_ok-boundary.ensures.ok) in
-    on_any_err c.from_residual-in_err-write_sound.result (sound_cut _ _ _ (after_block c.args.engine.now) c.settle.new.self done c.in_err-write_sound.ensures.front)
+    let done : c.settle.new.self.running ≡ after_block c.args.engine.now.running = c.settle.ensures.running ∙ ap with_settled (c.blocks-2.ensures.running ∙ ap with_block c.in_ok-boundary.ensures.ok) in
+    on_any_err c.from_residual-in_err-write_sound.result (sound_cut _ _ _ (after_block c.args.engine.now.running) c.settle.new.self.running done c.in_err-write_sound.ensures.front)
 
 pub returns-in_err-write_replies-clause-fronts : goal.returns-in_err-write_replies-clause-fronts
 returns-in_err-write_replies-clause-fronts g c =
-    let done : c.settle.new.self ≡ after_block c.args.engine.now = c.settle.ensures ∙ ap with_settled (c.blocks-2.ensures ∙ ap with_block c.in_ok-boundary.ensures.ok) in
+    let done : c.settle.new.self.running ≡ after_block c.args.engine.now.running = c.settle.ensures.running ∙ ap with_settled (c.blocks-2.ensures.running ∙ ap with_block c.in_ok-boundary.ensures.ok) in
     on_any_err c.from_residual-in_err-write_replies.result
-    (replies_cut _ _ _ _ (after_block c.args.engine.now) c.settle.new.self c.write_sound.new.engine done c.in_ok-write_sound.ensures.kept c.in_ok-write_sound.ensures.written c.in_err-write_replies.ensures.front)
+    (replies_cut _ _ _ _ (after_block c.args.engine.now.running) c.settle.new.self.running c.write_sound.new.engine.running done c.in_ok-write_sound.ensures.kept c.in_ok-write_sound.ensures.written c.in_err-write_replies.ensures.front)
 
 pub returns-in_err-boundary-clause-unfailed : goal.returns-in_err-boundary-clause-unfailed
 returns-in_err-boundary-clause-unfailed g c =

@@ -6,7 +6,7 @@ use Rattle.sn_render.proofs.rendering.render_blocks.Given as goal
 
 abbrev pub invariant-loop-number : goal.invariant-loop-number
 invariant-loop-number g l = record {
-  going : IsGoing l.fn.engine l.blocks (l.blocks - l.number) (g.O.Sink.taken l.fn.sound) (g.O.Sink.taken l.sound) (g.R.Sink.taken l.fn.replies) (g.R.Sink.taken l.replies) l.engine;
+  going : IsGoing l.fn.engine.running l.blocks (l.blocks - l.number) (g.O.Sink.taken l.fn.sound) (g.O.Sink.taken l.sound) (g.R.Sink.taken l.fn.replies) (g.R.Sink.taken l.replies) l.engine.running;
   sound_later : g.O.Sink.faults l.fn.sound ≤ g.O.Sink.faults l.sound;
   reply_later : g.R.Sink.faults l.fn.replies ≤ g.R.Sink.faults l.replies;
   still : NothingFailed (g.O.Sink.faults l.fn.sound) (g.O.Sink.faults l.sound) (g.R.Sink.faults l.fn.replies) (g.R.Sink.faults l.replies);

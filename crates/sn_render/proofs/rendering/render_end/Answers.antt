@@ -6,9 +6,9 @@ use Rattle.sn_render.proofs.rendering.render_end.Goals as goal
 
 pub drain_replies-requires : goal.drain_replies-requires
 drain_replies-requires g c =
-    let alone : length c.drain_sound.new.self.replies ≡ 1 =
-    ap (λ r. length r.replies) c.in-Ok.ensures.kept ∙ ap (λ r. length r.replies) c.in_ok-boundary.ensures.ok ∙ boundary_step.clients c.args.engine.now ∙ c.requires.alone in
+    let alone : length c.drain_sound.new.self.running.replies ≡ 1 =
+    ap (λ r. length r.replies) c.in-Ok.ensures.kept ∙ ap (λ r. length r.replies) c.in_ok-boundary.ensures.ok ∙ boundary_step.clients c.args.engine.now.running ∙ c.requires.alone in
     record { client = omega (arith, alone) }
 
 pub returns-in-Err-clause-fronts : goal.returns-in-Err-clause-fronts
-returns-in-Err-clause-fronts g c = sound_cut _ _ _ (at_boundary c.args.engine.now) _ c.in_ok-boundary.ensures.ok c.in-Err.ensures.taken
+returns-in-Err-clause-fronts g c = sound_cut _ _ _ (at_boundary c.args.engine.now.running) _ c.in_ok-boundary.ensures.ok c.in-Err.ensures.taken

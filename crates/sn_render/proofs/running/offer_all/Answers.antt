@@ -6,6 +6,6 @@ use Rattle.sn_render.proofs.running.offer_all.Goals as goal
 
 pub loop-packet-preserved : goal.loop-packet-preserved
 loop-packet-preserved c =
-    let target = arrive (map shape c.args.packets.items) c.args.engine.now in
-    let o = subst (λ ps. IsOffering (map shape ps) target c.loop-packet.engine) c.in-Some.ensures.steps.0 c.loop-packet.invariant in
-    offers (shape c.in-Some.packet) (map shape c.next.new.self.rest.items) target c.loop-packet.engine c.offer.new.self o c.in_ok-offer.ensures.ok
+    let target = arrive (map shape c.args.packets.items) c.args.engine.now.running in
+    let o = subst (λ ps. IsOffering (map shape ps) target c.loop-packet.engine.running) c.in-Some.ensures.steps.0 c.loop-packet.invariant in
+    offers (shape c.in-Some.packet) (map shape c.next.new.self.rest.items) target c.loop-packet.engine.running c.offer.new.self.running o c.in_ok-offer.ensures.ok

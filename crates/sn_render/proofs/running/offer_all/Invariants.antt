@@ -6,4 +6,4 @@ use Rattle.sn_render.proofs.ArrivingLemmas.{IsOffering}
 use Rattle.sn_render.proofs.running.offer_all.Given as goal
 
 abbrev pub invariant-loop-packet : goal.invariant-loop-packet
-invariant-loop-packet l = IsOffering (map shape l.packet-iterator.rest.items) (arrive (map shape l.fn.packets.items) l.fn.engine) l.engine
+invariant-loop-packet l = IsOffering (map shape l.packet-iterator.rest.items) (arrive (map shape l.fn.packets.items) l.fn.engine.running) l.engine.running

@@ -16,10 +16,10 @@ opened-requires g c =
     frames_put (map shape c.in-Ok.packets.items) p.bytes 0 p.frames (omega (arith, p.size))
 
 pub play-requires-clause-begun : goal.play-requires-clause-begun
-play-requires-clause-begun g c = λ κs lives. begun_first c.args.settings.now (map shape c.in-Ok.packets.items) c.in-Ok-opened.engine c.in-Ok-opened.ensures
+play-requires-clause-begun g c = λ κs lives. begun_first c.args.settings.now (map shape c.in-Ok.packets.items) c.in-Ok-opened.engine.running c.in-Ok-opened.ensures
 
 pub play-requires-clause-stands : goal.play-requires-clause-stands
-play-requires-clause-stands g c = λ κs lives. begun_stands c.args.settings.now (map shape c.in-Ok.packets.items) c.in-Ok-opened.engine c.in-Ok-opened.ensures
+play-requires-clause-stands g c = λ κs lives. begun_stands c.args.settings.now (map shape c.in-Ok.packets.items) c.in-Ok-opened.engine.running c.in-Ok-opened.ensures
 
 pub returns-in-Ok-play-clause-done : goal.returns-in-Ok-play-clause-done
 returns-in-Ok-play-clause-done g c = λ n same.
@@ -28,7 +28,7 @@ returns-in-Ok-play-clause-done g c = λ n same.
     let packets = map shape c.in-Ok.packets.items in
     let last : c.unwrap_or-blocks.result ≡ last_of s packets = c.unwrap_or-blocks.ensures ∙ ap (λ o. unwrap_or o 0) (c.last.ensures ∙ ap (λ e. last_due e.waiting) c.in-Ok-opened.ensures) in
     done_played s (g.S.Source.left c.args.source.now) (g.O.Sink.taken c.args.sound.now) (g.O.Sink.taken c.play.new.sound) (g.R.Sink.taken c.args.replies.now) (g.R.Sink.taken c.play.new.replies)
-    p.bytes packets c.unwrap_or-blocks.result n c.in-Ok-opened.engine p.told p.frames last c.in-Ok-opened.ensures c.in-Ok-play.ensures.ended same
+    p.bytes packets c.unwrap_or-blocks.result n c.in-Ok-opened.engine.running p.told p.frames last c.in-Ok-opened.ensures c.in-Ok-play.ensures.ended same
 
 pub returns-then-too_long-clause-answer : goal.returns-then-too_long-clause-answer
 returns-then-too_long-clause-answer g c =
@@ -100,7 +100,7 @@ returns-in-Err-NoMemory-clause-written g c =
     let packets = map shape c.in-Ok.packets.items in
     let last : c.unwrap_or-blocks.result ≡ last_of s packets = c.unwrap_or-blocks.ensures ∙ ap (λ o. unwrap_or o 0) (c.last.ensures ∙ ap (λ e. last_due e.waiting) c.in-Ok-opened.ensures) in
     inr (played_part s (g.S.Source.left c.args.source.now) (g.O.Sink.taken c.args.sound.now) (g.O.Sink.taken c.play.new.sound) (g.R.Sink.taken c.args.replies.now) (g.R.Sink.taken c.play.new.replies)
-    packets c.unwrap_or-blocks.result c.in-Ok-opened.engine c.in-Ok.ensures.packets last (not_long _ _ c.too_long.ensures.1 c.if-too_long.false) c.in-Ok-opened.ensures c.in-Err-NoMemory.ensures.fronts)
+    packets c.unwrap_or-blocks.result c.in-Ok-opened.engine.running c.in-Ok.ensures.packets last (not_long _ _ c.too_long.ensures.1 c.if-too_long.false) c.in-Ok-opened.ensures c.in-Err-NoMemory.ensures.fronts)
 
 pub returns-in-Err-SoundFault-clause-written : goal.returns-in-Err-SoundFault-clause-written
 returns-in-Err-SoundFault-clause-written g c =
@@ -108,7 +108,7 @@ returns-in-Err-SoundFault-clause-written g c =
     let packets = map shape c.in-Ok.packets.items in
     let last : c.unwrap_or-blocks.result ≡ last_of s packets = c.unwrap_or-blocks.ensures ∙ ap (λ o. unwrap_or o 0) (c.last.ensures ∙ ap (λ e. last_due e.waiting) c.in-Ok-opened.ensures) in
     played_part s (g.S.Source.left c.args.source.now) (g.O.Sink.taken c.args.sound.now) (g.O.Sink.taken c.play.new.sound) (g.R.Sink.taken c.args.replies.now) (g.R.Sink.taken c.play.new.replies)
-    packets c.unwrap_or-blocks.result c.in-Ok-opened.engine c.in-Ok.ensures.packets last (not_long _ _ c.too_long.ensures.1 c.if-too_long.false) c.in-Ok-opened.ensures c.in-Err-SoundFault.ensures.fronts
+    packets c.unwrap_or-blocks.result c.in-Ok-opened.engine.running c.in-Ok.ensures.packets last (not_long _ _ c.too_long.ensures.1 c.if-too_long.false) c.in-Ok-opened.ensures c.in-Err-SoundFault.ensures.fronts
 
 pub returns-in-Err-ReplyFault-clause-written : goal.returns-in-Err-ReplyFault-clause-written
 returns-in-Err-ReplyFault-clause-written g c =
@@ -116,7 +116,7 @@ returns-in-Err-ReplyFault-clause-written g c =
     let packets = map shape c.in-Ok.packets.items in
     let last : c.unwrap_or-blocks.result ≡ last_of s packets = c.unwrap_or-blocks.ensures ∙ ap (λ o. unwrap_or o 0) (c.last.ensures ∙ ap (λ e. last_due e.waiting) c.in-Ok-opened.ensures) in
     played_part s (g.S.Source.left c.args.source.now) (g.O.Sink.taken c.args.sound.now) (g.O.Sink.taken c.play.new.sound) (g.R.Sink.taken c.args.replies.now) (g.R.Sink.taken c.play.new.replies)
-    packets c.unwrap_or-blocks.result c.in-Ok-opened.engine c.in-Ok.ensures.packets last (not_long _ _ c.too_long.ensures.1 c.if-too_long.false) c.in-Ok-opened.ensures c.in-Err-ReplyFault.ensures.fronts
+    packets c.unwrap_or-blocks.result c.in-Ok-opened.engine.running c.in-Ok.ensures.packets last (not_long _ _ c.too_long.ensures.1 c.if-too_long.false) c.in-Ok-opened.ensures c.in-Err-ReplyFault.ensures.fronts
 
 pub returns-in_default-clause-taken : goal.returns-in_default-clause-taken
 returns-in_default-clause-taken g c =

@@ -1,4 +1,4 @@
-use Rattle.sn_score.proofs.Packets.{octets_from}
+use Rattle.sn_osc.proofs.Octets.{octets_from}
 use Rattle.sn_score.proofs.Streaming.{frames_fit}
 use Rattle.sn_score.proofs.laws.frames_fit.Goals as goal
 

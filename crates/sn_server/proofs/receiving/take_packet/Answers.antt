@@ -8,4 +8,4 @@ pub offer-requires-clause-puts : goal.offer-requires-clause-puts
 offer-requires-clause-puts c = omega (arith, c.requires.puts, entries_few (shape c.in-Ok.packet) c.args.bytes.now c.in-Ok.ensures.found.1 c.requires.size)
 
 pub returns-in_ok-offer-in-Ok-clause-puts : goal.returns-in_ok-offer-in-Ok-clause-puts
-returns-in_ok-offer-in-Ok-clause-puts c = packet_puts (shape c.in-Ok.packet) c.args.bytes.now c.args.engine.now c.offer.new.self c.in-Ok.ensures.found.1 c.requires.size c.in_ok-offer-in-Ok.ensures.ok
+returns-in_ok-offer-in-Ok-clause-puts c = packet_puts (shape c.in-Ok.packet) c.args.bytes.now c.args.engine.now.running c.offer.new.self.running c.in-Ok.ensures.found.1 c.requires.size c.in_ok-offer-in-Ok.ensures.ok

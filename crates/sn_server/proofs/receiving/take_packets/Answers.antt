@@ -11,6 +11,6 @@ loop-frame-preserved c =
     let frame = c.in-Ok-Some.frame in
     let given = subst (λ (o : Option Frame). Next c.loop-frame.framer c.next.new.self (Ok o)) c.in-Ok-Some.field-0-is c.in-Ok-Some.ensures in
     let same : c.as_slice.result.now ≡ frame.bytes.bytes = c.as_slice.ensures in
-    took_one c.args.engine.now c.loop-frame.engine c.take_packet.new.engine c.args.framer.now c.loop-frame.framer c.next.new.self frame c.loop-frame.invariant given
-    (c.in_ok-take_packet-in-Ok-Some.ensures.packet ∙ ap (λ (t : List ℕ). with_packet (read t) c.loop-frame.engine) same)
-    (subst (λ (t : List ℕ). c.take_packet.new.engine.waiting.puts ≤ c.loop-frame.engine.waiting.puts + length t) same c.in_ok-take_packet-in-Ok-Some.ensures.puts)
+    took_one c.args.engine.now.running c.loop-frame.engine.running c.take_packet.new.engine.running c.args.framer.now c.loop-frame.framer c.next.new.self frame c.loop-frame.invariant given
+    (c.in_ok-take_packet-in-Ok-Some.ensures.packet ∙ ap (λ (t : List ℕ). with_packet (read t) c.loop-frame.engine.running) same)
+    (subst (λ (t : List ℕ). c.take_packet.new.engine.running.waiting.puts ≤ c.loop-frame.engine.running.waiting.puts + length t) same c.in_ok-take_packet-in-Ok-Some.ensures.puts)

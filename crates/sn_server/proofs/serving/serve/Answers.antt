@@ -15,8 +15,8 @@ pub loop-how-init : goal.loop-how-init
 loop-how-init g c =
     let s = c.args.settings.now in
     record {
-      serving = begins_serving s c.args.base (g.L.Link.left c.args.link.now) (g.O.Sink.taken c.args.sound.now) (g.L.Link.sent c.args.link.now) c.in-Ok.engine c.new-framer.result c.in-Ok.ensures c.new-framer.ensures;
-      ready = begins_ready s c.args.base c.in-Ok.engine c.new-framer.result c.in-Ok.ensures c.new-framer.ensures;
+      serving = begins_serving s c.args.base (g.L.Link.left c.args.link.now) (g.O.Sink.taken c.args.sound.now) (g.L.Link.sent c.args.link.now) c.in-Ok.engine.running c.new-framer.result c.in-Ok.ensures.running c.new-framer.ensures;
+      ready = begins_ready s c.args.base c.in-Ok.engine.running c.new-framer.result c.in-Ok.ensures.running c.new-framer.ensures;
       room = c.in-Ok-room.ensures;
       link_later = le_refl _;
       sound_later = le_refl _;
@@ -32,7 +32,7 @@ loop-how-preserved g c =
     let r = c.in-Ok-serve_event.ensures in
     record {
       serving = serves_on s c.args.base (g.L.Link.left c.args.link.now) (g.L.Link.left l.link) (g.L.Link.left n.link) (g.O.Sink.taken c.args.sound.now) (g.O.Sink.taken l.sound) (g.O.Sink.taken n.sound)
-          (g.L.Link.sent c.args.link.now) (g.L.Link.sent l.link) (g.L.Link.sent n.link) l.engine n.engine l.framer n.framer i.serving
+          (g.L.Link.sent c.args.link.now) (g.L.Link.sent l.link) (g.L.Link.sent n.link) l.engine.running n.engine.running l.framer n.framer i.serving
           (r.took i.serving.live (g.O.Sink.taken c.args.sound.now) (g.L.Link.sent c.args.link.now) i.serving.stands);
       ready = r.ready;
       room = as_long l.room.len l.room.items n.room l.room.ok.0 (c.serve_event.auto.room ∙ ap length c.deref_mut.ensures.value) ∙ i.room;
@@ -48,7 +48,7 @@ returns-in-Err-clause-served g c =
     let i = l.invariant in
     let n = c.serve_event.new in
     serves_to s c.args.base (g.L.Link.left c.args.link.now) (g.L.Link.left l.link) (g.L.Link.left n.link) (g.O.Sink.taken c.args.sound.now) (g.O.Sink.taken l.sound) (g.O.Sink.taken n.sound)
-    (g.L.Link.sent c.args.link.now) (g.L.Link.sent l.link) (g.L.Link.sent n.link) l.engine l.framer c.in-Err.how i.serving
+    (g.L.Link.sent c.args.link.now) (g.L.Link.sent l.link) (g.L.Link.sent n.link) l.engine.running l.framer c.in-Err.how i.serving
     (c.in-Err.ensures.took i.serving.live (g.O.Sink.taken c.args.sound.now) (g.L.Link.sent c.args.link.now) i.serving.stands)
 
 pub returns-in-Err-clause-close : goal.returns-in-Err-clause-close

@@ -6,8 +6,8 @@ use Rattle.sn_server.proofs.serving.serve.Given as goal
 
 abbrev pub invariant-loop-how : goal.invariant-loop-how
 invariant-loop-how g l = record {
-  serving : IsServing l.settings l.base (g.L.Link.left l.fn.link) (g.L.Link.left l.link) (g.O.Sink.taken l.fn.sound) (g.O.Sink.taken l.sound) (g.L.Link.sent l.fn.link) (g.L.Link.sent l.link) l.engine l.framer;
-  ready : IsReady l.engine l.framer;
+  serving : IsServing l.settings l.base (g.L.Link.left l.fn.link) (g.L.Link.left l.link) (g.O.Sink.taken l.fn.sound) (g.O.Sink.taken l.sound) (g.L.Link.sent l.fn.link) (g.L.Link.sent l.link) l.engine.running l.framer;
+  ready : IsReady l.engine.running l.framer;
   room : length l.room.items ≡ 65536;
   link_later : g.L.Link.faults l.fn.link ≤ g.L.Link.faults l.link;
   sound_later : g.O.Sink.faults l.fn.sound ≤ g.O.Sink.faults l.sound;
@@ -15,4 +15,4 @@ invariant-loop-how g l = record {
 }
 
 abbrev pub decreases-loop-how : goal.decreases-loop-how
-decreases-loop-how g l = (2 ^ 62 - l.framer.fed) + (2 ^ 62 - l.engine.block)
+decreases-loop-how g l = (2 ^ 62 - l.framer.fed) + (2 ^ 62 - l.engine.running.block)

@@ -6,10 +6,10 @@ use Rattle.sn_server.proofs.FaultLemmas.{given_so, unless_err}
 use Rattle.sn_server.proofs.ticking.tick.Goals as goal
 
 pub render_block-requires-clause-alone : goal.render_block-requires-clause-alone
-render_block-requires-clause-alone g c κs within = ap (λ r. length r.replies) c.in_ok-boundary.ensures.ok ∙ boundary_step.clients c.args.engine.now ∙ c.requires.alone
+render_block-requires-clause-alone g c κs within = ap (λ r. length r.replies) c.in_ok-boundary.ensures.ok ∙ boundary_step.clients c.args.engine.now.running ∙ c.requires.alone
 
 pub send_replies-requires : goal.send_replies-requires
-send_replies-requires g c = record { alone = ap (λ r. length r.replies) c.in_ok-boundary.ensures.ok ∙ boundary_step.clients c.args.engine.now ∙ c.requires.alone }
+send_replies-requires g c = record { alone = ap (λ r. length r.replies) c.in_ok-boundary.ensures.ok ∙ boundary_step.clients c.args.engine.now.running ∙ c.requires.alone }
 
 pub returns-in_err-send_replies-in-Quit-clause-unfailed : goal.returns-in_err-send_replies-in-Quit-clause-unfailed
 returns-in_err-send_replies-in-Quit-clause-unfailed g c =
@@ -22,19 +22,19 @@ returns-in_err-send_replies-in-Quit-clause-unfailed g c =
     (given_so how (link_new ≡ link_old) (NothingFailed link_old link_new sound sound) (λ still. (still, refl)) c.in_err-send_replies-in-Quit.ensures.unfailed)
 
 pub returns-in_err-boundary-clause-part : goal.returns-in_err-boundary-clause-part
-returns-in_err-boundary-clause-part g c = none_part (g.O.Sink.taken c.args.sound.now) (g.L.Link.sent c.args.link.now) c.args.engine.now
+returns-in_err-boundary-clause-part g c = none_part (g.O.Sink.taken c.args.sound.now) (g.L.Link.sent c.args.link.now) c.args.engine.now.running
 
 pub returns-in-On-clause-part : goal.returns-in-On-clause-part
 returns-in-On-clause-part g c =
-    block_part (g.O.Sink.taken c.args.sound.now) (g.O.Sink.taken c.render_block.new.sound) (g.L.Link.sent c.args.link.now) (g.L.Link.sent c.render_block.new.link) c.args.engine.now c.boundary.new.self
+    block_part (g.O.Sink.taken c.args.sound.now) (g.O.Sink.taken c.render_block.new.sound) (g.L.Link.sent c.args.link.now) (g.L.Link.sent c.render_block.new.link) c.args.engine.now.running c.boundary.new.self.running
     (sym c.in_ok-boundary.ensures.flow ∙ c.in-On.is) c.in_ok-boundary.ensures.ok c.render_block.ensures.sound_front c.render_block.ensures.reply_front
 
 pub returns-in_err-send_replies-in-Quit-clause-part : goal.returns-in_err-send_replies-in-Quit-clause-part
 returns-in_err-send_replies-in-Quit-clause-part g c =
-    quit_part (g.O.Sink.taken c.args.sound.now) (g.L.Link.sent c.args.link.now) (g.L.Link.sent c.send_replies.new.link) c.args.engine.now c.boundary.new.self
+    quit_part (g.O.Sink.taken c.args.sound.now) (g.L.Link.sent c.args.link.now) (g.L.Link.sent c.send_replies.new.link) c.args.engine.now.running c.boundary.new.self.running
     (sym c.in_ok-boundary.ensures.flow ∙ c.in-Quit.is) c.in_ok-boundary.ensures.ok c.send_replies.ensures.front
 
 pub returns-in_ok-send_replies-in-Quit-clause-part : goal.returns-in_ok-send_replies-in-Quit-clause-part
 returns-in_ok-send_replies-in-Quit-clause-part g c =
-    quit_part (g.O.Sink.taken c.args.sound.now) (g.L.Link.sent c.args.link.now) (g.L.Link.sent c.send_replies.new.link) c.args.engine.now c.boundary.new.self
+    quit_part (g.O.Sink.taken c.args.sound.now) (g.L.Link.sent c.args.link.now) (g.L.Link.sent c.send_replies.new.link) c.args.engine.now.running c.boundary.new.self.running
     (sym c.in_ok-boundary.ensures.flow ∙ c.in-Quit.is) c.in_ok-boundary.ensures.ok c.send_replies.ensures.front

@@ -17,8 +17,8 @@ returns-in_err-check_worn-clause-follows g c = λ v sound_old sent_old live.
     let how = c.in_err-check_worn.field-0.0 in
     let course = tick c.args.count v in
     let more : c.args.count - l.number ≡ suc (c.args.count - (l.number + 1)) = omega (arith, c.loop-number-test.true) in
-    follows_err sound_old sound_new sent_old sent_new v course l.engine c.args.framer.now c.from_residual.result how c.from_residual.ensures.1
-    (worn_tick sound_old sound_new sent_old sent_new v course (c.args.count - l.number) (c.args.count - (l.number + 1)) l.engine c.args.framer.now how (l.invariant.follows v sound_old sent_old live) more c.in_err-check_worn.ensures.worn)
+    follows_err sound_old sound_new sent_old sent_new v course l.engine.running c.args.framer.now c.from_residual.result how c.from_residual.ensures.1
+    (worn_tick sound_old sound_new sent_old sent_new v course (c.args.count - l.number) (c.args.count - (l.number + 1)) l.engine.running c.args.framer.now how (l.invariant.follows v sound_old sent_old live) more c.in_err-check_worn.ensures.worn)
 
 pub returns-in_err-tick-clause-follows : goal.returns-in_err-tick-clause-follows
 returns-in_err-tick-clause-follows g c = λ v sound_old sent_old live.
@@ -28,8 +28,8 @@ returns-in_err-tick-clause-follows g c = λ v sound_old sent_old live.
     let how = c.in_err-tick.field-0.0 in
     let course = tick c.args.count v in
     let more : c.args.count - l.number ≡ suc (c.args.count - (l.number + 1)) = omega (arith, c.loop-number-test.true) in
-    follows_err sound_old sound_new sent_old sent_new v course c.tick.new.engine c.args.framer.now c.from_residual-in_err-tick.result how c.from_residual-in_err-tick.ensures.1
-    (ended_tick sound_old (g.O.Sink.taken l.sound) sound_new sent_old (g.L.Link.sent l.link) sent_new v course (c.args.count - l.number) (c.args.count - (l.number + 1)) l.engine c.args.framer.now how (l.invariant.follows v sound_old sent_old live) more
+    follows_err sound_old sound_new sent_old sent_new v course c.tick.new.engine.running c.args.framer.now c.from_residual-in_err-tick.result how c.from_residual-in_err-tick.ensures.1
+    (ended_tick sound_old (g.O.Sink.taken l.sound) sound_new sent_old (g.L.Link.sent l.link) sent_new v course (c.args.count - l.number) (c.args.count - (l.number + 1)) l.engine.running c.args.framer.now how (l.invariant.follows v sound_old sent_old live) more
     c.in_ok-check_worn.ensures.ok c.in_err-tick.ensures.only c.in_err-tick.ensures.quit c.tick.ensures.part)
 
 pub loop-number-init : goal.loop-number-init
@@ -56,9 +56,9 @@ loop-number-preserved g c =
     let sent_new = g.L.Link.sent c.tick.new.link in
     let more : c.args.count - l.number ≡ suc (c.args.count - (l.number + 1)) = omega (arith, c.loop-number-test.true) in
     record {
-      follows = λ v sound_old sent_old live. ticks_on sound_old sound_mid sound_new sent_old sent_mid sent_new v (tick c.args.count v) (c.args.count - l.number) (c.args.count - (l.number + 1)) l.engine c.tick.new.engine c.args.framer.now (i.follows v sound_old sent_old live) more c.in_ok-check_worn.ensures.ok t;
-      ready = ticked_ready sound_mid sound_new sent_mid sent_new l.engine c.tick.new.engine c.args.framer.now i.ready t;
-      block = omega (arith, i.block, ticked_block sound_mid sound_new sent_mid sent_new l.engine c.tick.new.engine t);
+      follows = λ v sound_old sent_old live. ticks_on sound_old sound_mid sound_new sent_old sent_mid sent_new v (tick c.args.count v) (c.args.count - l.number) (c.args.count - (l.number + 1)) l.engine.running c.tick.new.engine.running c.args.framer.now (i.follows v sound_old sent_old live) more c.in_ok-check_worn.ensures.ok t;
+      ready = ticked_ready sound_mid sound_new sent_mid sent_new l.engine.running c.tick.new.engine.running c.args.framer.now i.ready t;
+      block = omega (arith, i.block, ticked_block sound_mid sound_new sent_mid sent_new l.engine.running c.tick.new.engine.running t);
       events = keeps_events-trans (g.L.Link.left c.args.link.now) (g.L.Link.left l.link) (g.L.Link.left c.tick.new.link) i.events c.tick.ensures.events;
       link_later = omega (arith, i.link_later, c.tick.ensures.link_later);
       sound_later = omega (arith, i.sound_later, c.tick.ensures.sound_later);
@@ -69,7 +69,7 @@ pub returns-clause-follows : goal.returns-clause-follows
 returns-clause-follows g c = λ v sound_old sent_old live.
     let l = c.loop-number in
     let none : c.args.count - l.number ≡ 0 = omega (arith, c.loop-number-test.false) in
-    all_ticked sound_old (g.O.Sink.taken l.sound) sent_old (g.L.Link.sent l.link) v (tick c.args.count v) (c.args.count - l.number) l.engine c.args.framer.now (l.invariant.follows v sound_old sent_old live) none
+    all_ticked sound_old (g.O.Sink.taken l.sound) sent_old (g.L.Link.sent l.link) v (tick c.args.count v) (c.args.count - l.number) l.engine.running c.args.framer.now (l.invariant.follows v sound_old sent_old live) none
 
 pub returns-in_err-check_worn-clause-unfailed : goal.returns-in_err-check_worn-clause-unfailed
 returns-in_err-check_worn-clause-unfailed g c =

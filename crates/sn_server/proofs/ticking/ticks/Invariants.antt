@@ -9,10 +9,10 @@ use Rattle.sn_server.proofs.ticking.ticks.Given as goal
 
 abbrev pub invariant-loop-number : goal.invariant-loop-number
 invariant-loop-number g l = record {
-  follows : (v : Live) (sound_old sent_old : Option (List ℕ)) → IsLive sound_old (g.O.Sink.taken l.fn.sound) sent_old (g.L.Link.sent l.fn.link) v l.fn.engine l.framer
-      → IsTicking sound_old (g.O.Sink.taken l.sound) sent_old (g.L.Link.sent l.link) v (tick l.count v) (l.count - l.number) l.engine l.framer;
-  ready : IsReady l.engine l.framer;
-  block : l.engine.block ≡ l.fn.engine.block + l.number;
+  follows : (v : Live) (sound_old sent_old : Option (List ℕ)) → IsLive sound_old (g.O.Sink.taken l.fn.sound) sent_old (g.L.Link.sent l.fn.link) v l.fn.engine.running l.framer
+      → IsTicking sound_old (g.O.Sink.taken l.sound) sent_old (g.L.Link.sent l.link) v (tick l.count v) (l.count - l.number) l.engine.running l.framer;
+  ready : IsReady l.engine.running l.framer;
+  block : l.engine.running.block ≡ l.fn.engine.running.block + l.number;
   events : KeepsEvents (g.L.Link.left l.fn.link) (g.L.Link.left l.link);
   link_later : g.L.Link.faults l.fn.link ≤ g.L.Link.faults l.link;
   sound_later : g.O.Sink.faults l.fn.sound ≤ g.O.Sink.faults l.sound;

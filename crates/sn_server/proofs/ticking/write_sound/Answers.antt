@@ -3,5 +3,5 @@ use Rattle.sn_server.proofs.ticking.write_sound.Goals as goal
 
 pub returns-in-Ok-clause-front : goal.returns-in-Ok-clause-front
 returns-in-Ok-clause-front g c =
-    let made = c.args.engine.now.sound in
+    let made = c.args.engine.now.running.sound in
     (made, c.in-Ok.ensures.taken, begins_refl made)

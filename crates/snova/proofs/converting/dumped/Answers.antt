@@ -1,10 +1,10 @@
 use Rattle.std.proofs.Common.{◌≡◌, List, length, map, sym, subst, arith, rules}
 use Rattle.std.proofs.lemmas.Int.{ints}
 use Rattle.std.proofs.lemmas.List.{length-map}
+use Rattle.sn_osc.proofs.Octets.{octets_from}
 use Rattle.sn_osc.specs.Shape.{shape}
 use Rattle.sn_osc.specs.declared.packet.Packet.{Packet}
 use Rattle.sn_score.specs.Score.{AllFit}
-use Rattle.sn_score.proofs.Packets.{octets_from}
 use Rattle.sn_score.proofs.Streaming.{frames_fit, few_frames}
 use Rattle.snova.proofs.converting.dumped.Goals as goal
 

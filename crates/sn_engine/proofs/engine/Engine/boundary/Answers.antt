@@ -1,4 +1,4 @@
-use Rattle.std.proofs.Common.{◌≡◌, ◌∙◌, ap, map, refl, List, ℕ, rules}
+use Rattle.std.proofs.Common.{◌≡◌, ◌∙◌, ap, map, refl, length, List, ℕ, rules}
 use Rattle.std.specs.Vec.{with_items}
 use Rattle.std.proofs.lemmas.List.{with_items_is, places}
 use Rattle.sn_ports.specs.Octets.{Octets, bytes_of}
@@ -11,31 +11,32 @@ use Rattle.sn_engine.specs.declared.standing.Standing.TheVariants.{Bounded, Spen
 use Rattle.sn_engine.proofs.Bounded.{bounded, rest_kept}
 use Rattle.sn_engine.proofs.ClientLemmas.{none_lost, none_sent, front_waits, all_waits}
 use Rattle.sn_engine.proofs.OfferLemmas.{on_err}
+use Rattle.sn_engine.proofs.Pasts.{running_is, past_is, rested_kept}
 use Rattle.sn_engine.proofs.engine.Engine.boundary.Goals as goal
 
 abbrev told_at : Running → List ReplyShape
 told_at r = replies_at r.block r.waiting r.clashes r.world
 
 pub returns-in_err-reserve-clause-behind : goal.returns-in_err-reserve-clause-behind
-returns-in_err-reserve-clause-behind c = none_lost c.args.self.now.replies (map bytes_of c.self.inside.replies.items) (ap (λ (r : Running). r.replies) c.self.view_is)
+returns-in_err-reserve-clause-behind c = none_lost c.args.self.now.running.replies (map bytes_of c.self.inside.replies.items) (ap (λ (r : Running). r.replies) (running_is c.self.view_is))
 
 pub returns-in_err-reserve-clause-front : goal.returns-in_err-reserve-clause-front
 returns-in_err-reserve-clause-front c =
-    on_err c.from_residual.result (none_sent c.args.self.now.replies (map bytes_of c.self.inside.replies.items) (told_at c.args.self.now) (ap (λ (r : Running). r.replies) c.self.view_is))
+    on_err c.from_residual.result (none_sent c.args.self.now.running.replies (map bytes_of c.self.inside.replies.items) (told_at c.args.self.now.running) (ap (λ (r : Running). r.replies) (running_is c.self.view_is)))
 
 pub returns-in_err-reserve-2-clause-behind : goal.returns-in_err-reserve-2-clause-behind
-returns-in_err-reserve-2-clause-behind c = none_lost c.args.self.now.replies (map bytes_of c.self.inside.replies.items) (ap (λ (r : Running). r.replies) c.self.view_is)
+returns-in_err-reserve-2-clause-behind c = none_lost c.args.self.now.running.replies (map bytes_of c.self.inside.replies.items) (ap (λ (r : Running). r.replies) (running_is c.self.view_is))
 
 pub returns-in_err-reserve-2-clause-front : goal.returns-in_err-reserve-2-clause-front
 returns-in_err-reserve-2-clause-front c =
-    on_err c.from_residual-in_err-reserve-2.result (none_sent c.args.self.now.replies (map bytes_of c.self.inside.replies.items) (told_at c.args.self.now) (ap (λ (r : Running). r.replies) c.self.view_is))
+    on_err c.from_residual-in_err-reserve-2.result (none_sent c.args.self.now.running.replies (map bytes_of c.self.inside.replies.items) (told_at c.args.self.now.running) (ap (λ (r : Running). r.replies) (running_is c.self.view_is)))
 
 pub returns-in_err-quits-clause-behind : goal.returns-in_err-quits-clause-behind
-returns-in_err-quits-clause-behind c = none_lost c.args.self.now.replies (map bytes_of c.self.inside.replies.items) (ap (λ (r : Running). r.replies) c.self.view_is)
+returns-in_err-quits-clause-behind c = none_lost c.args.self.now.running.replies (map bytes_of c.self.inside.replies.items) (ap (λ (r : Running). r.replies) (running_is c.self.view_is))
 
 pub returns-in_err-quits-clause-front : goal.returns-in_err-quits-clause-front
 returns-in_err-quits-clause-front c =
-    on_err c.from_residual-in_err-quits.result (none_sent c.args.self.now.replies (map bytes_of c.self.inside.replies.items) (told_at c.args.self.now) (ap (λ (r : Running). r.replies) c.self.view_is))
+    on_err c.from_residual-in_err-quits.result (none_sent c.args.self.now.running.replies (map bytes_of c.self.inside.replies.items) (told_at c.args.self.now.running) (ap (λ (r : Running). r.replies) (running_is c.self.view_is)))
 
 pub returns-in_err-send-clause-front : goal.returns-in_err-send-clause-front
 returns-in_err-send-clause-front c =
@@ -44,8 +45,8 @@ returns-in_err-send-clause-front c =
     let one : out.items ≡ c.send.new.out = with_items_is e.replies c.send.new.out (search (rules, places)) in
     let first : c.deref_mut.result.now ≡ e.replies.items = search rules in
     on_err c.from_residual-in_err-send.result
-    (front_waits (map bytes_of c.deref_mut.result.now) c.args.self.now.replies (map bytes_of out.items) (map bytes_of c.send.new.out) c.act_boundary.new.said (told_at c.args.self.now)
-    (ap (map bytes_of) first ∙ ap (λ (r : Running). r.replies) c.self.view_is) (ap (map bytes_of) one) (c.in_ok-quits.ensures.replies ∙ ap told_at c.self.view_is) c.in_err-send.ensures.front)
+    (front_waits (map bytes_of c.deref_mut.result.now) c.args.self.now.running.replies (map bytes_of out.items) (map bytes_of c.send.new.out) c.act_boundary.new.said (told_at c.args.self.now.running)
+    (ap (map bytes_of) first ∙ ap (λ (r : Running). r.replies) (running_is c.self.view_is)) (ap (map bytes_of) one) (c.in_ok-quits.ensures.replies ∙ ap told_at (running_is c.self.view_is)) c.in_err-send.ensures.front)
 
 pub returns-in_err-self-inside-clause-front : goal.returns-in_err-self-inside-clause-front
 returns-in_err-self-inside-clause-front c =
@@ -55,16 +56,16 @@ returns-in_err-self-inside-clause-front c =
     let two : (with_items out c.reserve_settling.new.replies).items ≡ c.reserve_settling.new.replies = with_items_is out c.reserve_settling.new.replies (search (rules, places)) in
     let framed : map bytes_of c.send.new.out ≡ with_frames 0 c.act_boundary.new.said (map bytes_of c.deref_mut.result.now) = search rules in
     let first : c.deref_mut.result.now ≡ e.replies.items = search rules in
-    let said : c.act_boundary.new.said ≡ told_at c.args.self.now = c.in_ok-quits.ensures.replies ∙ ap told_at c.self.view_is in
-    let before : map bytes_of c.deref_mut.result.now ≡ c.args.self.now.replies = ap (map bytes_of) first ∙ ap (λ (r : Running). r.replies) c.self.view_is in
+    let said : c.act_boundary.new.said ≡ told_at c.args.self.now.running = c.in_ok-quits.ensures.replies ∙ ap told_at (running_is c.self.view_is) in
+    let before : map bytes_of c.deref_mut.result.now ≡ c.args.self.now.running.replies = ap (map bytes_of) first ∙ ap (λ (r : Running). r.replies) (running_is c.self.view_is) in
     on_err c.from_residual-in_err-self-inside.result
-    (all_waits (map bytes_of (with_items out c.reserve_settling.new.replies).items) (with_frames 0 (told_at c.args.self.now) c.args.self.now.replies)
+    (all_waits (map bytes_of (with_items out c.reserve_settling.new.replies).items) (with_frames 0 (told_at c.args.self.now.running) c.args.self.now.running.replies)
     (ap (map bytes_of) two ∙ c.reserve_settling.ensures.bytes ∙ ap (map bytes_of) (c.deref_mut-2.ensures.value ∙ one) ∙ framed ∙ (λ i. with_frames 0 (said i) (before i))))
 
 pub returns-clause-ok : goal.returns-clause-ok
 returns-clause-ok c =
     let e = c.self.inside in
-    let r : Running = record { settings = e.settings; world = world_of e.stage e.port.words.items; waiting = e.queue; clashes = e.clashes; block = e.block; standing = e.standing; sound = e.sound.bytes; replies = map bytes_of e.replies.items } in
+    let r : Running = record { settings = e.settings; world = world_of e.stage e.memory.words; waiting = e.queue; clashes = e.clashes; block = e.block; standing = e.standing; sound = e.sound.bytes; replies = map bytes_of e.replies.items } in
     let out = with_items e.replies c.send.new.out in
     let one : out.items ≡ c.send.new.out = with_items_is e.replies c.send.new.out (search (rules, places)) in
     let two : (with_items out c.reserve_settling.new.replies).items ≡ c.reserve_settling.new.replies = with_items_is out c.reserve_settling.new.replies (search (rules, places)) in
@@ -76,44 +77,86 @@ returns-clause-ok c =
     ∙ ap (map bytes_of) (c.deref_mut-2.ensures.value ∙ one)
     ∙ framed
     ∙ ap (λ (texts : List Octets). with_frames 0 c.act_boundary.new.said (map bytes_of texts)) first in
-    bounded r (world_of c.act_boundary.new.stage c.act_boundary.new.port.words.items) c.act_boundary.new.queue c.act_boundary.new.held c.reserve-2.new.self.bytes c.act_boundary.new.said (map bytes_of (with_items out c.reserve_settling.new.replies).items)
+    bounded r (world_of c.act_boundary.new.stage c.act_boundary.new.port.words) c.act_boundary.new.queue c.act_boundary.new.held c.reserve-2.new.self.bytes c.act_boundary.new.said (map bytes_of (with_items out c.reserve_settling.new.replies).items)
     c.in_ok-quits.ensures.world c.in_ok-quits.ensures.left c.in_ok-quits.ensures.clashes c.reserve-2.ensures.bytes c.in_ok-quits.ensures.replies sent
-    ∙ ap at_boundary c.self.view_is
+    ∙ ap at_boundary (running_is c.self.view_is)
 
 pub returns-in_err-reserve-clause-others : goal.returns-in_err-reserve-clause-others
 returns-in_err-reserve-clause-others c =
     let e = c.self.inside in
-    let r : Running = record { settings = e.settings; world = world_of e.stage e.port.words.items; waiting = e.queue; clashes = e.clashes; block = e.block; standing = e.standing; sound = e.sound.bytes; replies = map bytes_of e.replies.items } in
-    rest_kept r c.args.self.now (world_of e.stage e.port.words.items) e.queue e.clashes Spent e.sound.bytes (map bytes_of e.replies.items) c.self.view_is refl refl
+    let r : Running = record { settings = e.settings; world = world_of e.stage e.memory.words; waiting = e.queue; clashes = e.clashes; block = e.block; standing = e.standing; sound = e.sound.bytes; replies = map bytes_of e.replies.items } in
+    rest_kept r c.args.self.now.running (world_of e.stage e.memory.words) e.queue e.clashes Spent e.sound.bytes (map bytes_of e.replies.items) (running_is c.self.view_is) refl refl
 
 pub returns-in_err-reserve-2-clause-others : goal.returns-in_err-reserve-2-clause-others
 returns-in_err-reserve-2-clause-others c =
     let e = c.self.inside in
-    let r : Running = record { settings = e.settings; world = world_of e.stage e.port.words.items; waiting = e.queue; clashes = e.clashes; block = e.block; standing = e.standing; sound = e.sound.bytes; replies = map bytes_of e.replies.items } in
-    rest_kept r c.args.self.now (world_of e.stage e.port.words.items) e.queue e.clashes Spent c.reserve-2.new.self.bytes (map bytes_of e.replies.items) c.self.view_is refl c.reserve-2.ensures.bytes
+    let r : Running = record { settings = e.settings; world = world_of e.stage e.memory.words; waiting = e.queue; clashes = e.clashes; block = e.block; standing = e.standing; sound = e.sound.bytes; replies = map bytes_of e.replies.items } in
+    rest_kept r c.args.self.now.running (world_of e.stage e.memory.words) e.queue e.clashes Spent c.reserve-2.new.self.bytes (map bytes_of e.replies.items) (running_is c.self.view_is) refl c.reserve-2.ensures.bytes
 
 pub returns-in_err-quits-clause-others : goal.returns-in_err-quits-clause-others
 returns-in_err-quits-clause-others c =
     let e = c.self.inside in
-    let r : Running = record { settings = e.settings; world = world_of e.stage e.port.words.items; waiting = e.queue; clashes = e.clashes; block = e.block; standing = e.standing; sound = e.sound.bytes; replies = map bytes_of e.replies.items } in
-    rest_kept r c.args.self.now (world_of c.act_boundary.new.stage c.act_boundary.new.port.words.items) c.act_boundary.new.queue c.act_boundary.new.held Spent c.reserve-2.new.self.bytes (map bytes_of e.replies.items) c.self.view_is c.act_boundary.ensures.kept c.reserve-2.ensures.bytes
+    let r : Running = record { settings = e.settings; world = world_of e.stage e.memory.words; waiting = e.queue; clashes = e.clashes; block = e.block; standing = e.standing; sound = e.sound.bytes; replies = map bytes_of e.replies.items } in
+    rest_kept r c.args.self.now.running (world_of c.act_boundary.new.stage c.act_boundary.new.port.words) c.act_boundary.new.queue c.act_boundary.new.held Spent c.reserve-2.new.self.bytes (map bytes_of e.replies.items) (running_is c.self.view_is) c.act_boundary.ensures.kept c.reserve-2.ensures.bytes
 
 pub returns-in_err-send-clause-others : goal.returns-in_err-send-clause-others
 returns-in_err-send-clause-others c =
     let e = c.self.inside in
-    let r : Running = record { settings = e.settings; world = world_of e.stage e.port.words.items; waiting = e.queue; clashes = e.clashes; block = e.block; standing = e.standing; sound = e.sound.bytes; replies = map bytes_of e.replies.items } in
-    rest_kept r c.args.self.now (world_of c.act_boundary.new.stage c.act_boundary.new.port.words.items) c.act_boundary.new.queue c.act_boundary.new.held Spent c.reserve-2.new.self.bytes (map bytes_of (with_items e.replies c.send.new.out).items) c.self.view_is c.act_boundary.ensures.kept c.reserve-2.ensures.bytes
+    let r : Running = record { settings = e.settings; world = world_of e.stage e.memory.words; waiting = e.queue; clashes = e.clashes; block = e.block; standing = e.standing; sound = e.sound.bytes; replies = map bytes_of e.replies.items } in
+    rest_kept r c.args.self.now.running (world_of c.act_boundary.new.stage c.act_boundary.new.port.words) c.act_boundary.new.queue c.act_boundary.new.held Spent c.reserve-2.new.self.bytes (map bytes_of (with_items e.replies c.send.new.out).items) (running_is c.self.view_is) c.act_boundary.ensures.kept c.reserve-2.ensures.bytes
 
 pub returns-in_err-self-inside-clause-others : goal.returns-in_err-self-inside-clause-others
 returns-in_err-self-inside-clause-others c =
     let e = c.self.inside in
-    let r : Running = record { settings = e.settings; world = world_of e.stage e.port.words.items; waiting = e.queue; clashes = e.clashes; block = e.block; standing = e.standing; sound = e.sound.bytes; replies = map bytes_of e.replies.items } in
+    let r : Running = record { settings = e.settings; world = world_of e.stage e.memory.words; waiting = e.queue; clashes = e.clashes; block = e.block; standing = e.standing; sound = e.sound.bytes; replies = map bytes_of e.replies.items } in
     let out = with_items e.replies c.send.new.out in
-    rest_kept r c.args.self.now (world_of c.act_boundary.new.stage c.act_boundary.new.port.words.items) c.act_boundary.new.queue c.act_boundary.new.held Spent c.reserve-2.new.self.bytes (map bytes_of (with_items out c.reserve_settling.new.replies).items) c.self.view_is c.act_boundary.ensures.kept c.reserve-2.ensures.bytes
+    rest_kept r c.args.self.now.running (world_of c.act_boundary.new.stage c.act_boundary.new.port.words) c.act_boundary.new.queue c.act_boundary.new.held Spent c.reserve-2.new.self.bytes (map bytes_of (with_items out c.reserve_settling.new.replies).items) (running_is c.self.view_is) c.act_boundary.ensures.kept c.reserve-2.ensures.bytes
 
 pub returns-clause-others : goal.returns-clause-others
 returns-clause-others c =
     let e = c.self.inside in
-    let r : Running = record { settings = e.settings; world = world_of e.stage e.port.words.items; waiting = e.queue; clashes = e.clashes; block = e.block; standing = e.standing; sound = e.sound.bytes; replies = map bytes_of e.replies.items } in
+    let r : Running = record { settings = e.settings; world = world_of e.stage e.memory.words; waiting = e.queue; clashes = e.clashes; block = e.block; standing = e.standing; sound = e.sound.bytes; replies = map bytes_of e.replies.items } in
     let out = with_items e.replies c.send.new.out in
-    rest_kept r c.args.self.now (world_of c.act_boundary.new.stage c.act_boundary.new.port.words.items) c.act_boundary.new.queue c.act_boundary.new.held Bounded c.reserve-2.new.self.bytes (map bytes_of (with_items out c.reserve_settling.new.replies).items) c.self.view_is c.act_boundary.ensures.kept c.reserve-2.ensures.bytes
+    rest_kept r c.args.self.now.running (world_of c.act_boundary.new.stage c.act_boundary.new.port.words) c.act_boundary.new.queue c.act_boundary.new.held Bounded c.reserve-2.new.self.bytes (map bytes_of (with_items out c.reserve_settling.new.replies).items) (running_is c.self.view_is) c.act_boundary.ensures.kept c.reserve-2.ensures.bytes
+
+pub returns-in_err-reserve-clause-past : goal.returns-in_err-reserve-clause-past
+returns-in_err-reserve-clause-past c =
+    let e = c.self.inside in
+    rested_kept _ c.args.self.now.past (past_is c.self.view_is) e.planned.jobs e.memory.rounds e.memory.stores (length e.crew.hands.items) refl refl
+
+pub returns-in_err-reserve-2-clause-past : goal.returns-in_err-reserve-2-clause-past
+returns-in_err-reserve-2-clause-past c =
+    let e = c.self.inside in
+    rested_kept _ c.args.self.now.past (past_is c.self.view_is) e.planned.jobs e.memory.rounds e.memory.stores (length e.crew.hands.items) refl refl
+
+pub returns-in_err-quits-clause-past : goal.returns-in_err-quits-clause-past
+returns-in_err-quits-clause-past c =
+    let e = c.self.inside in
+    rested_kept _ c.args.self.now.past (past_is c.self.view_is) c.act_boundary.new.planned.jobs c.act_boundary.new.port.rounds c.act_boundary.new.port.stores (length e.crew.hands.items) c.act_boundary.ensures.rest refl
+
+pub returns-in_err-send-clause-past : goal.returns-in_err-send-clause-past
+returns-in_err-send-clause-past c =
+    let e = c.self.inside in
+    rested_kept _ c.args.self.now.past (past_is c.self.view_is) c.act_boundary.new.planned.jobs c.act_boundary.new.port.rounds c.act_boundary.new.port.stores (length e.crew.hands.items) c.act_boundary.ensures.rest refl
+
+pub returns-in_err-self-inside-clause-past : goal.returns-in_err-self-inside-clause-past
+returns-in_err-self-inside-clause-past c =
+    let e = c.self.inside in
+    rested_kept _ c.args.self.now.past (past_is c.self.view_is) c.act_boundary.new.planned.jobs c.act_boundary.new.port.rounds c.act_boundary.new.port.stores (length e.crew.hands.items) c.act_boundary.ensures.rest refl
+
+pub returns-clause-past : goal.returns-clause-past
+returns-clause-past c =
+    let e = c.self.inside in
+    rested_kept _ c.args.self.now.past (past_is c.self.view_is) c.act_boundary.new.planned.jobs c.act_boundary.new.port.rounds c.act_boundary.new.port.stores (length e.crew.hands.items) c.act_boundary.ensures.rest refl
+
+pub returns-clause-planned : goal.returns-clause-planned
+returns-clause-planned c = record {
+  stage = c.act_boundary.new.stage;
+  words = c.act_boundary.new.port.words;
+  stands = refl;
+  pictures = c.act_boundary.ensures.pictures;
+  planned = c.in_ok-quits.ensures.planned;
+}
+
+pub act_boundary-requires-clause-planned : goal.act_boundary-requires-clause-planned
+act_boundary-requires-clause-planned c = c.self.invariant.7

@@ -4,6 +4,7 @@ use Rattle.sn_tree.specs.Trees.{running_labels}
 use Rattle.sn_world.specs.SettleWords.{walk_room}
 use Rattle.sn_engine.specs.Running.{Running}
 use Rattle.sn_engine.proofs.DrainLemmas.{still_room, bytes_set, as_long}
+use Rattle.sn_engine.proofs.Pasts.{running_is}
 use Rattle.sn_engine.proofs.engine.Engine.drain_replies.Goals as goal
 
 pub invariant_of-self : goal.invariant_of-self
@@ -19,6 +20,8 @@ invariant_of-self g c =
       i.4,
       omega (arith, i.5, as_long e.replies.items c.args.client c.drain.new.text),
       i.6,
+      i.7,
+      i.8,
     )
 
 abbrev with_replies : Running → List (List ℕ) → Running
@@ -26,5 +29,5 @@ with_replies r replies = record r { replies = replies }
 
 pub returns-clause-kept : goal.returns-clause-kept
 returns-clause-kept g c =
-    let drained = bytes_set c.self.inside.replies.items c.args.client c.drain.new.text c.drain.ensures.bytes ∙ ap (λ r. slice_set r.replies c.args.client []) c.self.view_is in
-    λ i. with_replies (c.self.view_is i) (drained i)
+    let drained = bytes_set c.self.inside.replies.items c.args.client c.drain.new.text c.drain.ensures.bytes ∙ ap (λ r. slice_set r.replies c.args.client []) (running_is c.self.view_is) in
+    λ i. with_replies (running_is c.self.view_is i) (drained i)

@@ -1,10 +1,12 @@
-use Rattle.std.proofs.Common.{◌≡◌, ◌≤◌, true, List, length, ap, sym, ◌∙◌, subst, arith, rules}
+use Rattle.std.proofs.Common.{◌≡◌, ◌≤◌, true, List, length, refl, ap, sym, ◌∙◌, subst, arith, rules}
 use Rattle.std.specs.Vec.{with_items}
 use Rattle.std.proofs.lemmas.Bool.{not-true}
 use Rattle.std.proofs.lemmas.List.{with_items_is, places}
 use Rattle.sn_ports.specs.Octets.{Octets}
 use Rattle.sn_world.specs.declared.stage.Stage.{Stage}
 use Rattle.sn_engine.specs.Holding.{AreClashesOf}
+use Rattle.sn_engine.specs.Planning.{IsPlanOf}
+use Rattle.sn_engine.proofs.Pasts.{past_is, rounds_kept}
 use Rattle.sn_engine.proofs.engine.Engine.settle.Goals.{then-self, else-self}
 use Rattle.sn_engine.proofs.engine.Engine.settle.Goals as goal
 
@@ -26,4 +28,14 @@ invariant_of-self c =
         | then-self w ↦ subst (λ (s : Stage). AreClashesOf s e.clashes) (sym (c.settle_before-ended.ensures.same (not-true c.settle_before-ended.result (sym w.self-is ∙ on)))) (i.6 w.if-self.true)
         | else-self w ↦ absurd cc
       ],
+      λ on. elim c.if-self.branch [
+        | then-self w ↦ subst (λ (s : Stage). IsPlanOf s e.planned.jobs) (sym (c.settle_before-ended.ensures.same (not-true c.settle_before-ended.result (sym w.self-is ∙ on)))) (i.7 w.if-self.true)
+        | else-self w ↦ absurd cc
+      ],
+      λ e. absurd cc,
     )
+
+pub returns-clause-past : goal.returns-clause-past
+returns-clause-past c =
+    let e = c.self.inside in
+    rounds_kept _ c.args.self.now.past (past_is c.self.view_is) e.planned.jobs c.settle_before-ended.new.port.rounds c.settle_before-ended.new.port.stores (length e.crew.hands.items) c.settle_before-ended.ensures.rest refl refl

@@ -14,7 +14,7 @@ returns-in-Some c =
     let s = reached c.args.self in
     let m = message_of c.in_ok-message.message in
     let same : bytes_eq (message_line m) line ≡ true = search rules in
-    let len : IsSpellingLen (Some c.in-Some.bytes) (message m) = subst (λ o. IsSpellingLen o (message m)) c.in-Some.is c.in_ok-len.ensures in
+    let len : IsSpellingLen (Some c.in-Some.bytes) (message m) = subst (λ o. IsSpellingLen o (message m)) c.in-Some.is c.spelling_len.ensures in
     let after : after_message_line s (message_at line) line ≡ with_packet s (message m) c.in-Some.bytes = ap (λ (k : MessageShape). after_message_line s k line) (sym c.in_ok-message.ensures) ∙ after_spelled s m line c.in-Some.bytes same len in
     subst (Gives c.with_packet.result) (sym after) c.with_packet.ensures
 
@@ -23,5 +23,5 @@ returns-in-None c =
     let line = c.args.line.now in
     let s = reached c.args.self in
     let m = message_of c.in_ok-message.message in
-    let none : IsSpellingLen None (message m) = subst (λ o. IsSpellingLen o (message m)) c.in-None.is c.in_ok-len.ensures in
+    let none : IsSpellingLen None (message m) = subst (λ o. IsSpellingLen o (message m)) c.in-None.is c.spelling_len.ensures in
     ap (λ (k : MessageShape). after_message_line s k line) (sym c.in_ok-message.ensures) ∙ after_unspelled s m line none

@@ -1,0 +1,11 @@
+use Rattle.std.proofs.Common.{length, ap, arith}
+use Rattle.sn_mem.specs.Words.{everything_is}
+use Rattle.sn_engine.proofs.HearingLemmas.{words_same}
+use Rattle.sn_engine.proofs.Memories.{wide}
+use Rattle.sn_engine.proofs.memory.MemoryPort.load.Goals as goal
+
+pub load-requires-clause-at : goal.load-requires-clause-at
+load-requires-clause-at c =
+    let e = c.self.inside in
+    let i = c.self.invariant in
+    omega (arith, everything_is (length c.args.self.now.words) c.args.at c.requires, ap length (words_same c.self.view_is), wide e.shared e.main i.0 i.1)

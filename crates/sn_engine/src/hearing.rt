@@ -1,0 +1,107 @@
+//! The sound of a block.
+ghost use Rattle.std.specs.Prelude.{◌≡◌, ◌==◌, ◌≤◌, ◌<◌, ◌+◌, ◌++◌, ◌∷◌, [], ◌^◌, ℕ, length, vec_capacity};
+ghost use Rattle.sn_mem.specs.Buses.{audio_bus, heard};
+ghost use Rattle.sn_world.specs.World.{world_of};
+ghost use Rattle.sn_engine.specs.Hearing.{AreWritten};
+ghost use Rattle.sn_engine.specs.Outputs.{frame_of, frames_of};
+
+use crate::memory::Memory;
+use sn_mem::{Places, sample_of};
+use sn_world::Stage;
+
+/// Whether an audio bus was written in a block.
+fn is_written(memory: &mut Memory, bus: u32, block: u64) -> bool
+    requires bus { bus < 128 }
+    requires block { block < 2 ^ 63 }
+    requires wide { 10368 ≤ length memory.old.words }
+    ensures tag { result ≡ ((audio_bus memory.old.words bus).written == block + 1) }
+    ensures same { memory.new ≡ memory.old }
+{
+    memory.word(Places::audio(bus).at) == block + 1
+}
+
+/// Of each of the first 8 audio buses whether it was written in a block.
+fn written_buses(memory: &mut Memory, block: u64) -> [bool; 8]
+    requires block { block < 2 ^ 63 }
+    requires wide { 10368 ≤ length memory.old.words }
+    ensures written { AreWritten block memory.old.words 8 result }
+    ensures same { memory.new ≡ memory.old }
+{
+    let mut written = [false; 8];
+    for bus in 0..8 {
+        written[bus as usize] = is_written(memory, bus, block);
+    }
+    written
+}
+
+/// The sample of an audio bus at a frame of a block, 0 if the bus was not written in it.
+fn heard(memory: &mut Memory, bus: u32, written: bool, frame: u32) -> i32
+    requires bus { bus < 128 }
+    requires frame { frame < 64 }
+    requires wide { 10368 ≤ length memory.old.words }
+    ensures sample { (b : ℕ) → written ≡ ((audio_bus memory.old.words bus).written == b + 1) → result ≡ heard b (audio_bus memory.old.words bus) frame }
+    ensures same { memory.new ≡ memory.old }
+{
+    if !written {
+        return 0;
+    }
+    sample_of(memory.word(Places::audio(bus).at + 1 + frame))
+}
+
+/// Appends a sample, where there is room.
+fn put_sample(samples: &mut Vec<i32>, sample: i32)
+    requires room { length samples.old.items < vec_capacity samples.old }
+    ensures samples { samples.new.items ≡ samples.old.items ++ sample ∷ [] }
+    ensures room { vec_capacity samples.old ≤ vec_capacity samples.new }
+{
+    match samples.push(sample) {
+        Ok(()) => {}
+        Err(_) => unreachable!(),
+    }
+}
+
+/// Appends a frame of the sound of a block: the samples of the first audio buses.
+fn append_frame(
+    memory: &mut Memory,
+    stage: &Stage,
+    channels: u32,
+    written: &[bool; 8],
+    frame: u32,
+    samples: &mut Vec<i32>,
+)
+    requires channels { channels ≤ 8 }
+    requires frame { frame < 64 }
+    requires wide { 10368 ≤ length memory.old.words }
+    requires room { length samples.old.items + channels ≤ vec_capacity samples.old }
+    ensures samples { (b : ℕ) → AreWritten b memory.old.words 8 written.now → samples.new.items ≡ samples.old.items ++ frame_of channels b (world_of stage.now memory.old.words) frame }
+    ensures room { vec_capacity samples.old ≤ vec_capacity samples.new }
+    ensures same { memory.new ≡ memory.old }
+{
+    for bus in 0..channels {
+        put_sample(samples, heard(memory, bus, written[bus as usize], frame));
+    }
+}
+
+/// The 64 frames of a block's sound, in place of what was there. It takes no memory where there is room for them.
+pub fn hear_block(
+    memory: &mut Memory,
+    stage: &Stage,
+    channels: u32,
+    block: u64,
+    samples: &mut Vec<i32>,
+)
+    requires channels { channels ≤ 8 }
+    requires block { block < 2 ^ 63 }
+    requires wide { 10368 ≤ length memory.old.words }
+    requires room { 512 ≤ vec_capacity samples.old }
+    ensures few { length samples.new.items ≤ 512 }
+    ensures samples { samples.new.items ≡ frames_of channels block (world_of stage.now memory.old.words) 64 }
+    ensures room { 512 ≤ vec_capacity samples.new }
+    ensures same { memory.new ≡ memory.old }
+{
+    samples.clear();
+    let written = written_buses(memory, block);
+    for frame in 0..64 {
+        append_frame(memory, stage, channels, &written, frame, samples);
+    }
+}

@@ -1,0 +1,112 @@
+//! The memory between rounds and in them.
+ghost use Rattle.std.specs.Prelude.{◌≡◌, ◌≤◌, ◌<◌, ◌^◌, ◌++◌, ◌∷◌, [], IfOk, length, replicate, slice_index};
+ghost use Rattle.sn_world.specs.Pictures.{Pictures};
+ghost use Rattle.sn_world.specs.Walk.{walk};
+ghost use Rattle.sn_world.specs.World.{world_of};
+ghost use Rattle.sn_engine.specs.Planning.{IsPlanOf};
+
+use sn_crew::Crew;
+use sn_machine::Rests;
+use sn_mem::Port;
+use sn_play::{Block, block_is_the_walk};
+use sn_ports::{Gate, NoMemory};
+use sn_table::{MainSeat, Shared};
+use std::alloc::Global;
+use std::marker::Model;
+use std::thread::Threads;
+
+/// How many jobs a round may have.
+const JOB_WORDS: u32 = 65_536;
+
+/// The words of the buses and of the pool. The workers of a crew share them while a round runs; between rounds they are a port.
+#[derive(Drop)]
+pub struct Memory {
+    shared: Shared,
+    main: MainSeat,
+}
+
+impl Model for Memory {
+    ghost use Rattle.std.specs.Prelude.{◌≡◌};
+    ghost use Rattle.sn_machine.specs.States.{IsIdle, memory_in};
+    ghost use Rattle.sn_table.specs.Answers.{main_view, IsMainOf};
+    ghost use Rattle.sn_engine.specs.Remembered.{Remembered};
+
+    ghost Value = { Remembered };
+
+    ghost view = { λ m. record { words = memory_in (main_view m.main).main.phase; rounds = (main_view m.main).main.rested; stores = (main_view m.main).main.stores } };
+
+    ghost invariant = { λ m. IsMainOf m.shared m.main × IsIdle (main_view m.main) × (m.shared.jobs ≡ 65536) };
+}
+
+impl Memory {
+    /// So many words, all 0.
+    pub fn open(alloc: Global, words: u32) -> Result<Memory, NoMemory>
+        requires { (1 ≤ words) × (words < 2 ^ 31) }
+        ensures { IfOk result (λ m. m ≡ record { words = replicate words 0; rounds = []; stores = 0 }) }
+    {
+        Memory::with_jobs(alloc, words, JOB_WORDS)
+    }
+
+    /// The same, for rounds of so many jobs.
+    fn with_jobs(alloc: Global, words: u32, jobs: u32) -> Result<Memory, NoMemory>
+        requires words { (1 ≤ words) × (words < 2 ^ 31) }
+        requires jobs { jobs ≡ 65536 }
+        ensures { IfOk result (λ m. m ≡ record { words = replicate words 0; rounds = []; stores = 0 }) }
+    {
+        let (shared, main) = Shared::open(alloc, words, jobs)?;
+        Ok(Memory { shared, main })
+    }
+
+    /// The word at a place. Nothing is stored.
+    pub fn word(&mut self, at: u32) -> u64
+        requires { at < length self.old.words }
+        ensures word { result ≡ slice_index self.old.words at }
+        ensures same { self.new ≡ self.old }
+    {
+        self.shared.load(&mut self.main, at)
+    }
+
+    /// A round of the jobs of a block: after it the words stand for the world after the walk.
+    pub fn round<H: Threads + Sync, G: Gate>(
+        &mut self,
+        rt: &H,
+        crew: &mut Crew,
+        block: &Block<'_>,
+        gate: &G,
+    )
+        requires pictures { Pictures block.now.stage.now self.old.words }
+        requires planned { IsPlanOf block.now.stage.now block.now.plan.now }
+        requires early { block.now.block < 2 ^ 63 }
+        ensures world { world_of block.now.stage.now self.new.words ≡ walk block.now.block (world_of block.now.stage.now self.old.words) }
+        ensures pictures { Pictures block.now.stage.now self.new.words }
+        ensures rounds { self.new.rounds ≡ self.old.rounds ++ record { jobs = block.now.plan.now; crew = length crew.old.hands.items } ∷ [] }
+        ensures stores { self.new.stores ≡ self.old.stores }
+        ensures crew { length crew.new.hands.items ≡ length crew.old.hands.items }
+    {
+        block_is_the_walk(block);
+        crew.round(rt, &self.shared, &mut self.main, block, block.plan, gate);
+    }
+}
+
+impl Port for Memory {
+    ghost use Rattle.std.specs.Prelude.{length};
+    ghost use Rattle.sn_mem.specs.Words.{everything, everything_is};
+
+    type Rest = Rests;
+
+    ghost words = { λ p. p.words };
+
+    ghost foot = { λ p. everything (length p.words) };
+
+    ghost rest = { λ p. p.rounds };
+
+    fn load(&mut self, at: u32) -> u64 {
+        self.shared.load(&mut self.main, at)
+    }
+
+    fn store(&mut self, at: u32, value: u64) {
+        self.shared.store(&mut self.main, at, value);
+    }
+
+    ghost inside = { λ p x t. everything_is (length p.words) x t };
+}

@@ -1,6 +1,0 @@
-use Rattle.std.proofs.Common.{arith}
-use Rattle.sn_score.proofs.Packets.{octets_from}
-use Rattle.sn_score.proofs.draft.count.Goals as goal
-
-pub returns-clause-octets : goal.returns-clause-octets
-returns-clause-octets c = octets_from c.args.bytes.now (λ i. omega (arith, c.type_inv.bytes i))

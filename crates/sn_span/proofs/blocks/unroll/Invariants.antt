@@ -1,7 +1,0 @@
--- The blocks so far. What the last jobs are stays.
-use Rattle.std.proofs.Common.{◌≡◌}
-use Rattle.sn_span.specs.Unrolling.{unrolled}
-use Rattle.sn_span.proofs.blocks.unroll.Given as goal
-
-abbrev pub invariant-loop-block : goal.invariant-loop-block
-invariant-loop-block l = l.jobs.items ≡ unrolled l.plan l.outputs l.copies.at l.block

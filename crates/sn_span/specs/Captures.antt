@@ -1,0 +1,32 @@
+-- What the capture of a block writes: a copy of the sound of its outputs.
+use Rattle.std.specs.Prelude.{◌≡◌, ◌≤◌, ℕ, ◌+◌, ◌==◌, cond, List, [], ◌∷◌, ◌++◌, length, slice_index, slice_index_or}
+use Rattle.std.specs.List.{All}
+use Rattle.sn_mem.specs.declared.extents.Extent.{Extent}
+use Rattle.sn_mem.specs.Blocks.{put, samples_at, table}
+use Rattle.sn_mem.specs.Buses.{AudioBus}
+
+-- the audio bus whose words are those of an extent
+abbrev pub bus_at : List ℕ → Extent → AudioBus
+bus_at words e = record { written = slice_index words e.at; samples = samples_at words (e.at + 1) }
+
+-- an output by its number
+abbrev pub output_at : List Extent → ℕ → Extent
+output_at outputs c = slice_index_or outputs c (record { at = 0; len = 0 })
+
+-- at most 8 audio buses
+pub record AreOutputs (outputs : List Extent) : Type 0 where
+  pub few : length outputs ≤ 8
+  pub buses : All (λ e. e.len ≡ 65) outputs
+
+-- the word of an audio bus at a frame of block b: 0 if the bus was not written in this block
+abbrev pub heard_word : ℕ → List ℕ → Extent → ℕ → ℕ
+heard_word b words e frame = cond (slice_index words e.at == b + 1) (slice_index words (e.at + 1 + frame)) 0
+
+-- the 64 words of each, one bus after the other
+abbrev pub heard_words : ℕ → List ℕ → List Extent → List ℕ
+heard_words b words [] = []
+heard_words b words (e ∷ es) = table (heard_word b words e) 64 ++ heard_words b words es
+
+-- what a capture makes of words: those of the sound of block b stand from a place on
+abbrev pub captured : List Extent → ℕ → ℕ → List ℕ → List ℕ
+captured outputs at b words = put words at (heard_words b words outputs)

@@ -1,5 +1,6 @@
-"""Runs a binary on all cases, and compares each with the model: python3 compare.py BINARY [-k WORD] [--random N] [--seed N]."""
+"""Runs a binary on all cases, and compares each with the model: python3 compare.py BINARY [-k WORD] [--random N] [--damage N] [--seed N]."""
 import argparse
+import itertools
 import os
 import subprocess
 import sys
@@ -8,6 +9,7 @@ import osc
 import server
 import serving
 from cases import CASES
+from damage import damaged_case
 from random_cases import random_case
 from words import BAD_WORDS, CONNECTIONS
 
@@ -56,13 +58,17 @@ def main():
     parser.add_argument("binary", help="the program, with words before it where a loader runs it")
     parser.add_argument("-k", default="", help="only cases whose name has this word")
     parser.add_argument("--random", type=int, default=0, help="so many random streams beside the table")
-    parser.add_argument("--seed", type=int, default=1, help="the first random stream")
+    parser.add_argument("--damage", type=int, default=0, help="so many damaged streams beside the table")
+    parser.add_argument("--seed", type=int, default=1, help="the first random or damaged stream")
     given = parser.parse_args()
-    cases = CASES + [random_case(given.seed + i) for i in range(given.random)]
-    cases = [case for case in cases if given.k in case[0]]
-    wrong = 0
+    seeds = range(given.seed, given.seed + max(given.random, given.damage))
+    drawn = (make(seed) for make, count in ((random_case, given.random), (damaged_case, given.damage)) for seed in seeds[:count])
+    count = wrong = 0
     with tempfile.TemporaryDirectory() as folder:
-        for name, words, stream in cases:
+        for name, words, stream in itertools.chain(CASES, drawn):
+            if given.k not in name:
+                continue
+            count += 1
             found = differences(server.run(words, stream), program_run(given.binary.split(), words, stream, folder))
             if found:
                 wrong += 1
@@ -72,7 +78,7 @@ def main():
             print(*found, sep="\n", flush=True)
             print(f"{len(BAD_WORDS)} command lines and {len(CONNECTIONS)} connections, {len(found)} with a difference")
             wrong += len(found)
-    print(f"{len(cases)} cases, {wrong} with a difference")
+    print(f"{count} cases, {wrong} with a difference")
     return 1 if wrong else 0
 
 

@@ -1,4 +1,5 @@
 """Runs the scripts of crates/sn_cases/data through the model, and compares: python3 scripts.py [FILE ..]."""
+import functools
 import glob
 import os
 import re
@@ -123,6 +124,12 @@ def fnv(data):
     return total
 
 
+@functools.cache
+def rendered(words, stream):
+    line, _, sound, replies = server.run(words, stream)
+    return line, sound, replies
+
+
 def model_of(case):
     """The line, the sound behind its header, the whole sound, and the replies that the model makes of a case."""
     if case.base is not None:
@@ -136,7 +143,7 @@ def model_of(case):
     if case.blocks > LONG:
         packets = server.accepted(server.settings_of(case.words), stream)
         return f"done {server.Run(server.settings_of(case.words), packets).last} blocks", b"", b"", case.replies
-    line, _, sound, replies = server.run(case.words, stream)
+    line, sound, replies = rendered(tuple(case.words), stream)
     return line, sound[44:], sound, replies
 
 

@@ -5,6 +5,7 @@ pub mod WireLoop
 pub mod Fielding
 pub mod Uniting
 pub mod BodyLoop
+pub mod Refusing
 pub mod Placing
 mod KindNames
 mod Samples

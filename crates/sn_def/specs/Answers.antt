@@ -7,6 +7,7 @@ use Rattle.sn_def.specs.declared.fault.Refused.{Refused}
 use Rattle.sn_def.specs.declared.fault.Refused.TheVariants as refused
 use Rattle.sn_def.specs.declared.fault.Unread.{Unread}
 use Rattle.sn_def.specs.declared.fault.Unread.TheVariants as unread
+use Rattle.sn_def.specs.Reading.{fault}
 
 abbrev pub texts : List (Bor (List ℕ)) → List (List ℕ)
 texts fields = map (λ f. f.now) fields
@@ -19,6 +20,11 @@ RefusedAs (refused.Because kind) read = read ≡ Err kind
 abbrev pub Gives : {X Y : Type 0} → (X → Y) → Result X Refused → Result Y DefKind → Type 0
 Gives view (Ok x) read = read ≡ Ok (view x)
 Gives view (Err e) read = RefusedAs e read
+
+-- what is told of a line that was refused
+abbrev pub told_at : ℕ → Refused → Unread
+told_at line refused.NoMemory = unread.NoMemory
+told_at line (refused.Because kind) = unread.Bad (fault line kind)
 
 abbrev pub UnreadAs : {Y : Type 0} → Unread → Result Y DefFault → Type 0
 UnreadAs unread.NoMemory read = Unit {0}

@@ -149,6 +149,7 @@ impl Def {
     /// The words of state of the unit of a number, from 0, among those of all units, at `rate`
     /// frames a second. They are kept for 44,100, 48,000 and 96,000, and worked out for any other
     /// rate.
+    #[inline(always)]
     pub fn unit_words(&self, number: usize, rate: u32) -> UnitWords
         requires { units_words rate self.now.units < 4294967296 }
         ensures { result ≡ words_at rate self.now.units number }

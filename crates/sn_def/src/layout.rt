@@ -57,6 +57,8 @@ fn first_units(units: &[Unit], number: usize) -> &[Unit]
 }
 
 /// The words of the unit of a number, worked out.
+#[cold]
+#[inline(never)]
 pub(crate) fn words_at(units: &[Unit], number: usize, rate: u32) -> UnitWords
     requires { units_words rate units.now < 4294967296 }
     ensures { result ≡ words_at rate units.now number }

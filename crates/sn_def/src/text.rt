@@ -2,7 +2,7 @@
 ghost use Rattle.std.specs.Prelude.{◌≡◌, Err, IfOk};
 ghost use Rattle.sn_def.specs.Reading.{pieces, line_at, at_line, line_number, fault, is_over, body_at, end_at, def_at, def_and_body, named_at, after_title, title_at, text_at};
 ghost use Rattle.sn_def.specs.Defs.{definition_of};
-ghost use Rattle.sn_def.specs.Answers.{Reads, texts};
+ghost use Rattle.sn_def.specs.Answers.{Reads, texts, told_at};
 ghost use Rattle.sn_def.specs.Grammar.{DefinitionText};
 ghost use Rattle.sn_def.specs.Faults.{DefinitionFault};
 ghost use Rattle.sn_def.specs.declared.fault.DefFault.{DefFault};
@@ -54,7 +54,18 @@ fn end<'a>(draft: Draft<'a>, after: &[&'a [u8]]) -> Result<Draft<'a>, Unread>
     Ok(after_end(draft, after)?)
 }
 
+/// What is told of a line that was refused.
+fn told(line: u32, why: Refused) -> Unread
+    ensures { result ≡ told_at line why }
+{
+    match why {
+        Refused::NoMemory => Unread::NoMemory,
+        Refused::Because(kind) => bad(line, kind),
+    }
+}
+
 /// A line between the first two and `end`.
+#[tactic(auto, using(crate::proofs::Refusing::told_reads))]
 fn next_line<'a>(alloc: Global, draft: Draft<'a>, text: &'a [u8]) -> Result<Draft<'a>, Unread>
     ensures { Reads (λ d. d) result (at_line (line_number draft.entry) (line_at draft.entry (pieces 32 text.now))) }
 {
@@ -62,8 +73,7 @@ fn next_line<'a>(alloc: Global, draft: Draft<'a>, text: &'a [u8]) -> Result<Draf
     let fields = fields(alloc, text)?;
     match line(alloc, draft, &fields) {
         Ok(next) => Ok(next),
-        Err(Refused::NoMemory) => Err(Unread::NoMemory),
-        Err(Refused::Because(kind)) => Err(bad(number, kind)),
+        Err(why) => Err(told(number, why)),
     }
 }
 

@@ -16,5 +16,9 @@ pub mod ToldLemmas
 pub mod QuietLemmas
 pub mod Pasts
 pub mod Memories
-pub mod BlockLemmas
 pub mod PlanLemmas
+pub mod SpanLaws
+pub mod CopyLemmas
+pub mod RenderLemmas
+pub mod SpanCounts
+pub mod RowLemmas

@@ -1,9 +1,7 @@
 -- The memory, as its port and as the words of a round.
-use Rattle.std.proofs.Common.{◌≡◌, ◌≤◌, ℕ, List, length, ap, sym, subst, ◌∙◌, arith}
-use Rattle.sn_machine.specs.Fits.{MainFits}
+use Rattle.std.proofs.Common.{◌≡◌, length, ap, sym, ◌∙◌, arith}
 use Rattle.sn_machine.specs.States.{IsIdle, memory_in, script_in}
 use Rattle.sn_machine.specs.declared.views.Phase.{Phase}
-use Rattle.sn_machine.specs.declared.views.View.{View}
 use Rattle.sn_round.specs.Scripts.{list_at}
 use Rattle.sn_table.specs.Answers.{main_view, IsMainOf}
 use Rattle.sn_table.specs.declared.seats.MainSeat.{MainSeat}

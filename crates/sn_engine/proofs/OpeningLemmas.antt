@@ -1,6 +1,9 @@
 -- An engine that was opened plays the opening world.
-use Rattle.std.proofs.Common.{◌≡◌, ◌<◌, ◌≤◌, ◌^◌, IsTrue, rules, arith, ℕ, ◌+◌, List, [], ◌∷◌, ◌++◌, map, replicate, Option, ap, ◌∙◌}
-use Rattle.std.proofs.lemmas.List.{map_push, replicate-append-replicate}
+use Rattle.std.proofs.Common.{◌≡◌, ◌<◌, ◌≤◌, ◌^◌, IsTrue, rules, arith, ℕ, suc, ◌+◌, List, [], ◌∷◌, ◌++◌, length, map, replicate, Option, ap, sym, ◌∙◌}
+use Rattle.std.proofs.lemmas.List.{map_push, length-replicate, replicate-append-replicate}
+use Rattle.sn_mem.specs.declared.extents.Extent.{Extent}
+use Rattle.sn_mem.specs.Blocks.{table}
+use Rattle.sn_mem.specs.Layout.{audio_place}
 use Rattle.sn_ports.specs.Octets.{Octets, bytes_of}
 use Rattle.sn_pcm.specs.Allowed.{is_rate, is_within}
 use Rattle.sn_pcm.specs.declared.settings.Settings.{Settings}
@@ -9,6 +12,7 @@ use Rattle.sn_clash.specs.declared.clash.Clash.{Clash}
 use Rattle.sn_machine.specs.declared.views.Rested.{Rested}
 use Rattle.sn_round.specs.declared.jobs.Job.{Job}
 use Rattle.sn_engine.specs.Playing.{Past, no_past}
+use Rattle.sn_engine.specs.Planning.{HasCopies}
 use Rattle.sn_engine.specs.Remembered.{Remembered}
 use Rattle.sn_engine.specs.Running.{Running, opened}
 use Rattle.sn_engine.specs.declared.standing.Standing.TheVariants.{Settled}
@@ -35,14 +39,28 @@ one_more_silent n texts more t silent put none =
     ∙ (λ i. silent i ++ none i ∷ [])
     ∙ replicate-append-replicate n 1 []
 
+-- the places of the first buses
+pub no_places : (places : List Extent) → places ≡ [] → places ≡ table audio_place 0
+unfolding table
+no_places places none = none
+
+pub one_more_place : (n : ℕ) (places more : List Extent) (place : Extent) → places ≡ table audio_place n → place ≡ audio_place n → more ≡ places ++ place ∷ [] → more ≡ table audio_place (n + 1)
+unfolding table
+one_more_place n places more place so_far is put =
+    let e : n + 1 ≡ suc n = omega arith in
+    put ∙ ((λ i. so_far i ++ is i ∷ []) ∙ ap (table audio_place) (sym e))
+
 -- what each setting is
+pub channels_fit : (channels : ℕ) → IsTrue (is_within 1 8 channels) → channels ≤ 8
+channels_fit channels h = search rules
+
 pub rate_fits : (rate : ℕ) → IsTrue (is_rate rate) → (0 < rate) × (rate ≤ 96000)
 rate_fits rate h = search rules
 
 pub memory_fits : (memory : ℕ) → IsTrue (is_within 65536 16777216 memory) → 10368 + memory < 4294967296
 memory_fits memory h = search rules
 
-pub memory_opens : (memory : ℕ) → IsTrue (is_within 65536 16777216 memory) → (1 ≤ 10368 + memory) × (10368 + memory < 2 ^ 31)
+pub memory_opens : (memory : ℕ) → IsTrue (is_within 65536 16777216 memory) → (1 ≤ 10368 + memory + 16384) × (10368 + memory + 16384 < 2 ^ 31)
 memory_opens memory h = let most : memory ≤ 16777216 = search rules in (omega arith, omega (arith, most))
 
 pub workers_fit : (workers : ℕ) → IsTrue (is_within 1 16 workers) → (1 ≤ workers) × (workers ≤ 16)
@@ -54,3 +72,19 @@ workers_fit workers h =
 pub opens_past : (workers words : ℕ) (jobs : List Job) (memory : Remembered) (crew : ℕ) → jobs ≡ [] → memory ≡ record { words = replicate words 0; rounds = []; stores = 0 } → crew ≡ workers
     → a_past jobs memory.rounds memory.stores crew ≡ no_past workers
 opens_past workers words jobs memory crew none zeros all = λ i. a_past (none i) (zeros i).rounds (zeros i).stores (all i)
+
+-- there is room for the copies
+pub opens_copies : (channels memory rate clients copies : ℕ) (stage : Stage) (words : List ℕ) (outputs : List Extent) → IsTrue (is_within 1 8 channels) → IsTrue (is_within 65536 16777216 memory) → IsOpening rate memory clients stage → copies ≡ 10368 + memory
+    → words ≡ replicate (copies + 16384) 0 → outputs ≡ table audio_place channels → HasCopies channels stage words outputs copies
+opens_copies channels memory rate clients copies stage words outputs few large o at zeros places =
+    let most : 10368 + memory < 4294967296 = memory_fits memory large in
+    let roomy = memory_opens memory large in
+    let region : stage.pool.region.len ≡ memory = ap (λ p. p.region.len) o.pool in
+    let long : length words ≡ copies + 16384 = ap length zeros ∙ length-replicate (copies + 16384) 0 in
+    record {
+      few = channels_fit channels few;
+      outputs_are = places;
+      behind = omega (arith, region, at);
+      fits = omega (arith, long);
+      bounded = omega (arith, at, roomy.1);
+    }

@@ -15,3 +15,4 @@ pub mod Holding
 pub mod Remembered
 pub mod Planning
 pub mod Playing
+pub mod Spans

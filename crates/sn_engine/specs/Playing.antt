@@ -1,6 +1,6 @@
 -- Playing
 -- What an engine plays, and what its rounds were.
-use Rattle.std.specs.Prelude.{◌≡◌, ℕ, List, [], ◌∷◌, ◌++◌}
+use Rattle.std.specs.Prelude.{◌≡◌, ℕ, List, []}
 use Rattle.sn_round.specs.declared.jobs.Job.{Job}
 use Rattle.sn_machine.specs.declared.views.Rested.{Rested}
 use Rattle.sn_engine.specs.Running.{Running}
@@ -19,10 +19,6 @@ pub record Playing : Type 0 where
 -- before anything happened, with so many workers
 abbrev pub no_past : ℕ → Past
 no_past crew = record { jobs = []; rounds = []; stores = 0; crew = crew }
-
--- one more round was rested, of the jobs of the plan and with all workers, and no word was stored to while none ran
-abbrev pub with_round : Past → Past
-with_round p = record p { rounds = p.rounds ++ record { jobs = p.jobs; crew = p.crew } ∷ [] }
 
 -- no round was rested, and the plan is the same
 abbrev pub KeepsRounds : Past → Past → Type 0

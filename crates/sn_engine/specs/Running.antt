@@ -78,7 +78,3 @@ turn_settled r = settled (r.block - 1) (unsaid r.world)
 -- the settling of the block before
 abbrev pub with_settled : Running → Running
 with_settled r = record r { standing = Settled; world = (turn_settled r).world; replies = with_frames 0 (turn_settled r).replies r.replies }
-
--- so many blocks may be rendered before the next boundary
-abbrev pub IsQuiet : ℕ → Type 0
-IsQuiet n = n ≡ 1

@@ -1,11 +1,12 @@
 //! What happens at a boundary.
-ghost use Rattle.std.specs.Prelude.{◌≡◌, [], true, length, IfOk, OnOk};
+ghost use Rattle.std.specs.Prelude.{◌≡◌, [], ℕ, List, true, length, IfOk, OnOk};
+ghost use Rattle.sn_mem.specs.declared.extents.Extent.{Extent};
 ghost use Rattle.sn_world.specs.World.{world_of};
 ghost use Rattle.sn_world.specs.Pictures.{Pictures, WritesWorld};
 ghost use Rattle.sn_engine.specs.Answerable.{AllAnswerable};
 ghost use Rattle.sn_engine.specs.Boundary.{turn_at, waiting_at, clashes_at, replies_at, quits_at};
 ghost use Rattle.sn_engine.specs.Holding.{StillHold};
-ghost use Rattle.sn_engine.specs.Planning.{IsPlanOf, StillPlanned};
+ghost use Rattle.sn_engine.specs.Planning.{IsPlannedFor, IsSpanned, StillPlanned, StillSpanned};
 
 use crate::acting::act_due;
 use crate::clashing::take_clashes;
@@ -35,7 +36,7 @@ pub fn act_boundary<P: Port>(
     requires silent { said.old ≡ [] }
     requires waiting { AllAnswerable queue.old.waiting }
     requires hold { StillHold hold stage.old held.old }
-    requires planned { StillPlanned hold stage.old planned.old.jobs }
+    requires planned { StillPlanned hold stage.old planned.old.jobs planned.old.quiet }
     requires pictures { Pictures stage.old (P.words port.old) }
     requires foot { WritesWorld (P.foot port.old) stage.old.pool.region }
     ensures world { OnOk result (world_of stage.new (P.words port.new) ≡ (turn_at now queue.old (world_of stage.old (P.words port.old))).world) }
@@ -44,7 +45,8 @@ pub fn act_boundary<P: Port>(
     ensures kept { queue.new ≡ record queue.old { waiting = queue.new.waiting } }
     ensures clashes { OnOk result (held.new ≡ clashes_at now queue.old (world_of stage.old (P.words port.old))) }
     ensures hold { OnOk result (StillHold true stage.new held.new) }
-    ensures planned { OnOk result (IsPlanOf stage.new planned.new.jobs) }
+    ensures planned { OnOk result (IsPlannedFor stage.new planned.new.jobs planned.new.quiet) }
+    ensures spanned { OnOk result ((outputs : List Extent) (copies : ℕ) → StillSpanned hold planned.old.jobs outputs copies planned.old.all planned.old.blocks → IsSpanned planned.new.jobs outputs copies planned.new.all planned.new.blocks) }
     ensures replies { OnOk result (said.new ≡ replies_at now queue.old held.old (world_of stage.old (P.words port.old))) }
     ensures waiting { AllAnswerable queue.new.waiting }
     ensures pictures { Pictures stage.new (P.words port.new) }

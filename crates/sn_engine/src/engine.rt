@@ -1,7 +1,9 @@
-ghost use Rattle.std.specs.Prelude.{◌≡◌, ◌≤◌, ◌<◌, ◌+◌, ◌^◌, [], Option, length, map, replicate, slice_index_or, slice_set, IfOk, OnOk, OnErr};
+ghost use Rattle.std.specs.Prelude.{◌≡◌, ◌≤◌, ◌<◌, ◌+◌, ◌^◌, [], true, false, ℕ, Option, length, map, replicate, slice_index_or, slice_set, IfOk, OnOk, OnErr};
 ghost use Rattle.sn_osc.specs.Shape.{shape};
 ghost use Rattle.sn_ports.specs.Causes.{HasCause};
 ghost use Rattle.sn_ports.specs.Links.{KeepsEvents};
+ghost use Rattle.sn_mem.specs.Blocks.{table};
+ghost use Rattle.sn_mem.specs.Layout.{audio_place};
 ghost use Rattle.sn_ports.specs.Octets.{bytes_of};
 ghost use Rattle.sn_ports.specs.Transfer.{TakesAll};
 ghost use Rattle.sn_queue.specs.Steps.{last_due};
@@ -10,25 +12,27 @@ ghost use Rattle.sn_engine.specs.Arriving.{IsSpelled, next_boundary, offered, wi
 ghost use Rattle.sn_engine.specs.Entries.{entries_of};
 ghost use Rattle.sn_engine.specs.Refusing.{with_bad_packet};
 ghost use Rattle.sn_engine.specs.Planning.{IsPlanOfWorld};
-ghost use Rattle.sn_engine.specs.Playing.{no_past, with_round, KeepsRounds, KeepsRested};
-ghost use Rattle.sn_engine.specs.Running.{Running, IsQuiet, opened, at_boundary, flow_at, KeepsRest, with_block, with_settled};
+ghost use Rattle.sn_engine.specs.Playing.{no_past, KeepsRounds, KeepsRested};
+ghost use Rattle.sn_engine.specs.Spans.{HasRounds, IsQuiet, in_turn, with_blocks};
+ghost use Rattle.sn_engine.specs.Running.{Running, opened, at_boundary, flow_at, KeepsRest, with_block, with_settled};
 ghost use Rattle.sn_engine.specs.declared.standing.Standing.TheVariants.{Settled, Bounded, Rendered, Spent};
 
 use crate::bounding::act_boundary;
 use crate::entry::entries;
-use crate::hearing::hear_block;
 use crate::memory::Memory;
 use crate::offering::offer_entries;
 use crate::planning::Planned;
 use crate::refusing::bad_packet;
+use crate::rendering::{Part, render};
 use crate::room::reserve_settling;
 use crate::settling::settle_before;
+use crate::spans::MOST_BLOCKS;
 use crate::standing::{Flow, Standing};
 use sn_clash::Clashes;
 use sn_crew::Crew;
+use sn_mem::{Extents, Places};
 use sn_osc::Packet;
-use sn_pcm::{Settings, frames};
-use sn_play::Block;
+use sn_pcm::Settings;
 use sn_ports::{Failed, Gate, Link, NoMemory, Sink, Text, send_all, write_all};
 use sn_queue::Queue;
 use sn_reply::{Replies, send};
@@ -40,10 +44,14 @@ use std::thread::Threads;
 /// How many words the buses take.
 const BUS_WORDS: u32 = 10368;
 
-/// How many samples a block of 8 channels has, and how many bytes these take.
+/// How many words the copies of 32 blocks take: of each block 64 samples of 8 channels.
+const COPY_WORDS: u32 = 16384;
+
+/// How many samples a block of 8 channels has.
 const BLOCK_SAMPLES: usize = 512;
 
-const BLOCK_BYTES: u32 = 1536;
+/// How many bytes the samples of 32 blocks take.
+const SPAN_BYTES: u32 = 49152;
 
 /// What is played: the nodes, the words of the buses and of the pool with the crew that shares them, the entries that wait, and the
 /// bytes that are still to be written.
@@ -64,6 +72,11 @@ pub struct Engine {
     clashes: Clashes,
     planned: Planned,
     holds: bool,
+    // The audio buses that are heard, and where the copies of their sound begin, behind the words of the pool.
+    outputs: Extents,
+    copies: u32,
+    // How many blocks in a row a boundary makes ready, at most.
+    wanted: u32,
     block: u64,
     standing: Standing,
     sound: Text,
@@ -85,7 +98,7 @@ impl Model for Engine {
     ghost use Rattle.sn_world.specs.SettleWords.{walk_room};
     ghost use Rattle.sn_engine.specs.Keeping.{HasRoom, IsRoom};
     ghost use Rattle.sn_engine.specs.Holding.{StillHold};
-    ghost use Rattle.sn_engine.specs.Planning.{StillPlanned, HoldsBounded};
+    ghost use Rattle.sn_engine.specs.Planning.{HasCopies, StillPlanned, StillSpanned, HoldsBounded};
 
     ghost Value = { Playing };
 
@@ -98,7 +111,20 @@ impl Model for Engine {
 
     ghost invariant = { λ e. Pictures e.stage e.memory.words × AllAnswerable e.queue.waiting × HasRoom e.standing e.sound.spare (vec_capacity e.samples) (walk_room (running_labels e.stage.tree.attached)) e.endings.spare e.replies.items
         × IsRoom e.standing e.room (walk_room (running_labels e.stage.tree.attached)) × (e.room < 2 ^ 30) × (length e.replies.items ≤ 4)
-        × StillHold e.holds e.stage e.clashes × StillPlanned e.holds e.stage e.planned.jobs × HoldsBounded e.standing e.holds };
+        × StillHold e.holds e.stage e.clashes × StillPlanned e.holds e.stage e.planned.jobs e.planned.quiet × HoldsBounded e.standing e.holds
+        × StillSpanned e.holds e.planned.jobs e.outputs e.copies e.planned.all e.planned.blocks
+        × HasCopies e.settings.channels e.stage e.memory.words e.outputs e.copies };
+}
+
+/// Whether a boundary was done, and its blocks are next.
+fn is_bounded(standing: Standing) -> bool
+    ensures bounded { result ≡ true → standing ≡ Bounded }
+    ensures other { result ≡ false → standing ≡ Bounded → ⊥ }
+{
+    match standing {
+        Standing::Bounded => true,
+        Standing::Settled | Standing::Rendered | Standing::Spent => false,
+    }
 }
 
 /// Nothing to send to so many clients.
@@ -110,6 +136,18 @@ fn silent(alloc: Global, clients: u32) -> Result<Vec<Text>, NoMemory>
         texts.push(Text::new(alloc))?;
     }
     Ok(texts)
+}
+
+/// The places of the first audio buses.
+fn first_buses(alloc: Global, channels: u32) -> Result<Extents, NoMemory>
+    requires { channels ≤ 8 }
+    ensures { IfOk result (λ outputs. outputs ≡ table audio_place channels) }
+{
+    let mut outputs = Extents::new(alloc);
+    for bus in 0..channels {
+        outputs.push(Places::audio(bus))?;
+    }
+    Ok(outputs)
 }
 
 /// Sends a text, and drops it.
@@ -155,7 +193,9 @@ impl Engine {
     {
         let stage = Stage::new(alloc, settings.rate, settings.memory, clients)?;
         let planned = Planned::nothing(alloc, &stage)?;
-        let memory = Memory::open(alloc, BUS_WORDS + settings.memory)?;
+        let copies = BUS_WORDS + settings.memory;
+        let memory = Memory::open(alloc, copies + COPY_WORDS)?;
+        let outputs = first_buses(alloc, settings.channels)?;
         let crew = Crew::open(alloc, settings.workers)?;
         let queue = Queue::new(alloc, base, settings.rate, limit);
         let clashes = Clashes::new(alloc);
@@ -173,6 +213,9 @@ impl Engine {
             clashes,
             planned,
             holds: false,
+            outputs,
+            copies,
+            wanted: 1,
             block: 0,
             standing: Standing::Settled,
             sound,
@@ -275,7 +318,7 @@ impl Engine {
         self.standing = Standing::Spent;
         self.samples.clear();
         self.samples.reserve(BLOCK_SAMPLES)?;
-        self.sound.reserve(BLOCK_BYTES)?;
+        self.sound.reserve(SPAN_BYTES)?;
         let mut said = Replies::new(alloc);
         let hold = self.holds;
         self.holds = false;
@@ -290,50 +333,77 @@ impl Engine {
             hold,
             &mut said,
         )?;
-        self.holds = true;
+        let blocks = self.planned.span(&self.queue, self.block, self.wanted);
+        self.planned
+            .unroll(alloc, blocks, &self.outputs, self.copies)?;
         send(alloc, &mut self.replies, 0, said)?;
         self.room = reserve_settling(&self.stage, &mut self.endings, &mut self.replies)?;
+        self.holds = true;
         self.standing = Standing::Bounded;
         Ok(if quits { Flow::Quit } else { Flow::On })
     }
 
-    /// How many of so many blocks may be rendered before the next boundary.
-    pub fn span(&self, want: u32) -> u32
-        requires { 1 ≤ want }
-        ensures { IsQuiet result × (result ≤ want) }
+    /// Tells how many blocks may be asked for in a row: a boundary makes the jobs of a row ready, up to so many. It is 1 at first.
+    pub fn want(&mut self, blocks: u32)
+        ensures { self.new ≡ self.old }
     {
-        1
+        self.wanted = blocks.min(MOST_BLOCKS);
     }
 
-    /// The next block: a round of the jobs of the plan, which the crew shares, and its sound. The world after it is that of the walk over
-    /// the nodes, whatever their number of workers. Each job passes the gate before it runs. It takes no memory.
-    pub fn blocks<H: Threads + Sync, G: Gate>(&mut self, rt: &H, n: u32, gate: &G)
-        requires quiet { IsQuiet n }
-        requires bounded { self.old.running.standing ≡ Bounded }
-        requires block { self.old.running.block < 2 ^ 62 }
-        ensures running { self.new.running ≡ with_block self.old.running }
-        ensures past { self.new.past ≡ with_round self.old.past }
+    /// How many of so many blocks may be rendered before the next boundary. Behind a boundary this is the greatest such number.
+    pub fn span(&self, want: u32) -> u32
+        requires { 1 ≤ want }
+        ensures want { result ≤ want }
+        ensures quiet { IsQuiet self.now result }
+        ensures most { self.now.running.standing ≡ Bounded → self.now.running.block < 2 ^ 62 → (n : ℕ) → n ≤ want → IsQuiet self.now n → n ≤ result }
     {
-        let block = Block {
+        if !is_bounded(self.standing) {
+            return 1;
+        }
+        self.planned.span(&self.queue, self.block, want)
+    }
+
+    /// The next blocks, as many as may come before the next boundary, and their sound. They are one round of the jobs of the plan in so
+    /// many blocks, if a boundary made these ready, or else a round each; the crew shares the jobs. The world after them is that of as
+    /// many walks over the nodes, whatever their number of workers. Each job passes the gate before it runs. It takes no memory.
+    pub fn blocks<H: Threads + Sync, G: Gate>(&mut self, rt: &H, n: u32, gate: &G)
+        requires quiet { IsQuiet self.old n }
+        requires bounded { self.old.running.standing ≡ Bounded }
+        requires block { self.old.running.block + n ≤ 2 ^ 62 }
+        ensures running { self.new.running ≡ with_blocks n self.old.running }
+        ensures past { HasRounds n self.old.past self.new.past }
+    {
+        let part = Part {
             stage: &self.stage,
-            plan: &self.planned.jobs,
-            places: &self.planned.places,
-            block: self.block,
+            planned: &self.planned,
+            settings: &self.settings,
+            outputs: &self.outputs,
+            copies: self.copies,
+            first: self.block,
+            blocks: n,
         };
-        self.memory.round(rt, &mut self.crew, &block, gate);
-        hear_block(
+        render(
+            rt,
+            &part,
             &mut self.memory,
-            &self.stage,
-            self.settings.channels,
-            self.block,
+            &mut self.crew,
+            gate,
             &mut self.samples,
+            &mut self.sound,
         );
-        frames(&self.settings, &self.samples, &mut self.sound);
-        self.block += 1;
+        self.block += u64::from(n);
         self.standing = Standing::Rendered;
     }
 
-    /// Settles the block that was rendered: its triggers are told, and the units that ended in it pause or free their synths. It takes no
+    /// A law: behind a boundary, blocks in a row that are settled once, after the last, are as many that are settled each, after a
+    /// boundary each.
+    pub fn rows_are_turns(&self)
+        ensures { self.now.running.standing ≡ Bounded → (r : Running) (n : ℕ) → self.now.running ≡ at_boundary r → IsQuiet self.now n → with_settled (with_blocks n self.now.running) ≡ in_turn n r }
+    {
+        let _ = &self.stage;
+    }
+
+    /// Settles the blocks that were rendered: triggers of the last are told, and the units that ended pause or free their synths. It takes no
     /// memory.
     pub fn settle(&mut self)
         requires rendered { self.old.running.standing ≡ Rendered }

@@ -1,9 +1,10 @@
 //! The sound of a block.
-ghost use Rattle.std.specs.Prelude.{◌≡◌, ◌==◌, ◌≤◌, ◌<◌, ◌+◌, ◌++◌, ◌∷◌, [], ◌^◌, ℕ, length, vec_capacity};
+ghost use Rattle.std.specs.Prelude.{◌≡◌, ◌==◌, ◌≤◌, ◌<◌, ◌+◌, ◌++◌, ◌∷◌, [], ◌^◌, ℕ, length, slice_index, vec_capacity};
+ghost use Rattle.sn_mem.specs.Blocks.{sample_in};
 ghost use Rattle.sn_mem.specs.Buses.{audio_bus, heard};
 ghost use Rattle.sn_world.specs.World.{world_of};
 ghost use Rattle.sn_engine.specs.Hearing.{AreWritten};
-ghost use Rattle.sn_engine.specs.Outputs.{frame_of, frames_of};
+ghost use Rattle.sn_engine.specs.Outputs.{copied_frame, copied_frames, frame_of, frames_of};
 
 use crate::memory::Memory;
 use sn_mem::{Places, sample_of};
@@ -103,5 +104,47 @@ pub fn hear_block(
     let written = written_buses(memory, block);
     for frame in 0..64 {
         append_frame(memory, stage, channels, &written, frame, samples);
+    }
+}
+
+/// The sample in the word at a place.
+fn sample_at(memory: &mut Memory, at: u32) -> i32
+    requires { at < length memory.old.words }
+    ensures sample { result ≡ sample_in (slice_index memory.old.words at) }
+    ensures same { memory.new ≡ memory.old }
+{
+    sample_of(memory.word(at))
+}
+
+/// Appends a frame of the sound of a block out of its copy: for each of the first audio buses it has 64 samples.
+fn append_copied(memory: &mut Memory, channels: u32, at: u32, frame: u32, samples: &mut Vec<i32>)
+    requires channels { channels ≤ 8 }
+    requires frame { frame < 64 }
+    requires inside { at + 512 ≤ length memory.old.words }
+    requires bounded { at + 512 < 4294967296 }
+    requires room { length samples.old.items + channels ≤ vec_capacity samples.old }
+    ensures samples { samples.new.items ≡ samples.old.items ++ copied_frame channels at memory.old.words frame }
+    ensures room { vec_capacity samples.old ≤ vec_capacity samples.new }
+    ensures same { memory.new ≡ memory.old }
+{
+    for bus in 0..channels {
+        put_sample(samples, sample_at(memory, at + 64 * bus + frame));
+    }
+}
+
+/// The 64 frames of a block's sound out of its copy, in place of what was there. It takes no memory where there is room for them.
+pub fn hear_copy(memory: &mut Memory, channels: u32, at: u32, samples: &mut Vec<i32>)
+    requires channels { channels ≤ 8 }
+    requires inside { at + 512 ≤ length memory.old.words }
+    requires bounded { at + 512 < 4294967296 }
+    requires room { 512 ≤ vec_capacity samples.old }
+    ensures few { length samples.new.items ≤ 512 }
+    ensures samples { samples.new.items ≡ copied_frames channels at memory.old.words 64 }
+    ensures room { 512 ≤ vec_capacity samples.new }
+    ensures same { memory.new ≡ memory.old }
+{
+    samples.clear();
+    for frame in 0..64 {
+        append_copied(memory, channels, at, frame, samples);
     }
 }

@@ -13,8 +13,10 @@ mod memory;
 mod offering;
 mod planning;
 mod refusing;
+mod rendering;
 mod room;
 mod settling;
+mod spans;
 mod standing;
 
 pub use engine::Engine;

@@ -1,14 +1,18 @@
 //! The memory between rounds and in them.
-ghost use Rattle.std.specs.Prelude.{◌≡◌, ◌≤◌, ◌<◌, ◌^◌, ◌++◌, ◌∷◌, [], IfOk, length, replicate, slice_index};
+ghost use Rattle.std.specs.Prelude.{◌≡◌, ◌≤◌, ◌<◌, ◌+◌, ◌*◌, ◌^◌, ◌++◌, ◌∷◌, [], ℕ, IfOk, length, replicate, slice_index};
+ghost use Rattle.sn_mem.specs.Blocks.{table};
+ghost use Rattle.sn_mem.specs.Layout.{audio_place};
 ghost use Rattle.sn_world.specs.Pictures.{Pictures};
 ghost use Rattle.sn_world.specs.Walk.{walk};
 ghost use Rattle.sn_world.specs.World.{world_of};
+ghost use Rattle.sn_round.specs.Jobs.{IsRaceFree};
+ghost use Rattle.sn_play.specs.Spans.{ArePlayed, IsSpanReady};
 ghost use Rattle.sn_engine.specs.Planning.{IsPlanOf};
 
 use sn_crew::Crew;
 use sn_machine::Rests;
 use sn_mem::Port;
-use sn_play::{Block, block_is_the_walk};
+use sn_play::{Block, Span, block_is_the_walk, span_is_the_walks};
 use sn_ports::{Gate, NoMemory};
 use sn_table::{MainSeat, Shared};
 use std::alloc::Global;
@@ -79,12 +83,38 @@ impl Memory {
         requires early { block.now.block < 2 ^ 63 }
         ensures world { world_of block.now.stage.now self.new.words ≡ walk block.now.block (world_of block.now.stage.now self.old.words) }
         ensures pictures { Pictures block.now.stage.now self.new.words }
+        ensures length { length self.new.words ≡ length self.old.words }
         ensures rounds { self.new.rounds ≡ self.old.rounds ++ record { jobs = block.now.plan.now; crew = length crew.old.hands.items } ∷ [] }
         ensures stores { self.new.stores ≡ self.old.stores }
         ensures crew { length crew.new.hands.items ≡ length crew.old.hands.items }
     {
         block_is_the_walk(block);
         crew.round(rt, &self.shared, &mut self.main, block, block.plan, gate);
+    }
+
+    /// A round of the jobs of several blocks: after it the words stand for the world after the walks of the blocks, and the copies hold
+    /// the sound of each.
+    pub fn span<H: Threads + Sync, G: Gate>(
+        &mut self,
+        rt: &H,
+        crew: &mut Crew,
+        span: &Span<'_>,
+        gate: &G,
+    )
+        requires pictures { Pictures span.now.first.stage.now self.old.words }
+        requires ready { IsSpanReady span.now }
+        requires free { IsRaceFree span.now.all.now }
+        requires few { length span.now.all.now ≤ 65536 }
+        requires fits { span.now.copies + 512 * span.now.blocks ≤ length self.old.words }
+        ensures played { (channels : ℕ) → span.now.outputs.now ≡ table audio_place channels → ArePlayed span.now.first.stage.now span.now.first.block span.now.blocks span.now.copies channels self.old.words self.new.words }
+        ensures length { length self.new.words ≡ length self.old.words }
+        ensures rounds { self.new.rounds ≡ self.old.rounds ++ record { jobs = span.now.all.now; crew = length crew.old.hands.items } ∷ [] }
+        ensures stores { self.new.stores ≡ self.old.stores }
+        ensures crew { length crew.new.hands.items ≡ length crew.old.hands.items }
+    {
+        span_is_the_walks(span);
+        span.all.is_well_formed();
+        crew.round(rt, &self.shared, &mut self.main, span, span.all, gate);
     }
 }
 

@@ -1,13 +1,20 @@
 //! The plan of a stage, and where the synths of its jobs stand.
-ghost use Rattle.std.specs.Prelude.{◌≡◌, [], IfOk};
+ghost use Rattle.std.specs.Prelude.{◌≡◌, ◌<◌, ◌≤◌, ◌+◌, ◌^◌, [], ℕ, length, IfOk, OnOk};
+ghost use Rattle.sn_round.specs.Jobs.{IsRaceFree};
+ghost use Rattle.sn_span.specs.Unrolling.{start};
 ghost use Rattle.sn_engine.specs.Holding.{AreClashesOf};
-ghost use Rattle.sn_engine.specs.Planning.{IsPictured, IsPlanOf};
+ghost use Rattle.sn_engine.specs.Planning.{IsPictured, IsPlannedFor, IsSpanned, IsSpanOf};
 
+use crate::spans::{LATEST_BLOCK, blocks_before_due, most_blocks};
 use sn_clash::{Clashes, world_has_the_clashes};
 use sn_graph::{plan, worlds_are_disjoint};
+use sn_mem::{Extent, Extents};
 use sn_play::SynthPlaces;
 use sn_ports::NoMemory;
+use sn_queue::Queue;
+use sn_quiet::is_quiet;
 use sn_round::Plan;
+use sn_span::unroll;
 use sn_world::Stage;
 use std::alloc::Global;
 
@@ -18,24 +25,44 @@ pub struct Planned {
     pub jobs: Plan,
     /// Where their synths stand.
     pub places: SynthPlaces,
+    /// Whether no synth that runs sends a trigger, or pauses or frees itself at the end of a unit.
+    pub quiet: bool,
+    /// The jobs in several blocks.
+    pub all: Plan,
+    /// In how many. If these are not more than one, there are none.
+    pub blocks: u32,
+}
+
+/// A plan without jobs.
+#[tactic(auto, using(crate::proofs::PlanLemmas::no_jobs_are))]
+fn no_plan(alloc: Global) -> Result<Plan, NoMemory>
+    ensures { IfOk result (λ plan. plan ≡ []) }
+{
+    Plan::new(alloc, Vec::new(alloc))
 }
 
 impl Planned {
     /// No jobs.
-    #[tactic(auto, using(crate::proofs::PlanLemmas::no_jobs_are))]
     pub fn nothing(alloc: Global, stage: &Stage) -> Result<Planned, NoMemory>
         ensures { IfOk result (λ p. p.jobs ≡ []) }
     {
-        let jobs = Plan::new(alloc, Vec::new(alloc))?;
+        let jobs = no_plan(alloc)?;
         let places = SynthPlaces::new(alloc, stage, &jobs)?;
-        Ok(Planned { jobs, places })
+        Ok(Planned {
+            jobs,
+            places,
+            quiet: false,
+            all: no_plan(alloc)?,
+            blocks: 0,
+        })
     }
 
     /// The plan of a stage, given its clashes.
     pub fn of(alloc: Global, stage: &Stage, clashes: &Clashes) -> Result<Planned, NoMemory>
         requires stands { IsPictured stage.now }
         requires clashes { AreClashesOf stage.now clashes.now }
-        ensures { IfOk result (λ p. IsPlanOf stage.now p.jobs) }
+        ensures planned { IfOk result (λ p. IsPlannedFor stage.now p.jobs p.quiet) }
+        ensures none { IfOk result (λ p. p.blocks ≡ 0) }
     {
         // Hints for the proof alone: what a stage that stands for a world meets, and how few nodes a tree has.
         worlds_are_disjoint(stage);
@@ -44,6 +71,65 @@ impl Planned {
         let jobs = plan(alloc, stage, clashes.as_slice())?;
         jobs.is_well_formed();
         let places = SynthPlaces::new(alloc, stage, &jobs)?;
-        Ok(Planned { jobs, places })
+        let all = no_plan(alloc)?;
+        let quiet = is_quiet(stage);
+        Ok(Planned {
+            jobs,
+            places,
+            quiet,
+            all,
+            blocks: 0,
+        })
+    }
+
+    /// How many blocks may come in a row from a block on, as far as they are asked for: at least one.
+    pub fn span(&self, queue: &Queue, block: u64, want: u32) -> u32
+        requires { length self.now.jobs ≤ 65536 }
+        ensures some { 1 ≤ result }
+        ensures want { 2 ≤ result → result ≤ want }
+        ensures quiet { 2 ≤ result → IsSpanOf self.now.jobs self.now.quiet queue.now block result }
+        ensures most { block < 2 ^ 62 → (n : ℕ) → 2 ≤ n → n ≤ want → IsSpanOf self.now.jobs self.now.quiet queue.now block n → n ≤ result }
+    {
+        if !self.quiet {
+            return 1;
+        }
+        if block >= LATEST_BLOCK {
+            return 1;
+        }
+        let most = most_blocks(self.jobs.jobs());
+        blocks_before_due(queue, block, most.min(want))
+    }
+
+    /// Makes the plan of so many blocks, if these are more than one, and unless it is there.
+    pub fn unroll(
+        &mut self,
+        alloc: Global,
+        blocks: u32,
+        outputs: &Extents,
+        copies: u32,
+    ) -> Result<(), NoMemory>
+        requires free { IsRaceFree self.old.jobs }
+        requires few { 2 ≤ blocks → blocks ≤ 32 }
+        requires room { 2 ≤ blocks → start (length self.old.jobs) blocks ≤ 65536 }
+        requires copies { copies + 16384 < 4294967296 }
+        requires spanned { IsSpanned self.old.jobs outputs.now copies self.old.all self.old.blocks }
+        ensures jobs { self.new.jobs ≡ self.old.jobs }
+        ensures quiet { self.new.quiet ≡ self.old.quiet }
+        ensures spanned { OnOk result (IsSpanned self.new.jobs outputs.now copies self.new.all self.new.blocks) }
+    {
+        if self.blocks == blocks {
+            return Ok(());
+        }
+        self.blocks = 0;
+        if blocks < 2 {
+            return Ok(());
+        }
+        let extent = Extent {
+            at: copies,
+            len: 512 * blocks,
+        };
+        self.all = unroll(alloc, &self.jobs, blocks, outputs, extent)?;
+        self.blocks = blocks;
+        Ok(())
     }
 }

@@ -139,6 +139,8 @@ impl Slope {
     }
 
     /// A line of so many frames, at one of them.
+    #[cold]
+    #[inline(never)]
     fn at(ends: Ends, frame: u32, frames: u32) -> Slope
         requires within { frame ≤ frames }
         requires some { 0 < frames }
@@ -209,7 +211,8 @@ impl Slope {
     }
 
     /// The sample at a frame of a line, as `line_at` gives it. It divides only where the last frame
-    /// asked for isn't the one before it.
+    /// asked for isn't the one before it. It is inlined, so that a loop keeps the line in registers.
+    #[inline(always)]
     pub fn forward(&mut self, start: i32, end: i32, frame: u32, frames: u32) -> i32
         requires { frame < frames }
         ensures { result ≡ line_at start end frame frames }
@@ -222,6 +225,7 @@ impl Slope {
 
     /// The same from the last frame towards the first one: it divides only where the last frame asked
     /// for isn't the one after it.
+    #[inline(always)]
     pub fn backward(&mut self, start: i32, end: i32, frame: u32, frames: u32) -> i32
         requires some { 0 < frame }
         requires within { frame ≤ frames }

@@ -12,4 +12,4 @@ mod phases;
 mod phasor;
 
 pub use block::{run, run_with};
-pub use laws::line_is_straight;
+pub use laws::{ends_are_unseen, line_is_straight};

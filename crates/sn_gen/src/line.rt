@@ -111,6 +111,7 @@ impl Recurrence for Line {
 
     ghost step = { λ u. line u.rate };
 
+    #[inline(always)]
     fn next(&mut self, sweep: Sweep, inputs: &Blocks, frame: usize) -> (Sweep, i32) {
         let sweep = begun(self.rate, sweep, inputs, frame);
         swept(&mut self.slope, sweep)

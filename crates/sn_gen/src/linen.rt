@@ -181,6 +181,7 @@ impl Recurrence for Linen {
 
     ghost step = { λ u. linen u.rate };
 
+    #[inline(always)]
     fn next(&mut self, envelope: Envelope, inputs: &Blocks, frame: usize) -> (Envelope, i32) {
         let envelope = gated(self.rate, envelope, inputs, frame);
         let sample = height(&mut self.slope, envelope);

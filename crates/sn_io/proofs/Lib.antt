@@ -18,3 +18,4 @@ pub mod Agreeing
 pub mod ByFoot
 pub mod BusByFoot
 pub mod BufferByFoot
+pub mod Unseen

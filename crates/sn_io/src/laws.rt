@@ -1,11 +1,16 @@
-//! Laws of changes of words that see and change a foot alone, and of units that do.
+//! Laws of changes of words that see and change a foot alone, and of units that do; and of units that end.
 ghost use Rattle.std.specs.Prelude.{◌≡◌, ℕ, List, ℤ, Option};
 ghost use Rattle.sn_def.specs.declared.kind.Kind.{Kind};
+ghost use Rattle.sn_def.specs.declared.kind.Kind.TheVariants as kinds;
 ghost use Rattle.sn_def.specs.declared.control.Now.{Now};
 ghost use Rattle.sn_mem.specs.declared.extents.Foot.{Foot};
 ghost use Rattle.sn_mem.specs.declared.buffers.BufferPlace.{BufferPlace};
 ghost use Rattle.sn_mem.specs.Words.{MayWrite, touches};
 ghost use Rattle.sn_mem.specs.Frames.{framed};
+ghost use Rattle.sn_mem.specs.Buffers.{Buffer};
+ghost use Rattle.sn_done.specs.Done.{IsUnseen};
+ghost use Rattle.sn_io.specs.Triggers.{trigger_block};
+ghost use Rattle.sn_io.specs.BufferUnits.{buffer_unit};
 ghost use Rattle.sn_io.specs.ByFoot.{Agree, BlocksAgree, IsByFoot, IsPart};
 ghost use Rattle.sn_io.specs.OverWords.{bus_unit_over};
 ghost use Rattle.sn_io.specs.BuffersOverWords.{buffer_unit_over};
@@ -42,4 +47,13 @@ pub fn bus_unit_by_foot()
 /// A law: the same for a unit on a buffer.
 pub fn buffer_unit_by_foot()
     ensures { (kind : Kind) (now : Now) (f : Foot) (n : ℕ) (places : List (Option BufferPlace)) (us ws : List ℕ) (at len : ℕ) (inputs : List (List ℤ)) → MayWrite f at len → MayReachBuffer kind f inputs places → Agree (touches f) us ws → BlocksAgree (touches f) (buffer_unit_over kind now n places us at len inputs) (buffer_unit_over kind now n places ws at len inputs) }
+{}
+
+/// A law: a unit that ends does not see whether the block in which it ended was settled.
+pub fn ends_are_unseen()
+    ensures silence { (now : Now) (inputs : List (List ℤ)) → IsUnseen (λ ws. trigger_block kinds.DetectSilence now ws inputs) }
+    ensures free { (now : Now) (inputs : List (List ℤ)) → IsUnseen (λ ws. trigger_block kinds.FreeSelf now ws inputs) }
+    ensures pause { (now : Now) (inputs : List (List ℤ)) → IsUnseen (λ ws. trigger_block kinds.PauseSelf now ws inputs) }
+    ensures playing { (now : Now) (n : ℕ) (inputs : List (List ℤ)) (buffers : List (Option Buffer)) → IsUnseen {A = List (List ℤ) × List (Option Buffer)} (λ ws. let r = buffer_unit kinds.PlayBuf now n ws inputs buffers in (r.state, (r.outputs, r.buffers))) }
+    ensures recording { (now : Now) (n : ℕ) (inputs : List (List ℤ)) (buffers : List (Option Buffer)) → IsUnseen {A = List (List ℤ) × List (Option Buffer)} (λ ws. let r = buffer_unit kinds.RecordBuf now n ws inputs buffers in (r.state, (r.outputs, r.buffers))) }
 {}

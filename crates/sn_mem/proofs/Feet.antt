@@ -24,3 +24,7 @@ may_read f f' at n j may e low high =
 
 pub read_part : (f f' : Foot) (at n at' n' : ℕ) → MayRead f at n → f' ≡ f → at ≤ at' → at' + n' ≤ at + n → MayRead f' at' n'
 read_part f f' at n at' n' may e low high = let b : at + n < 4294967296 = may.below in record { below = omega arith; each = λ i lt. may_read f f' at n (at' + i) may e (omega arith) (omega arith) }
+
+-- what may be written may be read
+pub readable : (f : Foot) (at n : ℕ) → MayWrite f at n → MayRead f at n
+readable f at n may = record { below = may.below; each = λ i lt. or_left (has f.writes (at + i)) (has f.reads (at + i)) (may.each i lt) }

@@ -1,5 +1,5 @@
 -- Blocks of equal samples.
-use Rattle.std.proofs.Common.{◌≡◌, ◌<◌, ℕ, ◌+◌, List, [], ◌∷◌, ◌++◌, ℤ, pos, length, set, take, replicate, sym, subst, ◌∙◌, arith}
+use Rattle.std.proofs.Common.{◌≡◌, ◌<◌, ℕ, ◌+◌, List, [], ◌∷◌, ℤ, pos, length, set, take, replicate, sym, subst, ◌∙◌, arith}
 use Rattle.std.proofs.lemmas.List.{take_more_set, get_or-replicate}
 use Rattle.std.proofs.lemmas.List.Elements.{All-append, All-cons, All-nil}
 use Rattle.sn_mem.specs.Blocks.{IsSteady, AreSteady}

@@ -22,8 +22,11 @@ pub fn change_block<C: Change, P: Port>(how: &C, port: &mut P, at: u32, samples:
     ensures foot { P.foot port.new ≡ P.foot port.old }
     ensures rest { P.rest port.new ≡ P.rest port.old }
 {
+    let mut loaded = [0u64; 64];
+    port.load_run(at, &mut loaded);
+    let mut words = [0u64; 64];
     for frame in 0..64 {
-        let word = port.load(at + frame as u32);
-        port.store(at + frame as u32, how.change(word, samples[frame]));
+        words[frame] = how.change(loaded[frame], samples[frame]);
     }
+    port.store_run(at, &words);
 }

@@ -1,11 +1,13 @@
 //! A port with a plain copy of its first words.
-ghost use Rattle.std.specs.Prelude.{◌≡◌, ◌<◌, ◌+◌, ◌^◌, ℕ, true, min, length, slice_set};
+ghost use Rattle.std.specs.Prelude.{◌≡◌, ◌≤◌, ◌<◌, ◌+◌, ◌^◌, ℕ, true, min, length, slice_set};
 ghost use Rattle.sn_mem.specs.Words.{has, covers, touches, writes};
+ghost use Rattle.sn_mem.specs.Blocks.{window};
 ghost use Rattle.sn_mem.specs.Frames.{outside};
 ghost use Rattle.sn_mem.specs.Copies.{IsCopied, covered_below, had_below, localized};
 
 use crate::extents::{Extent, Foot};
 use crate::port::Port;
+use crate::runs::copy_in;
 use std::collections::LinkedList;
 
 /// What a port with a copy keeps. No value of it is made.
@@ -108,6 +110,17 @@ fn put_extents<P: Port>(port: &mut P, extents: &[Extent], copy: &[u64])
     }
 }
 
+impl<'a, P> LocalPort<'a, P> {
+    /// Reads as many words of the copy as there is room for, from `at` on.
+    #[tactic(auto, using(crate::proofs::Puts::window_is))]
+    fn copy_out(&self, at: usize, into: &mut [u64])
+        requires { at + length into.old ≤ length self.now.copy.now }
+        ensures { into.new ≡ window self.now.copy.now at (length into.old) }
+    {
+        into.copy_from_slice(&self.copy[at..at + into.len()]);
+    }
+}
+
 impl<'a, P: Port> LocalPort<'a, P> {
     /// The port, with its first words in a copy, as many as there is room for. The foot is the port's.
     pub fn new(port: &'a mut P, foot: &Foot, copy: &'a mut [u64]) -> LocalPort<'a, P>
@@ -173,6 +186,32 @@ impl<P: Port> Port for LocalPort<'_, P> {
             self.copy[place] = value;
         } else {
             self.port.store(at, value);
+        }
+    }
+
+    /// In one piece, if the copy has all of them.
+    fn load_run(&mut self, at: u32, into: &mut [u64]) {
+        let begin = at as usize;
+        let end = begin + into.len();
+        if end <= self.copy.len() {
+            self.copy_out(begin, into);
+        } else {
+            for i in 0..into.len() {
+                into[i] = self.load(at + i as u32);
+            }
+        }
+    }
+
+    /// In one piece, if the copy has all of them.
+    fn store_run(&mut self, at: u32, run: &[u64]) {
+        let begin = at as usize;
+        let end = begin + run.len();
+        if end <= self.copy.len() {
+            copy_in(self.copy, begin, run);
+        } else {
+            for i in 0..run.len() {
+                self.store(at + i as u32, run[i]);
+            }
         }
     }
 

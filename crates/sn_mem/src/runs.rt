@@ -1,9 +1,17 @@
 //! Runs of words, loaded and stored.
-ghost use Rattle.std.specs.Prelude.{◌≡◌, length};
+ghost use Rattle.std.specs.Prelude.{◌≡◌, ◌≤◌, ◌+◌, length};
 ghost use Rattle.sn_mem.specs.Words.{MayWrite, MayRead};
 ghost use Rattle.sn_mem.specs.Blocks.{window, put};
 
 use crate::port::Port;
+
+/// Copies a run into words, from `at` on.
+pub(crate) fn copy_in(words: &mut [u64], at: usize, run: &[u64])
+    requires { at + length run.now ≤ length words.old }
+    ensures { words.new ≡ put words.old at run.now }
+{
+    words[at..at + run.len()].copy_from_slice(run);
+}
 
 /// Loads the words from word `at` on into `into`.
 pub fn load_words<P: Port>(port: &mut P, at: u32, into: &mut [u64])
@@ -13,9 +21,7 @@ pub fn load_words<P: Port>(port: &mut P, at: u32, into: &mut [u64])
     ensures foot { P.foot port.new ≡ P.foot port.old }
     ensures rest { P.rest port.new ≡ P.rest port.old }
 {
-    for i in 0..into.len() {
-        into[i] = port.load(at + i as u32);
-    }
+    port.load_run(at, into);
 }
 
 /// Stores the words at word `at` and on.
@@ -25,7 +31,5 @@ pub fn store_words<P: Port>(port: &mut P, at: u32, words: &[u64])
     ensures foot { P.foot port.new ≡ P.foot port.old }
     ensures rest { P.rest port.new ≡ P.rest port.old }
 {
-    for i in 0..words.len() {
-        port.store(at + i as u32, words[i]);
-    }
+    port.store_run(at, words);
 }

@@ -1,5 +1,5 @@
 -- A node that the walk reaches is found by its id.
-use Rattle.std.proofs.Common.{◌≡◌, ◌≤◌, ◌+◌, ◌⊎◌, inl, inr, ⊎_elim, ℕ, ℤ, Bool, true, false, ◌||◌, if◌then◌else◌, ◌∷◌, ◌++◌, Some, sym, refl, ap, subst, arith, true≢false}
+use Rattle.std.proofs.Common.{◌≡◌, ◌≤◌, ◌⊎◌, inl, inr, ⊎_elim, ℕ, ℤ, Bool, true, false, ◌||◌, if◌then◌else◌, ◌∷◌, ◌++◌, Some, sym, refl, ap, subst, arith, true≢false}
 use Rattle.std.specs.Ordering.{int_eq}
 use Rattle.std.proofs.lemmas.Bool.{cond_both, or_cases, or_left, or_right, false_from_ne_true}
 use Rattle.std.proofs.lemmas.Bool.Decides.{Decides-int_eq}

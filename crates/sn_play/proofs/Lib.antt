@@ -7,3 +7,6 @@ pub mod Finding
 pub mod Named
 pub mod Copied
 pub mod JobRuns
+pub mod Resting
+pub mod Spanned
+pub mod SpanRuns

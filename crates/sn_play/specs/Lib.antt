@@ -1,3 +1,4 @@
 pub mod Shares
 pub mod Named
 pub mod Blocks
+pub mod Spans

@@ -1,5 +1,5 @@
 //! Laws of a plan, of its jobs and of the walk, in a stage that stands for a world.
-ghost use Rattle.std.specs.Prelude.{◌≡◌, ◌<◌, ◌^◌, ◌∷◌, [], ℕ, List, Option, length};
+ghost use Rattle.std.specs.Prelude.{◌≡◌, ◌<◌, ◌^◌, ◌≤◌, ◌+◌, ◌*◌, ◌∷◌, [], ℕ, List, Option, length};
 ghost use Rattle.std.specs.List.{All};
 ghost use Rattle.sn_mem.specs.declared.buffers.BufferPlace.{BufferPlace};
 ghost use Rattle.sn_io.specs.ByFoot.{IsByFoot, IsPart};
@@ -18,9 +18,11 @@ ghost use Rattle.sn_graph.specs.Stages.{nodes_in};
 ghost use Rattle.sn_graph.specs.Voices.{ids_of, voices};
 ghost use Rattle.sn_round.specs.Scripts.{IsScript, list_at, sequential};
 ghost use Rattle.sn_play.specs.Blocks.{IsReady, outcome_of};
+ghost use Rattle.sn_play.specs.Spans.{ArePlayed, IsSpanReady, outcome_in};
 ghost use Rattle.sn_play.specs.Shares.{joined, share_at, shares, synths_in, voices_of, walk_synths, words_after};
 
 use crate::block::Block;
+use crate::span::Span;
 use sn_round::sequential_is_a_script;
 use sn_world::Stage;
 
@@ -92,5 +94,18 @@ pub fn block_is_the_walk(work: &Block<'_>)
     ensures walk { (words : List ℕ) → Pictures work.now.stage.now words → IsReady work.now → world_of work.now.stage.now (list_at (sequential (outcome_of work.now) (length work.now.plan.now) words) (length work.now.plan.now)) ≡ walk work.now.block (world_of work.now.stage.now words) }
 {
     work.stage.tree.root_holds_all();
+    sequential_is_a_script(work);
+}
+
+/// A law: in a memory with room for the copies, the feet of the jobs of a span that is ready lie in the memory. What its jobs
+/// make of the words, one after the other, is a script. Its last words stand for the world after the walks of its blocks,
+/// and its copies hold the sound of each.
+pub fn span_is_the_walks(work: &Span<'_>)
+    ensures feet { (words : List ℕ) → IsSpanReady work.now → Pictures work.now.first.stage.now words → work.now.copies + 512 * work.now.blocks ≤ length words → AreWithin (length words) work.now.all.now }
+    ensures script { (words : List ℕ) → IsScript work.now.all.now (length words) (sequential (outcome_in work.now) (length work.now.all.now) words) }
+    ensures played { (words : List ℕ) (ready : IsSpanReady work.now) → Pictures work.now.first.stage.now words → work.now.copies + 512 * work.now.blocks ≤ length words
+        → ArePlayed work.now.first.stage.now work.now.first.block work.now.blocks work.now.copies ready.channels words (list_at (sequential (outcome_in work.now) (length work.now.all.now) words) (length work.now.all.now)) }
+{
+    work.first.stage.tree.root_holds_all();
     sequential_is_a_script(work);
 }

@@ -6,10 +6,13 @@ mod block;
 mod laws;
 mod places;
 mod playing;
+mod span;
 
 pub use block::Block;
 pub use laws::{
     block_is_the_walk, groups_change_nothing, job_feet_have_each, job_feet_lie_in_memory,
-    job_feet_suffice, jobs_run_by_foot, plan_is_the_walk, shares_are_the_walk, voices_are_the_walk,
+    job_feet_suffice, jobs_run_by_foot, plan_is_the_walk, shares_are_the_walk, span_is_the_walks,
+    voices_are_the_walk,
 };
 pub use places::SynthPlaces;
+pub use span::Span;

@@ -20,29 +20,13 @@ use Rattle.sn_render.specs.Going.{IsAtBoundary, IsGoing, HasWritten}
 use Rattle.sn_render.specs.Outcomes.{IsTooLong}
 use Rattle.sn_render.specs.Play.{after_block, after_blocks, begun, last_of, played, to_end, to_first, sound_of}
 use Rattle.sn_render.proofs.ArrivingLemmas.{all_stay}
-use Rattle.sn_render.proofs.StepLemmas.{as_many_behind, after_block_step, boundary_step, end_step, grows, begins_more}
-use Rattle.sn_render.proofs.WritingLemmas.{within, takes_none, taken_behind, fronts_within, written_none, written_both, written_step, written_all, written_fronts}
+use Rattle.sn_render.proofs.StepLemmas.{boundary_step, begins_more}
+use Rattle.sn_render.proofs.WritingLemmas.{within, takes_none, taken_behind, written_none, written_step, written_all, written_fronts}
 
 -- ---- from block to block
 
 pub begins : (total : ℕ) (sound_old replies_old : Option (List ℕ)) (r : Running) → IsAtBoundary r → IsGoing r total total sound_old sound_old replies_old replies_old r
 begins total sound_old replies_old r stands = record { play = r; plays = refl; written = written_none sound_old replies_old r; stands = stands; count = refl }
-
-block_stands : (sound_old sound_new replies_old replies_new : Option (List ℕ)) (old new : Running) → IsAtBoundary old → HasWritten sound_old sound_new replies_old replies_new (after_block old) new → IsAtBoundary new
-block_stands sound_old sound_new replies_old replies_new old new stands w = record {
-  standing = sym (ap (λ (r : Running). r.standing) w.parts);
-  alone = sym (ap (λ (r : Running). length r.replies) w.parts ∙ as_many_behind w.replies_out new.replies) ∙ after_block_step.clients old ∙ stands.alone;
-}
-
-pub goes_on : (first : Running) (total left : ℕ) (sound_old sound_mid sound_new replies_old replies_mid replies_new : Option (List ℕ)) (old new : Running) → IsGoing first total (suc left) sound_old sound_mid replies_old replies_mid old
-    → HasWritten sound_mid sound_new replies_mid replies_new (after_block old) new → IsGoing first total left sound_old sound_new replies_old replies_new new
-goes_on first total left sound_old sound_mid sound_new replies_old replies_mid replies_new old new g w = record {
-  play = after_block g.play;
-  plays = g.plays;
-  written = written_both sound_old sound_mid sound_new replies_old replies_mid replies_new (after_block g.play) (after_block old) new (written_step after_block after_block_step sound_old sound_mid replies_old replies_mid g.play old g.written) w;
-  stands = block_stands sound_mid sound_new replies_mid replies_new old new g.stands w;
-  count = omega (arith, g.count, ap (λ (r : Running). r.block) w.parts);
-}
 
 -- ---- the end
 
@@ -63,19 +47,6 @@ pub end_cut : (first : Running) (total : ℕ) (sound_old sound_mid sound_new rep
     → TakeFronts sound_mid sound_new replies_mid replies_new (at_boundary r).sound (to_first (at_boundary r).replies) → TakeFronts sound_old sound_new replies_old replies_new (to_end total first).sound (to_first (to_end total first).replies)
 end_cut first total sound_old sound_mid sound_new replies_old replies_mid replies_new r g t =
     written_fronts sound_old sound_mid sound_new replies_old replies_mid replies_new (to_end total first) (at_boundary r) (last_written first total sound_old sound_mid replies_old replies_mid r g) (boundary_step.clients r ∙ g.stands.alone) t
-
--- in a block
-pub block_cut : (first : Running) (total left : ℕ) (sound_old sound_mid sound_new replies_old replies_mid replies_new : Option (List ℕ)) (r : Running) → IsGoing first total (suc left) sound_old sound_mid replies_old replies_mid r
-    → TakeFronts sound_mid sound_new replies_mid replies_new (after_block r).sound (to_first (after_block r).replies) → TakeFronts sound_old sound_new replies_old replies_new (to_end total first).sound (to_first (to_end total first).replies)
-block_cut first total left sound_old sound_mid sound_new replies_old replies_mid replies_new r g t =
-    let next = after_block g.play in
-    let w = written_step after_block after_block_step sound_old sound_mid replies_old replies_mid g.play r g.written in
-    let one : length (after_block r).replies ≡ 1 = after_block_step.clients r ∙ g.stands.alone in
-    let alone : length next.replies ≡ 1 = ap (λ (q : Running). length q.replies) w.parts ∙ as_many_behind w.replies_out (after_block r).replies ∙ one in
-    let all : to_end left next ≡ to_end total first = ap at_boundary g.plays in
-    subst (λ (q : Running). TakeFronts sound_old sound_new replies_old replies_new q.sound (to_first q.replies)) all
-    (fronts_within sound_old sound_new replies_old replies_new next (to_end left next) (grows (to_end left) (end_step left) next alone)
-    (written_fronts sound_old sound_mid sound_new replies_old replies_mid replies_new next (after_block r) w one t))
 
 -- in the head of the sound
 pub head_cut : (head sound replies : List ℕ) (sound_old sound_new replies_old : Option (List ℕ)) → TakesFront sound_old sound_new head → TakeFronts sound_old sound_new replies_old replies_old (head ++ sound) replies

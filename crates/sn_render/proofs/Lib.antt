@@ -6,3 +6,4 @@ pub mod ArrivingLemmas
 pub mod GoingLemmas
 pub mod OutcomeLemmas
 pub mod FaultLemmas
+pub mod RowLemmas

@@ -4,6 +4,7 @@ pub mod Play
 pub mod Arriving
 pub mod Fronts
 pub mod Going
+pub mod Rows
 pub mod Faults
 pub mod Outcomes
 pub mod Statuses

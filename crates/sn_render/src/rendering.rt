@@ -1,8 +1,9 @@
-ghost use Rattle.std.specs.Prelude.{◌≡◌, ◌<◌, ◌≤◌, ◌^◌, length, OnErr, OnOk};
+ghost use Rattle.std.specs.Prelude.{◌≡◌, ◌<◌, ◌≤◌, ◌+◌, ◌^◌, length, OnErr, OnOk};
 ghost use Rattle.sn_ports.specs.Causes.{Rose};
 ghost use Rattle.sn_render.specs.Fronts.{TakesFront, TakeFronts, TakeBoth};
-ghost use Rattle.sn_render.specs.Going.{IsAtBoundary, IsWritten, HasWritten};
-ghost use Rattle.sn_render.specs.Play.{after_block, to_end, to_first};
+ghost use Rattle.sn_render.specs.Going.{IsAtBoundary, IsWritten};
+ghost use Rattle.sn_render.specs.Play.{to_end, to_first};
+ghost use Rattle.sn_render.specs.Rows.{IsRow, IsRowCut, IsRowWritten};
 ghost use Rattle.sn_engine.specs.Running.{at_boundary};
 ghost use Rattle.sn_render.specs.Faults.{NoneElseFailed};
 ghost use Rattle.sn_engine.specs.declared.standing.Standing.TheVariants.{Settled};
@@ -15,6 +16,9 @@ use std::thread::Threads;
 
 /// How many bytes are gathered before they are written.
 const PIECE: usize = 16384;
+
+/// How many blocks are asked for in a row, at most.
+const MOST_BLOCKS: u64 = 32;
 
 /// Why a run stopped before its end.
 #[derive(Clone, Copy, Debug, PartialEq, Eq)]
@@ -82,29 +86,51 @@ fn write_replies<R: Sink>(engine: &mut Engine, least: usize, sink: &mut R) -> Re
     }
 }
 
-/// A boundary, its block and its settling, and what of the bytes is enough for a piece.
-fn render_block<H: Threads + Sync, O: Sink, R: Sink, G: Gate>(
+/// A boundary, the blocks that may follow in a row, and their settling.
+fn play_row<H: Threads + Sync, G: Gate>(
     rt: &H,
     alloc: Global,
+    most: u32,
+    engine: &mut Engine,
+    gate: &G,
+) -> Result<(), NoMemory>
+    requires most { 1 ≤ most }
+    requires block { engine.old.running.block + most ≤ 2 ^ 62 }
+    requires settled { engine.old.running.standing ≡ Settled }
+    ensures { OnOk result (IsRow most engine.old.running engine.new.running) }
+{
+    engine.want(most);
+    engine.boundary(alloc)?;
+    engine.rows_are_turns();
+    let count = engine.span(most);
+    engine.blocks(rt, count, gate);
+    engine.settle();
+    Ok(())
+}
+
+/// A row of blocks, and what of the bytes is enough for a piece.
+fn render_row<H: Threads + Sync, O: Sink, R: Sink, G: Gate>(
+    rt: &H,
+    alloc: Global,
+    most: u32,
     engine: &mut Engine,
     sound: &mut O,
     replies: &mut R,
     gate: &G,
 ) -> Result<(), Stop>
-    requires block { engine.old.running.block < 2 ^ 62 }
+    requires most { 1 ≤ most }
+    requires block { engine.old.running.block + most ≤ 2 ^ 62 }
     requires settled { engine.old.running.standing ≡ Settled }
     requires alone { length engine.old.running.replies ≡ 1 }
-    ensures block { OnOk result (HasWritten (O.taken sound.old) (O.taken sound.new) (R.taken replies.old) (R.taken replies.new) (after_block engine.old.running) engine.new.running) }
-    ensures fronts { OnErr result (TakeFronts (O.taken sound.old) (O.taken sound.new) (R.taken replies.old) (R.taken replies.new) (after_block engine.old.running).sound (to_first (after_block engine.old.running).replies)) }
+    ensures row { OnOk result (IsRowWritten most (O.taken sound.old) (O.taken sound.new) (R.taken replies.old) (R.taken replies.new) engine.old.running engine.new.running) }
+    ensures fronts { OnErr result (IsRowCut most (O.taken sound.old) (O.taken sound.new) (R.taken replies.old) (R.taken replies.new) engine.old.running) }
     ensures sound { result ≡ Err Stop.SoundFault → Rose (O.faults sound.old) (O.faults sound.new) }
     ensures reply { result ≡ Err Stop.ReplyFault → Rose (R.faults replies.old) (R.faults replies.new) }
     ensures sound_later { O.faults sound.old ≤ O.faults sound.new }
     ensures reply_later { R.faults replies.old ≤ R.faults replies.new }
     ensures unfailed { NoneElseFailed result (O.faults sound.old) (O.faults sound.new) (R.faults replies.old) (R.faults replies.new) }
 {
-    engine.boundary(alloc)?;
-    engine.blocks(rt, 1, gate);
-    engine.settle();
+    play_row(rt, alloc, most, engine, gate)?;
     write_sound(engine, PIECE, sound)?;
     write_replies(engine, PIECE, replies)?;
     Ok(())
@@ -157,8 +183,11 @@ pub fn render_blocks<H: Threads + Sync, O: Sink, R: Sink, G: Gate>(
     ensures reply { result ≡ Err Stop.ReplyFault → Rose (R.faults replies.old) (R.faults replies.new) }
     ensures unfailed { NoneElseFailed result (O.faults sound.old) (O.faults sound.new) (R.faults replies.old) (R.faults replies.new) }
 {
-    for number in 0..blocks {
-        render_block(rt, alloc, &mut engine, sound, replies, gate)?;
+    let mut done = 0;
+    while done < blocks {
+        let most = (blocks - done).min(MOST_BLOCKS) as u32;
+        render_row(rt, alloc, most, &mut engine, sound, replies, gate)?;
+        done = engine.block();
     }
     render_end(alloc, &mut engine, sound, replies)
 }

@@ -40,6 +40,16 @@ fn write_sound<O: Sink>(engine: &mut Engine, sound: &mut O) -> Result<(), Ended>
     }
 }
 
+/// The block after a boundary, and its settling.
+fn play_block<H: Threads + Sync, G: Gate>(rt: &H, engine: &mut Engine, gate: &G)
+    requires bounded { engine.old.running.standing ≡ Bounded }
+    requires block { engine.old.running.block < 2 ^ 62 }
+    ensures { engine.new.running ≡ with_settled (with_block engine.old.running) }
+{
+    engine.blocks(rt, 1, gate);
+    engine.settle();
+}
+
 /// The block after a boundary and its settling, and what comes of them is written.
 fn render_block<H: Threads + Sync, L: Link, O: Sink, G: Gate>(
     rt: &H,
@@ -64,8 +74,7 @@ fn render_block<H: Threads + Sync, L: Link, O: Sink, G: Gate>(
     ensures sound_later { O.faults sound.old ≤ O.faults sound.new }
     ensures unfailed { UnlessFault result (NothingFailed (L.faults link.old) (L.faults link.new) (O.faults sound.old) (O.faults sound.new)) }
 {
-    engine.blocks(rt, 1, gate);
-    engine.settle();
+    play_block(rt, engine, gate);
     write_sound(engine, sound)?;
     send_replies(engine, link)
 }

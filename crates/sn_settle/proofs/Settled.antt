@@ -96,7 +96,7 @@ module _ (stage : Stage) (b : ℕ) (ws : List ℕ) (p : Pictures stage ws) where
   abbrev with_parts : Nodes Content → List AudioBus → List ControlBus → List (Option Buffer) → Turn
   with_parts nodes audio control buffers = with_world (record (world_of stage ws) { nodes = nodes; audio_buses = audio; control_buses = control; buffers = buffers })
 
-  settled_turn : with_settled (told_all (triggers_in stage.rate b (with_payloads (content_of ws) stage.tree.attached)) (turn_of stage ws [])) ≡ turn_of stage words (notices_of stage.notify events)
+  pub settled_turn : with_settled (told_all (triggers_in stage.rate b (with_payloads (content_of ws) stage.tree.attached)) (turn_of stage ws [])) ≡ turn_of stage words (notices_of stage.notify events)
   settled_turn =
       ap (λ (es : List Notice). with_settled (told_all es (turn_of stage ws []))) (triggers_are stage.rate b stage.pool.region stage.tree.attached ws p.synths)
       ∙ ap (λ (n : Nodes Content). with_parts n (audio_buses ws) (control_buses ws) (buffers_of ws stage.buffers)) settled_nodes_are.is

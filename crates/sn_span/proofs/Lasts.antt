@@ -40,7 +40,7 @@ module _ (p : ℕ → Bool) where
   abbrev pub passing : ℕ → List ℕ
   passing m = filter p (table (λ i. i) m)
 
-  next_passing : (m : ℕ) → passing (m + 1) ≡ passing m ++ cond (p m) (m ∷ []) []
+  pub next_passing : (m : ℕ) → passing (m + 1) ≡ passing m ++ cond (p m) (m ∷ []) []
   next_passing m = ap (λ (xs : List ℕ). filter p xs) (table_more (λ i. i) m) ∙ filter-append p (table (λ i. i) m) (m ∷ [])
 
   pub none_passing : passing 0 ≡ []

@@ -3,5 +3,7 @@ pub mod Lasts
 pub mod Orders
 pub mod Listing
 pub mod Rounding
-pub mod Capturing
+pub mod Captured
 pub mod Spanning
+pub mod Copying
+pub mod Following

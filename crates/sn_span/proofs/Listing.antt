@@ -33,7 +33,7 @@ unfolding predecessors_in
 times_predecessors n k x [] h = times_entry n k x
 times_predecessors n k x (p ∷ ps) h = omega (arith, times_moved (start n k) x (p ∷ ps), h)
 
-entry_below : (n k x : ℕ) → Contains (entry n k) x → x < start n k
+pub entry_below : (n k x : ℕ) → Contains (entry n k) x → x < start n k
 unfolding entry
 entry_below n zero x c = absurd (nothing_in x c)
 entry_below n (suc k) x (zero, l, e) = omega (arith, e, start_next n k)

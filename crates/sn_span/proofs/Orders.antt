@@ -22,7 +22,7 @@ in_moved s [] p c = absurd (nothing_in p c)
 in_moved s (q ∷ ps) p (zero, l, e) = (0, omega arith, ap (λ n. s + n) e)
 in_moved s (q ∷ ps) p (suc k, l, e) = let c = in_moved s ps p (k, omega arith, e) in (suc c.0, omega (arith, c.1), c.2)
 
-of_moved : (s : ℕ) (ps : List ℕ) (x : ℕ) → Contains (map (λ q. s + q) ps) x → (p : ℕ) × Contains ps p × (x ≡ s + p)
+pub of_moved : (s : ℕ) (ps : List ℕ) (x : ℕ) → Contains (map (λ q. s + q) ps) x → (p : ℕ) × Contains ps p × (x ≡ s + p)
 of_moved s [] x c = absurd (nothing_in x c)
 of_moved s (q ∷ ps) x (zero, l, e) = (q, (0, omega arith, refl), sym e)
 of_moved s (q ∷ ps) x (suc k, l, e) = let (p, c, is) = of_moved s ps x (k, omega arith, e) in (p, (suc c.0, omega (arith, c.1), c.2), is)

@@ -14,7 +14,7 @@ use Rattle.sn_span.specs.Unrolling.{copy_at, start, unrolled}
 use Rattle.sn_span.specs.Captures.{bus_at, captured, heard_word, heard_words, output_at}
 use Rattle.sn_span.specs.Rounds.{EndsAsRounds, HasCopies, HoldSound, KeepsToFoot, KeepToFeet, in_span, last_of, rounds}
 use Rattle.sn_span.proofs.Places.{at_job, at_capture, block_job, block_capture, length-unrolled, place_of}
-use Rattle.sn_span.proofs.Capturing.{capture_keeps, heard_at, length-heard, sample_heard}
+use Rattle.sn_span.proofs.Captured.{capture_keeps, heard_at, length-heard, sample_heard}
 use Rattle.sn_span.proofs.Rounding.{RestsOnFeet, after_jobs, as_long, copied, list_is, outside}
 
 -- ---- how many words there are
@@ -24,7 +24,7 @@ unfolding after_jobs
 after_long g n zero ws long l = refl
 after_long g n (suc i) ws long l = long i (after_jobs g i ws) (omega (arith, l)) ∙ after_long g n i ws long (omega (arith, l))
 
-rounds_long : (jobs : List Job) (blocks : ℕ) (f : ℕ → ℕ → List ℕ → List ℕ) (base : List ℕ) → KeepToFeet jobs blocks f → (k : ℕ) → k ≤ blocks → length (rounds f (length jobs) k base) ≡ length base
+pub rounds_long : (jobs : List Job) (blocks : ℕ) (f : ℕ → ℕ → List ℕ → List ℕ) (base : List ℕ) → KeepToFeet jobs blocks f → (k : ℕ) → k ≤ blocks → length (rounds f (length jobs) k base) ≡ length base
 unfolding rounds
 rounds_long jobs blocks f base keep zero l = refl
 rounds_long jobs blocks f base keep (suc k) l =

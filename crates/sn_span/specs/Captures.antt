@@ -1,7 +1,9 @@
 -- What the capture of a block writes: a copy of the sound of its outputs.
-use Rattle.std.specs.Prelude.{◌≡◌, ◌≤◌, ℕ, ◌+◌, ◌==◌, cond, List, [], ◌∷◌, ◌++◌, length, slice_index, slice_index_or}
+use Rattle.std.specs.Prelude.{◌≡◌, ◌⊎◌, ◌≤◌, ℕ, ◌+◌, ◌*◌, ◌==◌, cond, List, [], ◌∷◌, ◌++◌, length, slice_index, slice_index_or}
 use Rattle.std.specs.List.{All}
 use Rattle.sn_mem.specs.declared.extents.Extent.{Extent}
+use Rattle.sn_mem.specs.declared.extents.Foot.{Foot}
+use Rattle.sn_mem.specs.Words.{MayRead, MayWrite}
 use Rattle.sn_mem.specs.Blocks.{put, samples_at, table}
 use Rattle.sn_mem.specs.Buses.{AudioBus}
 
@@ -9,9 +11,13 @@ use Rattle.sn_mem.specs.Buses.{AudioBus}
 abbrev pub bus_at : List ℕ → Extent → AudioBus
 bus_at words e = record { written = slice_index words e.at; samples = samples_at words (e.at + 1) }
 
+-- what stands where there is no extent
+abbrev pub no_extent : Extent
+no_extent = record { at = 0; len = 0 }
+
 -- an output by its number
 abbrev pub output_at : List Extent → ℕ → Extent
-output_at outputs c = slice_index_or outputs c (record { at = 0; len = 0 })
+output_at outputs c = slice_index_or outputs c no_extent
 
 -- at most 8 audio buses
 pub record AreOutputs (outputs : List Extent) : Type 0 where
@@ -30,3 +36,14 @@ heard_words b words (e ∷ es) = table (heard_word b words e) 64 ++ heard_words 
 -- what a capture makes of words: those of the sound of block b stand from a place on
 abbrev pub captured : List Extent → ℕ → ℕ → List ℕ → List ℕ
 captured outputs at b words = put words at (heard_words b words outputs)
+
+-- none of the n words from a place on is one of the extent
+abbrev pub IsBeside : Extent → ℕ → ℕ → Type 0
+IsBeside e at n = (e.at + e.len ≤ at) ⊎ (at + n ≤ e.at)
+
+-- a foot has what a capture touches: it may read audio buses, and write the words from a place on, which are none of theirs
+pub record CanCapture (foot : Foot) (outputs : List Extent) (at : ℕ) : Type 0 where
+  pub buses : All (λ e. e.len ≡ 65) outputs
+  pub reads : All (λ e. MayRead foot e.at 65) outputs
+  pub writes : MayWrite foot at (64 * length outputs)
+  pub beside : All (λ e. IsBeside e at (64 * length outputs)) outputs

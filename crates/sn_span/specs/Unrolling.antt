@@ -33,6 +33,10 @@ job_in jobs k i = record { synths = (job_at jobs i).synths; foot = foot_at jobs 
 unfoldable pub last_jobs : List Job → List ℕ
 last_jobs jobs = filter (λ i. length (successors jobs i) == 0) (table (λ i. i) (length jobs))
 
+-- the jobs that have no predecessors
+unfoldable pub entries : List Job → List ℕ
+entries jobs = filter (λ i. length (predecessors jobs i) == 0) (table (λ i. i) (length jobs))
+
 -- the words of a block's outputs among the copies
 abbrev pub copy_at : ℕ → ℕ → Extent
 copy_at at k = record { at = at + 512 * k; len = 512 }

@@ -1,11 +1,11 @@
 //! Laws of unrolled plans.
-ghost use Rattle.std.specs.Prelude.{◌≡◌, ◌<◌, ◌≤◌, ◌+◌, ◌*◌, ◌^◌, ℕ, List, true, length};
+ghost use Rattle.std.specs.Prelude.{◌≡◌, ◌<◌, ◌≤◌, ◌+◌, ◌*◌, ◌^◌, ◌==◌, ◌++◌, ◌∷◌, [], if◌then◌else◌, ℕ, List, true, length, map};
 ghost use Rattle.sn_mem.specs.declared.extents.Extent.{Extent};
 ghost use Rattle.sn_mem.specs.Words.{has};
 ghost use Rattle.sn_round.specs.declared.jobs.Job.{Job};
-ghost use Rattle.sn_round.specs.Jobs.{AreJobs, AreWithin, IsRaceFree, Ordered, job_at};
+ghost use Rattle.sn_round.specs.Jobs.{AreJobs, AreWithin, IsRaceFree, Ordered, job_at, successors};
 ghost use Rattle.sn_span.specs.Rounds.{AreOfRounds, IsSpan, last_of};
-ghost use Rattle.sn_span.specs.Unrolling.{by_block, capture_of, job_in, start, unrolled};
+ghost use Rattle.sn_span.specs.Unrolling.{by_block, capture_of, entries, job_in, last_jobs, start, unrolled};
 
 use sn_round::Work;
 
@@ -40,6 +40,17 @@ pub fn captures_are_barriers()
         → Ordered (unrolled jobs outputs at blocks) (start (length jobs) k + i) (start (length jobs) k + length jobs) }
     ensures before { (jobs : List Job) (outputs : List Extent) (at blocks k h i : ℕ) → AreJobs jobs → k < h → h < blocks → i ≤ length jobs
         → Ordered (unrolled jobs outputs at blocks) (start (length jobs) k + length jobs) (start (length jobs) h + i) }
+{}
+
+/// A law: the successors of a job of a block are those of the plan, in its block, or the capture if there are none. Those of
+/// a capture are the jobs of the next block that have no predecessors, or its capture if the plan has no jobs.
+pub fn successors_go_by_blocks()
+    ensures jobs { (jobs : List Job) (outputs : List Extent) (at blocks k i : ℕ) → AreJobs jobs → k < blocks → i < length jobs
+        → successors (unrolled jobs outputs at blocks) (start (length jobs) k + i) ≡ map (λ q. start (length jobs) k + q) (successors jobs i) ++ (if length (successors jobs i) == 0 then (start (length jobs) k + length jobs) ∷ [] else []) }
+    ensures captures { (jobs : List Job) (outputs : List Extent) (at blocks k : ℕ) → AreJobs jobs → k + 1 < blocks
+        → successors (unrolled jobs outputs at blocks) (start (length jobs) k + length jobs) ≡ map (λ q. start (length jobs) (k + 1) + q) (entries jobs) ++ (if length (last_jobs jobs) == 0 then (start (length jobs) (k + 1) + length jobs) ∷ [] else []) }
+    ensures last { (jobs : List Job) (outputs : List Extent) (at blocks k : ℕ) → AreJobs jobs → k + 1 ≡ blocks
+        → successors (unrolled jobs outputs at blocks) (start (length jobs) k + length jobs) ≡ [] }
 {}
 
 /// A law: the feet lie in a memory if those of the plan, the outputs and the copies do.

@@ -2,10 +2,12 @@
 #![tactic(auto)]
 
 mod blocks;
+mod capturing;
 mod laws;
 
 pub use blocks::unroll;
+pub use capturing::capture;
 pub use laws::{
-    captures_are_barriers, numbers_tell_blocks, spans_end_as_their_rounds, unrolled_goes_by_blocks,
-    unrolled_is_race_free, unrolled_lies_in_memory,
+    captures_are_barriers, numbers_tell_blocks, spans_end_as_their_rounds, successors_go_by_blocks,
+    unrolled_goes_by_blocks, unrolled_is_race_free, unrolled_lies_in_memory,
 };

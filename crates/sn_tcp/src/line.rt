@@ -17,6 +17,9 @@ use std::net::OpenStream;
 use std::os::fd::AsRawFd;
 use std::time::{Clock, Duration};
 
+/// A peer that takes nothing for so many seconds is a failure.
+const PATIENCE: u64 = 10;
+
 /// A socket, and a clock by whose time its blocks are due.
 #[derive(Drop)]
 pub(crate) struct Line<S, C> {
@@ -44,6 +47,7 @@ impl<S: Read + Write + OpenStream + AsRawFd + Drop, C: Clock + Drop> Line<S, C> 
     {
         // What is sent is not held back.
         socket.set_nodelay(true)?;
+        socket.set_write_timeout(Some(Duration::from_secs(PATIENCE)))?;
         // Block 0 is due now.
         let start = clock.monotonic()?;
         Ok(Line {
@@ -163,13 +167,19 @@ impl<S: Read + Write + OpenStream + AsRawFd + Drop, C: Clock + Drop> Line<S, C> 
         Err(io::Error::other("waited too often"))
     }
 
-    /// Sends a front of the piece.
+    /// Sends a front of the piece. A write that was interrupted is tried again.
     pub(crate) fn send(&mut self, piece: &[u8]) -> io::Result<usize>
         ensures bound { WritesAtMost result piece.now }
         ensures bytes { WriteAppends (S.contents self.old.socket) (S.contents self.new.socket) result piece.now }
         ensures rate { self.new.pace.rate ≡ self.old.pace.rate }
         ensures given { self.new.pace.given ≡ self.old.pace.given }
     {
-        self.socket.write(piece)
+        for _ in 0..u64::MAX {
+            match self.socket.write(piece) {
+                Err(error) if error.kind() == io::ErrorKind::Interrupted => {}
+                told => return told,
+            }
+        }
+        Err(io::Error::other("interrupted too often"))
     }
 }

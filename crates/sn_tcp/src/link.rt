@@ -20,7 +20,8 @@ use std::time::Clock;
 ///
 /// How it works, which the contracts of its `Pace` carry in part: blocks come when the clock says that they are due, block k after
 /// k * 64 / rate seconds. Until the next one is due, it waits for bytes, in whole milliseconds, and gives those that the socket has. After a
-/// pause the blocks that are due come 1,024 at a time, and bytes take turns with them.
+/// pause the blocks that are due come 1,024 at a time, and bytes take turns with them. If the peer takes nothing of a piece for ten seconds,
+/// sending it fails.
 #[derive(Drop)]
 pub struct TcpLink<S, C> {
     line: Line<S, C>,

@@ -5,6 +5,7 @@ use Rattle.sn_world.specs.World.{world_of}
 use Rattle.sn_engine.specs.Boundary.{due_at, left_at, entries_ask}
 use Rattle.sn_engine.proofs.QuietLemmas as quiet
 use Rattle.sn_engine.proofs.Bounded.{a_turn, acted_turn, acted_clashes, acted_replies}
+use Rattle.sn_engine.proofs.PlanLemmas.{none_spanned}
 use Rattle.sn_engine.proofs.bounding.act_boundary.Goals as goal
 
 pub returns-then-not-has_due-clause-world : goal.returns-then-not-has_due-clause-world
@@ -27,6 +28,12 @@ returns-then-not-has_due-clause-replies g c = quiet.nothing_said c.args.now c.ar
 
 pub returns-then-not-has_due-clause-planned : goal.returns-then-not-has_due-clause-planned
 returns-then-not-has_due-clause-planned g c = c.requires.planned c.if-hold.true
+
+pub returns-then-not-has_due-clause-spanned : goal.returns-then-not-has_due-clause-spanned
+returns-then-not-has_due-clause-spanned g c = λ outputs copies still. still c.if-hold.true
+
+pub returns-clause-spanned : goal.returns-clause-spanned
+returns-clause-spanned g c = λ outputs copies still. none_spanned _ outputs copies _ _ c.in_ok-planned.ensures.none
 
 pub of-requires-clause-stands : goal.of-requires-clause-stands
 of-requires-clause-stands g c = record { words = g.P.Port.words c.act_due.new.port; pictures = c.act_due.ensures.pictures }

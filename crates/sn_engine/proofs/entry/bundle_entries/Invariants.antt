@@ -1,6 +1,5 @@
 -- The entries so far, and those of the bundles that are left, are those of the whole bundle.
 use Rattle.std.proofs.Common.{◌≡◌, ◌++◌, map}
-use Rattle.sn_osc.specs.declared.packet.Packet as packets
 use Rattle.sn_engine.specs.Entries.{entries_of}
 use Rattle.sn_engine.specs.Stacks.{timed_of, entries_left, bundles_left, shape_of}
 use Rattle.sn_engine.proofs.entry.bundle_entries.Given as goal

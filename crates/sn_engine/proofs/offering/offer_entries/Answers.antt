@@ -1,4 +1,4 @@
-use Rattle.std.proofs.Common.{◌≡◌, ◌+◌, ◌∷◌, [], ◌++◌, length, map, refl, sym, ap, subst, ◌∙◌, arith, rules, append_assoc, append-nil}
+use Rattle.std.proofs.Common.{◌≡◌, ◌∷◌, [], ◌++◌, length, map, refl, sym, ap, subst, ◌∙◌, arith, rules, append_assoc, append-nil}
 use Rattle.sn_engine.specs.Answerable.{AreAnswerable}
 use Rattle.sn_engine.specs.Arriving.{Offered, offer_entry, offer_entries}
 use Rattle.sn_engine.specs.Stacks.{timed_of}

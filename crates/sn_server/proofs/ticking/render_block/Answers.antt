@@ -10,7 +10,7 @@ use Rattle.sn_server.proofs.ticking.render_block.Goals as goal
 
 pub send_replies-requires : goal.send_replies-requires
 send_replies-requires g c =
-    let done : c.settle.new.self.running ≡ with_settled (with_block c.args.engine.now.running) = c.settle.ensures.running ∙ ap with_settled c.blocks-2.ensures.running in
+    let done = c.play_block.ensures in
     record { alone = ap (λ (r : Running). length r.replies) c.write_sound.ensures.kept ∙ ap (λ (r : Running). length r.replies) done ∙ rendered_step.clients c.args.engine.now.running ∙ c.requires.alone }
 
 pub returns-in_err-write_sound-clause-unfailed : goal.returns-in_err-write_sound-clause-unfailed
@@ -32,12 +32,12 @@ returns-clause-unfailed g c =
 
 pub returns-in_err-write_sound-clause-sound_front : goal.returns-in_err-write_sound-clause-sound_front
 returns-in_err-write_sound-clause-sound_front g c =
-    let done : c.settle.new.self.running ≡ with_settled (with_block c.args.engine.now.running) = c.settle.ensures.running ∙ ap with_settled c.blocks-2.ensures.running in
+    let done = c.play_block.ensures in
     subst (λ (t : List ℕ). TakesFront (g.O.Sink.taken c.args.sound.now) (g.O.Sink.taken c.write_sound.new.sound) t) (ap (λ (r : Running). r.sound) done) c.write_sound.ensures.front
 
 pub returns-clause-sound_front : goal.returns-clause-sound_front
 returns-clause-sound_front g c =
-    let done : c.settle.new.self.running ≡ with_settled (with_block c.args.engine.now.running) = c.settle.ensures.running ∙ ap with_settled c.blocks-2.ensures.running in
+    let done = c.play_block.ensures in
     subst (λ (t : List ℕ). TakesFront (g.O.Sink.taken c.args.sound.now) (g.O.Sink.taken c.write_sound.new.sound) t) (ap (λ (r : Running). r.sound) done) c.write_sound.ensures.front
 
 pub returns-in_err-write_sound-clause-reply_front : goal.returns-in_err-write_sound-clause-reply_front
@@ -45,6 +45,6 @@ returns-in_err-write_sound-clause-reply_front g c = takes_none (g.L.Link.sent c.
 
 pub returns-clause-reply_front : goal.returns-clause-reply_front
 returns-clause-reply_front g c =
-    let done : c.settle.new.self.running ≡ with_settled (with_block c.args.engine.now.running) = c.settle.ensures.running ∙ ap with_settled c.blocks-2.ensures.running in
+    let done = c.play_block.ensures in
     subst (λ (t : List ℕ). TakesFront (g.L.Link.sent c.args.link.now) (g.L.Link.sent c.send_replies.new.link) t)
     (ap (λ (r : Running). to_first r.replies) c.write_sound.ensures.kept ∙ ap (λ (r : Running). to_first r.replies) done) c.send_replies.ensures.front

@@ -1,17 +1,25 @@
-use Rattle.std.proofs.Common.{◌≡◌, ◌∙◌, ap, map, refl, length, List, ℕ, rules}
+use Rattle.std.proofs.Common.{◌≡◌, ◌≤◌, ◌∙◌, ap, map, refl, sym, subst, length, List, ℕ, arith, rules}
+use Rattle.std.specs.Prelude.{vec_capacity}
 use Rattle.std.specs.Vec.{with_items}
 use Rattle.std.proofs.lemmas.List.{with_items_is, places}
 use Rattle.sn_ports.specs.Octets.{Octets, bytes_of}
 use Rattle.sn_reply.specs.Frames.{with_frames}
 use Rattle.sn_reply.specs.Replies.{ReplyShape}
+use Rattle.sn_tree.specs.Trees.{running_labels}
+use Rattle.sn_world.specs.SettleWords.{walk_room}
 use Rattle.sn_world.specs.World.{world_of}
+use Rattle.sn_round.specs.declared.jobs.Job.{Job}
 use Rattle.sn_engine.specs.Boundary.{replies_at}
+use Rattle.sn_engine.specs.Keeping.{CanSettle}
+use Rattle.sn_engine.specs.Planning.{IsPlanOf}
 use Rattle.sn_engine.specs.Running.{Running, at_boundary}
 use Rattle.sn_engine.specs.declared.standing.Standing.TheVariants.{Bounded, Spent}
 use Rattle.sn_engine.proofs.Bounded.{bounded, rest_kept}
 use Rattle.sn_engine.proofs.ClientLemmas.{none_lost, none_sent, front_waits, all_waits}
 use Rattle.sn_engine.proofs.OfferLemmas.{on_err}
 use Rattle.sn_engine.proofs.Pasts.{running_is, past_is, rested_kept}
+use Rattle.sn_engine.proofs.PlanLemmas.{planned_again}
+use Rattle.sn_engine.proofs.RowLemmas.{still_copied}
 use Rattle.sn_engine.proofs.engine.Engine.boundary.Goals as goal
 
 abbrev told_at : Running → List ReplyShape
@@ -137,17 +145,17 @@ returns-in_err-quits-clause-past c =
 pub returns-in_err-send-clause-past : goal.returns-in_err-send-clause-past
 returns-in_err-send-clause-past c =
     let e = c.self.inside in
-    rested_kept _ c.args.self.now.past (past_is c.self.view_is) c.act_boundary.new.planned.jobs c.act_boundary.new.port.rounds c.act_boundary.new.port.stores (length e.crew.hands.items) c.act_boundary.ensures.rest refl
+    rested_kept _ c.args.self.now.past (past_is c.self.view_is) c.unroll.new.self.jobs c.act_boundary.new.port.rounds c.act_boundary.new.port.stores (length e.crew.hands.items) c.act_boundary.ensures.rest refl
 
 pub returns-in_err-self-inside-clause-past : goal.returns-in_err-self-inside-clause-past
 returns-in_err-self-inside-clause-past c =
     let e = c.self.inside in
-    rested_kept _ c.args.self.now.past (past_is c.self.view_is) c.act_boundary.new.planned.jobs c.act_boundary.new.port.rounds c.act_boundary.new.port.stores (length e.crew.hands.items) c.act_boundary.ensures.rest refl
+    rested_kept _ c.args.self.now.past (past_is c.self.view_is) c.unroll.new.self.jobs c.act_boundary.new.port.rounds c.act_boundary.new.port.stores (length e.crew.hands.items) c.act_boundary.ensures.rest refl
 
 pub returns-clause-past : goal.returns-clause-past
 returns-clause-past c =
     let e = c.self.inside in
-    rested_kept _ c.args.self.now.past (past_is c.self.view_is) c.act_boundary.new.planned.jobs c.act_boundary.new.port.rounds c.act_boundary.new.port.stores (length e.crew.hands.items) c.act_boundary.ensures.rest refl
+    rested_kept _ c.args.self.now.past (past_is c.self.view_is) c.unroll.new.self.jobs c.act_boundary.new.port.rounds c.act_boundary.new.port.stores (length e.crew.hands.items) c.act_boundary.ensures.rest refl
 
 pub returns-clause-planned : goal.returns-clause-planned
 returns-clause-planned c = record {
@@ -155,8 +163,163 @@ returns-clause-planned c = record {
   words = c.act_boundary.new.port.words;
   stands = refl;
   pictures = c.act_boundary.ensures.pictures;
-  planned = c.in_ok-quits.ensures.planned;
+  planned = subst (λ (js : List Job). IsPlanOf c.act_boundary.new.stage js) (sym c.unroll.ensures.jobs) c.in_ok-quits.ensures.planned.plan;
 }
+
+pub returns-in_err-unroll-clause-past : goal.returns-in_err-unroll-clause-past
+returns-in_err-unroll-clause-past c =
+    let e = c.self.inside in
+    rested_kept _ c.args.self.now.past (past_is c.self.view_is) c.unroll.new.self.jobs c.act_boundary.new.port.rounds c.act_boundary.new.port.stores (length e.crew.hands.items) c.act_boundary.ensures.rest refl
+
+pub returns-in_err-unroll-clause-behind : goal.returns-in_err-unroll-clause-behind
+returns-in_err-unroll-clause-behind c = none_lost c.args.self.now.running.replies (map bytes_of c.self.inside.replies.items) (ap (λ (r : Running). r.replies) (running_is c.self.view_is))
+
+pub returns-in_err-unroll-clause-front : goal.returns-in_err-unroll-clause-front
+returns-in_err-unroll-clause-front c =
+    on_err c.from_residual-in_err-unroll.result (none_sent c.args.self.now.running.replies (map bytes_of c.self.inside.replies.items) (told_at c.args.self.now.running) (ap (λ (r : Running). r.replies) (running_is c.self.view_is)))
+
+pub returns-in_err-unroll-clause-others : goal.returns-in_err-unroll-clause-others
+returns-in_err-unroll-clause-others c =
+    let e = c.self.inside in
+    let r : Running = record { settings = e.settings; world = world_of e.stage e.memory.words; waiting = e.queue; clashes = e.clashes; block = e.block; standing = e.standing; sound = e.sound.bytes; replies = map bytes_of e.replies.items } in
+    rest_kept r c.args.self.now.running (world_of c.act_boundary.new.stage c.act_boundary.new.port.words) c.act_boundary.new.queue c.act_boundary.new.held Spent c.reserve-2.new.self.bytes (map bytes_of e.replies.items) (running_is c.self.view_is) c.act_boundary.ensures.kept c.reserve-2.ensures.bytes
+
+-- ---- the plan of a row
+
+pub span-blocks-requires : goal.span-blocks-requires
+span-blocks-requires c = c.in_ok-quits.ensures.planned.plan.few
+
+pub unroll-requires-clause-free : goal.unroll-requires-clause-free
+unroll-requires-clause-free c = c.in_ok-quits.ensures.planned.plan.free
+
+pub unroll-requires-clause-few : goal.unroll-requires-clause-few
+unroll-requires-clause-few c = λ two. (c.span-blocks.ensures.quiet two).few
+
+pub unroll-requires-clause-room : goal.unroll-requires-clause-room
+unroll-requires-clause-room c = λ two. (c.span-blocks.ensures.quiet two).room
+
+pub unroll-requires-clause-copies : goal.unroll-requires-clause-copies
+unroll-requires-clause-copies c = c.self.invariant.10.bounded
+
+pub unroll-requires-clause-spanned : goal.unroll-requires-clause-spanned
+unroll-requires-clause-spanned c = c.in_ok-quits.ensures.spanned c.self.inside.outputs c.self.inside.copies c.self.invariant.9
 
 pub act_boundary-requires-clause-planned : goal.act_boundary-requires-clause-planned
 act_boundary-requires-clause-planned c = c.self.invariant.7
+
+-- ---- what holds when it returns
+
+pub invariant_of-self : goal.invariant_of-self
+invariant_of-self c =
+    let i = c.self.invariant in (i.0, i.1, tt, tt, i.4, i.5, i.6, i.7, λ e. absurd cc, i.9, i.10)
+
+pub invariant_of-self-in_err-reserve-2 : goal.invariant_of-self-in_err-reserve-2
+invariant_of-self-in_err-reserve-2 c =
+    let i = c.self.invariant in (i.0, i.1, tt, tt, i.4, i.5, i.6, i.7, λ e. absurd cc, i.9, i.10)
+
+pub invariant_of-self-in_err-quits : goal.invariant_of-self-in_err-quits
+invariant_of-self-in_err-quits c =
+    let i = c.self.invariant in
+    let e = c.self.inside in
+    let acted = c.act_boundary in (
+      acted.ensures.pictures,
+      acted.ensures.waiting,
+      tt,
+      tt,
+      i.4,
+      i.5,
+      λ on. absurd cc,
+      λ on. absurd cc,
+      λ e. absurd cc,
+      λ on. absurd cc,
+      still_copied e.settings.channels e.stage acted.new.stage e.memory.words acted.new.port.words e.outputs e.copies acted.ensures.region acted.ensures.len i.10,
+    )
+
+pub invariant_of-self-in_err-unroll : goal.invariant_of-self-in_err-unroll
+invariant_of-self-in_err-unroll c =
+    let i = c.self.invariant in
+    let e = c.self.inside in
+    let acted = c.act_boundary in (
+      acted.ensures.pictures,
+      acted.ensures.waiting,
+      tt,
+      tt,
+      i.4,
+      i.5,
+      λ on. absurd cc,
+      λ on. absurd cc,
+      λ e. absurd cc,
+      λ on. absurd cc,
+      still_copied e.settings.channels e.stage acted.new.stage e.memory.words acted.new.port.words e.outputs e.copies acted.ensures.region acted.ensures.len i.10,
+    )
+
+pub invariant_of-self-in_err-send : goal.invariant_of-self-in_err-send
+invariant_of-self-in_err-send c =
+    let i = c.self.invariant in
+    let e = c.self.inside in
+    let acted = c.act_boundary in
+    let out = with_items e.replies c.send.new.out in
+    let one : out.items ≡ c.send.new.out = with_items_is e.replies c.send.new.out (search (rules, places)) in
+    let first : c.deref_mut.result.now ≡ e.replies.items = search rules in (
+      acted.ensures.pictures,
+      acted.ensures.waiting,
+      tt,
+      tt,
+      i.4,
+      omega (arith, ap (λ (ts : List Octets). length ts) one, c.send.ensures.len, ap (λ (ts : List Octets). length ts) first, i.5),
+      λ on. absurd cc,
+      λ on. absurd cc,
+      λ e. absurd cc,
+      λ on. absurd cc,
+      still_copied e.settings.channels e.stage acted.new.stage e.memory.words acted.new.port.words e.outputs e.copies acted.ensures.region acted.ensures.len i.10,
+    )
+
+pub invariant_of-self-in_err-self-inside : goal.invariant_of-self-in_err-self-inside
+invariant_of-self-in_err-self-inside c =
+    let i = c.self.invariant in
+    let e = c.self.inside in
+    let acted = c.act_boundary in
+    let out = with_items e.replies c.send.new.out in
+    let one : out.items ≡ c.send.new.out = with_items_is e.replies c.send.new.out (search (rules, places)) in
+    let first : c.deref_mut.result.now ≡ e.replies.items = search rules in
+    let two : (with_items out c.reserve_settling.new.replies).items ≡ c.reserve_settling.new.replies = with_items_is out c.reserve_settling.new.replies (search (rules, places)) in
+    let few : length out.items ≤ 4 = omega (arith, ap (λ (ts : List Octets). length ts) one, c.send.ensures.len, ap (λ (ts : List Octets). length ts) first, i.5) in (
+      acted.ensures.pictures,
+      acted.ensures.waiting,
+      tt,
+      tt,
+      i.4,
+      omega (arith, ap (λ (ts : List Octets). length ts) two, c.reserve_settling.ensures.len, ap (λ (ts : List Octets). length ts) c.deref_mut-2.ensures.value, few),
+      λ on. absurd cc,
+      λ on. absurd cc,
+      λ e. absurd cc,
+      λ on. absurd cc,
+      still_copied e.settings.channels e.stage acted.new.stage e.memory.words acted.new.port.words e.outputs e.copies acted.ensures.region acted.ensures.len i.10,
+    )
+
+pub invariant_of-self-2 : goal.invariant_of-self-2
+invariant_of-self-2 c =
+    let i = c.self.invariant in
+    let e = c.self.inside in
+    let acted = c.act_boundary in
+    let out = with_items e.replies c.send.new.out in
+    let one : out.items ≡ c.send.new.out = with_items_is e.replies c.send.new.out (search (rules, places)) in
+    let first : c.deref_mut.result.now ≡ e.replies.items = search rules in
+    let two : (with_items out c.reserve_settling.new.replies).items ≡ c.reserve_settling.new.replies = with_items_is out c.reserve_settling.new.replies (search (rules, places)) in
+    let few : length out.items ≤ 4 = omega (arith, ap (λ (ts : List Octets). length ts) one, c.send.ensures.len, ap (λ (ts : List Octets). length ts) first, i.5) in
+    let most : ℕ = walk_room (running_labels acted.new.stage.tree.attached) in
+    let samples : 512 ≤ vec_capacity c.reserve.new.self = search rules in
+    let settles : CanSettle most c.reserve_settling.new.endings.spare (with_items out c.reserve_settling.new.replies).items =
+    subst (CanSettle most c.reserve_settling.new.endings.spare) (sym two) c.in_ok-self-inside.ensures.settles in (
+      acted.ensures.pictures,
+      acted.ensures.waiting,
+      (c.in_ok-reserve-2.ensures.room, samples, settles),
+      c.in_ok-self-inside.ensures.room,
+      c.in_ok-self-inside.ensures.few,
+      omega (arith, ap (λ (ts : List Octets). length ts) two, c.reserve_settling.ensures.len, ap (λ (ts : List Octets). length ts) c.deref_mut-2.ensures.value, few),
+      c.in_ok-quits.ensures.hold,
+      λ on. planned_again _ _ _ _ _ c.unroll.ensures.jobs c.unroll.ensures.quiet c.in_ok-quits.ensures.planned,
+      λ e. refl,
+      λ on. c.in_ok-unroll.ensures.spanned,
+      still_copied e.settings.channels e.stage acted.new.stage e.memory.words acted.new.port.words e.outputs e.copies acted.ensures.region acted.ensures.len i.10,
+    )

@@ -22,6 +22,8 @@ invariant_of-self g c =
       i.6,
       i.7,
       i.8,
+      i.9,
+      i.10,
     )
 
 abbrev with_replies : Running → List (List ℕ) → Running

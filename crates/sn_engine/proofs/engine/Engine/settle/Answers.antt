@@ -1,12 +1,13 @@
-use Rattle.std.proofs.Common.{◌≡◌, ◌≤◌, true, List, length, refl, ap, sym, ◌∙◌, subst, arith, rules}
+use Rattle.std.proofs.Common.{◌≡◌, ◌≤◌, List, length, refl, ap, sym, ◌∙◌, subst, arith, rules}
 use Rattle.std.specs.Vec.{with_items}
 use Rattle.std.proofs.lemmas.Bool.{not-true}
 use Rattle.std.proofs.lemmas.List.{with_items_is, places}
 use Rattle.sn_ports.specs.Octets.{Octets}
 use Rattle.sn_world.specs.declared.stage.Stage.{Stage}
 use Rattle.sn_engine.specs.Holding.{AreClashesOf}
-use Rattle.sn_engine.specs.Planning.{IsPlanOf}
+use Rattle.sn_engine.specs.Planning.{IsPlannedFor}
 use Rattle.sn_engine.proofs.Pasts.{past_is, rounds_kept}
+use Rattle.sn_engine.proofs.RowLemmas.{still_copied}
 use Rattle.sn_engine.proofs.engine.Engine.settle.Goals.{then-self, else-self}
 use Rattle.sn_engine.proofs.engine.Engine.settle.Goals as goal
 
@@ -29,10 +30,15 @@ invariant_of-self c =
         | else-self w ↦ absurd cc
       ],
       λ on. elim c.if-self.branch [
-        | then-self w ↦ subst (λ (s : Stage). IsPlanOf s e.planned.jobs) (sym (c.settle_before-ended.ensures.same (not-true c.settle_before-ended.result (sym w.self-is ∙ on)))) (i.7 w.if-self.true)
+        | then-self w ↦ subst (λ (s : Stage). IsPlannedFor s e.planned.jobs e.planned.quiet) (sym (c.settle_before-ended.ensures.same (not-true c.settle_before-ended.result (sym w.self-is ∙ on)))) (i.7 w.if-self.true)
         | else-self w ↦ absurd cc
       ],
       λ e. absurd cc,
+      λ on. elim c.if-self.branch [
+        | then-self w ↦ i.9 w.if-self.true
+        | else-self w ↦ absurd cc
+      ],
+      still_copied e.settings.channels e.stage c.settle_before-ended.new.stage e.memory.words c.settle_before-ended.new.port.words e.outputs e.copies c.settle_before-ended.ensures.region c.settle_before-ended.ensures.len i.10,
     )
 
 pub returns-clause-past : goal.returns-clause-past

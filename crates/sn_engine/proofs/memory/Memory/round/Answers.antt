@@ -1,6 +1,5 @@
-use Rattle.std.proofs.Common.{◌≡◌, ◌≤◌, ◌++◌, ◌∷◌, [], ℕ, List, length, refl, ap, sym, subst, ◌∙◌, arith}
+use Rattle.std.proofs.Common.{◌≡◌, ◌++◌, ◌∷◌, [], ℕ, List, length, refl, ap, sym, subst, ◌∙◌, arith}
 use Rattle.sn_machine.specs.States.{memory_in}
-use Rattle.sn_machine.specs.declared.views.Rested.{Rested}
 use Rattle.sn_round.specs.Jobs.{AreWithin}
 use Rattle.sn_table.specs.Answers.{main_view}
 use Rattle.sn_world.specs.Pictures.{Pictures}
@@ -77,3 +76,9 @@ returns-clause-stores g c = c.round.ensures.round.stores ∙ ap (λ (m : Remembe
 
 pub returns-clause-crew : goal.returns-clause-crew
 returns-clause-crew g c = c.round.ensures.same
+
+pub returns-clause-length : goal.returns-clause-length
+returns-clause-length g c =
+    let before : List ℕ = memory_in (main_view c.self.inside.main).main.phase in
+    let script = c.block_is_the_walk.ensures.script before in
+    ap length c.round.ensures.round.memory_is ∙ (script.wide (length c.args.block.now.plan.now) (omega arith) ∙ ap length (words_same c.self.view_is))

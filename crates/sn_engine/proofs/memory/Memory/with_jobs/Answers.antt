@@ -1,4 +1,4 @@
-use Rattle.std.proofs.Common.{◌≡◌, ◌≤◌, refl, sym, subst, arith, ◌∙◌}
+use Rattle.std.proofs.Common.{refl, sym, subst, arith, ◌∙◌}
 use Rattle.sn_machine.specs.States.{IsIdle, memory_in}
 use Rattle.sn_engine.proofs.memory.Memory.with_jobs.Goals as goal
 

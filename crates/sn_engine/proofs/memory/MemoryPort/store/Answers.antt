@@ -1,4 +1,4 @@
-use Rattle.std.proofs.Common.{◌≡◌, ◌<◌, ◌||◌, length, length-set, ap, ◌∙◌, arith, ℕ, List}
+use Rattle.std.proofs.Common.{◌<◌, length, length-set, ap, ◌∙◌, arith, ℕ, List}
 use Rattle.std.specs.Prelude.{slice_set}
 use Rattle.std.proofs.lemmas.Bool.{or_left}
 use Rattle.sn_machine.specs.States.{memory_in}

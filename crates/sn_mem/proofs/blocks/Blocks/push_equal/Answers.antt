@@ -1,4 +1,4 @@
-use Rattle.std.proofs.Common.{◌≡◌, ◌<◌, length, replicate, rules, arith}
+use Rattle.std.proofs.Common.{◌<◌, length, rules}
 use Rattle.sn_mem.proofs.Steadies.{steady_more}
 use Rattle.sn_mem.proofs.blocks.Blocks.push_equal.Goals as goal
 

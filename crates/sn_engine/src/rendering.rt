@@ -1,0 +1,191 @@
+//! Blocks that are rendered in a row.
+ghost use Rattle.std.specs.Prelude.{◌≡◌, ◌≤◌, ◌<◌, ◌+◌, ◌*◌, ◌^◌, ◌++◌, ◌∷◌, [], ℕ, List, length, replicate, vec_capacity};
+ghost use Rattle.sn_quiet.specs.Walks.{walks};
+ghost use Rattle.sn_world.specs.Pictures.{Pictures};
+ghost use Rattle.sn_world.specs.World.{world_of};
+ghost use Rattle.sn_play.specs.Spans.{ArePlayed};
+ghost use Rattle.sn_engine.specs.Outputs.{sounds};
+ghost use Rattle.sn_engine.specs.Planning.{HasCopies, IsPlanOf, IsSpanned};
+ghost use Rattle.sn_engine.specs.Spans.{AreRounds};
+
+use crate::hearing::{hear_block, hear_copy};
+use crate::memory::Memory;
+use crate::planning::Planned;
+use sn_crew::Crew;
+use sn_mem::Extents;
+use sn_pcm::{Settings, frames};
+use sn_play::{Block, Span};
+use sn_ports::{Gate, Text};
+use sn_world::Stage;
+use std::thread::Threads;
+
+/// How many words the copy of a block takes.
+const COPY_WORDS: u32 = 512;
+
+/// What stays while blocks are rendered.
+#[derive(Clone, Copy)]
+pub struct Part<'a> {
+    /// The nodes.
+    pub stage: &'a Stage,
+    /// Their jobs.
+    pub planned: &'a Planned,
+    /// The rate, the channels and the bits.
+    pub settings: &'a Settings,
+    /// The audio buses that are heard.
+    pub outputs: &'a Extents,
+    /// Where the copies of their sound begin.
+    pub copies: u32,
+    /// The number of the first block.
+    pub first: u64,
+    /// How many blocks there are.
+    pub blocks: u32,
+}
+
+impl<'a> Part<'a> {
+    /// The jobs of a block from the first one on.
+    fn block(&self, number: u32) -> Block<'a>
+        requires { self.now.first + number < 2 ^ 63 }
+        ensures stage { result.stage.now ≡ self.now.stage.now }
+        ensures plan { result.plan.now ≡ self.now.planned.now.jobs }
+        ensures block { result.block ≡ self.now.first + number }
+    {
+        Block {
+            stage: self.stage,
+            plan: &self.planned.jobs,
+            places: &self.planned.places,
+            block: self.first + u64::from(number),
+        }
+    }
+}
+
+/// A round for each block, and its sound.
+fn render_each<H: Threads + Sync, G: Gate>(
+    rt: &H,
+    part: &Part<'_>,
+    memory: &mut Memory,
+    crew: &mut Crew,
+    gate: &G,
+    samples: &mut Vec<i32>,
+    sound: &mut Text,
+)
+    requires pictures { Pictures part.now.stage.now memory.old.words }
+    requires planned { IsPlanOf part.now.stage.now part.now.planned.now.jobs }
+    requires early { part.now.first + part.now.blocks < 2 ^ 63 }
+    requires channels { part.now.settings.now.channels ≤ 8 }
+    requires samples { 512 ≤ vec_capacity samples.old }
+    requires room { 1536 * part.now.blocks ≤ sound.old.spare }
+    ensures world { world_of part.now.stage.now memory.new.words ≡ walks part.now.first part.now.blocks (world_of part.now.stage.now memory.old.words) }
+    ensures pictures { Pictures part.now.stage.now memory.new.words }
+    ensures length { length memory.new.words ≡ length memory.old.words }
+    ensures sound { sound.new.bytes ≡ sound.old.bytes ++ sounds part.now.settings.now part.now.first part.now.blocks (world_of part.now.stage.now memory.old.words) }
+    ensures samples { 512 ≤ vec_capacity samples.new }
+    ensures rounds { memory.new.rounds ≡ memory.old.rounds ++ replicate part.now.blocks (record { jobs = part.now.planned.now.jobs; crew = length crew.old.hands.items }) }
+    ensures stores { memory.new.stores ≡ memory.old.stores }
+    ensures crew { length crew.new.hands.items ≡ length crew.old.hands.items }
+{
+    for number in 0..part.blocks {
+        let block = part.block(number);
+        memory.round(rt, crew, &block, gate);
+        hear_block(
+            memory,
+            part.stage,
+            part.settings.channels,
+            block.block,
+            samples,
+        );
+        frames(part.settings, samples, sound);
+    }
+}
+
+/// The sound of the blocks out of their copies.
+fn hear_copies(part: &Part<'_>, memory: &mut Memory, samples: &mut Vec<i32>, sound: &mut Text)
+    requires inside { part.now.copies + 512 * part.now.blocks ≤ length memory.old.words }
+    requires bounded { part.now.copies + 512 * part.now.blocks < 4294967296 }
+    requires channels { part.now.settings.now.channels ≤ 8 }
+    requires samples { 512 ≤ vec_capacity samples.old }
+    requires room { 1536 * part.now.blocks ≤ sound.old.spare }
+    ensures sound { (words : List ℕ) → ArePlayed part.now.stage.now part.now.first part.now.blocks part.now.copies part.now.settings.now.channels words memory.old.words → sound.new.bytes ≡ sound.old.bytes ++ sounds part.now.settings.now part.now.first part.now.blocks (world_of part.now.stage.now words) }
+    ensures samples { 512 ≤ vec_capacity samples.new }
+    ensures same { memory.new ≡ memory.old }
+{
+    for number in 0..part.blocks {
+        let at = part.copies + COPY_WORDS * number;
+        hear_copy(memory, part.settings.channels, at, samples);
+        frames(part.settings, samples, sound);
+    }
+}
+
+/// One round of the jobs of all blocks, and the sound of each out of its copy.
+fn render_span<H: Threads + Sync, G: Gate>(
+    rt: &H,
+    part: &Part<'_>,
+    memory: &mut Memory,
+    crew: &mut Crew,
+    gate: &G,
+    samples: &mut Vec<i32>,
+    sound: &mut Text,
+)
+    requires pictures { Pictures part.now.stage.now memory.old.words }
+    requires planned { IsPlanOf part.now.stage.now part.now.planned.now.jobs }
+    requires spanned { IsSpanned part.now.planned.now.jobs part.now.outputs.now part.now.copies part.now.planned.now.all part.now.planned.now.blocks }
+    requires copies { HasCopies part.now.settings.now.channels part.now.stage.now memory.old.words part.now.outputs.now part.now.copies }
+    requires some { 2 ≤ part.now.blocks }
+    requires blocks { part.now.planned.now.blocks ≡ part.now.blocks }
+    requires early { part.now.first + part.now.blocks < 2 ^ 63 }
+    requires samples { 512 ≤ vec_capacity samples.old }
+    requires room { 1536 * part.now.blocks ≤ sound.old.spare }
+    ensures world { world_of part.now.stage.now memory.new.words ≡ walks part.now.first part.now.blocks (world_of part.now.stage.now memory.old.words) }
+    ensures pictures { Pictures part.now.stage.now memory.new.words }
+    ensures length { length memory.new.words ≡ length memory.old.words }
+    ensures sound { sound.new.bytes ≡ sound.old.bytes ++ sounds part.now.settings.now part.now.first part.now.blocks (world_of part.now.stage.now memory.old.words) }
+    ensures samples { 512 ≤ vec_capacity samples.new }
+    ensures rounds { memory.new.rounds ≡ memory.old.rounds ++ record { jobs = part.now.planned.now.all; crew = length crew.old.hands.items } ∷ [] }
+    ensures stores { memory.new.stores ≡ memory.old.stores }
+    ensures crew { length crew.new.hands.items ≡ length crew.old.hands.items }
+{
+    let first = part.block(0);
+    let row = Span {
+        first,
+        all: &part.planned.all,
+        blocks: part.blocks,
+        outputs: part.outputs,
+        copies: part.copies,
+    };
+    memory.span(rt, crew, &row, gate);
+    hear_copies(part, memory, samples, sound);
+}
+
+/// The blocks and their sound: in one round, if the jobs of so many blocks are planned, or else in a round each.
+#[tactic(auto, using(crate::proofs::RowLemmas::each_round))]
+pub fn render<H: Threads + Sync, G: Gate>(
+    rt: &H,
+    part: &Part<'_>,
+    memory: &mut Memory,
+    crew: &mut Crew,
+    gate: &G,
+    samples: &mut Vec<i32>,
+    sound: &mut Text,
+)
+    requires pictures { Pictures part.now.stage.now memory.old.words }
+    requires planned { IsPlanOf part.now.stage.now part.now.planned.now.jobs }
+    requires spanned { IsSpanned part.now.planned.now.jobs part.now.outputs.now part.now.copies part.now.planned.now.all part.now.planned.now.blocks }
+    requires copies { HasCopies part.now.settings.now.channels part.now.stage.now memory.old.words part.now.outputs.now part.now.copies }
+    requires some { 1 ≤ part.now.blocks }
+    requires early { part.now.first + part.now.blocks < 2 ^ 63 }
+    requires samples { 512 ≤ vec_capacity samples.old }
+    requires room { 1536 * part.now.blocks ≤ sound.old.spare }
+    ensures world { world_of part.now.stage.now memory.new.words ≡ walks part.now.first part.now.blocks (world_of part.now.stage.now memory.old.words) }
+    ensures pictures { Pictures part.now.stage.now memory.new.words }
+    ensures length { length memory.new.words ≡ length memory.old.words }
+    ensures sound { sound.new.bytes ≡ sound.old.bytes ++ sounds part.now.settings.now part.now.first part.now.blocks (world_of part.now.stage.now memory.old.words) }
+    ensures samples { 512 ≤ vec_capacity samples.new }
+    ensures rounds { AreRounds part.now.blocks part.now.planned.now.jobs (length crew.old.hands.items) memory.old.rounds memory.new.rounds }
+    ensures stores { memory.new.stores ≡ memory.old.stores }
+    ensures crew { length crew.new.hands.items ≡ length crew.old.hands.items }
+{
+    if part.blocks < 2 || part.blocks != part.planned.blocks {
+        render_each(rt, part, memory, crew, gate, samples, sound);
+        return;
+    }
+    render_span(rt, part, memory, crew, gate, samples, sound);
+}

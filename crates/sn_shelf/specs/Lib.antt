@@ -1,0 +1,7 @@
+pub mod Files
+pub mod Waves
+pub mod WaveForm
+pub mod WaveViews
+pub mod Expanded
+pub mod ExpandedViews
+pub mod Growth

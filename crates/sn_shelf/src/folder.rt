@@ -1,0 +1,89 @@
+//! A shelf over the files below a folder.
+ghost use Rattle.std.specs.Prelude.{◌≡◌, ◌≤◌, None, IfOk, IfSome, length};
+ghost use Rattle.std.specs.Io.{ReadsAtMost};
+
+use crate::traits::{Shelf, Unshelved};
+use sn_ports::Text;
+use std::io::{ErrorKind, Read, Seek, SeekFrom};
+use std::rt::Files;
+use std::{fs, io};
+
+/// A shelf over the files below the folder in which the program runs.
+///
+/// A name is a path in UTF-8, with `/` between its parts. It is missing where it is absolute or has a part `..`, and where what
+/// it names is no regular file. Links are followed, also out of the folder. No content is told.
+#[derive(Drop)]
+pub struct FolderShelf<'a, H: Files> {
+    rt: &'a H,
+    faults: u64,
+}
+
+impl<'a, H: Files> FolderShelf<'a, H> {
+    /// A shelf that has not failed.
+    pub fn new(rt: &'a H) -> Self
+        ensures { result.faults ≡ 0 }
+    {
+        FolderShelf { rt, faults: 0 }
+    }
+}
+
+/// Whether the name stays inside the folder, but for links.
+fn is_inside(name: &str) -> bool {
+    !name.starts_with('/') && name.split('/').all(|part| part != "..")
+}
+
+/// Whether a file that can't be looked at isn't there.
+fn is_absent(kind: ErrorKind) -> bool {
+    matches!(
+        kind,
+        ErrorKind::NotFound | ErrorKind::NotADirectory | ErrorKind::InvalidFilename
+    )
+}
+
+/// Whether there is a regular file at the path.
+fn is_there<H: Files>(rt: &H, path: &str) -> io::Result<bool> {
+    match fs::metadata(rt, path) {
+        Ok(metadata) => Ok(metadata.is_file()),
+        Err(e) if is_absent(e.kind()) => Ok(false),
+        Err(e) => Err(e),
+    }
+}
+
+/// Moves bytes of the file at the path, from a place on.
+fn read_at<H: Files>(rt: &H, path: &str, at: u32, into: &mut [u8]) -> io::Result<usize>
+    ensures { ReadsAtMost result into.new }
+{
+    let mut file = fs::open(rt, path)?;
+    file.seek(SeekFrom::Start(u64::from(at)))?;
+    file.read(into)
+}
+
+/// What a file below the folder gives, or nothing where there is none.
+fn read_inside<H: Files>(rt: &H, name: &[u8], at: u32, into: &mut [u8]) -> io::Result<Option<usize>>
+    ensures { IfOk result (λ o. IfSome o (λ n. n ≤ length into.new)) }
+{
+    let Ok(path) = str::from_utf8(name) else {
+        return Ok(None);
+    };
+    if !is_inside(path) || !is_there(rt, path)? {
+        return Ok(None);
+    }
+    Ok(Some(read_at(rt, path, at, into)?))
+}
+
+impl<'a, H: Files> Shelf for FolderShelf<'a, H> {
+    ghost files = { λ _. None };
+
+    ghost faults = { λ s. s.faults };
+
+    fn read(&mut self, name: &Text, at: u32, into: &mut [u8]) -> Result<usize, Unshelved> {
+        match read_inside(self.rt, name.as_slice(), at, into) {
+            Ok(Some(count)) => Ok(count),
+            Ok(None) => Err(Unshelved::Missing),
+            Err(_) => {
+                self.faults = self.faults.saturating_add(1);
+                Err(Unshelved::Failed)
+            }
+        }
+    }
+}

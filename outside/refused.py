@@ -1,0 +1,165 @@
+"""Refuses memory to a program, at each call that asks for some in turn: python3 refused.py SNOVA [--workers 1,4] [--random N] [--seed N].
+
+It needs a C compiler `cc` and the GNU C library, for `refuse.c`. A stream with a parallel group is rendered, and a connection is served over
+which a message and a block come, by each number of workers; and N streams by chance are rendered. Once only the call of a number is refused, and
+once it and all later ones. Each time the program must end as it does with all memory there, or with `no memory`, and the files and the
+replies must be those, or a part from their begin. It prints each other end, and how many ends there were of each kind.
+"""
+import argparse
+import collections
+import functools
+import os
+import socket
+import subprocess
+import sys
+import tempfile
+import time
+from pathlib import Path
+
+import osc
+import serving
+from cases import recv
+from random_cases import Chance, play
+
+HERE = Path(__file__).resolve().parent
+SYNC, SYNCED = osc.frame(osc.message("/sync", 7)), osc.frame(osc.message("/synced", 7))
+TONES = [osc.message("/s_new", "tone", 10 + i, 1, 1, "out", 16 + i) for i in range(4)]
+COMMANDS = [*map(lambda it: osc.message(*it), recv("tone", "mix")), osc.message("/p_new", 1, 0, 0), *TONES, osc.message("/s_new", "mix", 20, 1, 0)]
+STREAM = osc.frame(osc.bundle(0, *COMMANDS)) + osc.frame(osc.bundle(1 << 32))
+NO_MEMORY = "no memory", 1
+# With several workers the calls come in another order each time. So the last number is passed a few times.
+PASSED = 5
+
+
+class Refusing:
+    """Runs a program to which one call for memory is refused, or all from one on."""
+
+    def __init__(self, snova, library, folder):
+        self.snova, self.library, self.folder = snova, library, folder
+
+    def started(self, words, at, goes_on):
+        """The program, and where it tells that a call was refused."""
+        told, tells = os.pipe()
+        env = {**os.environ, "LD_PRELOAD": self.library, "REFUSE_AT": str(at), "REFUSE_TELL": str(tells)}
+        if goes_on:
+            env["REFUSE_ALL"] = ""
+        for name in ("sound", "replies"):
+            (self.folder / name).unlink(missing_ok=True)
+        program = subprocess.Popen([self.snova, *words], cwd=self.folder, env=env, pass_fds=[tells], stdout=subprocess.PIPE, stderr=subprocess.DEVNULL)
+        os.close(tells)
+        return program, told
+
+    def ended(self, program, told):
+        """Whether a call was refused, the line and the status."""
+        line = program.communicate(timeout=120)[0].decode().rstrip("\n")
+        with open(told, "rb") as file:
+            return file.read() != b"", (line, program.returncode)
+
+    def written(self, name):
+        path = self.folder / name
+        return path.read_bytes() if path.exists() else b""
+
+    def render(self, workers, at, goes_on, stream=STREAM):
+        """Whether a call was refused, how the program ended, the sound and the replies."""
+        (self.folder / "commands").write_bytes(stream)
+        running = self.started(["render", "channels=1", f"workers={workers}", "commands", "sound", "replies"], at, goes_on)
+        return *self.ended(*running), self.written("sound"), self.written("replies")
+
+    def serve(self, workers, at, goes_on):
+        port = serving.free_port()
+        program, told = self.started(["serve", "memory=65536", f"workers={workers}", str(port), "sound"], at, goes_on)
+        got = served(program, port)
+        refused, how = self.ended(program, told)
+        return refused, how, self.written("sound"), got
+
+
+def connected(program, port):
+    """A connection, or None where the program ended before it listened."""
+    while program.poll() is None:
+        try:
+            return socket.create_connection(("127.0.0.1", port), timeout=60)
+        except ConnectionRefusedError:
+            time.sleep(0.002)
+    return None
+
+
+def served(program, port):
+    """What a client gets that sends a message, waits for its reply, and sends nothing more."""
+    link = connected(program, port)
+    if link is None:
+        return b""
+    with link:
+        got = b""
+        try:
+            link.sendall(SYNC)
+            got = serving.received(link, len(SYNCED))
+            link.shutdown(socket.SHUT_WR)
+        except OSError:
+            pass
+        return got + serving.received(link, 1 << 20)
+
+
+def is_part(some, whole):
+    return whole[:len(some)] == some
+
+
+def wrong_render(whole, how, sound, replies):
+    """Whether a rendering ended as it may not."""
+    if how == whole[0]:
+        return (how, sound, replies) != whole
+    return how != NO_MEMORY or not is_part(sound, whole[1]) or not is_part(replies, whole[2])
+
+
+def wrong_serve(whole, how, sound, replies):
+    """The same of a connection, whose sound is as long as it stood."""
+    if sound.strip(b"\0") or not is_part(replies, SYNCED):
+        return True
+    return how != NO_MEMORY and (how != whole[0] or replies != SYNCED)
+
+
+def refuse_in_turn(what, run, is_wrong, workers, goes_on):
+    """How often each end came, and how many were wrong."""
+    ends, wrong, passed, at = collections.Counter(), 0, 0, 0
+    whole = run(workers, -1, False)[1:]
+    while passed < PASSED:
+        refused, *came = run(workers, at, goes_on)
+        if is_wrong(whole, *came):
+            wrong += 1
+            print(f"{what}, {workers} workers, call {at}{' and later ones' * goes_on}: {came[0]}, {len(came[1])} and {len(came[2])} bytes", flush=True)
+        ends[came[0][0]] += refused
+        passed += not refused
+        at += 1
+    told = ", ".join(f"{count} times `{line}`" for line, count in sorted(ends.items()))
+    print(f"{what}, {workers} workers, {'all calls from one on' if goes_on else 'one call'} refused: {told}", flush=True)
+    return wrong
+
+
+def library(folder):
+    """The library that refuses."""
+    made = os.path.join(folder, "refuse.so")
+    subprocess.run(["cc", "-O1", "-shared", "-fPIC", "-o", made, HERE / "refuse.c"], check=True)
+    return made
+
+
+def main():
+    parser = argparse.ArgumentParser()
+    parser.add_argument("snova", help="the built program")
+    parser.add_argument("--workers", default="1,4", help="numbers of workers")
+    parser.add_argument("--random", type=int, default=0, help="so many streams by chance besides")
+    parser.add_argument("--seed", type=int, default=1, help="the first of them")
+    given = parser.parse_args()
+    with tempfile.TemporaryDirectory() as folder:
+        refusing, wrong = Refusing(os.path.abspath(given.snova), library(folder), Path(folder)), 0
+        tries = [("render", refusing.render, wrong_render), ("serve", refusing.serve, wrong_serve)]
+        for seed in range(given.seed, given.seed + given.random):
+            tries.append((f"random {seed}", functools.partial(refusing.render, stream=play(Chance(seed))), wrong_render))
+        for workers in given.workers.split(","):
+            for goes_on in (False, True):
+                for what, run, is_wrong in tries:
+                    wrong += refuse_in_turn(what, run, is_wrong, workers, goes_on)
+    print(f"{wrong} wrong ends")
+    return 1 if wrong else 0
+
+
+if __name__ == "__main__":
+    sys.exit(main())

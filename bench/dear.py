@@ -70,6 +70,17 @@ def nested_bundles():
     return Dear("nested_bundles", "packets of bundles that are nested 7 deep and full", b"", frame(packet), "message", 8 * count)
 
 
+def undone_groups():
+    groups = [word for i in range(4094) for word in (1 + i, 1, 0)]
+    return Dear("undone_groups", "4,094 groups are made in one message and undone, since its last id is in use", b"", messages(("/g_new", *groups, 1, 0, 0)), "group", 4094)
+
+
+def row():
+    ids = [1000 + i * 7 % NODES for i in range(12900)]
+    first = messages(("/d_recv", VOICE)) + synths("voice", 0)
+    return Dear("row", f"12,900 times one of {NODES:,} synths is moved by a message", first, messages(("/n_order", 0, 0, *ids)), "move", 12900, 20)
+
+
 def set_again():
     values = [word for i in range(6500) for word in (0, 100000 + i)]
     first = messages(("/d_recv", VOICE), ("/g_new", 1, 0, 0)) + synths("voice", 1)
@@ -132,4 +143,4 @@ def ask_pool():
 
 
 def all_dear():
-    return [nested_groups(), one_tag(), short_messages(), empty_bundles(), nested_bundles(), set_again(), set_root(), long_replies(), trees(), definitions(), great_synths(), buffers_in_turn(), zero_pool(), fill_pool(), ask_pool()]
+    return [nested_groups(), one_tag(), short_messages(), empty_bundles(), nested_bundles(), undone_groups(), row(), set_again(), set_root(), long_replies(), trees(), definitions(), great_synths(), buffers_in_turn(), zero_pool(), fill_pool(), ask_pool()]

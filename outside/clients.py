@@ -1,9 +1,10 @@
-"""Clients that behave badly, one after another, each served by a program of its own: python3 clients.py SNOVA [-k WORD].
+"""Clients that behave badly, one after another, each served by a program of its own: python3 clients.py SNOVA [-k WORD] [--random N] [--seed N].
 
-For each it prints how the program ended, after how many seconds, how many blocks of sound it wrote, and the most memory that it took; and
-what is other than it should be. The ends are those of docs/STATUSES.md. It takes a minute, since a peer that takes nothing is waited for.
+For each it prints how the program ended, after how many seconds, how many blocks of sound it wrote, and what is other than it should be. The ends are those of docs/STATUSES.md. It takes a minute, since a peer that takes nothing is waited for.
+N more clients send streams that were damaged by chance, and close when they have the replies that the model says.
 """
 import argparse
+import itertools
 import os
 import random
 import socket
@@ -14,8 +15,12 @@ import tempfile
 import threading
 import time
 
+import connection
 import osc
+import server
 import serving
+from damage import WAYS
+from random_cases import Chance
 
 BLOCK = 256  # bytes of two channels of 16 bits
 SECOND = 750  # blocks
@@ -31,7 +36,7 @@ def answers(data):
     counts, place = {}, 0
     while len(data) - place >= 4 and len(data) - place - 4 >= (size := struct.unpack_from(">i", data, place)[0]):
         packet = osc.decode(data[place + 4:place + 4 + size])
-        text = " ".join([packet.address.decode(), *(str(value if tag == "i" else value.decode()) for tag, value in packet.body)])
+        text = " ".join([packet.address.decode("latin-1"), *(str(value if tag == "i" else value.decode("latin-1")) for tag, value in packet.body)])
         counts[text] = counts.get(text, 0) + 1
         place += 4 + size
     return counts
@@ -142,22 +147,56 @@ def is_flood_answered(got):
     return set(got) <= {"/fail /c_set queue full", "/fail /sync queue full", "/synced 1"}
 
 
-# What a client does, and the ends that may come; a test of the replies; and the least and the most seconds.
+# What a client does, and how it is ended; a test of the replies; and the least and the most seconds.
 CLIENTS = [
-    ("leaves at once", closes, [CLOSED], lambda got: got == {}, 0, 5),
-    ("stops in a packet", stops_in_a_packet, [("cut after 7 bytes", 10)], lambda got: got == {}, 1, 6),
-    ("sends single bytes", sends_single_bytes, [CLOSED], lambda got: got == numbers(100), 0, 20),
-    ("sends packets at fault", sends_packets_at_fault, [CLOSED], lambda got: got.pop("/fail packet bad packet", 0) == AT_FAULT and numbers(1000).items() <= got.items(), 0, 20),
-    ("sends a size of -1", sends_a_size_of_minus_one, [("bad frame size -1", 11)], lambda got: got in ({}, {"/synced 1": 1}), 0, 5),
-    ("resets in a packet", resets, [LINK_FAULT], lambda got: got == {}, 0, 5),
-    ("resets while it is sent to", resets_while_it_is_sent_to, [LINK_FAULT], lambda got: got == {}, 0, 15),
-    ("floods", floods, [CLOSED], is_flood_answered, 1, 60),
-    ("never reads", never_reads, [LINK_FAULT], lambda got: got == {}, 10, 60),
+    ("leaves at once", closes, CLOSED, lambda got: got == {}, 0, 5),
+    ("stops in a packet", stops_in_a_packet, ("cut after 7 bytes", 10), lambda got: got == {}, 1, 6),
+    ("sends single bytes", sends_single_bytes, CLOSED, lambda got: got == numbers(100), 0, 20),
+    ("sends packets at fault", sends_packets_at_fault, CLOSED, lambda got: got.pop("/fail packet bad packet", 0) == AT_FAULT and numbers(1000).items() <= got.items(), 0, 20),
+    ("sends a size of -1", sends_a_size_of_minus_one, ("bad frame size -1", 11), lambda got: got in ({}, {"/synced 1": 1}), 0, 5),
+    ("resets in a packet", resets, LINK_FAULT, lambda got: got == {}, 0, 5),
+    ("resets while it is sent to", resets_while_it_is_sent_to, LINK_FAULT, lambda got: got == {}, 0, 15),
+    ("floods", floods, CLOSED, is_flood_answered, 1, 60),
+    ("never reads", never_reads, LINK_FAULT, lambda got: got == {}, 10, 60),
 ]
 
 
+def damaged(seed):
+    """What a client sends: numbers, in messages, bundles and bundles inside others, and then some damage."""
+    chance = Chance(seed)
+    parts = []
+    for number in range(chance.randint(1, 12)):
+        sync = osc.message("/sync", number)
+        parts.append(chance.choice([sync, osc.bundle(1, sync, sync), osc.bundle(5, sync, osc.bundle(chance.choice([1, 5, 4]), sync)), osc.message("/c_get", number)]))
+    data = b"".join(map(osc.frame, parts))
+    for _ in range(chance.choice([1, 1, 2])):
+        data = chance.choice(WAYS)(chance, data) or data
+    return data
+
+
+def sends_damaged(data):
+    """A client, and the test of its row."""
+    base = int(time.time()) + 2208988800 << 32
+    line, _, sent = connection.serve(server.settings_of([]), base, [data, 1])
+    wanted = answers(sent)
+    is_bad = line.startswith("bad frame")
+
+    def client(link):
+        link.sendall(data)
+        if is_bad:
+            return all_of(link)
+        got = serving.received(link, len(sent))
+        return got + closes(link)
+
+    def is_wanted(got):
+        """At a bad size the numbers before it may not have had their boundary."""
+        return got == wanted or is_bad and all(wanted.get(text, 0) >= count for text, count in got.items())
+
+    return client, (line, 11 if is_bad else 10 if line.startswith("cut") else 0), is_wanted, 0, 30
+
+
 def served(snova, client, folder):
-    """The replies, the line and the status, the seconds, the blocks, and the most memory in MiB."""
+    """The replies, the line and the status, the seconds, and the blocks."""
     port, sound = serving.free_port(), os.path.join(folder, "sound")
     program = subprocess.Popen([snova, "serve", str(port), sound], stdout=subprocess.PIPE)
     link = serving.connected(port)
@@ -165,17 +204,15 @@ def served(snova, client, folder):
     began = time.monotonic()
     with link:
         got = client(link)
-    line = program.stdout.read().decode().rstrip("\n")
-    _, status, used = os.wait4(program.pid, 0)
-    program.returncode = os.waitstatus_to_exitcode(status)
-    return got, (line, program.returncode), time.monotonic() - began, os.path.getsize(sound) / BLOCK, used.ru_maxrss // 1024
+    line = program.communicate(timeout=60)[0].decode().rstrip("\n")
+    return got, (line, program.returncode), time.monotonic() - began, os.path.getsize(sound) / BLOCK
 
 
-def wrong_of(got, how, seconds, blocks, ends, is_wanted, least, most):
+def wrong_of(got, how, seconds, blocks, end, is_wanted, least, most):
     """What is other than it should be."""
     found = []
-    if how not in ends:
-        found.append(f"its end should be {ends}")
+    if how != end:
+        found.append(f"its end should be {end}")
     if not is_wanted(answers(got)):
         found.append(f"other replies: {sorted(answers(got).items())[:5]}")
     if not least <= seconds <= most:
@@ -189,16 +226,22 @@ def main():
     parser = argparse.ArgumentParser()
     parser.add_argument("snova", help="the built program")
     parser.add_argument("-k", default="", help="only clients whose name has this word")
+    parser.add_argument("--random", type=int, default=0, help="so many clients that send damaged streams")
+    parser.add_argument("--seed", type=int, default=1, help="the first of them")
     given = parser.parse_args()
+    drawn = ((f"damaged {seed}", *sends_damaged(damaged(seed))) for seed in range(given.seed, given.seed + given.random))
     wrong = 0
     with tempfile.TemporaryDirectory() as folder:
-        for name, client, *wanted in CLIENTS:
+        for name, client, *wanted in itertools.chain(CLIENTS, drawn):
             if given.k not in name:
                 continue
-            got, how, seconds, blocks, memory = served(given.snova, client, folder)
+            got, how, seconds, blocks = served(given.snova, client, folder)
             found = wrong_of(got, how, seconds, blocks, *wanted)
             wrong += len(found)
-            print(f"{name}: {how[0]}, status {how[1]}, {seconds:.1f} s, {blocks:.0f} blocks, {memory} MiB", *found, sep="\n  ", flush=True)
+            if found or not name.startswith("damaged"):
+                print(f"{name}: {how[0]}, status {how[1]}, {seconds:.1f} s, {blocks:.0f} blocks", *found, sep="\n  ", flush=True)
+    if given.random:
+        print(f"{given.random} clients that send damaged streams, {wrong} differences")
     return 1 if wrong else 0
 
 

@@ -1,15 +1,18 @@
-"""Runs a binary on all cases, and compares each with the model: python3 compare.py BINARY [-k WORD] [--random N] [--damage N] [--seed N]."""
+"""Runs a binary on all cases, and compares each with the model: python3 compare.py BINARY [-k WORD] [--random N] [--damage N] [--texts N] [--seed N]."""
 import argparse
 import itertools
 import os
+import pathlib
 import subprocess
 import sys
 import tempfile
+import files
 import osc
+import scores
 import server
 import serving
 from cases import CASES
-from damage import damaged_case
+from damage import damaged_case, damaged_text
 from random_cases import random_case
 from words import BAD_WORDS, CONNECTIONS
 
@@ -53,13 +56,26 @@ def differences(model, program):
     return lines
 
 
+def is_converted(binary, seed, folder):
+    """Whether a damaged text is scored and a damaged stream is dumped as they should be."""
+    _, _, stream = damaged_case(seed)
+    try:
+        osc.packets_of(stream)
+    except osc.Fault:
+        same = scores.compare_bad_stream(binary, folder, stream)
+    else:
+        same = scores.compare_stream(binary, folder, f"damaged {seed}", stream)
+    return scores.compare_text(binary, folder, damaged_text(seed)) and bool(same)
+
+
 def main():
     parser = argparse.ArgumentParser()
     parser.add_argument("binary", help="the program, with words before it where a loader runs it")
     parser.add_argument("-k", default="", help="only cases whose name has this word")
     parser.add_argument("--random", type=int, default=0, help="so many random streams beside the table")
     parser.add_argument("--damage", type=int, default=0, help="so many damaged streams beside the table")
-    parser.add_argument("--seed", type=int, default=1, help="the first random or damaged stream")
+    parser.add_argument("--texts", type=int, default=0, help="so many damaged texts that are scored, and damaged streams that are dumped")
+    parser.add_argument("--seed", type=int, default=1, help="the first random or damaged stream or text")
     given = parser.parse_args()
     seeds = range(given.seed, given.seed + max(given.random, given.damage))
     drawn = (make(seed) for make, count in ((random_case, given.random), (damaged_case, given.damage)) for seed in seeds[:count])
@@ -73,10 +89,18 @@ def main():
             if found:
                 wrong += 1
                 print(name, *found, sep="\n", flush=True)
+        for seed in range(given.seed, given.seed + given.texts):
+            wrong += not is_converted(given.binary, seed, pathlib.Path(folder))
+        if given.texts:
+            print(f"{given.texts} texts and as many streams were converted")
         if not given.k:
             found = serving.differences(given.binary.split(), folder, BAD_WORDS, CONNECTIONS)
             print(*found, sep="\n", flush=True)
             print(f"{len(BAD_WORDS)} command lines and {len(CONNECTIONS)} connections, {len(found)} with a difference")
+            wrong += len(found)
+            found = files.differences(given.binary.split(), folder)
+            print(*found, sep="\n", flush=True)
+            print(f"{len(files.FILES) + 2} files that fail, {len(found)} with a difference")
             wrong += len(found)
     print(f"{count} cases, {wrong} with a difference")
     return 1 if wrong else 0

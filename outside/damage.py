@@ -2,6 +2,7 @@
 or stand inside bundles, and an end that is cut off. A seed gives one stream."""
 import struct
 import osc
+import scores
 import server
 from random_cases import Chance, faulty_text, packets, play
 from cases import stream
@@ -102,6 +103,25 @@ def enclose(chance, data):
 
 
 WAYS = [change_bytes] * 4 + [enclose, take_out, put_in, cut, change_size, change_size, change_tag, exchange_frames]
+
+
+TEXT_PIECES = [b"", b" ", b"\n", b'"', b"\\", b"#", b"0", b"-", b"?", b"[ 0 1\n", b"]\n", b"()", b"\\x", b"\\x00", b"/", b"/a\n", b"\r", b"\xff", b"4294967296", b"2147483648"]
+
+
+def damaged_text(seed):
+    """A text of commands, in which some bytes are others, lines are exchanged, or an end is cut off."""
+    chance = Chance(seed)
+    lines = scores.dumped(play(chance))[0].splitlines(keepends=True)
+    begin = chance.randrange(len(lines))
+    lines = lines[begin:begin + chance.randint(1, 20)]
+    one, other = chance.randrange(len(lines)), chance.randrange(len(lines))
+    if chance.random() < 0.3:
+        lines[one], lines[other] = lines[other], lines[one]
+    text = b"".join(lines)
+    for _ in range(chance.randint(0, 2)):
+        at = chance.randrange(len(text) + 1)
+        text = text[:at] + chance.choice(TEXT_PIECES) + text[at + chance.choice([0, 0, 1, 2]):]
+    return text[:chance.randrange(len(text) + 1)] if chance.random() < 0.1 else text
 
 
 def is_short(words, data):

@@ -30,8 +30,10 @@ use usage::{Call, USAGE, call_of};
 /// The words after the program's name. Words that are no text count as none.
 fn given<H: Env + AllocGlobal>(rt: &H) -> Result<Vec<String>, NoMemory> {
     let mut words = Vec::new(rt.alloc());
-    let Ok(args) = env::args(rt) else {
-        return Ok(words);
+    let args = match env::args(rt) {
+        Ok(args) => args,
+        Err(error) if error.kind() == io::ErrorKind::OutOfMemory => return Err(NoMemory),
+        Err(_) => return Ok(words),
     };
     for arg in args.skip(1) {
         words.push(arg)?;
@@ -69,10 +71,10 @@ fn carry_out<H: Env + Files + Clock + Eprint + Net + AllocGlobal + Threads + Syn
 fn main(rt: HostRuntime) -> io::Result<ExitCode> {
     let is_watched = rt.stderr().is_terminal();
     let exit = carry_out(&rt, is_watched).unwrap_or(Exit::Rendered(Outcome::NoMemory));
-    println!(rt; "{exit}")?;
+    // Whether anything can be printed or not, the status stands.
+    let _ = println!(rt; "{exit}");
     let status = exit.status();
     if status == BAD_WORDS {
-        // Whether it can be written there or not, the line and the status stand.
         let _ = rt.eprintln(USAGE);
     }
     Ok(ExitCode::from(status))

@@ -6,9 +6,9 @@
 
 A piece is read line by line. `at SECONDS` begins a bundle that acts at that time; times never go down. A line that begins with `/` is a
 message. Its words are ints (`440000`), numbers with a point, which are samples in Q8.24 (`0.5` is 8388608), names, which are strings,
-with quotes or without, and blobs, as `#0aff`. The lines from `snova 1` to `end` are a definition, sent by `/d_recv` in the bundle before
-it. Empty lines and lines that begin with `#` say nothing. The sound ends at the last `at`. A line that can't be read is told with its
-number, and no file is written.
+with quotes or without, other strings without spaces, as paths, in quotes, and blobs, as `#0aff`. The lines from `snova 1` to `end` are a
+definition, sent by `/d_recv` in the bundle before it. Empty lines and lines that begin with `#` say nothing. The sound ends at the last
+`at`. A line that can't be read is told with its number, and no file is written.
 """
 import math
 import re
@@ -65,7 +65,7 @@ def word(text):
         value = int(text)
     elif re.fullmatch(r"-?[0-9]+\.[0-9]+", text):
         value = math.floor(Fraction(text) * ONE)
-    elif found := re.fullmatch(r'("?)([A-Za-z_][A-Za-z0-9_]*)\1', text):
+    elif found := re.fullmatch(r'("?)([A-Za-z_][A-Za-z0-9_]*)\1', text) or re.fullmatch(r'(")([!#-\[\]-~]+)"', text):
         return found[2]
     elif re.fullmatch(r"#([0-9a-f]{2})*", text):
         return bytes.fromhex(text[1:])

@@ -3,9 +3,9 @@
 
     python3 examples/render.py [--unproved] NAME..
 
-If `snova` isn't built yet, the kit's `rt run` proves and builds it first, which takes long. With --unproved the kit's `rt try` builds it
-for each piece, which takes a minute or two and proves nothing. It exits with 1 if a piece isn't rendered to its end, or if a command of
-it is refused.
+If `snova` isn't built yet, the kit's `rt run` proves and builds it first, which takes long. It runs in this directory, where pieces find
+the files in sounds/. With --unproved the kit's `rt try` builds it for each piece, which takes a minute or two and proves nothing; it runs
+where no piece finds a file. It exits with 1 if a piece isn't rendered to its end, or if a command of it is refused.
 """
 import subprocess
 import sys
@@ -17,19 +17,20 @@ CRATE = make.HERE.parent / "crates" / "snova"
 BUILT = CRATE / "out" / "snova"
 
 
-def program(is_proved):
-    """The words that run `snova`."""
+def run(words, is_proved):
+    """The status of `snova` after these words."""
     if not is_proved:
-        return ["rt", "try", "--"]
-    return [str(BUILT)] if BUILT.exists() else ["rt", "run", "--"]
+        return subprocess.run(["rt", "try", "--", *words], cwd=CRATE).returncode
+    if not BUILT.exists() and (failed := subprocess.run(["rt", "run", "--", "--version"], cwd=CRATE).returncode):
+        return failed
+    return subprocess.run([str(BUILT), *words], cwd=make.HERE).returncode
 
 
 def render(name, is_proved):
     """Whether a piece was rendered, and no command refused."""
     make.write(name)
     paths = [str(make.HERE / "out" / f"{name}.{end}") for end in ("osc", "wav", "replies")]
-    done = subprocess.run([*program(is_proved), "render", *paths], cwd=CRATE)
-    if done.returncode != 0:
+    if run(["render", *paths], is_proved) != 0:
         return False
     sys.argv[1:] = paths[2:]
     return replies.main() == 0

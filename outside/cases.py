@@ -127,7 +127,7 @@ case("/b_set, /b_setn and /b_info", ("/b_alloc", 3, 4, 2), ("/b_set", 3, 7, 1, 0
 case("/status.reply", ("/status",), *recv("dc", "two", "nothing"), *ASK, ("/s_new", "nothing", 12, 0, 0), ("/n_run", 5, 0), ("/status",), ("/d_recv", TEXTS["dc"]), ("/d_free", "two", "nothing"), ("/status",), ("/n_free", 6), ("/status",))
 case("/done and /synced", ("/sync", -2147483648), ("/notify", 1), ("/notify", 0), ("/notify", -1), ("/quit",), *recv("dc"), ("/b_alloc", 0, 1), ("/b_zero", 0), ("/b_free", 0))
 case("/fail of long addresses", ("/" + "x" * 3000,), ("/a",), ("/",), ("/s_newx", "a"), ("/S_NEW",), ("/n_go", 1), ("/done", "/quit"))
-case("commands that are left out", *[("/" + name, 1) for name in "d_load d_loadDir b_gen b_write b_read b_readChannel b_allocReadChannel b_close cmd u_cmd n_trace dumpOSC error s_noid s_getn n_mapn n_mapa n_mapan g_dumpTree version b_allocRead".split()])
+case("commands that are left out", *[("/" + name, 1) for name in "d_load d_loadDir b_gen b_write b_read b_readChannel b_allocReadChannel b_close cmd u_cmd n_trace dumpOSC error s_noid s_getn n_mapn n_mapa n_mapan g_dumpTree version".split()])
 
 
 def foreign(address, tags, rest=b""):
@@ -162,6 +162,10 @@ for depth in range(1, 11):
     case(f"completion messages {depth} deep", carried(depth), ("/b_query", *range(10)))
 case("completion messages 8 and 9 deep by bad ranges", carried(8, ("/b_free", -1, SYNC)), carried(7, ("/b_free", -1, SYNC)), carried(8, ("/b_free", -1, SYNC + SYNC)), carried(8, ("/b_free", "a", SYNC)), carried(8, ("/d_recv", b"", SYNC)), carried(8, ("/b_alloc", 1, 1, 1, SYNC)), carried(8, ("/b_query", 1, SYNC)))
 case("each command that carries one", ("/b_alloc", 1, 2, 3, osc.message("/b_query", 1)), ("/b_alloc", 2, 2, osc.message("/b_query", 2)), ("/b_zero", 1, osc.message("/b_free", 1, osc.message("/b_query", 1))), ("/d_recv", TEXTS["dc"], osc.message("/s_new", "dc", 9, 0, 0)), ("/d_recv", BAD["name"], SYNC), ("/b_free", 5, SYNC), ("/b_free", 2, osc.message("/b_free", 2)), ("/b_zero", 2, b""), ("/b_zero", 2, tagged(1, SYNC)), ("/b_zero", 2, SYNC[:-4]), ("/b_alloc", 4, 4, foreign("/sync", "f", b"")), ("/b_alloc", 4, 4, osc.message("/none")), ("/sync", 1, SYNC), ("/b_alloc", 5, SYNC), ("/b_alloc", 5, 1, 1, 1, SYNC), ("/b_alloc", 5, 1, SYNC, SYNC))
+SAMPLES = struct.pack(">6i", 7, -1, 2147483647, -2147483648, 0, 8388608)
+case("a buffer of samples", ("/b_allocRead", 3, 3, 2, SAMPLES), ("/b_getn", 3, 0, 6), ("/b_query", 3), ("/b_allocRead", 3, 6, 1, SAMPLES, osc.message("/b_get", 3, 5)), ("/b_allocRead", 1, 1, 1, SAMPLES[:4], SYNC + SYNC))
+case("reasons of /b_allocRead", ("/b_allocRead",), ("/b_allocRead", 0), ("/b_allocRead", 0, "a.wav"), ("/b_allocRead", 0, "a.wav", 1), ("/b_allocRead", 0, "a.wav", -1, 2), ("/b_allocRead", 0, "a.wav", 1, 2, SYNC), ("/b_allocRead", 9999, "a.wav", SYNC + SYNC), ("/b_allocRead", 0, "a.wav", 1, 2, 3), ("/b_allocRead", 0, "a.wav", SYNC, SYNC), ("/b_allocRead", "a.wav", 0), ("/b_allocRead", 0, 3, 2, SAMPLES[:20]), ("/b_allocRead", 0, 3, 2, SAMPLES + SAMPLES[:4]), ("/b_allocRead", 0, 0, 2, b""), ("/b_allocRead", 0, 1, 9, SAMPLES + SAMPLES[:12]), ("/b_allocRead", 0, 6, SAMPLES), ("/b_allocRead", -1, 3, 2, SAMPLES), ("/b_allocRead", 1024, 6, 1, SAMPLES), ("/b_query", 0))
+case("a file's name with a completion doesn't count", carried(7, ("/b_allocRead", 0, "a.wav", SYNC)), carried(8, ("/b_allocRead", 0, "a.wav", SYNC)), carried(8, ("/b_allocRead", 0, 1, 1, SAMPLES[:4], SYNC)), carried(7, ("/b_allocRead", 0, 1, 1, SAMPLES[:4], SYNC)))
 case("a completion that is /clearSched or /quit", ("/b_alloc", 0, 1, osc.message("/clearSched")), ("/b_alloc", 1, 1, osc.message("/quit")), ("/sync", 1), at(1, ("/sync", 2)))
 
 # Buffers by commands.

@@ -2,6 +2,8 @@
 import copy
 import definitions
 import osc
+import re
+import struct
 from world import Buffer, Failed, Node, Synth, need
 
 ASKED = 8192
@@ -343,6 +345,21 @@ class Commands:
         self.world.buffers[number] = Buffer(frames, channels, place)
         self.say("/done", "/b_alloc", number)
 
+    def b_allocRead(self):
+        t = self.taker
+        need(not re.fullmatch("isi?i?b?", kinds(t.left)), "file")
+        number, frames, channels, samples = t.int(), t.int(1), t.int(1, 8), t.take("b")
+        need(len(samples) == 4 * frames * channels, "arguments")
+        self.take_completion()
+        self.judge_number(number)
+        self.world.buffers.pop(number, None)
+        place = self.world.least_place(frames * channels)
+        need(place is not None, "pool full")
+        buffer = Buffer(frames, channels, place)
+        buffer.samples = list(struct.unpack(f">{frames * channels}i", samples))
+        self.world.buffers[number] = buffer
+        self.say("/done", "/b_allocRead", number)
+
     def b_free(self):
         number = self.taker.int()
         self.take_completion()
@@ -457,11 +474,11 @@ class Commands:
 COMMANDS = {
     "/" + name: getattr(Commands, name)
     for name in """s_new g_new p_new n_free n_run n_set n_setn n_fill n_map n_before n_after g_head g_tail n_order g_freeAll
-    g_deepFree n_query g_queryTree s_get c_set c_setn c_fill c_get c_getn b_alloc b_free b_zero b_set b_setn b_fill b_get b_getn
+    g_deepFree n_query g_queryTree s_get c_set c_setn c_fill c_get c_getn b_alloc b_allocRead b_free b_zero b_set b_setn b_fill b_get b_getn
     b_query d_recv d_free sync status notify clearSched quit""".split()
 }
 
-CARRIERS = {"/b_alloc": ("iib", "iiib"), "/b_free": ("ib",), "/b_zero": ("ib",), "/d_recv": ("bb",)}
+CARRIERS = {"/b_alloc": ("iib", "iiib"), "/b_allocRead": ("iiibb",), "/b_free": ("ib",), "/b_zero": ("ib",), "/d_recv": ("bb",)}
 
 
 def completion_of(blob):

@@ -11,6 +11,7 @@ import osc
 import scores
 import server
 import serving
+import shelf
 from cases import CASES
 from damage import damaged_case, damaged_text
 from random_cases import random_case
@@ -77,6 +78,8 @@ def main():
     parser.add_argument("--texts", type=int, default=0, help="so many damaged texts that are scored, and damaged streams that are dumped")
     parser.add_argument("--seed", type=int, default=1, help="the first random or damaged stream or text")
     given = parser.parse_args()
+    # Some runs have a folder of their own.
+    binary = [os.path.abspath(word) if os.path.exists(word) else word for word in given.binary.split()]
     seeds = range(given.seed, given.seed + max(given.random, given.damage))
     drawn = (make(seed) for make, count in ((random_case, given.random), (damaged_case, given.damage)) for seed in seeds[:count])
     count = wrong = 0
@@ -85,7 +88,7 @@ def main():
             if given.k not in name:
                 continue
             count += 1
-            found = differences(server.run(words, stream), program_run(given.binary.split(), words, stream, folder))
+            found = differences(server.run(words, stream), program_run(binary, words, stream, folder))
             if found:
                 wrong += 1
                 print(name, *found, sep="\n", flush=True)
@@ -93,16 +96,23 @@ def main():
             wrong += not is_converted(given.binary, seed, pathlib.Path(folder))
         if given.texts:
             print(f"{given.texts} texts and as many streams were converted")
+        shelf.lay_out(folder)
+        shelves = [case for case in shelf.SHELF_CASES if given.k in case[0]]
+        for name, stream in shelves:
+            found = differences(shelf.model([], stream), shelf.program_run(binary, [], stream, folder))
+            if found:
+                wrong += 1
+                print(name, *found, sep="\n", flush=True)
         if not given.k:
-            found = serving.differences(given.binary.split(), folder, BAD_WORDS, CONNECTIONS)
+            found = serving.differences(binary, folder, BAD_WORDS, CONNECTIONS)
             print(*found, sep="\n", flush=True)
             print(f"{len(BAD_WORDS)} command lines and {len(CONNECTIONS)} connections, {len(found)} with a difference")
             wrong += len(found)
-            found = files.differences(given.binary.split(), folder)
+            found = files.differences(binary, folder)
             print(*found, sep="\n", flush=True)
             print(f"{len(files.FILES) + 2} files that fail, {len(found)} with a difference")
             wrong += len(found)
-    print(f"{count} cases, {wrong} with a difference")
+    print(f"{count + len(shelves)} cases, {wrong} with a difference")
     return 1 if wrong else 0
 
 

@@ -14,6 +14,7 @@ sys.path[:0] = [str(ROOT / "examples"), str(ROOT / "outside")]
 import make  # noqa: E402
 import osc  # noqa: E402
 import server  # noqa: E402
+import shelf  # noqa: E402
 
 
 class Silent(server.Run):
@@ -26,7 +27,8 @@ class Silent(server.Run):
 def refused(name):
     """The commands of a piece that are refused."""
     packets = [osc.decode(make.bundle(make.tag_at(seconds), messages)) for seconds, messages in make.read(name)]
-    run = Silent(server.settings_of([]), packets)
+    sounds = shelf.Shelf({f"sounds/{path.name}": path.read_bytes() for path in (make.HERE / "sounds").iterdir()})
+    run = Silent(server.settings_of([]), [sounds.packet(packet) for packet in packets])
     run.play()
     return [reply for reply in run.replies if reply[0] == "/fail"]
 

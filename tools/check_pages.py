@@ -108,7 +108,7 @@ def words_of_page(text):
 
 
 def commands_of_page(text):
-    """Of each command its form, its line and its reasons."""
+    """Of each form of a command its words, its line and its reasons."""
     for address, form, body in re.findall(r"^### `(/\w+)`(.*)\n((?:(?!#).*\n)*)", text, re.M):
         line = re.search(r"^- Line: `(.*)`$", body, re.M)
         refused = re.search(r"^- Refused: (.*(?:\n  .*)*)$", body, re.M)
@@ -159,11 +159,19 @@ def spelled(form, least=1):
     return [head + more for head in heads for more in rest]
 
 
+def fitted(names, given):
+    """Arguments with 4 bytes of samples for each channel of each frame."""
+    if "samples" not in names:
+        return given
+    at, value = names.index("samples"), {name: value for name, (_, value) in zip(names, given)}
+    return (*given[:at], ("blob", "s" * (4 * max(0, value["frames"].of * value["channels"].of))), *given[at + 1:])
+
+
 def arguments_of(form, words, least=1):
     """Arguments that a form allows, as pairs of a kind and a value; with `least` 0 also without repetitions."""
     for names in spelled(form, least):
         for kinds in itertools.product(*(words[name][0] for name in names)):
-            yield tuple((kind, least_of(name, words) if kind == "int" else SAMPLES[kind]) for kind, name in zip(kinds, names))
+            yield fitted(names, tuple((kind, least_of(name, words) if kind == "int" else SAMPLES[kind]) for kind, name in zip(kinds, names)))
 
 
 def least_of(name, words):
@@ -194,7 +202,7 @@ def bounds_of(form, words):
                     continue
                 plain = [(words[each][0][0], least_of(each, words)) for each in names]
                 plain = [(kind, of if kind == "int" else SAMPLES[kind]) for kind, of in plain]
-                yield (*plain[:at], ("int", Int(value)), *plain[at + 1:]), allowed
+                yield fitted(names, (*plain[:at], ("int", Int(value)), *plain[at + 1:])), allowed
 
 
 def flat(form):
@@ -273,20 +281,22 @@ def check_line(code, address, line):
         wrong(f"{address}: the code refuses its line")
 
 
-def check_command(code, words, address, form, line, reasons):
+def check_command(code, words, address, forms, lines, reasons):
+    """A command, which may have several forms."""
     compare(f"{address}, reasons", reasons, code.reasons(address))
-    check_line(code, address, line)
-    form = parts(form)
-    allowed = list(arguments_of(form, words))
+    for line in lines:
+        check_line(code, address, line)
+    forms = [parts(form) for form in forms]
+    allowed = [given for form in forms for given in arguments_of(form, words)]
     kinds = {tuple(kind for kind, _ in given) for given in allowed}
     for given in allowed:
         if not code.accepts(address, given):
             wrong(f"{address} {shown(given)}: the page allows it, the code refuses it")
-    near = [each for one in allowed for each in others(one)] + list(arguments_of(form, words, 0))
+    near = [each for one in allowed for each in others(one)] + [given for form in forms for given in arguments_of(form, words, 0)]
     for given in {tuple(kind for kind, _ in each): each for each in near}.values():
-        if tuple(kind for kind, _ in given) not in kinds and code.accepts(address, given) and not is_longer(form, given):
+        if tuple(kind for kind, _ in given) not in kinds and code.accepts(address, given) and not any(is_longer(form, given) for form in forms):
             wrong(f"{address} {shown(given)}: the code takes it, the page doesn't say so")
-    for given, fits in bounds_of(form, words):
+    for given, fits in [each for form in forms for each in bounds_of(form, words)]:
         if code.accepts(address, given) != fits:
             wrong(f"{address} {shown(given)}: the page {'allows' if fits else 'refuses'} it, the code doesn't")
 
@@ -310,10 +320,15 @@ def most_of(form):
 def check_commands():
     text = COMMANDS.read_text()
     code, words = Code(), words_of_page(text)
-    page = list(commands_of_page(text))
-    compare("the commands", sorted(address for address, *_ in page), sorted(code.addresses()))
-    for each in page:
-        check_command(code, words, *each)
+    page = {}
+    for address, form, line, reasons in commands_of_page(text):
+        forms, lines, all_reasons = page.setdefault(address, ([], [], []))
+        forms.append(form)
+        lines += [line] if line or not lines else []
+        all_reasons += [reason for reason in reasons if reason not in all_reasons]
+    compare("the commands", sorted(page), sorted(code.addresses()))
+    for address, found in page.items():
+        check_command(code, words, address, *found)
     variants = re.findall(r"^    (\w+)(?:\(u32\))?,$", (ROOT / "crates/sn_reply/src/reason.rt").read_text(), re.M)
     listed_reasons = re.findall(r"^\| `([^`]+)` \| ", text[text.index("## All reasons"):], re.M)
     compare("all reasons", sorted(listed_reasons), sorted(code.texts.get(name) for name in variants))

@@ -80,6 +80,9 @@ def forced(arg):
 
 
 def elements(value):
+    if isinstance(value, str):
+        yield from (thunk(ord(code)) for code in value)
+        return
     while value.name == "∷":
         yield value.args[0]
         value = forced(value.args[1])

@@ -15,3 +15,4 @@ pub mod ResamplingLemmas
 pub mod QueryLemmas
 pub mod SampleRowLemmas
 pub mod SampleAnswerLemmas
+pub mod ReadingLemmas

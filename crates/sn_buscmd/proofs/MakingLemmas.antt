@@ -1,6 +1,6 @@
 -- A buffer that is made.
 use Rattle.std.proofs.Common.{◌≡◌, ◌≤◌, ◌<◌, ◌+◌, ◌*◌, ℕ, zero, suc, ℤ, pos, negsuc, nat_abs, List, [], ◌∷◌, ◌++◌, length, get_or, set, replicate, Bool, true, false, not, Option, Some, None, Result, Ok, Err, refl, ap, sym, ◌∙◌, arith}
-use Rattle.std.specs.Prelude.{if◌then◌else◌, nat_lt, nat_le, codes}
+use Rattle.std.specs.Prelude.{if◌then◌else◌, nat_lt, nat_le}
 use Rattle.std.proofs.lemmas.Bool.{ltb-true, leb-true, lt-ltb, and_parts}
 use Rattle.sn_mem.specs.declared.extents.Extent.{Extent}
 use Rattle.sn_mem.specs.Words.{covers, has}
@@ -16,7 +16,7 @@ use Rattle.sn_world.specs.declared.stage.Stage.{Stage}
 use Rattle.sn_mem.specs.Buffers.{Buffer, buffer_of, buffers_of, samples_of, place_extents, live_places, overlaps}
 use Rattle.sn_world.specs.Buffers.{live_buffers}
 use Rattle.sn_world.specs.BufferNumbers.{is_number, at_number, put_at, number_refusal, done_with}
-use Rattle.sn_world.specs.BufferCommands.{without_buffer, place_for, silent, alloc_at, alloc_outcome}
+use Rattle.sn_world.specs.BufferCommands.{without_buffer, place_for, holding, hold_at, hold}
 use Rattle.sn_world.specs.Pictures.{Pictures, live_held}
 use Rattle.sn_world.specs.Rows.{first_of, unless}
 use Rattle.sn_world.specs.World.{World, Turn, world_of, turn_of, live_of}
@@ -93,15 +93,15 @@ module _ (stage : Stage) (words : List ℕ) (r : NewBuffer) (free : number_refus
   place_is left are = least_place-same stage.pool.region (live_of (without_buffer r.number (world_of stage words))) left (r.frames * r.channels)
       (λ x. ap (λ (es : List Extent). has es x) live_without ∙ sym (left_same left are x))
 
-  judged : (from : ℕ) (replies : List ReplyShape) (left : List Extent) (at : Option ℕ) → AreLeft o stage.pool.live left → least_place stage.pool.region left (r.frames * r.channels) ≡ at
-      → alloc_outcome from (Some r) (turn_of stage words replies) ≡ alloc_at from r at (turn_of stage words replies)
-  judged from replies left at are is =
-      ap (λ (q : Option Reason). unless q (alloc_at from r (place_for (world_of stage words) r) (turn_of stage words replies))) free
-      ∙ ap (λ (q : Option ℕ). alloc_at from r q (turn_of stage words replies)) (place_is left are ∙ is)
+  judged : (command : List ℕ) (samples : List ℤ) (from : ℕ) (replies : List ReplyShape) (left : List Extent) (at : Option ℕ) → AreLeft o stage.pool.live left → least_place stage.pool.region left (r.frames * r.channels) ≡ at
+      → hold command samples from r (turn_of stage words replies) ≡ hold_at command samples from r at (turn_of stage words replies)
+  judged command samples from replies left at are is =
+      ap (λ (q : Option Reason). unless q (hold_at command samples from r (place_for (world_of stage words) r) (turn_of stage words replies))) free
+      ∙ ap (λ (q : Option ℕ). hold_at command samples from r q (turn_of stage words replies)) (place_is left are ∙ is)
 
-  pub full_row : (from : ℕ) (replies : List ReplyShape) (left : List Extent) → AreLeft o stage.pool.live left → least_place stage.pool.region left (r.frames * r.channels) ≡ None
-      → alloc_outcome from (Some r) (turn_of stage words replies) ≡ Err Reasons.PoolFull
-  full_row from replies left are is = judged from replies left None are is
+  pub full_row : (command : List ℕ) (samples : List ℤ) (from : ℕ) (replies : List ReplyShape) (left : List Extent) → AreLeft o stage.pool.live left → least_place stage.pool.region left (r.frames * r.channels) ≡ None
+      → hold command samples from r (turn_of stage words replies) ≡ Err Reasons.PoolFull
+  full_row command samples from replies left are is = judged command samples from replies left None are is
 
   module _ (new : Stage) (us : List ℕ) (p : BufferPlace) (fits : IsNew r) (placed : IsPlaced o r stage.pool new.pool p)
       (is : new ≡ record stage { pool = new.pool; buffers = set stage.buffers (nat_abs r.number) (Some p) }) (around : KeepsAround p.extent words us) where
@@ -145,20 +145,22 @@ module _ (stage : Stage) (words : List ℕ) (r : NewBuffer) (free : number_refus
     pub made_pictures : Pictures new us
     made_pictures = set_pictures (nat_abs r.number) (Some p) stage words new us is_set before
 
-    buffer_is : samples_of us p.extent ≡ replicate p.extent.len (pos 0) → buffer_of us p ≡ silent r p.extent.at
-    buffer_is zeros = λ i. record { frames = placed.frames i; channels = placed.channels i; samples = (zeros ∙ ap (λ n. replicate n (pos 0)) placed.size) i; extent = record { at = p.extent.at; len = placed.size i } }
+    -- a buffer of these samples stands there, and that is told
+    module _ (command : List ℕ) (samples : List ℤ) (held : samples_of us p.extent ≡ samples) where
+      buffer_is : buffer_of us p ≡ holding samples r p.extent.at
+      buffer_is = λ i. record { frames = placed.frames i; channels = placed.channels i; samples = held i; extent = record { at = p.extent.at; len = placed.size i } }
 
-    made_turn : (from : ℕ) (replies after : List ReplyShape) → samples_of us p.extent ≡ replicate p.extent.len (pos 0) → after ≡ replies ++ (record { to = Client from; message = done_with (codes "/b_alloc") r.number }) ∷ []
-        → turn_of new us after ≡ (let t : Turn = record { world = record (world_of stage words) { buffers = put_at r.number (Some (silent r p.extent.at)) (buffers_of words stage.buffers) }; replies = replies ++ (record { to = Client from; message = done_with (codes "/b_alloc") r.number }) ∷ [] } in t)
-    made_turn from replies after zeros told =
-        let w : World = world_of stage words in
-        let world_is = set_world (nat_abs r.number) (Some p) stage words new us is_set before
-        ∙ ap (λ (b : Buffer). let v : World = record w { buffers = set (buffers_of words stage.buffers) (nat_abs r.number) (Some b) } in v) (buffer_is zeros)
-        ∙ ap (λ (bs : List (Option Buffer)). let v : World = record w { buffers = bs } in v) (sym (put_there r.number (Some (silent r p.extent.at)) (buffers_of words stage.buffers) here.is)) in
-        λ i. record { world = world_is i; replies = told i }
+      made_turn : (from : ℕ) (replies after : List ReplyShape) → after ≡ replies ++ (record { to = Client from; message = done_with command r.number }) ∷ []
+          → turn_of new us after ≡ (let t : Turn = record { world = record (world_of stage words) { buffers = put_at r.number (Some (holding samples r p.extent.at)) (buffers_of words stage.buffers) }; replies = replies ++ (record { to = Client from; message = done_with command r.number }) ∷ [] } in t)
+      made_turn from replies after told =
+          let w : World = world_of stage words in
+          let world_is = set_world (nat_abs r.number) (Some p) stage words new us is_set before
+          ∙ ap (λ (b : Buffer). let v : World = record w { buffers = set (buffers_of words stage.buffers) (nat_abs r.number) (Some b) } in v) buffer_is
+          ∙ ap (λ (bs : List (Option Buffer)). let v : World = record w { buffers = bs } in v) (sym (put_there r.number (Some (holding samples r p.extent.at)) (buffers_of words stage.buffers) here.is)) in
+          λ i. record { world = world_is i; replies = told i }
 
-    pub made_row : (from : ℕ) (replies after : List ReplyShape) → samples_of us p.extent ≡ replicate p.extent.len (pos 0) → after ≡ replies ++ (record { to = Client from; message = done_with (codes "/b_alloc") r.number }) ∷ []
-        → alloc_outcome from (Some r) (turn_of stage words replies) ≡ Ok (turn_of new us after)
-    made_row from replies after zeros told =
-        judged from replies placed.left (Some p.extent.at) placed.are_left placed.least
-        ∙ ap {B = Result Turn Reason} (λ (t : Turn). Ok t) (sym (made_turn from replies after zeros told))
+      pub made_row : (from : ℕ) (replies after : List ReplyShape) → after ≡ replies ++ (record { to = Client from; message = done_with command r.number }) ∷ []
+          → hold command samples from r (turn_of stage words replies) ≡ Ok (turn_of new us after)
+      made_row from replies after told =
+          judged command samples from replies placed.left (Some p.extent.at) placed.are_left placed.least
+          ∙ ap {B = Result Turn Reason} (λ (t : Turn). Ok t) (sym (made_turn from replies after told))

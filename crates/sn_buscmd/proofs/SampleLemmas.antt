@@ -2,7 +2,7 @@
 use Rattle.std.proofs.Common.{◌≡◌, ◌≢◌, ◌≤◌, ◌<◌, ◌+◌, ◌-◌, ℕ, zero, suc, ℤ, pos, List, [], ◌∷◌, ◌++◌, map, length, get_or, set, replicate, true, false, refl, ap, sym, ◌∙◌, arith, length-set, get_or-set_other}
 use Rattle.std.specs.Prelude.{FitsSigned}
 use Rattle.std.specs.Int.{w32}
-use Rattle.std.proofs.lemmas.List.{map-set, length-map}
+use Rattle.std.proofs.lemmas.List.{map-set, length-map, length-replicate}
 use Rattle.sn_mem.specs.declared.extents.Extent.{Extent}
 use Rattle.sn_mem.specs.declared.extents.Foot.{Foot}
 use Rattle.sn_mem.specs.Words.{MayWrite, covers, touches}
@@ -72,13 +72,15 @@ append-next : (front : List ℤ) (v : ℤ) (bs : List ℤ) → (front ++ v ∷ [
 append-next [] v bs = refl
 append-next (a ∷ front) v bs = ap (λ (xs : List ℤ). a ∷ xs) (append-next front v bs)
 
-filled-behind : (front bs : List ℤ) (v : ℤ) → set_from (length front) (replicate (length bs) v) (front ++ bs) ≡ front ++ replicate (length bs) v
-filled-behind front [] v = refl
-filled-behind front (b ∷ bs) v =
-    ap (set_from (length front + 1) (replicate (length bs) v)) (set_next front b bs v)
-    ∙ ap (λ n. set_from n (replicate (length bs) v) ((front ++ v ∷ []) ++ bs)) (sym (length-next front v))
-    ∙ filled-behind (front ++ v ∷ []) bs v
-    ∙ append-next front v (replicate (length bs) v)
+pub set_behind : (front vs bs : List ℤ) → length vs ≡ length bs → set_from (length front) vs (front ++ bs) ≡ front ++ vs
+set_behind front [] [] same = refl
+set_behind front [] (b ∷ bs) same = absurd (omega (arith, same))
+set_behind front (v ∷ vs) [] same = absurd (omega (arith, same))
+set_behind front (v ∷ vs) (b ∷ bs) same =
+    ap (set_from (length front + 1) vs) (set_next front b bs v)
+    ∙ ap (λ n. set_from n vs ((front ++ v ∷ []) ++ bs)) (sym (length-next front v))
+    ∙ set_behind (front ++ v ∷ []) vs bs (omega (arith, same))
+    ∙ append-next front v vs
 
 pub filled-entirely : (xs : List ℤ) (n : ℕ) (v : ℤ) → length xs ≡ n → set_from 0 (replicate n v) xs ≡ replicate (length xs) v
-filled-entirely xs n v is = ap (λ m. set_from 0 (replicate m v) xs) (sym is) ∙ filled-behind [] xs v
+filled-entirely xs n v is = ap (λ m. set_from 0 (replicate m v) xs) (sym is) ∙ set_behind [] (replicate (length xs) v) xs (length-replicate {A = ℤ} (length xs) v)

@@ -3,3 +3,4 @@ pub mod Refusing
 pub mod Census
 pub mod Samples
 pub mod SampleCommands
+pub mod Reading

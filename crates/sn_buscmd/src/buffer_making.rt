@@ -22,7 +22,7 @@ use sn_world::{NewBuffer, Single, Stage};
 use std::alloc::Global;
 
 /// A number of frames, of which there is at least one.
-fn frame_count(argument: &Arg) -> Option<u32>
+pub fn frame_count(argument: &Arg) -> Option<u32>
     ensures count { result ≡ frame_count (argument_of argument.now) }
     ensures bound { IfSome result (λ n. (1 ≤ n) × (n < 2 ^ 31)) }
 {
@@ -33,7 +33,7 @@ fn frame_count(argument: &Arg) -> Option<u32>
 }
 
 /// A number of channels, 1 to 8.
-fn channel_count(argument: &Arg) -> Option<u32>
+pub fn channel_count(argument: &Arg) -> Option<u32>
     ensures count { result ≡ channel_count (argument_of argument.now) }
     ensures bound { IfSome result (λ n. (1 ≤ n) × (n ≤ 8)) }
 {
@@ -44,7 +44,11 @@ fn channel_count(argument: &Arg) -> Option<u32>
 }
 
 /// What a message asks for.
-fn asked_with(number: Option<i32>, frames: Option<u32>, channels: Option<u32>) -> Option<NewBuffer>
+pub fn asked_with(
+    number: Option<i32>,
+    frames: Option<u32>,
+    channels: Option<u32>,
+) -> Option<NewBuffer>
     requires frames { IfSome frames (λ n. (1 ≤ n) × (n < 2 ^ 31)) }
     requires channels { IfSome channels (λ n. (1 ≤ n) × (n ≤ 8)) }
     ensures asked { result ≡ asked_with number frames channels }
@@ -105,7 +109,7 @@ fn give_old(pool: &mut Pool, old: Option<BufferPlace>)
 
 /// Takes words for a buffer, once those of the buffer with its number were given back. `None` comes where the pool has no place then. But
 /// for a place that was found, the pool is as it was.
-fn take_place(
+pub fn take_place(
     pool: &mut Pool,
     old: Option<BufferPlace>,
     new: &NewBuffer,

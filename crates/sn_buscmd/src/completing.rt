@@ -5,7 +5,7 @@ ghost use Rattle.std.specs.Borrow.{Bor};
 ghost use Rattle.sn_osc.specs.Shape.{argument_of, message_of, shape};
 ghost use Rattle.sn_osc.specs.Reading.{read};
 ghost use Rattle.sn_reply.specs.Sending.{IsAnswerable};
-ghost use Rattle.sn_world.specs.Completing.{behind_frames, behind_number, behind_text, carried, own, one_message};
+ghost use Rattle.sn_world.specs.Completing.{behind_frames, behind_samples, behind_number, behind_text, carried, own, one_message};
 ghost use Rattle.sn_world.specs.Commands.{completion_of, depth_within, acceptable};
 
 use crate::running::bus_command_of;
@@ -21,6 +21,22 @@ fn behind_frames(arguments: &[Arg]) -> Option<&[u8]>
     match arguments {
         [Arg::Int(_), Arg::Int(_), Arg::Blob(blob)] => Some(blob.as_slice()),
         [Arg::Int(_), Arg::Int(_), Arg::Int(_), Arg::Blob(blob)] => Some(blob.as_slice()),
+        _ => None,
+    }
+}
+
+/// The blob behind a number, frames, channels and samples.
+fn behind_samples(arguments: &[Arg]) -> Option<&[u8]>
+    ensures { option_map (λ (blob : Bor (List ℕ)). blob.now) result ≡ behind_samples (map argument_of arguments.now) }
+{
+    match arguments {
+        [
+            Arg::Int(_),
+            Arg::Int(_),
+            Arg::Int(_),
+            Arg::Blob(_),
+            Arg::Blob(blob),
+        ] => Some(blob.as_slice()),
         _ => None,
     }
 }
@@ -51,6 +67,7 @@ pub fn carried(command: BusCommand, arguments: &[Arg]) -> Option<&[u8]>
 {
     match command {
         BusCommand::AllocBuffer => behind_frames(arguments),
+        BusCommand::ReadBuffer => behind_samples(arguments),
         BusCommand::FreeBuffer | BusCommand::ZeroBuffer => behind_number(arguments),
         BusCommand::Receive => behind_text(arguments),
         _ => None,

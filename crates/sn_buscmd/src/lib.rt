@@ -6,6 +6,7 @@ mod asking_runs;
 mod buffer_freeing;
 mod buffer_making;
 mod buffer_querying;
+mod buffer_reading;
 mod buffer_zeroing;
 mod buffers;
 mod completing;

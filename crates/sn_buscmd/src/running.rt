@@ -18,6 +18,7 @@ use crate::asking_runs::run_get_runs;
 use crate::buffer_freeing::run_buffer_free;
 use crate::buffer_making::run_buffer_alloc;
 use crate::buffer_querying::run_buffer_query;
+use crate::buffer_reading::run_buffer_read;
 use crate::buffer_zeroing::run_buffer_zero;
 use crate::completing::{carried, completion_in, own};
 use crate::ending::{run_clear, run_quit};
@@ -68,6 +69,9 @@ fn buffer_command_of(address: &[u8]) -> Option<BusCommand>
 {
     if address == b"/b_alloc".as_slice() {
         return Some(BusCommand::AllocBuffer);
+    }
+    if address == b"/b_allocRead".as_slice() {
+        return Some(BusCommand::ReadBuffer);
     }
     if address == b"/b_free".as_slice() {
         return Some(BusCommand::FreeBuffer);
@@ -163,6 +167,7 @@ fn run_row<P: Port>(
         BusCommand::Get => run_get(alloc, port, arguments, from, replies),
         BusCommand::GetRuns => run_get_runs(alloc, port, arguments, from, replies),
         BusCommand::AllocBuffer => run_buffer_alloc(alloc, stage, port, arguments, from, replies),
+        BusCommand::ReadBuffer => run_buffer_read(alloc, stage, port, arguments, from, replies),
         BusCommand::FreeBuffer => run_buffer_free(alloc, stage, arguments, from, replies),
         BusCommand::ZeroBuffer => run_buffer_zero(alloc, stage, port, arguments, from, replies),
         BusCommand::QueryBuffers => run_buffer_query(alloc, stage, arguments, from, replies),

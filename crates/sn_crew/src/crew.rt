@@ -19,12 +19,17 @@ use sn_table::{MainSeat, Shared};
 use std::alloc::Global;
 use std::thread::Threads;
 
+/// No crew has more workers.
+const MOST_THREADS: usize = 16;
+
 /// From 1 to 16 workers.
 #[derive(Drop)]
 pub struct Crew {
     pub(crate) hands: Vec<Hand>,
     // For how many threads there are processors, or 0 before the first round.
     processors: usize,
+    // In how many threads a round may be, at most.
+    threads: usize,
     ghost some: { 0 < length hands.items },
     ghost few: { length hands.items ≤ 16 },
     ghost deques: { All (λ hand. deques_of hand ≡ length hands.items) hands.items },
@@ -40,15 +45,23 @@ impl Crew {
         Ok(Crew {
             hands,
             processors: 0,
+            threads: MOST_THREADS,
         })
+    }
+
+    /// From now on a round is in at most so many threads, or in one if they are none.
+    pub fn allow_threads(&mut self, threads: usize)
+        ensures { length self.new.hands.items ≡ length self.old.hands.items }
+    {
+        self.threads = threads;
     }
 
     /// Runs every job of a plan, in threads where they can be had. The words after it are those of one job after
     /// another.
     ///
-    /// Each worker has a seat in the round. There are no more threads than jobs can run at the same time, and no more
-    /// than processors, or two. Each job passes the gate between its claim and its run. What the workers leave, the
-    /// caller runs.
+    /// Each worker has a seat in the round. There are no more threads than jobs can run at the same time, no more than
+    /// processors, or two, and no more than are allowed. Each job passes the gate between its claim and its run. What
+    /// the workers leave, the caller runs.
     pub fn round<R: Threads + Sync, W: Work, G: Gate>(
         &mut self,
         rt: &R,
@@ -71,7 +84,7 @@ impl Crew {
             self.processors = processors(rt);
         }
         let most = self.hands.len().min(self.processors.max(2));
-        let threads = width(plan, most);
+        let threads = width(plan, most.min(self.threads.max(1)));
         let hands = self.hands.as_mut_slice();
         let pace = Pace::new(plan.jobs());
         shared.arm(main, plan);

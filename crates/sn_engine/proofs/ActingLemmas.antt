@@ -5,8 +5,8 @@ use Rattle.std.proofs.Math.Bool.{or_assoc, or-false}
 use Rattle.sn_ports.specs.declared.failed.NoMemory.{NoMemory}
 use Rattle.sn_reply.specs.declared.reason.Reason.{Reason}
 use Rattle.sn_world.specs.declared.command.Handled.{Handled}
-use Rattle.sn_world.specs.declared.command.Handled.TheVariants.{Done, Quit, ClearSched}
-use Rattle.sn_world.specs.Answers.{Handles}
+use Rattle.sn_world.specs.declared.command.Handled.TheVariants.{Done, Quit, ClearSched, NotMine}
+use Rattle.sn_world.specs.Answers.{Handles, UnlessDone}
 use Rattle.sn_world.specs.Commands.{either as first_there}
 use Rattle.std.specs.List.{AllByRecursion}
 use Rattle.sn_queue.specs.declared.entry.Entry.{Entry}
@@ -121,3 +121,15 @@ done_there h o other t (inr (inr e)) row = still_first o other t (subst (λ x. H
 
 pub handles_done : (r : Result Handled NoMemory) (o : Option (Result Turn Reason)) (t after : Turn) → r ≡ Ok Done → t ≡ after → o ≡ Some (Ok after) → Handles r o t
 handles_done r o t after is same row = subst (λ x. Handles x o t) (sym is) (row ∙ ap (λ x. Some (Ok x)) (sym same))
+
+pub not_mine : (h : Handled) (P : Type 0) → h ≡ NotMine → UnlessDone (Ok h) P → P
+not_mine h P is p = subst (λ x. UnlessDone (Ok x) P) is p
+
+pub none_there : (h : Handled) (o : Option (Result Turn Reason)) (t : Turn) → h ≡ NotMine → Handles (Ok h) o t → o ≡ None
+none_there h o t is row = subst (λ x. Handles (Ok x) o t) is row
+
+-- the other commands are asked where the address is none of the first ones'
+pub handles_other : (r asked : Result Handled NoMemory) (o other told : Option (Result Turn Reason)) (t after : Turn) → r ≡ asked → t ≡ after → o ≡ None → told ≡ other → Handles asked told after → Handles r (first_there o other) t
+handles_other r asked o other told t after is same none as_told row =
+    let found : Handles asked (first_there o other) after = subst (λ x. Handles asked (first_there x other) after) (sym none) (subst (λ x. Handles asked x after) as_told row) in
+    subst (λ x. Handles x (first_there o other) t) (sym is) (subst (λ x. Handles asked (first_there o other) x) (sym same) found)

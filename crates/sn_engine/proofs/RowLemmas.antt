@@ -55,12 +55,14 @@ still_copied channels old new ws us outputs copies same long h = record {
 
 -- ---- rounds
 
-pub each_round : (n : ℕ) (jobs : List Job) (crew : ℕ) (old new : List Rested) → new ≡ old ++ replicate n (record { jobs = jobs; crew = crew }) → AreRounds n jobs crew old new
-each_round n jobs crew old new put = inl put
+pub each_round : (n : ℕ) (jobs : List Job) (crew workers : ℕ) (old new : List Rested) → workers ≡ crew → new ≡ old ++ replicate n (record { jobs = jobs; crew = workers }) → AreRounds n jobs crew old new
+each_round n jobs crew workers old new same put = inl (put ∙ ap (λ k. old ++ replicate n (record { jobs = jobs; crew = k })) same)
 
-pub one_round : (n : ℕ) (jobs all : List Job) (crew : ℕ) (outputs : List Extent) (at blocks : ℕ) (old new : List Rested) → 2 ≤ n → blocks ≡ n → all ≡ unrolled jobs outputs at blocks → new ≡ old ++ record { jobs = all; crew = crew } ∷ [] → AreRounds n jobs crew old new
-one_round n jobs all crew outputs at blocks old new some same is put =
-    inr (some, (outputs, at, put ∙ ap (λ (js : List Job). old ++ record { jobs = js; crew = crew } ∷ []) (is ∙ ap (unrolled jobs outputs at) same)))
+pub one_round : (n : ℕ) (jobs all : List Job) (crew workers : ℕ) (outputs : List Extent) (at blocks : ℕ) (old new : List Rested) → 2 ≤ n → blocks ≡ n → all ≡ unrolled jobs outputs at blocks → workers ≡ crew
+    → new ≡ old ++ record { jobs = all; crew = workers } ∷ [] → AreRounds n jobs crew old new
+one_round n jobs all crew workers outputs at blocks old new some same is as_many put =
+    let jobs_are : all ≡ unrolled jobs outputs at n = is ∙ ap (unrolled jobs outputs at) same in
+    inr (some, (outputs, at, put ∙ (λ i. old ++ record { jobs = jobs_are i; crew = as_many i } ∷ [])))
 
 -- the jobs and the number of workers are what they were
 pub rounds_rested : (p first : Past) (n : ℕ) (rounds : List Rested) (stores crew : ℕ) → p ≡ first → AreRounds n p.jobs p.crew p.rounds rounds → stores ≡ p.stores → crew ≡ p.crew → HasRounds n first (record { jobs = p.jobs; rounds = rounds; stores = stores; crew = crew })

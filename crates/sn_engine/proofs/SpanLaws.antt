@@ -32,10 +32,11 @@ use Rattle.sn_settle.proofs.Settled.{long, settled_turn}
 use Rattle.sn_engine.specs.Boundary.{unsaid, turn_at, waiting_at, clashes_at}
 use Rattle.sn_engine.specs.Holding.{AreClashesOf}
 use Rattle.sn_engine.specs.Outputs.{frame_of, frames_of, outputs, sounds}
-use Rattle.sn_engine.specs.Running.{Running, at_boundary, with_block, with_settled}
+use Rattle.sn_engine.specs.Running.{Running, at_boundary, flow_at, flow_of, with_block, with_settled}
 use Rattle.sn_engine.specs.Spans.{IsSpan, in_turn, with_blocks}
 use Rattle.sn_engine.specs.declared.standing.Standing.TheVariants.{Bounded, Rendered, Settled}
-use Rattle.sn_engine.proofs.QuietLemmas.{same_world, all_wait, same_clashes, nothing_said}
+use Rattle.sn_engine.specs.declared.standing.Flow.TheVariants.{On}
+use Rattle.sn_engine.proofs.QuietLemmas.{same_world, all_wait, same_clashes, nothing_said, goes_on}
 
 -- ---- a settling at which nothing is told or done
 
@@ -185,6 +186,17 @@ module _ (stage : Stage) (s : Running) (stands : Stands stage s.world) (clashes 
       sym (next n (suc k) (omega (arith, l)) none)
       ∙ ap (λ (t : Running). with_settled (with_block (at_boundary t))) (blocks_in_turn r n k bounded (omega (arith, l)) none)
 
+  -- at a boundary between them the server goes on
+  pub between_goes_on : (r : Running) (n k : ℕ) → s ≡ at_boundary r → suc k < n → list_any (is_due s.waiting (s.block + n - 1)) s.waiting.waiting ≡ false → flow_at (in_turn (suc k) r) ≡ On
+  between_goes_on r n k bounded l none =
+      let q : Running = after (suc k) in
+      let asked : Bool = list_any (is_due q.waiting q.block) q.waiting.waiting in
+      let early : asked ≡ false =
+      ap (λ (ws : WaitingList). list_any (is_due ws q.block) ws.waiting) (waiting_is (suc k))
+      ∙ none_earlier s.waiting s.waiting.waiting q.block (s.block + n - 1) (omega (arith, block_is (suc k), l)) none in
+      ap (λ (t : Running). flow_at t) (sym (blocks_in_turn r n k bounded (omega (arith, l)) none) ∙ quiet_settled q (still_quiet (suc k)))
+      ∙ ap flow_of (sym (goes_on q.block q.waiting asked refl early (settled_world q.world)))
+
 -- ---- n blocks as their world and their sound
 
 -- what n blocks make of an engine
@@ -219,4 +231,14 @@ one_or_more stage s r n jobs stands clashes bounded quiet = ⊎_elim
     let m : ℕ = n - 1 in
     let is : suc m ≡ n = omega (arith, q.0) in
     subst (λ k. with_settled (with_blocks k s) ≡ in_turn k r) is (blocks_in_turn stage s stands clashes span.quiet_is r n m bounded (omega (arith, q.0)) span.none_due))
+    quiet
+
+pub none_quits : (stage : Stage) (s r : Running) (n k : ℕ) (jobs : List Job) → Stands stage s.world → AreClashesOf stage s.clashes → s ≡ at_boundary r → (n ≡ 1) ⊎ ((2 ≤ n) × IsSpan jobs s n) → 1 ≤ k → k < n → flow_at (in_turn k r) ≡ On
+none_quits stage s r n k jobs stands clashes bounded quiet some few = ⊎_elim
+    (λ (e : n ≡ 1). absurd (omega (arith, e, some, few)))
+    (λ (q : (2 ≤ n) × IsSpan jobs s n).
+    let span : IsSpan jobs s n = q.1 in
+    let m : ℕ = k - 1 in
+    let is : suc m ≡ k = omega (arith, some) in
+    subst (λ j. flow_at (in_turn j r) ≡ On) is (between_goes_on stage s stands clashes span.quiet_is r n m bounded (omega (arith, few, some)) span.none_due))
     quiet

@@ -15,6 +15,7 @@ ghost use Rattle.sn_engine.specs.Planning.{IsPlanOfWorld};
 ghost use Rattle.sn_engine.specs.Playing.{no_past, KeepsRounds, KeepsRested};
 ghost use Rattle.sn_engine.specs.Spans.{HasRounds, IsQuiet, in_turn, with_blocks};
 ghost use Rattle.sn_engine.specs.Running.{Running, opened, at_boundary, flow_at, KeepsRest, with_block, with_settled};
+ghost use Rattle.sn_engine.specs.declared.standing.Flow.TheVariants.{On};
 ghost use Rattle.sn_engine.specs.declared.standing.Standing.TheVariants.{Settled, Bounded, Rendered, Spent};
 
 use crate::bounding::act_boundary;
@@ -334,8 +335,9 @@ impl Engine {
             &mut said,
         )?;
         let blocks = self.planned.span(&self.queue, self.block, self.wanted);
+        let workers = self.settings.workers;
         self.planned
-            .unroll(alloc, blocks, &self.outputs, self.copies)?;
+            .unroll(alloc, blocks, workers, &self.outputs, self.copies)?;
         send(alloc, &mut self.replies, 0, said)?;
         self.room = reserve_settling(&self.stage, &mut self.endings, &mut self.replies)?;
         self.holds = true;
@@ -364,7 +366,7 @@ impl Engine {
     }
 
     /// The next blocks, as many as may come before the next boundary, and their sound. They are one round of the jobs of the plan in so
-    /// many blocks, if a boundary made these ready, or else a round each; the crew shares the jobs. The world after them is that of as
+    /// many blocks, if a boundary made these ready, or else a round each; the crew shares the jobs, in as many threads as pay. The world after them is that of as
     /// many walks over the nodes, whatever their number of workers. Each job passes the gate before it runs. It takes no memory.
     pub fn blocks<H: Threads + Sync, G: Gate>(&mut self, rt: &H, n: u32, gate: &G)
         requires quiet { IsQuiet self.old n }
@@ -399,6 +401,13 @@ impl Engine {
     /// boundary each.
     pub fn rows_are_turns(&self)
         ensures { self.now.running.standing ≡ Bounded → (r : Running) (n : ℕ) → self.now.running ≡ at_boundary r → IsQuiet self.now n → with_settled (with_blocks n self.now.running) ≡ in_turn n r }
+    {
+        let _ = &self.stage;
+    }
+
+    /// A law: at a boundary between the blocks of a row the server goes on.
+    pub fn rows_go_on(&self)
+        ensures { self.now.running.standing ≡ Bounded → (r : Running) (n k : ℕ) → self.now.running ≡ at_boundary r → IsQuiet self.now n → 1 ≤ k → k < n → flow_at (in_turn k r) ≡ On }
     {
         let _ = &self.stage;
     }

@@ -18,6 +18,7 @@ mod room;
 mod settling;
 mod spans;
 mod standing;
+mod weighing;
 
 pub use engine::Engine;
 pub use laws::{chosen_ids_are_below, no_completion_is_left};

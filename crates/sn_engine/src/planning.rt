@@ -6,6 +6,7 @@ ghost use Rattle.sn_engine.specs.Holding.{AreClashesOf};
 ghost use Rattle.sn_engine.specs.Planning.{IsPictured, IsPlannedFor, IsSpanned, IsSpanOf};
 
 use crate::spans::{LATEST_BLOCK, blocks_before_due, most_blocks};
+use crate::weighing::{threads_for, units_beside};
 use sn_clash::{Clashes, world_has_the_clashes};
 use sn_graph::{plan, worlds_are_disjoint};
 use sn_mem::{Extent, Extents};
@@ -27,6 +28,8 @@ pub struct Planned {
     pub places: SynthPlaces,
     /// Whether no synth that runs sends a trigger, or pauses or frees itself at the end of a unit.
     pub quiet: bool,
+    /// How many units can run beside the longest chain of jobs.
+    pub beside: u32,
     /// The jobs in several blocks.
     pub all: Plan,
     /// In how many. If these are not more than one, there are none.
@@ -52,6 +55,7 @@ impl Planned {
             jobs,
             places,
             quiet: false,
+            beside: 0,
             all: no_plan(alloc)?,
             blocks: 0,
         })
@@ -71,12 +75,14 @@ impl Planned {
         let jobs = plan(alloc, stage, clashes.as_slice())?;
         jobs.is_well_formed();
         let places = SynthPlaces::new(alloc, stage, &jobs)?;
+        let beside = units_beside(alloc, stage, &jobs)?;
         let all = no_plan(alloc)?;
         let quiet = is_quiet(stage);
         Ok(Planned {
             jobs,
             places,
             quiet,
+            beside,
             all,
             blocks: 0,
         })
@@ -100,11 +106,17 @@ impl Planned {
         blocks_before_due(queue, block, most.min(want))
     }
 
-    /// Makes the plan of so many blocks, if these are more than one, and unless it is there.
+    /// In how many threads a round of so many blocks pays.
+    pub fn threads(&self, blocks: u32) -> usize {
+        threads_for(self.beside, blocks)
+    }
+
+    /// Makes the plan of so many blocks, unless it is there, if they are more than one and several workers share it.
     pub fn unroll(
         &mut self,
         alloc: Global,
         blocks: u32,
+        workers: u32,
         outputs: &Extents,
         copies: u32,
     ) -> Result<(), NoMemory>
@@ -117,13 +129,13 @@ impl Planned {
         ensures quiet { self.new.quiet ≡ self.old.quiet }
         ensures spanned { OnOk result (IsSpanned self.new.jobs outputs.now copies self.new.all self.new.blocks) }
     {
-        if self.blocks == blocks {
+        if blocks < 2 || self.blocks == blocks {
+            return Ok(());
+        }
+        if workers < 2 || self.threads(blocks) < 2 {
             return Ok(());
         }
         self.blocks = 0;
-        if blocks < 2 {
-            return Ok(());
-        }
         let extent = Extent {
             at: copies,
             len: 512 * blocks,

@@ -184,8 +184,10 @@ pub fn render<H: Threads + Sync, G: Gate>(
     ensures crew { length crew.new.hands.items ≡ length crew.old.hands.items }
 {
     if part.blocks < 2 || part.blocks != part.planned.blocks {
+        crew.allow_threads(part.planned.threads(1));
         render_each(rt, part, memory, crew, gate, samples, sound);
         return;
     }
+    crew.allow_threads(part.planned.threads(part.blocks));
     render_span(rt, part, memory, crew, gate, samples, sound);
 }

@@ -1,2 +1,3 @@
+mod Passing
 mod Sweeping
 pub mod Unseen

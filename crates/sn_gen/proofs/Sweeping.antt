@@ -19,7 +19,7 @@ use Rattle.sn_gen.specs.LineRuns.{line_unit, span, line_sample, BeginsWithSample
 -- ---- recurrences
 
 -- states and samples that follow each other by the step are those of the recurrence
-follows : {S : Type 0} (step : S → List (List ℤ) → ℕ → S × ℤ) (state : ℕ → S) (y : ℕ → ℤ) (ins : List (List ℤ)) (n : ℕ)
+pub follows : {S : Type 0} (step : S → List (List ℤ) → ℕ → S × ℤ) (state : ℕ → S) (y : ℕ → ℤ) (ins : List (List ℤ)) (n : ℕ)
     → ((k : ℕ) → k < n → ◌≡◌ {A = S × ℤ} (step (state k) ins k) (state (suc k), y k)) → ◌≡◌ {A = S × List ℤ} (scan step (state 0) ins n) (state n, table y n)
 unfolding scan table
 follows step state y ins zero h = refl
@@ -31,19 +31,19 @@ follows {S} step state y ins (suc n) h =
 
 -- ---- one frame
 
-abbrev sweep : ℕ → ℕ → ℤ → ℤ → ℕ → Sweep
+abbrev pub sweep : ℕ → ℕ → ℤ → ℤ → ℕ → Sweep
 sweep done frame start end frames = record { done = done; frame = frame; start = start; end = end; frames = frames }
 
 same_pair : (d d' f f' : ℕ) (a e : ℤ) (n : ℕ) (y y' : ℤ) → d ≡ d' → f ≡ f' → y ≡ y' → ◌≡◌ {A = Sweep × ℤ} (sweep d f a e n, y) (sweep d' f' a e n, y')
 same_pair d d' f f' a e n y y' p q r = cc
 
-swept_on : (d f n : ℕ) (a e : ℤ) → f < n → ◌≡◌ {A = Sweep × ℤ} (swept (sweep d f a e n)) (sweep d (f + 1) a e n, line_at a e f n)
+pub swept_on : (d f n : ℕ) (a e : ℤ) → f < n → ◌≡◌ {A = Sweep × ℤ} (swept (sweep d f a e n)) (sweep d (f + 1) a e n, line_at a e f n)
 swept_on d f n a e lt =
     let on : Sweep × ℤ = (sweep d (f + 1) a e n, line_at a e f n) in
     let off : Sweep × ℤ = (sweep (ended d) (max f 1) a e n, e) in
     ap (λ c. cond c on off) (lt-ltb f n lt)
 
-swept_off : (d f n : ℕ) (a e : ℤ) → n ≤ f → ◌≡◌ {A = Sweep × ℤ} (swept (sweep d f a e n)) (sweep (ended d) (max f 1) a e n, e)
+pub swept_off : (d f n : ℕ) (a e : ℤ) → n ≤ f → ◌≡◌ {A = Sweep × ℤ} (swept (sweep d f a e n)) (sweep (ended d) (max f 1) a e n, e)
 swept_off d f n a e le =
     let on : Sweep × ℤ = (sweep d (f + 1) a e n, line_at a e f n) in
     let off : Sweep × ℤ = (sweep (ended d) (max f 1) a e n, e) in

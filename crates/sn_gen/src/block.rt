@@ -7,7 +7,7 @@ ghost use Rattle.sn_mem.specs.Blocks.{window, put};
 ghost use Rattle.sn_gen.specs.Generators.{is_generator, generator};
 
 use crate::impulse::Impulse;
-use crate::line::Line;
+use crate::line::run_line;
 use crate::linen::Linen;
 use crate::noise::{WhiteNoise, seed};
 use crate::oscillators::{LFPulse, LFSaw, LFTri, SinOsc, TableSinOsc};
@@ -42,7 +42,6 @@ pub fn run<P: Port>(
 {
     let rate = now.rate;
     let phase_step = PhaseStep::new(rate);
-    let slope = Slope::new();
     match kind {
         Kind::SinOsc => run_recurrence(&SinOsc { phase_step }, port, state.at, inputs, outputs),
         Kind::LFSaw => run_recurrence(&LFSaw { phase_step }, port, state.at, inputs, outputs),
@@ -54,8 +53,11 @@ pub fn run<P: Port>(
             run_recurrence(&WhiteNoise { first }, port, state.at, inputs, outputs);
         }
         Kind::Phasor => run_recurrence(&Phasor, port, state.at, inputs, outputs),
-        Kind::Line => run_recurrence(&Line { rate, slope }, port, state.at, inputs, outputs),
-        Kind::Linen => run_recurrence(&Linen { rate, slope }, port, state.at, inputs, outputs),
+        Kind::Line => run_line(rate, port, state.at, inputs, outputs),
+        Kind::Linen => {
+            let slope = Slope::new();
+            run_recurrence(&Linen { rate, slope }, port, state.at, inputs, outputs);
+        }
         _ => {}
     }
 }

@@ -2,6 +2,7 @@
 #![tactic(auto)]
 
 mod block;
+mod course;
 mod impulse;
 mod laws;
 mod line;

@@ -1,9 +1,15 @@
 //! Straight lines.
-ghost use Rattle.std.specs.Prelude.{◌≡◌, ◌<◌, ◌≤◌, length};
-ghost use Rattle.sn_gen.specs.Line.{begun, swept};
+ghost use Rattle.std.specs.Prelude.{◌≡◌, ◌<◌, ◌≤◌, ◌+◌, ◌∷◌, [], ℕ, ℤ, List, IfSome, length};
+ghost use Rattle.sn_mem.specs.Words.{MayWrite};
+ghost use Rattle.sn_mem.specs.Blocks.{recurred, scan};
+ghost use Rattle.sn_gen.specs.Line.{begun, swept, line, sweep_in, sweep_words};
 
+use crate::course::run_course;
 use sn_fixed::{Slope, frames_of};
-use sn_mem::{Blocks, Recurrence, Stored, ended, sample_of, word_of};
+use sn_mem::{
+    Blocks, Port, Recurrence, Stored, ended, load_words, run_recurrence, sample_of, store_words,
+    word_of,
+};
 
 /// How far a line is.
 #[derive(Clone, Copy)]
@@ -115,5 +121,78 @@ impl Recurrence for Line {
     fn next(&mut self, sweep: Sweep, inputs: &Blocks, frame: usize) -> (Sweep, i32) {
         let sweep = begun(self.rate, sweep, inputs, frame);
         swept(&mut self.slope, sweep)
+    }
+}
+
+/// A block of a line that has begun and goes on behind it. Gives the line after it.
+fn along(sweep: Sweep, outputs: &mut Blocks) -> Sweep
+    requires begun { 0 < sweep.frame }
+    requires within { sweep.frame + 64 ≤ sweep.frames }
+    ensures sweep { (rate : ℕ) (inputs : List (List ℤ)) → result ≡ (scan (line rate) sweep inputs 64).0 }
+    ensures outputs { (rate : ℕ) (inputs : List (List ℤ)) → outputs.new ≡ (scan (line rate) sweep inputs 64).1 ∷ [] }
+{
+    let mut samples = [0i32; 64];
+    let after = run_course(sweep, &mut samples);
+    outputs.clear();
+    outputs.push(&samples);
+    after
+}
+
+/// A block after the end of a line. Gives the line after it.
+fn past(sweep: Sweep, outputs: &mut Blocks) -> Sweep
+    requires begun { 0 < sweep.frame }
+    requires over { sweep.frames ≤ sweep.frame }
+    ensures sweep { (rate : ℕ) (inputs : List (List ℤ)) → result ≡ (scan (line rate) sweep inputs 64).0 }
+    ensures outputs { (rate : ℕ) (inputs : List (List ℤ)) → outputs.new ≡ (scan (line rate) sweep inputs 64).1 ∷ [] }
+{
+    outputs.clear();
+    outputs.push_equal(sweep.end);
+    let done = ended(sweep.done);
+    Sweep { done, ..sweep }
+}
+
+/// A block in which a line neither begins nor comes to its end, so that no frame asks for either. Gives the line after
+/// it. Gives `None` for any other block, and then puts nothing out.
+fn passed(sweep: Sweep, outputs: &mut Blocks) -> Option<Sweep>
+    ensures sweep { IfSome result (λ after. (rate : ℕ) (inputs : List (List ℤ)) → after ≡ (scan (line rate) sweep inputs 64).0) }
+    ensures outputs { IfSome result (λ _. (rate : ℕ) (inputs : List (List ℤ)) → outputs.new ≡ (scan (line rate) sweep inputs 64).1 ∷ []) }
+{
+    if sweep.frame == 0 {
+        None
+    } else if sweep.frames <= sweep.frame {
+        Some(past(sweep, outputs))
+    } else if sweep.frames - sweep.frame >= 64 {
+        Some(along(sweep, outputs))
+    } else {
+        None
+    }
+}
+
+/// Runs Line for a block, as `run_recurrence` does, which runs the blocks in which it begins or comes to its end.
+pub(crate) fn run_line<P: Port>(
+    rate: u32,
+    port: &mut P,
+    at: u32,
+    inputs: &Blocks,
+    outputs: &mut Blocks,
+)
+    requires inputs { 4 ≤ length inputs.now }
+    requires state { MayWrite (P.foot port.old) at 5 }
+    ensures words { P.words port.new ≡ (recurred 5 sweep_in sweep_words (line rate) (P.words port.old) at inputs.now).0 }
+    ensures outputs { outputs.new ≡ (recurred 5 sweep_in sweep_words (line rate) (P.words port.old) at inputs.now).1 ∷ [] }
+    ensures foot { P.foot port.new ≡ P.foot port.old }
+    ensures rest { P.rest port.new ≡ P.rest port.old }
+{
+    let mut words = [0u64; 5];
+    load_words(port, at, &mut words);
+    match passed(Sweep::load(&words), outputs) {
+        Some(sweep) => {
+            sweep.store(&mut words);
+            store_words(port, at, &words);
+        }
+        None => {
+            let slope = Slope::new();
+            run_recurrence(&Line { rate, slope }, port, at, inputs, outputs);
+        }
     }
 }

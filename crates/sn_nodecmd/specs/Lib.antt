@@ -3,6 +3,7 @@ pub mod Setting
 pub mod Judging
 pub mod Placing
 pub mod Runs
+pub mod Covering
 pub mod Reworks
 pub mod Mapped
 pub mod Folding

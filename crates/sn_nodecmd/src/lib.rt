@@ -11,6 +11,7 @@ mod freeing;
 mod getting;
 mod groups;
 mod judging;
+mod latest;
 mod making;
 mod mappings;
 mod moving;

@@ -11,7 +11,7 @@ use sn_def::Def;
 use sn_osc::Arg;
 
 /// A control of a definition, by its number or by its name.
-#[derive(Clone, Copy)]
+#[derive(Clone, Copy, PartialEq, Eq, PartialOrd, Ord)]
 pub enum NamedControl<'a> {
     Numbered(i32),
     Named(&'a [u8]),

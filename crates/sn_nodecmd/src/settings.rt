@@ -10,6 +10,7 @@ ghost use Rattle.sn_world.specs.Answers.{Follows, UnlessFollowed};
 ghost use Rattle.sn_nodecmd.specs.Runs.{run_of, reader};
 ghost use Rattle.sn_nodecmd.specs.Reworks.{held_with, request_of};
 
+use crate::latest::latest;
 use crate::runs::{Run, RunForm, runs_of, set_runs};
 use sn_osc::Arg;
 use sn_ports::NoMemory;
@@ -96,5 +97,7 @@ pub fn run_set(
     let Some(asked) = asked_runs(alloc, form, arguments)? else {
         return Ok(Some(Reason::Arguments));
     };
-    Ok(set_all(stage, &asked))
+    let AskedRuns { id, runs } = asked;
+    let runs = latest(alloc, runs)?;
+    Ok(set_all(stage, &AskedRuns { id, runs }))
 }

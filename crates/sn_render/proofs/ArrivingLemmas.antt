@@ -1,19 +1,23 @@
 -- Packets of a stream are offered one after another.
-use Rattle.std.proofs.Common.{◌≡◌, ◌+◌, ◌≤◌, ℕ, Bool, true, false, List, [], ◌∷◌, ◌++◌, length, refl, sym, ap, subst, ◌∙◌, arith}
+use Rattle.std.proofs.Common.{◌≡◌, ◌+◌, ◌*◌, ◌≤◌, ℕ, Bool, true, false, List, [], ◌∷◌, ◌++◌, length, refl, sym, ap, subst, ◌∙◌, arith}
 use Rattle.std.specs.Prelude.{if◌then◌else◌}
-use Rattle.std.specs.Int.{w32, to_be_bytes}
+use Rattle.std.specs.List.{AllByRecursion}
+use Rattle.std.specs.Int.{w32, w64, to_be_bytes}
 use Rattle.std.proofs.lemmas.List.{length-append}
-use Rattle.sn_osc.specs.Shape.{Shape}
+use Rattle.sn_osc.specs.Shape.{Shape, message, bundle}
+use Rattle.sn_osc.specs.Bytes.{bundle_head, elements_bytes}
 use Rattle.sn_osc.specs.Frames.{Frames}
+use Rattle.sn_osc.proofs.Encoded.{packet_is}
 use Rattle.sn_osc.proofs.Streams.{four_or_more, no_more}
 use Rattle.sn_queue.specs.Steps.{put}
 use Rattle.sn_reply.proofs.FrameLaws.{as_many}
-use Rattle.sn_engine.specs.Arriving.{Offered, next_boundary, nothing_offered, is_full, refusal_of, offer_entry, offer_entries, offered, with_offered}
+use Rattle.sn_engine.specs.Arriving.{IsSpelled, Offered, next_boundary, nothing_offered, is_full, refusal_of, offer_entry, offer_entries, offered, with_offered}
 use Rattle.sn_engine.specs.Entries.{Timed, entries_of}
 use Rattle.sn_engine.specs.Running.{Running}
 use Rattle.sn_engine.proofs.PutLemmas.{entries_few}
 use Rattle.sn_render.specs.Arriving.{ArePut, IsBegun}
 use Rattle.sn_render.specs.Play.{arrive}
+use Rattle.sn_render.specs.Playing.{ArePlayable}
 
 -- no more entries are put than there are
 put_one : (b : Bool) (boundary : ℕ) (e : Timed) (o : Offered)
@@ -70,10 +74,27 @@ offers x xs target old new o is = subst (IsOffering xs target) (sym is) (record 
   arrives = o.arrives;
 })
 
-pub frames_put : (xs : List Shape) (bytes : List ℕ) (puts : ℕ) → Frames xs bytes → puts + length bytes ≤ 4611686018427387904 → ArePut xs puts
-frames_put [] bytes puts h few = tt
-frames_put (x ∷ xs) bytes puts h few =
+-- ---- packets from anywhere
+
+spelled_most : (x : Shape) → IsSpelled x → length (entries_of x) ≤ 134217728
+spelled_most (message m) s = omega arith
+spelled_most (bundle tag inner) s =
+    let len = ap length (packet_is (bundle tag inner) 8 1 s.0 s.1).0 in
+    let four : 4 ≤ length s.0 = omega (arith, len, length-append (bundle_head ++ to_be_bytes w64 tag) (elements_bytes inner), length-append bundle_head (to_be_bytes w64 tag)) in
+    omega (arith, entries_few (bundle tag inner) s.0 s.1 four, s.2)
+
+pub playable_put : (xs : List Shape) (puts : ℕ) → AllByRecursion IsSpelled xs → puts + length xs * 134217728 ≤ 4611686018427387904 → ArePut xs puts
+playable_put [] puts all few = tt
+playable_put (x ∷ xs) puts all few = (all.0, omega (arith, few, spelled_most x all.0), playable_put xs (puts + length (entries_of x)) all.1 (omega (arith, few, spelled_most x all.0)))
+
+-- the packets of a stream can be played
+frames_spelled : (xs : List Shape) (bytes : List ℕ) → Frames xs bytes → AllByRecursion IsSpelled xs × (8 * length xs ≤ length bytes)
+frames_spelled [] bytes h = (tt, omega arith)
+frames_spelled (x ∷ xs) bytes h =
     let (front, rest, size, spelled, others, parts) = h in
     let len : length bytes ≡ 4 + length front + length rest = omega (arith, ap length parts, length-append (to_be_bytes w32 (length front) ++ front) rest, length-append (to_be_bytes w32 (length front)) front) in
-    let less : length (entries_of x) ≤ length front = entries_few x front spelled (four_or_more (length front) size) in
-    ((front, spelled, omega (arith, no_more (length front) size)), omega arith, frames_put xs rest (puts + length (entries_of x)) others (omega arith))
+    let after = frames_spelled xs rest others in
+    (((front, spelled, omega (arith, no_more (length front) size)), after.0), omega (arith, len, four_or_more (length front) size, after.1))
+
+pub frames_playable : (xs : List Shape) (bytes : List ℕ) → Frames xs bytes → length bytes ≤ 16777216 → ArePlayable xs
+frames_playable xs bytes h few = let all = frames_spelled xs bytes h in record { few = omega (arith, few, all.1); spelled = all.0 }

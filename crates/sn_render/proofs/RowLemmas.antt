@@ -26,7 +26,7 @@ blocks_on : (m n : ℕ) (r : Running) → after_blocks n (after_blocks m r) ≡ 
 blocks_on zero n r = let e : n ≡ 0 + n = omega arith in ap (λ k. after_blocks k r) e
 blocks_on (suc m) n r = let e : suc (m + n) ≡ suc m + n = omega arith in blocks_on m n (after_block r) ∙ ap (λ k. after_blocks k r) e
 
-blocks_settled : (n : ℕ) (r : Running) → r.standing ≡ Settled → (after_blocks n r).standing ≡ Settled
+pub blocks_settled : (n : ℕ) (r : Running) → r.standing ≡ Settled → (after_blocks n r).standing ≡ Settled
 blocks_settled zero r h = h
 blocks_settled (suc n) r h = blocks_settled n (after_block r) refl
 

@@ -7,5 +7,6 @@ pub mod Going
 pub mod Rows
 pub mod Faults
 pub mod Outcomes
+pub mod Playing
 pub mod Statuses
 pub mod Pieces

@@ -30,6 +30,7 @@ reason_text Reasons.IndexControl = codes "index control"
 reason_text Reasons.QueueFull = codes "queue full"
 reason_text Reasons.BadPacket = codes "bad packet"
 reason_text Reasons.NotSynth = codes "not a synth"
+reason_text Reasons.File = codes "file"
 
 -- `/fail` with the command's address and the words of the reason
 abbrev pub fail_message : List ℕ → Reason → MessageShape

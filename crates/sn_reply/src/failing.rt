@@ -35,6 +35,7 @@ fn reason_text(alloc: Global, reason: Reason) -> Result<Text, NoMemory>
         Reason::QueueFull => b"queue full",
         Reason::BadPacket => b"bad packet",
         Reason::NotSynth => b"not a synth",
+        Reason::File => b"file",
     };
     Text::from_slice(alloc, words)
 }

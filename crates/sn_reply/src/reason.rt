@@ -41,4 +41,6 @@ pub enum Reason {
     BadPacket,
     /// The node is a group where a synth is asked for.
     NotSynth,
+    /// A file is named where no file is read, or one whose samples can't be taken.
+    File,
 }

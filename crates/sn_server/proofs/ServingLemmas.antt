@@ -1,5 +1,5 @@
 -- A connection goes on from event to event.
-use Rattle.std.proofs.Common.{◌≡◌, ℕ, suc, ◌+◌, ◌<◌, ◌||◌, Bool, true, Result, Ok, Err, ℤ, List, [], ◌∷◌, ◌++◌, length, Option, refl, sym, ap, subst, ◌∙◌, arith, ◌⊎◌, inl, inr}
+use Rattle.std.proofs.Common.{◌≡◌, ℕ, zero, suc, ◌+◌, ◌-◌, ◌<◌, ◌≤◌, ◌||◌, Bool, true, Result, Ok, Err, ℤ, List, [], ◌∷◌, ◌++◌, length, Option, refl, sym, ap, subst, ◌∙◌, arith, ◌⊎◌, inl, inr}
 use Rattle.std.specs.Prelude.{if◌then◌else◌, nat_le}
 use Rattle.std.specs.Io.KnownBytes.{Appends}
 use Rattle.std.specs.Result.{IsErrAnd}
@@ -10,18 +10,19 @@ use Rattle.sn_osc.specs.Framed.{fed_with}
 use Rattle.sn_osc.specs.Framing.{Framing}
 use Rattle.sn_osc.specs.Unpacking.{unpacked}
 use Rattle.sn_reply.proofs.FrameLaws.{begins_refl, begins_trans}
-use Rattle.sn_engine.specs.Running.{Running, at_boundary, with_block, with_settled, flow_at}
+use Rattle.sn_engine.specs.Running.{Running, at_boundary, flow_at}
 use Rattle.sn_engine.specs.declared.standing.Flow.{Flow}
 use Rattle.sn_engine.specs.declared.standing.Flow.TheVariants as flows
 use Rattle.sn_render.specs.Fronts.{TakesFront}
-use Rattle.sn_render.specs.Play.{after_block, to_first}
-use Rattle.sn_render.proofs.StepLemmas.{AddsTo, added, drained, boundary_step, after_block_step, begins_more, begins_under, Grows, grows_not, grows_both, grows}
+use Rattle.sn_render.specs.Play.{after_block, after_blocks, to_first}
+use Rattle.sn_render.proofs.StepLemmas.{AddsTo, added, drained, boundary_step, blocks_step, begins_more, begins_under, Grows, grows_not, grows_both, grows}
+use Rattle.sn_render.proofs.RowLemmas.{blocks_counted, blocks_settled}
 use Rattle.sn_render.proofs.WritingLemmas.{takes_none}
 use Rattle.sn_server.specs.declared.ended.Ended.{Ended}
 use Rattle.sn_server.specs.declared.ended.Ended.TheVariants.{Quit, NoMemory, Closed, Cut, BadFrame, LinkFault, SoundFault, Worn}
 use Rattle.sn_server.specs.PlayEvents.{Live, Course, ended, ends, with_packets, keep, receive, is_worn, worn, unless_quit, after_tick, tick, at_end}
 use Rattle.sn_server.specs.Served.{TakesBetween, ByEnd, WhereGiven}
-use Rattle.sn_server.specs.Serving.{IsBad, IsLive, IsReady, HasEnded, GoesOn, IsCut, Follows, IsTickEnd, IsTicked, after_flow, IsTickPart, HasQuit, IsWornOut, HasLeft}
+use Rattle.sn_server.specs.Serving.{IsBad, IsLive, IsReady, HasEnded, GoesOn, IsCut, Follows, GoesThrough, IsAhead, IsRowOn, IsTickEnd, IsTicked, IsTickPart, HasQuit, IsWornOut, HasLeft}
 use Rattle.sn_server.proofs.PacketLemmas.{packets_stay}
 use Rattle.sn_server.proofs.GrowingLemmas.{packets_step, tick_grows, receive_end}
 use Rattle.sn_server.proofs.JoiningLemmas.{not_worn}
@@ -161,6 +162,32 @@ after_one n v few less goes =
     let more = tick n (after_tick v) in
     not_worn v (unless_quit (flow_at v.play) (at_boundary v.play) more) few less ∙ ap (λ (x : Flow). unless_quit x (at_boundary v.play) more) goes
 
+-- a connection after n blocks
+abbrev after_row : ℕ → Live → Live
+after_row n v = record { play = after_blocks n v.play; framing = v.framing }
+
+-- n ticks at which the server goes on, and then others
+row_ticks : (n m : ℕ) (v : Live) → v.framing.fed < 4611686018427387904 → v.play.block + n ≤ 4611686018427387904 → GoesThrough n v.play → tick (n + m) v ≡ tick m (after_row n v)
+row_ticks zero m v few before goes = let e : 0 + m ≡ m = omega arith in ap (λ k. tick k v) e
+row_ticks (suc n) m v few before goes =
+    let e : suc n + m ≡ suc (n + m) = omega arith in
+    ap (λ k. tick k v) e
+    ∙ (after_one (n + m) v few (omega (arith, before)) (goes 0 (omega arith))
+    ∙ row_ticks n m (after_tick v) few (omega (arith, before)) (λ k l. goes (suc k) (omega (arith, l))))
+
+blocks_put : (n : ℕ) (r : Running) → (after_blocks n r).waiting.puts ≡ r.waiting.puts
+blocks_put zero r = refl
+blocks_put (suc n) r = blocks_put n (after_block r)
+
+-- where the server goes on at the first boundary, and at those after it
+pub goes_through : (n : ℕ) (r : Running) → flow_at r ≡ flows.On → ((k : ℕ) → 1 ≤ k → k < n → flow_at (after_blocks k r) ≡ flows.On) → GoesThrough n r
+goes_through n r first later zero l = first
+goes_through n r first later (suc k) l = later (suc k) (omega arith) l
+
+-- what is held back goes on as the whole does
+as_held : (n : ℕ) (sound_old sound_new sent_old sent_new : Option (List ℕ)) (v : Live) (e : Running) (f : Framing) → IsLive sound_old sound_new sent_old sent_new v e f → GoesThrough n e → GoesThrough n v.play
+as_held n sound_old sound_new sent_old sent_new v e f live goes k l = ap (λ (r : Running). flow_at r) (added (after_blocks k) (blocks_step k) v.play e live.alone live.engine).rest ∙ goes k l
+
 -- so many ticks are left of a course behind a connection
 pub record IsTicking (sound_old sound_new sent_old sent_new : Option (List ℕ)) (v : Live) (c : Course) (left : ℕ) (e : Running) (f : Framing) : Type 0 where
   pub live : Live
@@ -175,33 +202,34 @@ some_fed sound_old sound_new sent_old sent_new v e f live enough = omega (arith,
 pub some_blocks : (sound_old sound_new sent_old sent_new : Option (List ℕ)) (v : Live) (e : Running) (f : Framing) → IsLive sound_old sound_new sent_old sent_new v e f → HasLeft e f → v.play.block < 4611686018427387904
 some_blocks sound_old sound_new sent_old sent_new v e f live enough = omega (arith, enough.block, ap (λ (r : Running). r.block) live.engine)
 
-pub ticks_on : (sound_old sound_mid sound_new sent_old sent_mid sent_new : Option (List ℕ)) (v : Live) (c : Course) (left less : ℕ) (e0 e1 : Running) (f : Framing) → IsTicking sound_old sound_mid sent_old sent_mid v c left e0 f → left ≡ suc less → HasLeft e0 f
-    → IsTicked sound_mid sound_new sent_mid sent_new e0 e1 → IsTicking sound_old sound_new sent_old sent_new v c less e1 f
-ticks_on sound_old sound_mid sound_new sent_old sent_mid sent_new v c left less e0 e1 f i more enough t =
+pub ticks_on : (sound_old sound_mid sound_new sent_old sent_mid sent_new : Option (List ℕ)) (v : Live) (c : Course) (left less most : ℕ) (e0 e1 : Running) (f : Framing) → IsTicking sound_old sound_mid sent_old sent_mid v c left e0 f → HasLeft e0 f
+    → (t : IsTicked most sound_mid sound_new sent_mid sent_new e0 e1) → most ≤ left → e0.block + most ≤ 4611686018427387904 → less ≡ left - t.blocks → IsTicking sound_old sound_new sent_old sent_new v c less e1 f
+ticks_on sound_old sound_mid sound_new sent_old sent_mid sent_new v c left less most e0 e1 f i enough t few early is =
     let w = i.live in
-    let few = some_fed sound_old sound_mid sent_old sent_mid w e0 f i.stands enough in
-    let before = some_blocks sound_old sound_mid sent_old sent_mid w e0 f i.stands enough in
-    let goes : flow_at w.play ≡ flows.On = ap (λ (r : Running). flow_at r) (sym i.stands.engine) ∙ t.flow in
+    let n : ℕ = t.blocks in
+    let all : n + less ≡ left = omega (arith, is, few, t.few) in
+    let fed = some_fed sound_old sound_mid sent_old sent_mid w e0 f i.stands enough in
+    let before : w.play.block + n ≤ 4611686018427387904 = omega (arith, early, t.few, ap (λ (r : Running). r.block) i.stands.engine) in
     record {
-      live = after_tick w;
-      course = sym (after_one less w few before goes) ∙ ap (λ (n : ℕ). tick n w) (sym more) ∙ i.course;
-      grown = grows_both v.play w.play (after_block w.play) i.grown (grows after_block after_block_step w.play i.stands.alone);
-      stands = live_on sound_old sound_mid sound_new sent_old sent_mid sent_new w (after_tick w) e0 (after_block e0) e1 f f i.stands (added after_block after_block_step w.play e0 i.stands.alone i.stands.engine)
+      live = after_row n w;
+      course = sym (row_ticks n less w fed before (as_held n sound_old sound_mid sent_old sent_mid w e0 f i.stands t.flows)) ∙ (ap (λ (k : ℕ). tick k w) all ∙ i.course);
+      grown = grows_both v.play w.play (after_blocks n w.play) i.grown (grows (after_blocks n) (blocks_step n) w.play i.stands.alone);
+      stands = live_on sound_old sound_mid sound_new sent_old sent_mid sent_new w (after_row n w) e0 (after_blocks n e0) e1 f f i.stands (added (after_blocks n) (blocks_step n) w.play e0 i.stands.alone i.stands.engine)
           t.engine t.sound t.replies i.stands.framer;
     }
 
-pub ticked_ready : (sound_old sound_new sent_old sent_new : Option (List ℕ)) (e0 e1 : Running) (f : Framing) → IsReady e0 f → IsTicked sound_old sound_new sent_old sent_new e0 e1 → IsReady e1 f
-ticked_ready sound_old sound_new sent_old sent_new e0 e1 f r t = record {
-  standing = ap (λ (r : Running). r.standing) t.engine;
+pub ticked_ready : (most : ℕ) (sound_old sound_new sent_old sent_new : Option (List ℕ)) (e0 e1 : Running) (f : Framing) → IsReady e0 f → IsTicked most sound_old sound_new sent_old sent_new e0 e1 → IsReady e1 f
+ticked_ready most sound_old sound_new sent_old sent_new e0 e1 f r t = record {
+  standing = ap (λ (r : Running). r.standing) t.engine ∙ blocks_settled t.blocks e0 r.standing;
   silent = ap (λ (r : Running). r.sound) t.engine;
   said = ap (λ (r : Running). r.replies) t.engine;
-  puts = omega (arith, r.puts, ap (λ (r : Running). r.waiting.puts) t.engine);
+  puts = omega (arith, r.puts, ap (λ (r : Running). r.waiting.puts) t.engine, blocks_put t.blocks e0);
   fed = r.fed;
   kept = r.kept;
 }
 
-pub ticked_block : (sound_old sound_new sent_old sent_new : Option (List ℕ)) (e0 e1 : Running) → IsTicked sound_old sound_new sent_old sent_new e0 e1 → e1.block ≡ e0.block + 1
-ticked_block sound_old sound_new sent_old sent_new e0 e1 t = ap (λ (r : Running). r.block) t.engine
+pub ticked_block : (most : ℕ) (sound_old sound_new sent_old sent_new : Option (List ℕ)) (e0 e1 : Running) (t : IsTicked most sound_old sound_new sent_old sent_new e0 e1) → e1.block ≡ e0.block + t.blocks
+ticked_block most sound_old sound_new sent_old sent_new e0 e1 t = ap (λ (r : Running). r.block) t.engine ∙ blocks_counted t.blocks e0
 
 pub all_ticked : (sound_old sound_new sent_old sent_new : Option (List ℕ)) (v : Live) (c : Course) (left : ℕ) (e : Running) (f : Framing) → IsTicking sound_old sound_new sent_old sent_new v c left e f → left ≡ 0 → GoesOn sound_old sound_new sent_old sent_new c e f
 all_ticked sound_old sound_new sent_old sent_new v c left e f i none = record { live = i.live; course = sym i.course ∙ ap (λ (n : ℕ). tick n i.live) none; stands = i.stands }
@@ -271,73 +299,99 @@ quit_tick sound_old sound_mid sound_new sent_old sent_mid sent_new v c left less
       sent = subst (Appends sent_old sent_new) (sym adds.said) (Appends-trans sent_old sent_mid sent_new (to_first w.play.replies) (to_first (at_boundary e).replies) i.stands.sent q.replies);
     }
 
--- the next tick was cut short
-next_cut : (n : ℕ) (v : Live) (sound_old sound_mid sound_new sent_old sent_mid sent_new : Option (List ℕ)) (e : Running) (f : Framing) → IsLive sound_old sound_mid sent_old sent_mid v e f → HasLeft e f
-    → IsTickPart sound_mid sound_new sent_mid sent_new e → IsCut sound_old sound_new sent_old sent_new v (tick (suc n) v)
-next_cut n v sound_old sound_mid sound_new sent_old sent_mid sent_new e f live enough part = at (flow_at e) refl
+-- the next ticks were cut short
+next_cut : (m most : ℕ) (v : Live) (sound_old sound_mid sound_new sent_old sent_mid sent_new : Option (List ℕ)) (e : Running) (f : Framing) → IsLive sound_old sound_mid sent_old sent_mid v e f → HasLeft e f → 1 ≤ m → most ≤ m
+    → e.block + most ≤ 4611686018427387904 → IsTickPart most sound_mid sound_new sent_mid sent_new e → IsCut sound_old sound_new sent_old sent_new v (tick m v)
+next_cut m most v sound_old sound_mid sound_new sent_old sent_mid sent_new e f live enough some few early part = at part.ahead
   where
-    cut_at : (x : Flow) (next held : Running) (c : Course) → flow_at e ≡ x → after_flow x e ≡ held → tick (suc n) v ≡ c → AddsTo v.play next held → Grows next (at_end c).play → IsCut sound_old sound_new sent_old sent_new v (tick (suc n) v)
-    cut_at x next held c is holds course adds g =
-        let all : after_flow (flow_at e) e ≡ held = ap (λ (y : Flow). after_flow y e) is ∙ holds in
-        subst (λ (d : Course). IsCut sound_old sound_new sent_old sent_new v d) (sym course) (cut_in sound_old sound_mid sound_new sent_old sent_mid sent_new v e f next held c live adds
-        (subst (λ (r : Running). TakesFront sound_mid sound_new r.sound) all part.sound) (subst (λ (r : Running). TakesFront sent_mid sent_new (to_first r.replies)) all part.sent) g)
-
-    same : (x : Flow) → flow_at e ≡ x → flow_at v.play ≡ x
-    same x is = ap (λ (r : Running). flow_at r) (sym live.engine) ∙ is
-
-    few : v.framing.fed < 4611686018427387904
-    few = some_fed sound_old sound_mid sent_old sent_mid v e f live enough
+    fed : v.framing.fed < 4611686018427387904
+    fed = some_fed sound_old sound_mid sent_old sent_mid v e f live enough
 
     before : v.play.block < 4611686018427387904
     before = some_blocks sound_old sound_mid sent_old sent_mid v e f live enough
 
-    at : (x : Flow) → flow_at e ≡ x → IsCut sound_old sound_new sent_old sent_new v (tick (suc n) v)
-    at flows.Quit is =
-        cut_at flows.Quit (at_boundary v.play) (at_boundary e) (ends (at_boundary v.play) Quit) is refl (after_quit n v few before (same flows.Quit is)) (added at_boundary boundary_step v.play e live.alone live.engine) (grows_not (at_boundary v.play))
-    at flows.On is =
-        cut_at flows.On (after_block v.play) (after_block e) (tick n (after_tick v)) is refl (after_one n v few before (same flows.On is)) (added after_block after_block_step v.play e live.alone live.engine)
-        (tick_grows n (after_tick v) (after_block_step.clients v.play ∙ live.alone))
+    cut_at : (next held : Running) (c : Course) → part.held ≡ held → tick m v ≡ c → AddsTo v.play next held → Grows next (at_end c).play → IsCut sound_old sound_new sent_old sent_new v (tick m v)
+    cut_at next held c is course adds g =
+        subst (λ (d : Course). IsCut sound_old sound_new sent_old sent_new v d) (sym course) (cut_in sound_old sound_mid sound_new sent_old sent_mid sent_new v e f next held c live adds
+        (subst (λ (r : Running). TakesFront sound_mid sound_new r.sound) is part.sound) (subst (λ (r : Running). TakesFront sent_mid sent_new (to_first r.replies)) is part.sent) g)
 
-cut_tick : (sound_old sound_mid sound_new sent_old sent_mid sent_new : Option (List ℕ)) (v : Live) (c : Course) (left less : ℕ) (e : Running) (f : Framing) → IsTicking sound_old sound_mid sent_old sent_mid v c left e f → left ≡ suc less → HasLeft e f
-    → IsTickPart sound_mid sound_new sent_mid sent_new e → IsCut sound_old sound_new sent_old sent_new v c
-cut_tick sound_old sound_mid sound_new sent_old sent_mid sent_new v c left less e f i more enough part =
+    row : (n : ℕ) → n ≤ most → GoesThrough n e → part.held ≡ after_blocks n e → IsCut sound_old sound_new sent_old sent_new v (tick m v)
+    row n low goes is =
+        let rest : ℕ = m - n in
+        let all : m ≡ n + rest = omega (arith, low, few) in
+        let early_on : v.play.block + n ≤ 4611686018427387904 = omega (arith, early, low, ap (λ (r : Running). r.block) live.engine) in
+        cut_at (after_blocks n v.play) (after_blocks n e) (tick rest (after_row n v)) is
+        (ap (λ (k : ℕ). tick k v) all ∙ row_ticks n rest v fed early_on (as_held n sound_old sound_mid sent_old sent_mid v e f live goes))
+        (added (after_blocks n) (blocks_step n) v.play e live.alone live.engine)
+        (tick_grows rest (after_row n v) ((blocks_step n).clients v.play ∙ live.alone))
+
+    at : IsAhead most e part.held → IsCut sound_old sound_new sent_old sent_new v (tick m v)
+    at (inl (n, low, goes, is)) = row n low goes is
+    at (inr (quits, is)) =
+        let less : ℕ = m - 1 in
+        let all : m ≡ suc less = omega (arith, some) in
+        cut_at (at_boundary v.play) (at_boundary e) (ends (at_boundary v.play) Quit) is
+        (ap (λ (k : ℕ). tick k v) all ∙ after_quit less v fed before (ap (λ (r : Running). flow_at r) (sym live.engine) ∙ quits))
+        (added at_boundary boundary_step v.play e live.alone live.engine) (grows_not (at_boundary v.play))
+
+cut_tick : (sound_old sound_mid sound_new sent_old sent_mid sent_new : Option (List ℕ)) (v : Live) (c : Course) (left most : ℕ) (e : Running) (f : Framing) → IsTicking sound_old sound_mid sent_old sent_mid v c left e f → 1 ≤ left → most ≤ left
+    → e.block + most ≤ 4611686018427387904 → HasLeft e f → IsTickPart most sound_mid sound_new sent_mid sent_new e → IsCut sound_old sound_new sent_old sent_new v c
+cut_tick sound_old sound_mid sound_new sent_old sent_mid sent_new v c left most e f i some few early enough part =
     let w = i.live in
-    let here = next_cut less w sound_old sound_mid sound_new sent_old sent_mid sent_new e f i.stands enough part in
-    let rest : tick (suc less) w ≡ c = ap (λ (n : ℕ). tick n w) (sym more) ∙ i.course in
-    cut_later sound_old sound_new sent_old sent_new v w c i.grown (subst (λ (d : Course). IsCut sound_old sound_new sent_old sent_new w d) rest here)
+    let here = next_cut left most w sound_old sound_mid sound_new sent_old sent_mid sent_new e f i.stands enough some few early part in
+    cut_later sound_old sound_new sent_old sent_new v w c i.grown (subst (λ (d : Course). IsCut sound_old sound_new sent_old sent_new w d) i.course here)
 
 -- ---- what of a tick was written
 
-pub none_part : (sound sent : Option (List ℕ)) (r : Running) → IsTickPart sound sound sent sent r
-none_part sound sent r = record { sound = takes_none sound (after_flow (flow_at r) r).sound; sent = takes_none sent (to_first (after_flow (flow_at r) r).replies) }
+pub none_part : (most : ℕ) (sound sent : Option (List ℕ)) (r : Running) → IsTickPart most sound sound sent sent r
+none_part most sound sent r = record { held = r; ahead = inl (0, omega arith, λ k l. absurd (omega (arith, l)), refl); sound = takes_none sound r.sound; sent = takes_none sent (to_first r.replies) }
 
-pub quit_part : (sound sent_old sent_new : Option (List ℕ)) (old mid : Running) → flow_at old ≡ flows.Quit → mid ≡ at_boundary old → TakesFront sent_old sent_new (to_first mid.replies) → IsTickPart sound sound sent_old sent_new old
-quit_part sound sent_old sent_new old mid quits is part = record {
-  sound = takes_none sound (after_flow (flow_at old) old).sound;
-  sent = subst (λ (t : List ℕ). TakesFront sent_old sent_new t) (ap (λ (r : Running). to_first r.replies) is ∙ ap (λ (x : Flow). to_first (after_flow x old).replies) (sym quits)) part;
+pub quit_part : (most : ℕ) (sound sent_old sent_new : Option (List ℕ)) (old mid : Running) → flow_at old ≡ flows.Quit → mid ≡ at_boundary old → TakesFront sent_old sent_new (to_first mid.replies) → IsTickPart most sound sound sent_old sent_new old
+quit_part most sound sent_old sent_new old mid quits is part = record { held = mid; ahead = inr (quits, is); sound = takes_none sound mid.sound; sent = part }
+
+pub row_part : (most : ℕ) (sound_old sound_new sent_old sent_new : Option (List ℕ)) (old new heard : Running) → IsRowOn most old new → TakesFront sound_old sound_new new.sound → heard ≡ record new { sound = [] } → TakesFront sent_old sent_new (to_first heard.replies)
+    → IsTickPart most sound_old sound_new sent_old sent_new old
+row_part most sound_old sound_new sent_old sent_new old new heard row sound kept told = record {
+  held = new;
+  ahead = inl (row.blocks, row.few, row.flows, row.played);
+  sound = sound;
+  sent = subst (λ (bytes : List ℕ). TakesFront sent_old sent_new bytes) (ap (λ (r : Running). to_first r.replies) kept) told;
 }
 
-pub block_part : (sound_old sound_new sent_old sent_new : Option (List ℕ)) (old mid : Running) → flow_at old ≡ flows.On → mid ≡ at_boundary old → TakesFront sound_old sound_new (with_settled (with_block mid)).sound
-    → TakesFront sent_old sent_new (to_first (with_settled (with_block mid)).replies) → IsTickPart sound_old sound_new sent_old sent_new old
-block_part sound_old sound_new sent_old sent_new old mid goes is heard told = record {
-  sound = subst (λ (t : List ℕ). TakesFront sound_old sound_new t) (ap (λ (r : Running). (with_settled (with_block r)).sound) is ∙ ap (λ (x : Flow). (after_flow x old).sound) (sym goes)) heard;
-  sent = subst (λ (t : List ℕ). TakesFront sent_old sent_new t) (ap (λ (r : Running). to_first (with_settled (with_block r)).replies) is ∙ ap (λ (x : Flow). to_first (after_flow x old).replies) (sym goes)) told;
+-- its engine has one client
+pub row_alone : (most : ℕ) (old new : Running) → IsRowOn most old new → length old.replies ≡ 1 → length new.replies ≡ 1
+row_alone most old new row alone = ap (λ (r : Running). length r.replies) row.played ∙ ((blocks_step row.blocks).clients old ∙ alone)
+
+-- a row of which all was written
+pub row_ticked : (most : ℕ) (sound_old sound_new sent_old sent_new : Option (List ℕ)) (old new heard e : Running) → IsRowOn most old new → Appends sound_old sound_new new.sound → heard ≡ record new { sound = [] } → Appends sent_old sent_new (to_first heard.replies)
+    → e ≡ record heard { replies = [] ∷ [] } → IsTicked most sound_old sound_new sent_old sent_new old e
+row_ticked most sound_old sound_new sent_old sent_new old new heard e row sound kept told empty = record {
+  blocks = row.blocks;
+  some = row.some;
+  few = row.few;
+  flows = row.flows;
+  engine = empty ∙ ap (λ (r : Running). record r { replies = [] ∷ [] }) (kept ∙ ap (λ (r : Running). record r { sound = [] }) row.played);
+  sound = subst (λ (r : Running). Appends sound_old sound_new r.sound) row.played sound;
+  replies = subst (λ (bytes : List ℕ). Appends sent_old sent_new bytes) (ap (λ (r : Running). to_first r.replies) kept ∙ ap (λ (r : Running). to_first r.replies) row.played) told;
 }
 
 abbrev pub failed : Ended → Result (Unit {0}) Ended
 failed how = Err how
 
-pub ended_tick : (sound_old sound_mid sound_new sent_old sent_mid sent_new : Option (List ℕ)) (v : Live) (c : Course) (left less : ℕ) (e : Running) (f : Framing) (how : Ended) → IsTicking sound_old sound_mid sent_old sent_mid v c left e f → left ≡ suc less → HasLeft e f
-    → IsTickEnd how → (failed how ≡ failed Quit → HasQuit sound_mid sound_new sent_mid sent_new e) → IsTickPart sound_mid sound_new sent_mid sent_new e
+pub ended_tick : (sound_old sound_mid sound_new sent_old sent_mid sent_new : Option (List ℕ)) (v : Live) (c : Course) (left most : ℕ) (e : Running) (f : Framing) (how : Ended) → IsTicking sound_old sound_mid sent_old sent_mid v c left e f → 1 ≤ left → most ≤ left
+    → e.block + most ≤ 4611686018427387904 → HasLeft e f → IsTickEnd how → (failed how ≡ failed Quit → HasQuit sound_mid sound_new sent_mid sent_new e) → IsTickPart most sound_mid sound_new sent_mid sent_new e
     → ByEnd how (HasEnded sound_old sound_new sent_old sent_new c how) (IsCut sound_old sound_new sent_old sent_new v c)
-ended_tick sound_old sound_mid sound_new sent_old sent_mid sent_new v c left less e f Quit i more enough is quit part = quit_tick sound_old sound_mid sound_new sent_old sent_mid sent_new v c left less e f i more enough (quit refl)
-ended_tick sound_old sound_mid sound_new sent_old sent_mid sent_new v c left less e f NoMemory i more enough is quit part = cut_tick sound_old sound_mid sound_new sent_old sent_mid sent_new v c left less e f i more enough part
-ended_tick sound_old sound_mid sound_new sent_old sent_mid sent_new v c left less e f LinkFault i more enough is quit part = cut_tick sound_old sound_mid sound_new sent_old sent_mid sent_new v c left less e f i more enough part
-ended_tick sound_old sound_mid sound_new sent_old sent_mid sent_new v c left less e f SoundFault i more enough is quit part = cut_tick sound_old sound_mid sound_new sent_old sent_mid sent_new v c left less e f i more enough part
-ended_tick sound_old sound_mid sound_new sent_old sent_mid sent_new v c left less e f Closed i more enough is quit part = absurd is
-ended_tick sound_old sound_mid sound_new sent_old sent_mid sent_new v c left less e f (Cut kept) i more enough is quit part = absurd is
-ended_tick sound_old sound_mid sound_new sent_old sent_mid sent_new v c left less e f (BadFrame size) i more enough is quit part = absurd is
-ended_tick sound_old sound_mid sound_new sent_old sent_mid sent_new v c left less e f (Worn n blocks) i more enough is quit part = absurd is
+ended_tick sound_old sound_mid sound_new sent_old sent_mid sent_new v c left most e f Quit i some few early enough is quit part =
+    let less : ℕ = left - 1 in
+    let more : left ≡ suc less = omega (arith, some) in
+    quit_tick sound_old sound_mid sound_new sent_old sent_mid sent_new v c left less e f i more enough (quit refl)
+ended_tick sound_old sound_mid sound_new sent_old sent_mid sent_new v c left most e f NoMemory i some few early enough is quit part = cut_tick sound_old sound_mid sound_new sent_old sent_mid sent_new v c left most e f i some few early enough part
+ended_tick sound_old sound_mid sound_new sent_old sent_mid sent_new v c left most e f LinkFault i some few early enough is quit part = cut_tick sound_old sound_mid sound_new sent_old sent_mid sent_new v c left most e f i some few early enough part
+ended_tick sound_old sound_mid sound_new sent_old sent_mid sent_new v c left most e f SoundFault i some few early enough is quit part = cut_tick sound_old sound_mid sound_new sent_old sent_mid sent_new v c left most e f i some few early enough part
+ended_tick sound_old sound_mid sound_new sent_old sent_mid sent_new v c left most e f Closed i some few early enough is quit part = absurd is
+ended_tick sound_old sound_mid sound_new sent_old sent_mid sent_new v c left most e f (Cut kept) i some few early enough is quit part = absurd is
+ended_tick sound_old sound_mid sound_new sent_old sent_mid sent_new v c left most e f (BadFrame size) i some few early enough is quit part = absurd is
+ended_tick sound_old sound_mid sound_new sent_old sent_mid sent_new v c left most e f (Worn n blocks) i some few early enough is quit part = absurd is
 
 -- what a step answers that ended, or was cut short
 pub follows_err : (sound_old sound_new sent_old sent_new : Option (List ℕ)) (v : Live) (c : Course) (e : Running) (f : Framing) (r : Result (Unit {0}) Ended) (how : Ended) → IsErrAnd r (λ k. k ≡ how)

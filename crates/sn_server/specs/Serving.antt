@@ -1,19 +1,18 @@
 -- How far a connection has come that is served.
-use Rattle.std.specs.Prelude.{◌≡◌, ◌≤◌, ◌<◌, ◌+◌, ◌^◌, ◌||◌, nat_le, true, false, ℕ, List, [], ◌∷◌, length, Option, None, Some, Result, Ok, Err, ⊤}
+use Rattle.std.specs.Prelude.{◌≡◌, ◌⊎◌, ◌≤◌, ◌<◌, ◌+◌, ◌^◌, ◌||◌, nat_le, true, false, ℕ, List, [], ◌∷◌, length, Option, None, Some, Result, Ok, Err, ⊤}
 use Rattle.std.specs.Io.KnownBytes.{Appends, Keeps}
 use Rattle.sn_ports.specs.Links.{LinkEvent, Takes, Known}
 use Rattle.sn_osc.specs.Framing.{Framing}
 use Rattle.sn_osc.specs.Frames.{FirstFrame, cut, bad_size}
 use Rattle.sn_pcm.specs.declared.settings.Settings.{Settings}
 use Rattle.sn_engine.specs.Running.{Running, at_boundary, flow_at}
-use Rattle.sn_engine.specs.declared.standing.Flow.{Flow}
 use Rattle.sn_engine.specs.declared.standing.Flow.TheVariants.{On}
 use Rattle.sn_engine.specs.declared.standing.Flow.TheVariants as flows
 use Rattle.sn_engine.specs.declared.standing.Standing.TheVariants.{Settled}
 use Rattle.sn_server.specs.declared.ended.Ended.{Ended}
 use Rattle.sn_server.specs.declared.ended.Ended.TheVariants.{Quit, NoMemory, Closed, Cut, BadFrame, LinkFault, SoundFault, Worn}
 use Rattle.sn_render.specs.Fronts.{TakesFront}
-use Rattle.sn_render.specs.Play.{after_block, to_first}
+use Rattle.sn_render.specs.Play.{after_blocks, to_first}
 use Rattle.sn_server.specs.PlayEvents.{Live, Over, Course, going, ended, is_worn, after_event, after_events, at_end, beginning}
 use Rattle.sn_server.specs.Served.{TakesBetween, TakesEach, WhileOpen, ByEnd}
 
@@ -98,12 +97,27 @@ pub record IsReady (e : Running) (f : Framing) : Type 0 where
   pub fed : f.fed ≤ 2 ^ 62
   pub kept : length f.kept ≤ 65540
 
--- A boundary, its block and its settling, and what came of them was written.
-pub record IsTicked (sound_old sound_new sent_old sent_new : Option (List ℕ)) (old new : Running) : Type 0 where
-  pub flow : flow_at old ≡ On
-  pub engine : new ≡ record (after_block old) { sound = []; replies = [] ∷ [] }
-  pub sound : Appends sound_old sound_new (after_block old).sound
-  pub replies : Appends sent_old sent_new (to_first (after_block old).replies)
+-- at each of the next n boundaries the server goes on
+abbrev pub GoesThrough : ℕ → Running → Type 0
+GoesThrough n r = (k : ℕ) → k < n → flow_at (after_blocks k r) ≡ On
+
+-- One to so many boundaries, each with its block and its settling.
+pub record IsRowOn (most : ℕ) (old new : Running) : Type 0 where
+  pub blocks : ℕ
+  pub some : 1 ≤ blocks
+  pub few : blocks ≤ most
+  pub flows : GoesThrough blocks old
+  pub played : new ≡ after_blocks blocks old
+
+-- One to so many boundaries, each with its block and its settling, and what came of them was written.
+pub record IsTicked (most : ℕ) (sound_old sound_new sent_old sent_new : Option (List ℕ)) (old new : Running) : Type 0 where
+  pub blocks : ℕ
+  pub some : 1 ≤ blocks
+  pub few : blocks ≤ most
+  pub flows : GoesThrough blocks old
+  pub engine : new ≡ record (after_blocks blocks old) { sound = []; replies = [] ∷ [] }
+  pub sound : Appends sound_old sound_new (after_blocks blocks old).sound
+  pub replies : Appends sent_old sent_new (to_first (after_blocks blocks old).replies)
 
 -- A boundary at which `/quit` was accepted, and its replies were sent.
 pub record HasQuit (sound_old sound_new sent_old sent_new : Option (List ℕ)) (old : Running) : Type 0 where
@@ -111,15 +125,16 @@ pub record HasQuit (sound_old sound_new sent_old sent_new : Option (List ℕ)) (
   pub sound : Keeps sound_old sound_new
   pub replies : Appends sent_old sent_new (to_first (at_boundary old).replies)
 
--- the next boundary and, unless `/quit` was accepted at it, its block and its settling
-abbrev pub after_flow : Flow → Running → Running
-after_flow On r = after_block r
-after_flow flows.Quit r = at_boundary r
+-- an engine is that after at most so many boundaries with their blocks, or that after a boundary at which `/quit` was accepted
+abbrev pub IsAhead : ℕ → Running → Running → Type 0
+IsAhead most old r = ((n : ℕ) × (n ≤ most) × GoesThrough n old × (r ≡ after_blocks n old)) ⊎ ((flow_at old ≡ flows.Quit) × (r ≡ at_boundary old))
 
--- A front of what they give was written and sent.
-pub record IsTickPart (sound_old sound_new sent_old sent_new : Option (List ℕ)) (old : Running) : Type 0 where
-  pub sound : TakesFront sound_old sound_new (after_flow (flow_at old) old).sound
-  pub sent : TakesFront sent_old sent_new (to_first (after_flow (flow_at old) old).replies)
+-- A front of what it holds was written and sent.
+pub record IsTickPart (most : ℕ) (sound_old sound_new sent_old sent_new : Option (List ℕ)) (old : Running) : Type 0 where
+  pub held : Running
+  pub ahead : IsAhead most old held
+  pub sound : TakesFront sound_old sound_new held.sound
+  pub sent : TakesFront sent_old sent_new (to_first held.replies)
 
 -- as many bytes came, or as many blocks were done, as may
 pub record IsWornOut (e : Running) (f : Framing) (how : Ended) : Type 0 where

@@ -1,16 +1,16 @@
 //! Blocks of a connection: boundaries, each with its block unless the server ends at it.
-ghost use Rattle.std.specs.Prelude.{◌≡◌, ◌⊎◌, ◌≤◌, ◌<◌, ◌+◌, ◌^◌, ◌∷◌, [], List, ℕ, Option, IfErr, OnOk, Err, length};
+ghost use Rattle.std.specs.Prelude.{◌≡◌, ◌⊎◌, ◌≤◌, ◌<◌, ◌+◌, ◌^◌, [], List, ℕ, Option, IfErr, OnOk, Err, length};
 ghost use Rattle.std.specs.Io.KnownBytes.{Appends};
 ghost use Rattle.sn_ports.specs.Causes.{Rose};
 ghost use Rattle.sn_ports.specs.Links.{KeepsEvents};
-ghost use Rattle.sn_engine.specs.Running.{with_block, with_settled};
+ghost use Rattle.sn_engine.specs.Running.{Running, at_boundary, flow_at};
+ghost use Rattle.sn_engine.specs.declared.standing.Flow.TheVariants.{On};
 ghost use Rattle.sn_engine.specs.declared.standing.Standing.TheVariants.{Settled, Bounded};
 ghost use Rattle.sn_render.specs.Faults.{NothingFailed};
 ghost use Rattle.sn_server.specs.Faults.{UnlessFault};
 ghost use Rattle.sn_render.specs.Fronts.{TakesFront};
-ghost use Rattle.sn_render.specs.Play.{to_first};
 ghost use Rattle.sn_server.specs.PlayEvents.{Live, tick};
-ghost use Rattle.sn_server.specs.Serving.{IsLive, Follows, IsReady, StaysOpen, IsTickEnd, IsTicked, IsTickPart, HasQuit, IsWornOut, HasLeft};
+ghost use Rattle.sn_server.specs.Serving.{IsLive, Follows, IsReady, IsRowOn, StaysOpen, IsTickEnd, IsTicked, IsTickPart, HasQuit, IsWornOut, HasLeft};
 ghost use Rattle.sn_server.specs.declared.ended.Ended.{Ended};
 
 use crate::ended::Ended;
@@ -40,60 +40,38 @@ fn write_sound<O: Sink>(engine: &mut Engine, sound: &mut O) -> Result<(), Ended>
     }
 }
 
-/// The block after a boundary, and its settling.
-fn play_block<H: Threads + Sync, G: Gate>(rt: &H, engine: &mut Engine, gate: &G)
+/// The blocks that may follow a boundary in a row, and their settling.
+fn play_row<H: Threads + Sync, G: Gate>(rt: &H, engine: &mut Engine, most: u32, gate: &G)
+    requires some { 1 ≤ most }
     requires bounded { engine.old.running.standing ≡ Bounded }
-    requires block { engine.old.running.block < 2 ^ 62 }
-    ensures { engine.new.running ≡ with_settled (with_block engine.old.running) }
+    requires block { engine.old.running.block + most ≤ 2 ^ 62 }
+    ensures { (r : Running) → engine.old.running ≡ at_boundary r → flow_at r ≡ On → IsRowOn most r engine.new.running }
 {
-    engine.blocks(rt, 1, gate);
+    engine.rows_are_turns();
+    engine.rows_go_on();
+    let count = engine.span(most);
+    engine.blocks(rt, count, gate);
     engine.settle();
 }
 
-/// The block after a boundary and its settling, and what comes of them is written.
-fn render_block<H: Threads + Sync, L: Link, O: Sink, G: Gate>(
-    rt: &H,
-    engine: &mut Engine,
-    link: &mut L,
-    sound: &mut O,
-    gate: &G,
-) -> Result<(), Ended>
-    requires bounded { engine.old.running.standing ≡ Bounded }
-    requires alone { length engine.old.running.replies ≡ 1 }
-    requires block { engine.old.running.block < 2 ^ 62 }
-    ensures engine { OnOk result (engine.new.running ≡ record (with_settled (with_block engine.old.running)) { sound = []; replies = [] ∷ [] }) }
-    ensures written { OnOk result (Appends (O.taken sound.old) (O.taken sound.new) (with_settled (with_block engine.old.running)).sound) }
-    ensures sent { OnOk result (Appends (L.sent link.old) (L.sent link.new) (to_first (with_settled (with_block engine.old.running)).replies)) }
-    ensures sound_front { TakesFront (O.taken sound.old) (O.taken sound.new) (with_settled (with_block engine.old.running)).sound }
-    ensures reply_front { TakesFront (L.sent link.old) (L.sent link.new) (to_first (with_settled (with_block engine.old.running)).replies) }
-    ensures only { IfErr result (λ how. (how ≡ Ended.SoundFault) ⊎ (how ≡ Ended.LinkFault)) }
-    ensures events { KeepsEvents (L.left link.old) (L.left link.new) }
-    ensures link { result ≡ Err Ended.LinkFault → Rose (L.faults link.old) (L.faults link.new) }
-    ensures sound { result ≡ Err Ended.SoundFault → Rose (O.faults sound.old) (O.faults sound.new) }
-    ensures link_later { L.faults link.old ≤ L.faults link.new }
-    ensures sound_later { O.faults sound.old ≤ O.faults sound.new }
-    ensures unfailed { UnlessFault result (NothingFailed (L.faults link.old) (L.faults link.new) (O.faults sound.old) (O.faults sound.new)) }
-{
-    play_block(rt, engine, gate);
-    write_sound(engine, sound)?;
-    send_replies(engine, link)
-}
-
-/// A boundary and, unless `/quit` was accepted at it, its block. What comes of them is written.
+/// A boundary and, unless `/quit` was accepted at it, the blocks that may follow it in a row, so many at most. What comes of them
+/// is written.
 fn tick<H: Threads + Sync, L: Link, O: Sink, G: Gate>(
     rt: &H,
     alloc: Global,
     engine: &mut Engine,
+    most: u32,
     link: &mut L,
     sound: &mut O,
     gate: &G,
 ) -> Result<(), Ended>
+    requires some { 1 ≤ most }
     requires settled { engine.old.running.standing ≡ Settled }
     requires alone { length engine.old.running.replies ≡ 1 }
-    requires block { engine.old.running.block < 2 ^ 62 }
-    ensures block { OnOk result (IsTicked (O.taken sound.old) (O.taken sound.new) (L.sent link.old) (L.sent link.new) engine.old.running engine.new.running) }
+    requires block { engine.old.running.block + most ≤ 2 ^ 62 }
+    ensures block { OnOk result (IsTicked most (O.taken sound.old) (O.taken sound.new) (L.sent link.old) (L.sent link.new) engine.old.running engine.new.running) }
     ensures quit { result ≡ Err Ended.Quit → HasQuit (O.taken sound.old) (O.taken sound.new) (L.sent link.old) (L.sent link.new) engine.old.running }
-    ensures part { IsTickPart (O.taken sound.old) (O.taken sound.new) (L.sent link.old) (L.sent link.new) engine.old.running }
+    ensures part { IsTickPart most (O.taken sound.old) (O.taken sound.new) (L.sent link.old) (L.sent link.new) engine.old.running }
     ensures only { IfErr result IsTickEnd }
     ensures events { KeepsEvents (L.left link.old) (L.left link.new) }
     ensures link { result ≡ Err Ended.LinkFault → Rose (L.faults link.old) (L.faults link.new) }
@@ -102,8 +80,13 @@ fn tick<H: Threads + Sync, L: Link, O: Sink, G: Gate>(
     ensures sound_later { O.faults sound.old ≤ O.faults sound.new }
     ensures unfailed { UnlessFault result (NothingFailed (L.faults link.old) (L.faults link.new) (O.faults sound.old) (O.faults sound.new)) }
 {
+    engine.want(most);
     match engine.boundary(alloc)? {
-        Flow::On => render_block(rt, engine, link, sound, gate),
+        Flow::On => {
+            play_row(rt, engine, most, gate);
+            write_sound(engine, sound)?;
+            send_replies(engine, link)
+        }
         Flow::Quit => {
             send_replies(engine, link)?;
             Err(Ended::Quit)
@@ -124,7 +107,7 @@ pub fn check_worn(engine: &Engine, framer: &Framer) -> Result<(), Ended>
     Ok(())
 }
 
-/// So many boundaries, each with its block unless `/quit` was accepted at it.
+/// So many boundaries, each with its block unless `/quit` was accepted at it; blocks that may come in a row are rendered so.
 pub fn ticks<H: Threads + Sync, L: Link, O: Sink, G: Gate>(
     rt: &H,
     alloc: Global,
@@ -148,9 +131,13 @@ pub fn ticks<H: Threads + Sync, L: Link, O: Sink, G: Gate>(
     ensures sound_later { O.faults sound.old ≤ O.faults sound.new }
     ensures unfailed { UnlessFault result (NothingFailed (L.faults link.old) (L.faults link.new) (O.faults sound.old) (O.faults sound.new)) }
 {
-    for number in 0..count {
+    let first = engine.block();
+    let mut done = 0;
+    while done < count {
         check_worn(engine, framer)?;
-        tick(rt, alloc, engine, link, sound, gate)?;
+        let most = u64::from(count - done).min(MOST - engine.block()) as u32;
+        tick(rt, alloc, engine, most, link, sound, gate)?;
+        done = (engine.block() - first) as u32;
     }
     Ok(())
 }

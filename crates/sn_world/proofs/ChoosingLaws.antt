@@ -1,6 +1,6 @@
 -- Each step of a world keeps the chosen ids below those of its nodes.
 use Rattle.std.proofs.Common.{◌≡◌, ◌<ℤ◌, ℕ, ℤ, pos, negsuc, Bool, true, false, List, [], ◌∷◌, Option, Some, None, Result, Ok, Err, IfSome, refl, sym, subst, ◌∙◌, arith}
-use Rattle.std.specs.Prelude.{if◌then◌else◌}
+use Rattle.std.specs.Prelude.{if◌then◌else◌, codes}
 use Rattle.std.specs.Ordering.{int_eq}
 use Rattle.std.specs.List.{AllByRecursion}
 use Rattle.std.specs.FinMap as finite
@@ -12,6 +12,7 @@ use Rattle.sn_def.specs.Reading.{text_at}
 use Rattle.sn_def.specs.StateWords.{state_words}
 use Rattle.sn_def.specs.declared.fault.DefFault.{DefFault}
 use Rattle.sn_reply.specs.declared.reason.Reason.{Reason}
+use Rattle.sn_reply.specs.declared.reason.Reason.TheVariants as Reasons
 use Rattle.sn_tree.specs.declared.node.NodeKind.TheVariants as kinds
 use Rattle.sn_tree.specs.declared.node.NodeView.{NodeView}
 use Rattle.sn_tree.specs.Trees.{put, leaf, subtree, without, changed, with_running, children, view_of}
@@ -57,6 +58,7 @@ use Rattle.sn_world.specs.Runs.{number, value_runs, judge_setn, act_setn, judge_
 use Rattle.sn_world.specs.Settling.{paused_at, freed_at, acted_at, acted, all_acted, endings_in, triggers_in, told_all, with_settled, settled_nodes, settled}
 use Rattle.sn_world.specs.SynthQueries.{values_from, values_outcome, payload_at}
 use Rattle.sn_world.specs.TreeQueries.{tree_query, judge_tree, act_tree}
+use Rattle.sn_world.specs.BufferReading.{FilledBuffer, filled_buffer, is_path_form, read_outcome, samples_in}
 use Rattle.sn_world.specs.Walk.{resources_in, walk_nodes, walk}
 use Rattle.sn_world.specs.World.{World, Turn}
 use Rattle.sn_world.proofs.ChosenIds.{Chosen, chosen_within, given_new}
@@ -121,13 +123,24 @@ module _ {R : Type 0} (from : ℕ) (refusal : ℕ → R → Option Reason) where
       unless_keeps (buffer_refusal n t.world) _ (unless_keeps (first_refusal (refusal (samples.size_of (at_number t.world.buffers n))) all) _ h)) xs
 
 module _ (from : ℕ) (t : Turn) (h : AreChosen t.world) where
-  alloc_keeps : (o : Option NewBuffer) → Keeps (buffers.alloc_outcome from o t)
-  alloc_keeps None = tt
-  alloc_keeps (Some r) = unless_keeps (number_refusal r.number) (buffers.alloc_at from r (buffers.place_for t.world r) t) (at (buffers.place_for t.world r))
+  hold_keeps : (command : List ℕ) (samples : List ℤ) (r : NewBuffer) → Keeps (buffers.hold command samples from r t)
+  hold_keeps command samples r = unless_keeps (number_refusal r.number) (buffers.hold_at command samples from r (buffers.place_for t.world r) t) (at (buffers.place_for t.world r))
     where
-      at : (place : Option ℕ) → Keeps (buffers.alloc_at from r place t)
+      at : (place : Option ℕ) → Keeps (buffers.hold_at command samples from r place t)
       at None = tt
       at (Some p) = h
+
+  alloc_keeps : (o : Option NewBuffer) → Keeps (buffers.alloc_outcome from o t)
+  alloc_keeps None = tt
+  alloc_keeps (Some r) = hold_keeps (codes "/b_alloc") (buffers.zeros_of r) r
+
+  filled_keeps : (o : Option FilledBuffer) → Keeps (read_outcome from o t)
+  filled_keeps None = tt
+  filled_keeps (Some f) = hold_keeps (codes "/b_allocRead") (samples_in f) f.new
+
+  path_keeps : (b : Bool) (r : Result Turn Reason) → Keeps r → Keeps (if b then Err Reasons.File else r)
+  path_keeps true r k = tt
+  path_keeps false r k = k
 
   give_keeps : (o : Option ℤ) → Keeps (buffers.free_outcome from o t)
   give_keeps None = tt
@@ -168,6 +181,7 @@ module _ (from : ℕ) (t : Turn) (h : AreChosen t.world) where
   bus_row_keeps buses.Get xs = question_keeps judge_get (λ w. answer_get w.control_buses) from (some_of (singles bus_number xs)) t h
   bus_row_keeps buses.GetRuns xs = question_keeps judge_getn (λ w. answer_getn w.control_buses) from (asks_few (some_of (pairs place_run xs))) t h
   bus_row_keeps buses.AllocBuffer xs = alloc_keeps (buffers.new_buffer xs)
+  bus_row_keeps buses.ReadBuffer xs = path_keeps (is_path_form xs) (read_outcome from (filled_buffer xs) t) (filled_keeps (filled_buffer xs))
   bus_row_keeps buses.FreeBuffer xs = give_keeps (buffers.one_number xs)
   bus_row_keeps buses.ZeroBuffer xs = zero_keeps (buffers.one_number xs)
   bus_row_keeps buses.QueryBuffers xs = question_keeps buffers.judge_query buffers.answer_query from (some_of (singles buffers.buffer_number xs)) t h

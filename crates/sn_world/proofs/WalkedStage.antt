@@ -1,5 +1,5 @@
 -- What a stage and its words stand for after a walk over its nodes.
-use Rattle.std.proofs.Common.{◌≡◌, ◌≤◌, ◌<◌, ◌+◌, ℕ, zero, suc, List, length, ap, sym, ◌∙◌, arith}
+use Rattle.std.proofs.Common.{◌≡◌, ◌≤◌, ◌<◌, ◌+◌, ℕ, zero, suc, List, ap, sym, ◌∙◌, arith}
 use Rattle.sn_tree.specs.Trees.{running_labels}
 use Rattle.sn_world.specs.declared.stage.Stage.{Stage}
 use Rattle.sn_mem.specs.Buffers.{buffers_of, live_places, overlaps}

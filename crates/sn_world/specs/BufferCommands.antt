@@ -43,22 +43,29 @@ without_buffer n w = record w { buffers = put_at n None w.buffers }
 abbrev pub place_for : World → NewBuffer → Option ℕ
 place_for w r = least_place w.region (live_of (without_buffer r.number w)) (r.frames * r.channels)
 
--- a buffer of zeros
-abbrev pub silent : NewBuffer → ℕ → Buffer
-silent r at = record {
+-- a buffer of these samples
+abbrev pub holding : List ℤ → NewBuffer → ℕ → Buffer
+holding samples r at = record {
   frames = r.frames;
   channels = r.channels;
-  samples = replicate (r.frames * r.channels) (pos 0);
+  samples = samples;
   extent = record { at = at; len = r.frames * r.channels };
 }
 
-abbrev pub alloc_at : ℕ → NewBuffer → Option ℕ → Turn → Result Turn Reason
-alloc_at from r None t = Err Reasons.PoolFull
-alloc_at from r (Some at) t = Ok (replied from (done_with (codes "/b_alloc") r.number) (record t { world = record t.world { buffers = put_at r.number (Some (silent r at)) t.world.buffers } }))
+abbrev pub zeros_of : NewBuffer → List ℤ
+zeros_of r = replicate (r.frames * r.channels) (pos 0)
+
+-- it has the place that was found, and it is told that the command was carried out
+abbrev pub hold_at : List ℕ → List ℤ → ℕ → NewBuffer → Option ℕ → Turn → Result Turn Reason
+hold_at command samples from r None t = Err Reasons.PoolFull
+hold_at command samples from r (Some at) t = Ok (replied from (done_with command r.number) (record t { world = record t.world { buffers = put_at r.number (Some (holding samples r at)) t.world.buffers } }))
+
+abbrev pub hold : List ℕ → List ℤ → ℕ → NewBuffer → Turn → Result Turn Reason
+hold command samples from r t = unless (number_refusal r.number) (hold_at command samples from r (place_for t.world r) t)
 
 abbrev pub alloc_outcome : ℕ → Option NewBuffer → Turn → Result Turn Reason
 alloc_outcome from None t = Err Reasons.Arguments
-alloc_outcome from (Some r) t = unless (number_refusal r.number) (alloc_at from r (place_for t.world r) t)
+alloc_outcome from (Some r) t = hold (codes "/b_alloc") (zeros_of r) from r t
 
 abbrev pub alloc_row : ℕ → List Argument → Turn → Result Turn Reason
 alloc_row from xs t = alloc_outcome from (new_buffer xs) t

@@ -15,6 +15,7 @@ use Rattle.sn_world.specs.World.{Turn, replied}
 use Rattle.sn_world.specs.Buses.{set_row, fill_row, get_row, sync_row}
 use Rattle.sn_world.specs.Runs.{setn_row, getn_row}
 use Rattle.sn_world.specs.BufferCommands as buffers
+use Rattle.sn_world.specs.BufferReading.{read_row}
 use Rattle.sn_world.specs.BufferSamples as samples
 use Rattle.sn_world.specs.Recv.{recv_row}
 use Rattle.sn_world.specs.Free.{free_row as forget_row}
@@ -52,6 +53,7 @@ server_command_of address =
 abbrev pub buffer_command_of : List ℕ → Option BusCommand
 buffer_command_of address =
     if bytes_eq address (codes "/b_alloc") then Some buses.AllocBuffer
+    else if bytes_eq address (codes "/b_allocRead") then Some buses.ReadBuffer
     else if bytes_eq address (codes "/b_free") then Some buses.FreeBuffer
     else if bytes_eq address (codes "/b_zero") then Some buses.ZeroBuffer
     else if bytes_eq address (codes "/b_query") then Some buses.QueryBuffers
@@ -80,6 +82,7 @@ bus_row buses.Fill = fill_row
 bus_row buses.Get = get_row
 bus_row buses.GetRuns = getn_row
 bus_row buses.AllocBuffer = buffers.alloc_row
+bus_row buses.ReadBuffer = read_row
 bus_row buses.FreeBuffer = buffers.free_row
 bus_row buses.ZeroBuffer = buffers.zero_row
 bus_row buses.QueryBuffers = buffers.query_row

@@ -13,6 +13,11 @@ behind_frames (int n ∷ int frames ∷ blob b ∷ []) = Some b
 behind_frames (int n ∷ int frames ∷ int channels ∷ blob b ∷ []) = Some b
 behind_frames _ = None
 
+-- behind the samples
+abbrev pub behind_samples : List Argument → Option (List ℕ)
+behind_samples (int n ∷ int frames ∷ int channels ∷ blob samples ∷ blob b ∷ []) = Some b
+behind_samples _ = None
+
 abbrev pub behind_number : List Argument → Option (List ℕ)
 behind_number (int n ∷ blob b ∷ []) = Some b
 behind_number _ = None
@@ -21,9 +26,10 @@ abbrev pub behind_text : List Argument → Option (List ℕ)
 behind_text (blob text ∷ blob b ∷ []) = Some b
 behind_text _ = None
 
--- `/b_alloc`, `/b_free`, `/b_zero` and `/d_recv` may carry one
+-- `/b_alloc`, `/b_allocRead`, `/b_free`, `/b_zero` and `/d_recv` may carry one; not `/b_allocRead` with a path
 abbrev pub carried : BusCommand → List Argument → Option (List ℕ)
 carried buses.AllocBuffer = behind_frames
+carried buses.ReadBuffer = behind_samples
 carried buses.FreeBuffer = behind_number
 carried buses.ZeroBuffer = behind_number
 carried buses.Receive = behind_text

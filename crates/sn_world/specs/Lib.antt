@@ -17,6 +17,7 @@ pub mod Free
 pub mod Status
 pub mod BufferNumbers
 pub mod BufferCommands
+pub mod BufferReading
 pub mod BufferSamples
 pub mod Ending
 pub mod Completing

@@ -17,6 +17,8 @@ pub enum BusCommand {
     GetRuns,
     /// `/b_alloc`
     AllocBuffer,
+    /// `/b_allocRead`
+    ReadBuffer,
     /// `/b_free`
     FreeBuffer,
     /// `/b_zero`

@@ -1,3 +1,4 @@
 pub mod ByWordsLemmas
 pub mod ServeLemmas
 pub mod ConvertLemmas
+pub mod ShelfLemmas

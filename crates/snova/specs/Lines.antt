@@ -5,7 +5,6 @@ use Rattle.sn_osc.specs.declared.fault.PacketKind.{PacketKind}
 use Rattle.sn_osc.specs.declared.fault.PacketKind.TheVariants.{Size, Start, Unended, Padding, NoTags, ShortArgs, LongArgs, BlobSize, ElementSize, Head, NestedEarly, TooDeep}
 use Rattle.sn_osc.specs.declared.fault.StreamFault.{StreamFault}
 use Rattle.sn_osc.specs.declared.fault.StreamFault.TheVariants.{Packet, FrameSize, FrameCut}
-use Rattle.sn_render.specs.Statuses.{outcome_status}
 use Rattle.sn_render.specs.declared.outcome.Outcome.{Outcome}
 use Rattle.sn_render.specs.declared.outcome.Outcome.TheVariants as outcome
 use Rattle.sn_server.specs.declared.ended.Ended.{Ended}
@@ -16,6 +15,9 @@ use Rattle.snova.specs.declared.converting.Converted.{Converted}
 use Rattle.snova.specs.declared.converting.Converted.TheVariants as converted
 use Rattle.snova.specs.declared.serving.Served.{Served}
 use Rattle.snova.specs.declared.serving.Served.TheVariants as served
+use Rattle.snova.specs.Shelving.{shelf_status}
+use Rattle.snova.specs.declared.shelving.ShelfOutcome.{ShelfOutcome}
+use Rattle.snova.specs.declared.shelving.ShelfOutcome.TheVariants as shelves
 use Rattle.snova.specs.declared.exit.Exit.{Exit}
 use Rattle.snova.specs.declared.exit.Exit.TheVariants as exit
 
@@ -59,6 +61,11 @@ outcome_line outcome.ReadFault = codes "read fault"
 outcome_line outcome.SoundFault = codes "sound fault"
 outcome_line outcome.ReplyFault = codes "reply fault"
 
+-- what is printed of a rendering with a shelf
+abbrev pub shelf_line : ShelfOutcome → List ℕ
+shelf_line (shelves.Ran outcome) = outcome_line outcome
+shelf_line shelves.ShelfFault = codes "shelf fault"
+
 -- what is printed of a connection
 abbrev pub end_line : Ended → List ℕ
 end_line ends.Quit = codes "quit"
@@ -89,7 +96,7 @@ converted_line (converted.BadScore line) = codes "bad score: line " ++ decimal l
 abbrev pub exit_line : Exit → Option (List ℕ)
 exit_line exit.Help = None
 exit_line exit.Version = Some (codes "snova 0.1.0")
-exit_line (exit.Rendered outcome) = Some (outcome_line outcome)
+exit_line (exit.Rendered outcome) = Some (shelf_line outcome)
 exit_line (exit.Served served) = Some (served_line served)
 exit_line (exit.Converted converted) = Some (converted_line converted)
 exit_line exit.NotOpened = Some (codes "cannot open")
@@ -97,7 +104,7 @@ exit_line exit.NotOpened = Some (codes "cannot open")
 abbrev pub exit_status : Exit → ℕ
 exit_status exit.Help = 0
 exit_status exit.Version = 0
-exit_status (exit.Rendered outcome) = outcome_status outcome
+exit_status (exit.Rendered outcome) = shelf_status outcome
 exit_status (exit.Served served) = served_status served
 exit_status (exit.Converted converted) = converted_status converted
 exit_status exit.NotOpened = 9

@@ -1,10 +1,11 @@
 //! What came of the words: the line that is printed, and the status of the program.
 ghost use Rattle.std.specs.Prelude.{◌≡◌, Some};
 ghost use Rattle.std.specs.Fmt.{DisplaysOnOk};
-ghost use Rattle.snova.specs.Lines.{bad_stream_line, converted_line, end_line, exit_line, exit_status, fault_number, outcome_line};
+ghost use Rattle.snova.specs.Lines.{bad_stream_line, converted_line, end_line, exit_line, exit_status, fault_number, outcome_line, shelf_line};
 
 use crate::converting::Converted;
 use crate::serving::Served;
+use crate::shelving::ShelfOutcome;
 use crate::usage::{USAGE, VERSION};
 use sn_osc::PacketKind;
 use sn_server::{Ended, Outcome, StreamFault};
@@ -24,7 +25,7 @@ pub(crate) enum Exit {
     /// The version was asked for.
     Version,
     /// A file of commands was rendered.
-    Rendered(Outcome),
+    Rendered(ShelfOutcome),
     /// A connection was served.
     Served(Served),
     /// A text was made a stream, or a stream a text.
@@ -108,6 +109,19 @@ fn write_outcome<W: fmt::Write>(f: &mut fmt::Formatter<W>, outcome: Outcome) -> 
     }
 }
 
+/// Writes what came of a run over a shelf.
+fn write_shelf_outcome<W: fmt::Write>(
+    f: &mut fmt::Formatter<W>,
+    outcome: ShelfOutcome,
+) -> fmt::Result
+    ensures { DisplaysOnOk W.write_str_gives f.old result (Some (shelf_line outcome)) f.new }
+{
+    match outcome {
+        ShelfOutcome::Ran(outcome) => write_outcome(f, outcome),
+        ShelfOutcome::ShelfFault => f.write_str("shelf fault"),
+    }
+}
+
 /// Writes how a connection ended.
 fn write_end<W: fmt::Write>(f: &mut fmt::Formatter<W>, how: Ended) -> fmt::Result
     ensures { DisplaysOnOk W.write_str_gives f.old result (Some (end_line how)) f.new }
@@ -154,7 +168,7 @@ impl fmt::Display for Exit {
         match self {
             Exit::Help => f.write_str(USAGE),
             Exit::Version => write!(f, "snova {VERSION}"),
-            Exit::Rendered(outcome) => write_outcome(f, *outcome),
+            Exit::Rendered(outcome) => write_shelf_outcome(f, *outcome),
             Exit::Served(Served::BadWords { index }) => write!(f, "bad word {index}"),
             Exit::Served(Served::Ran(how)) => write_end(f, *how),
             Exit::Converted(converted) => write_converted(f, *converted),

@@ -5,9 +5,9 @@ ghost use Rattle.snova.specs.Paths.{are_apart};
 
 use crate::exit::Exit;
 use crate::progress::Progress;
-use crate::running::run;
+use crate::shelving::{ShelfOutcome, run_shelf};
 use sn_ports::{Calls, FileSink, FileSource, MemorySink, MemorySource, NoMemory, Open, Text, Word};
-use sn_server::Outcome;
+use sn_shelf::{FolderShelf, MemoryShelf};
 use sn_words::settings;
 use std::io::Eprint;
 use std::rt::Files;
@@ -30,7 +30,7 @@ fn run_on_files<H: Files + Clock + Eprint + AllocGlobal + Threads + Sync>(
     sound: &str,
     replies: &str,
     is_watched: bool,
-) -> io::Result<Outcome>
+) -> io::Result<ShelfOutcome>
     requires room { length words.now < 2 ^ 32 }
     requires accepted { IsOk (settings_of words.now) }
     requires apart { IsTrue (are_apart commands.now sound.now replies.now) }
@@ -38,11 +38,12 @@ fn run_on_files<H: Files + Clock + Eprint + AllocGlobal + Threads + Sync>(
     let mut source = FileSource::new(fs::open(rt, commands)?);
     let mut sound = Progress::new(FileSink::new(fs::create(rt, sound)?), rt, is_watched);
     let mut replies = FileSink::new(fs::create(rt, replies)?);
-    let outcome = run(
+    let outcome = run_shelf(
         rt,
         rt.alloc(),
         words,
         &mut source,
+        &mut FolderShelf::new(rt),
         &mut sound,
         &mut replies,
         &Open,
@@ -55,18 +56,20 @@ fn run_on_files<H: Files + Clock + Eprint + AllocGlobal + Threads + Sync>(
 fn run_on_nothing<H: AllocGlobal + Threads + Sync>(
     rt: &H,
     words: &[Word],
-) -> Result<Outcome, NoMemory>
+) -> Result<ShelfOutcome, NoMemory>
     requires { length words.now < 2 ^ 32 }
 {
     let alloc = rt.alloc();
     let mut source = MemorySource::new(Text::new(alloc), 1, Calls::from_vec(Vec::new(alloc)));
     let mut sound = MemorySink::new(alloc, 0, 1, Calls::from_vec(Vec::new(alloc)))?;
     let mut replies = MemorySink::new(alloc, 0, 1, Calls::from_vec(Vec::new(alloc)))?;
-    Ok(run(
+    let mut shelf = MemoryShelf::new(Vec::new(alloc), Calls::from_vec(Vec::new(alloc)));
+    Ok(run_shelf(
         rt,
         alloc,
         words,
         &mut source,
+        &mut shelf,
         &mut sound,
         &mut replies,
         &Open,

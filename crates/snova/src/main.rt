@@ -11,12 +11,14 @@ mod listening;
 mod progress;
 mod running;
 mod serving;
+mod shelving;
 mod usage;
 
 use exit::{BAD_WORDS, Exit};
 use files::render_files;
 use forms::convert_files;
 use listening::serve_port;
+use shelving::ShelfOutcome;
 use sn_ports::{NoMemory, Text, Word};
 use sn_server::Outcome;
 use std::io::{Eprint, IsTerminal};
@@ -70,7 +72,9 @@ fn carry_out<H: Env + Files + Clock + Eprint + Net + AllocGlobal + Threads + Syn
 
 fn main(rt: HostRuntime) -> io::Result<ExitCode> {
     let is_watched = rt.stderr().is_terminal();
-    let exit = carry_out(&rt, is_watched).unwrap_or(Exit::Rendered(Outcome::NoMemory));
+    let exit = carry_out(&rt, is_watched).unwrap_or(Exit::Rendered(ShelfOutcome::Ran(
+        Outcome::NoMemory,
+    )));
     // Whether anything can be printed or not, the status stands.
     let _ = println!(rt; "{exit}");
     let status = exit.status();

@@ -5,8 +5,10 @@ use crate::exit::Exit;
 use crate::files::render_files;
 use crate::running::run;
 use crate::serving::{Served, serve};
+use crate::shelving::{ShelfOutcome, run_shelf};
 use sn_ports::{Calls, Event, MemorySink, MemorySource, NoMemory, Open, PlayedLink, Text, Word};
 use sn_server::{Ended, Outcome};
+use sn_shelf::MemoryShelf;
 use std::io::Eprint;
 use std::rt::Files;
 use std::test::Fail;
@@ -25,6 +27,18 @@ const QUIT: [u8; 16] = *b"\0\0\0\x0c/quit\0\0\0,\0\0\0";
 
 /// `/done /quit`, with its size.
 const DONE_QUIT: [u8; 24] = *b"\0\0\0\x14/done\0\0\0,s\0\0/quit\0\0\0";
+
+/// A WAV file of one channel and 16 bits, with the one sample 0x4000.
+const WAVE: [u8; 46] =
+    *b"RIFF\x26\0\0\0WAVEfmt \x10\0\0\0\x01\0\x01\0\x80\xbb\0\0\0\x77\x01\0\x02\0\x10\0data\x02\0\0\0\0\x40";
+
+/// `/b_allocRead 0 a.wav` and `/b_get 0 0`, each with its size.
+const ASKED: [u8; 60] =
+    *b"\0\0\0\x20/b_allocRead\0\0\0\0,is\0\0\0\0\0a.wav\0\0\0\0\0\0\x14/b_get\0\0,ii\0\0\0\0\0\0\0\0\0";
+
+/// `/done /b_allocRead 0` and `/b_set 0 0 8388608`, each with its size.
+const ANSWERED: [u8; 68] =
+    *b"\0\0\0\x20/done\0\0\0,si\0/b_allocRead\0\0\0\0\0\0\0\0\0\0\0\x1c/b_set\0\0,iii\0\0\0\0\0\0\0\0\0\0\0\0\0\x80\0\0";
 
 /// What a run over memory came to.
 #[derive(Drop)]
@@ -175,9 +189,48 @@ fn rendered<H: Files + Clock + Eprint + AllocGlobal + Threads + Sync>(
 fn files_are_those_that_are_named(rt: HostRuntime) -> Result<(), Fail> {
     fs::write(&rt, "stream", SYNC.as_slice())?;
     let exit = rendered(&rt, ["render", "stream", "heard", "told"])?;
-    assert!(rt; matches!(exit, Exit::Rendered(Outcome::Done { blocks: 0 })));
+    assert!(rt;
+        matches!(
+            exit,
+            Exit::Rendered(ShelfOutcome::Ran(Outcome::Done { blocks: 0 }))
+        )
+    );
     assert_eq!(rt; fs::read(&rt, "heard")?.len(), 44);
     assert_eq!(rt; fs::read(&rt, "told")?.as_slice(), SYNCED.as_slice());
+    Ok(())
+}
+
+#[test]
+fn a_file_comes_into_a_buffer(rt: HostRuntime) -> Result<(), Fail> {
+    fs::write(&rt, "a.wav", WAVE.as_slice())?;
+    fs::write(&rt, "asked", ASKED.as_slice())?;
+    rendered(&rt, ["render", "asked", "quiet", "answered"])?;
+    assert_eq!(rt; fs::read(&rt, "answered")?.as_slice(), ANSWERED.as_slice());
+    Ok(())
+}
+
+/// The first call of the shelf fails.
+#[test]
+fn a_shelf_that_fails(rt: HostRuntime) -> Result<(), Fail> {
+    let alloc = rt.alloc();
+    let words = words(&rt, &["render", "a", "b", "c"])?;
+    let mut source = MemorySource::new(Text::from_slice(alloc, &ASKED)?, 60, calls(&rt, &[])?);
+    let mut shelf = MemoryShelf::new(Vec::new(alloc), calls(&rt, &[0])?);
+    let mut sound = MemorySink::new(alloc, 100, 100, calls(&rt, &[])?)?;
+    let mut replies = MemorySink::new(alloc, 100, 100, calls(&rt, &[])?)?;
+    let outcome = run_shelf(
+        &rt,
+        alloc,
+        &words,
+        &mut source,
+        &mut shelf,
+        &mut sound,
+        &mut replies,
+        &Open,
+    );
+    assert_eq!(rt; outcome, ShelfOutcome::ShelfFault);
+    assert_eq!(rt; outcome.status(), 14);
+    assert_eq!(rt; [sound.taken().len(), replies.taken().len()], [0, 0]);
     Ok(())
 }
 
@@ -196,7 +249,12 @@ fn no_file_is_written_over_another(rt: HostRuntime) -> Result<(), Fail> {
 #[test]
 fn words_that_are_refused_make_no_file(rt: HostRuntime) -> Result<(), Fail> {
     let exit = rendered(&rt, ["draw", "none", "unheard", "untold"])?;
-    assert!(rt; matches!(exit, Exit::Rendered(Outcome::BadWords { index: 0 })));
+    assert!(rt;
+        matches!(
+            exit,
+            Exit::Rendered(ShelfOutcome::Ran(Outcome::BadWords { index: 0 }))
+        )
+    );
     assert!(rt; fs::read(&rt, "unheard").is_err());
     assert!(rt; fs::read(&rt, "untold").is_err());
     Ok(())

@@ -47,6 +47,7 @@ Statuses, and the lines that are printed:
     10  cut after K bytes
     11  bad frame size S
     12  link fault
+    14  shelf fault
     16  bad score: line L
     17  worn out";
 

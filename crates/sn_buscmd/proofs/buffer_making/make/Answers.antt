@@ -5,6 +5,7 @@ use Rattle.std.proofs.lemmas.Int.{to_z-of_z}
 use Rattle.sn_reply.specs.declared.replies.To.TheVariants.{Client}
 use Rattle.sn_world.specs.declared.stage.Stage.{Stage}
 use Rattle.sn_mem.specs.Buffers.{samples_of}
+use Rattle.sn_world.specs.BufferCommands.{zeros_of}
 use Rattle.sn_world.specs.BufferNumbers.{at_number, done_with}
 use Rattle.sn_mem.specs.declared.buffers.BufferPlace.{BufferPlace}
 use Rattle.sn_buscmd.specs.Samples.{Places}
@@ -24,7 +25,7 @@ returns-in-Ok-None-clause-row g c =
     let same = to_z-of_z w32 c.args.new.now.number fits in
     let none = subst (λ (q : Option BufferPlace). Places c.find-old.result c.args.new.now c.args.stage.now.pool c.take_place.new.pool (Ok q)) c.in-Ok-None.field-0-is c.in-Ok-None.ensures in
     full_row c.args.stage.now (g.P.Port.words c.args.port.now) c.args.new.now c.requires.number c.requires.pictures c.find-old.result (c.find-old.ensures ∙ ap (at_number c.args.stage.now.buffers) same)
-    c.args.from c.args.replies.now none.0.left none.0.are_left none.0.none
+    (codes "/b_alloc") (zeros_of c.args.new.now) c.args.from c.args.replies.now none.0.left none.0.are_left none.0.none
 
 pub returns-in-Ok-Some-clause-pictures : goal.returns-in-Ok-Some-clause-pictures
 returns-in-Ok-Some-clause-pictures g c =
@@ -52,6 +53,7 @@ returns-in-Ok-Some-clause-row g c =
     made_row stage words c.args.new.now c.requires.number c.requires.pictures c.find-old.result (c.find-old.ensures ∙ ap (at_number stage.buffers) same)
     _ (g.P.Port.words c.fill_samples.new.port) p c.requires.new placed
     (λ i. record { tree = stage.tree; defs = stage.defs; pool = c.take_place.new.pool; buffers = buffers i; notify = stage.notify; next_id = stage.next_id; rate = stage.rate })
-    c.fill_samples.ensures.others c.args.from c.args.replies.now c.tell_done.new.replies
-    (c.fill_samples.ensures.samples ∙ filled-entirely (samples_of words p.extent) p.extent.len (pos 0) long ∙ ap (λ n. replicate n (pos 0)) long)
+    c.fill_samples.ensures.others (codes "/b_alloc") (zeros_of c.args.new.now)
+    (c.fill_samples.ensures.samples ∙ filled-entirely (samples_of words p.extent) p.extent.len (pos 0) long ∙ ap (λ n. replicate n (pos 0)) (long ∙ placed.size))
+    c.args.from c.args.replies.now c.tell_done.new.replies
     (c.in_ok-tell_done.ensures.ok ∙ ap (λ m. c.args.replies.now ++ (record { to = Client c.args.from; message = done_with (codes "/b_alloc") m }) ∷ []) same)

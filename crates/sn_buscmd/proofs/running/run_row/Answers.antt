@@ -54,6 +54,9 @@ returns-in-GetSampleRuns-clause-unchanged g c =
 pub returns-in-AllocBuffer-clause-stage : goal.returns-in-AllocBuffer-clause-stage
 returns-in-AllocBuffer-clause-stage g c = if-refused (c.run_buffer_alloc.new.stage ≡ c.args.stage.now) c.run_buffer_alloc.result c.run_buffer_alloc.ensures.unchanged
 
+pub returns-in-ReadBuffer-clause-stage : goal.returns-in-ReadBuffer-clause-stage
+returns-in-ReadBuffer-clause-stage g c = if-refused (c.run_buffer_read.new.stage ≡ c.args.stage.now) c.run_buffer_read.result c.run_buffer_read.ensures.unchanged
+
 pub returns-in-FreeBuffer-clause-stage : goal.returns-in-FreeBuffer-clause-stage
 returns-in-FreeBuffer-clause-stage g c = if-refused (c.run_buffer_free.new.stage ≡ c.args.stage.now) c.run_buffer_free.result c.run_buffer_free.ensures.unchanged
 

@@ -4,7 +4,7 @@ use Rattle.sn_render.specs.Play.{to_end, to_first}
 use Rattle.sn_render.proofs.GoingLemmas.{few_blocks, headed, head_cut, headed_cut}
 use Rattle.sn_render.proofs.FaultLemmas.{none_else_after, none_else_err, sound_alone}
 use Rattle.sn_render.proofs.WritingLemmas.{on_ok, on_err, on_any_err}
-use Rattle.sn_render.proofs.running.play.Goals as goal
+use Rattle.sn_render.proofs.playing.write_run.Goals as goal
 
 pub render_blocks-requires-clause-blocks : goal.render_blocks-requires-clause-blocks
 render_blocks-requires-clause-blocks g c = λ κs lives. few_blocks c.args.settings.now c.args.blocks c.requires.short

@@ -3,7 +3,7 @@ use Rattle.std.proofs.Common.{map}
 use Rattle.sn_osc.specs.Shape.{shape}
 use Rattle.sn_render.specs.Play.{arrive}
 use Rattle.sn_render.proofs.ArrivingLemmas.{IsOffering}
-use Rattle.sn_render.proofs.running.offer_all.Given as goal
+use Rattle.sn_render.proofs.playing.offer_all.Given as goal
 
 abbrev pub invariant-loop-packet : goal.invariant-loop-packet
 invariant-loop-packet l = IsOffering (map shape l.packet-iterator.rest.items) (arrive (map shape l.fn.packets.items) l.fn.engine.running) l.engine.running

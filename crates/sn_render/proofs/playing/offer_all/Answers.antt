@@ -2,7 +2,7 @@ use Rattle.std.proofs.Common.{map, subst}
 use Rattle.sn_osc.specs.Shape.{shape}
 use Rattle.sn_render.specs.Play.{arrive}
 use Rattle.sn_render.proofs.ArrivingLemmas.{IsOffering, offers}
-use Rattle.sn_render.proofs.running.offer_all.Goals as goal
+use Rattle.sn_render.proofs.playing.offer_all.Goals as goal
 
 pub loop-packet-preserved : goal.loop-packet-preserved
 loop-packet-preserved c =

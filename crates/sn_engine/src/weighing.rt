@@ -1,0 +1,96 @@
+//! How much of a block can be done at the same time, and in how many threads that pays. No contract rests on it.
+
+use sn_ports::NoMemory;
+use sn_round::Plan;
+use sn_world::{Held, Stage};
+use std::alloc::Global;
+
+/// For so many units a round of one block starts one more thread: they take a few times as long as its start. A round
+/// of several blocks starts it for so many times fewer, as its start is spread over them.
+const UNITS_FOR_A_THREAD: u32 = 4096;
+
+/// To share a job takes as long as so many units, or less.
+const UNITS_FOR_A_JOB: u32 = 2;
+
+/// To share so few jobs takes next to nothing.
+const FEW_JOBS: u32 = 16;
+
+/// How many units a node has that holds this.
+fn units_of(held: &Held) -> u32 {
+    match held {
+        Held::Group => 0,
+        Held::Synth { def, .. } => def.units.as_slice().len() as u32,
+    }
+}
+
+fn is_synth(held: &Held) -> bool {
+    match held {
+        Held::Group => false,
+        Held::Synth { .. } => true,
+    }
+}
+
+/// How many units each synth has that the walk reaches, in its order.
+fn units_in_walk(alloc: Global, stage: &Stage) -> Result<Vec<u32>, NoMemory> {
+    let mut units = Vec::new(alloc);
+    for visit in stage.tree.walk() {
+        if is_synth(visit.payload) {
+            units.push(units_of(visit.payload))?;
+        }
+    }
+    Ok(units)
+}
+
+fn sum(units: &[u32]) -> u32 {
+    let mut sum = 0u32;
+    for count in units {
+        sum = sum.saturating_add(*count);
+    }
+    sum
+}
+
+/// The greatest of the numbers that some jobs have.
+fn greatest_of(numbers: &[u32], jobs: &[u32]) -> u32 {
+    let mut greatest = 0u32;
+    for job in jobs {
+        greatest = greatest.max(numbers.get(*job as usize).copied().unwrap_or(0));
+    }
+    greatest
+}
+
+/// As long as how many units it takes to share so many jobs.
+fn units_to_share(jobs: u32) -> u32 {
+    if jobs <= FEW_JOBS {
+        0
+    } else {
+        jobs.saturating_mul(UNITS_FOR_A_JOB)
+    }
+}
+
+/// How many units of the jobs of the plan of a stage can run beside the longest chain of jobs, of which each follows
+/// the one before. What it takes to share the jobs is taken off.
+pub fn units_beside(alloc: Global, stage: &Stage, plan: &Plan) -> Result<u32, NoMemory> {
+    let units = units_in_walk(alloc, stage)?;
+    let mut left = units.as_slice();
+    // How many units the longest chain has that ends with each job.
+    let mut chains = Vec::new(alloc);
+    let mut longest = 0u32;
+    for job in 0..plan.jobs() {
+        let count = plan.synths(job).as_slice().len().min(left.len());
+        let (own, rest) = left.split_at(count);
+        left = rest;
+        let before = greatest_of(&chains, plan.predecessors(job).as_slice());
+        let chain = before.saturating_add(sum(own));
+        chains.push(chain)?;
+        longest = longest.max(chain);
+    }
+    let beside = sum(&units).saturating_sub(longest);
+    Ok(beside.saturating_sub(units_to_share(plan.jobs())))
+}
+
+/// In how many threads a round of so many blocks pays, if so many units of a block can run beside its longest chain.
+pub fn threads_for(beside: u32, blocks: u32) -> usize {
+    let each = (UNITS_FOR_A_THREAD / blocks.max(1)).max(1);
+    let more = beside.saturating_mul(blocks) / each;
+    (more as usize).saturating_add(1)
+}

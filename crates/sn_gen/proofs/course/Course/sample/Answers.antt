@@ -1,0 +1,21 @@
+use Rattle.std.proofs.Common.{◌≡◌, ◌+ℤ◌, SFits, w32, w64, to_z, of_z, arith, rules, ◌∙◌}
+use Rattle.std.proofs.lemmas.Int.{to_z-of_z}
+use Rattle.sn_fixed.proofs.Multiples.{in_range_at, sample_at}
+use Rattle.sn_gen.proofs.course.Course.sample.Goals as goal
+
+pub raised-requires : goal.raised-requires
+raised-requires c =
+    let s = c.args.self.now in
+    let start : SFits w32 c.args.self.now.line.start = search rules in
+    let end : SFits w32 c.args.self.now.line.end = search rules in
+    let height : SFits w64 c.args.self.now.gone.quotient = search rules in
+    in_range_at s.line.start s.line.end s.gone.quotient (to_z w32 (of_z w32 s.line.start)) (to_z w64 (of_z w64 s.gone.quotient)) s.line.frame s.line.frames s.gone.remainder (to_z-of_z w32 s.line.start start) (to_z-of_z w64 s.gone.quotient height) start end s.within s.reached
+
+pub returns : goal.returns
+returns c =
+    let s = c.args.self.now in
+    let start : SFits w32 c.args.self.now.line.start = search rules in
+    let height : SFits w64 c.args.self.now.gone.quotient = search rules in
+    let raised : SFits w32 c.raised.result = search rules in
+    let is : c.raised.result ≡ c.args.self.now.line.start +ℤ c.args.self.now.gone.quotient = grind (arith, to_z-of_z) in
+    to_z-of_z w32 c.raised.result raised ∙ sample_at s.line.start s.line.end s.gone.quotient c.raised.result s.line.frame s.line.frames s.gone.remainder is s.reached

@@ -82,8 +82,8 @@ def type_lines(connection, listener):
     lines = enumerate((line.rstrip("\n") for line in sys.stdin), 1)
     for _, line in lines:
         try:
-            if line == "snova 1":
-                connection.sendall(make.sized(make.message("/d_recv", [make.definition(lines)])))
+            if line in make.TITLES:
+                connection.sendall(make.sized(make.message("/d_recv", [make.definition(line, lines)])))
             elif line.startswith("/"):
                 connection.sendall(make.sized(make.line_message(line)))
             elif line and not line.startswith("#"):

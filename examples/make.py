@@ -6,9 +6,9 @@
 
 A piece is read line by line. `at SECONDS` begins a bundle that acts at that time; times never go down. A line that begins with `/` is a
 message. Its words are ints (`440000`), numbers with a point, which are samples in Q8.24 (`0.5` is 8388608), names, which are strings,
-with quotes or without, other strings without spaces, as paths, in quotes, and blobs, as `#0aff`. The lines from `snova 1` to `end` are a
-definition, sent by `/d_recv` in the bundle before it. Empty lines and lines that begin with `#` say nothing. The sound ends at the last
-`at`. A line that can't be read is told with its number, and no file is written.
+with quotes or without, other strings without spaces, as paths, in quotes, and blobs, as `#0aff`. The lines from `snova 1` or `snova 2` to
+`end` are a definition, sent by `/d_recv` in the bundle before it. Empty lines and lines that begin with `#` say nothing. The sound ends at
+the last `at`. A line that can't be read is told with its number, and no file is written.
 """
 import math
 import re
@@ -19,6 +19,7 @@ from pathlib import Path
 
 HERE = Path(__file__).resolve().parent
 ONE = 1 << 24
+TITLES = ("snova 1", "snova 2")
 
 
 class BadLine(Exception):
@@ -60,12 +61,13 @@ def tag_at(seconds):
 
 
 def word(text):
-    """An int, a string or a blob; a number with a point is a sample in Q8.24."""
+    """An int, a string or a blob; a number with a point is a sample in Q8.24, and a name with one that of an element of an array."""
     if re.fullmatch(r"-?[0-9]+", text):
         value = int(text)
     elif re.fullmatch(r"-?[0-9]+\.[0-9]+", text):
         value = math.floor(Fraction(text) * ONE)
-    elif found := re.fullmatch(r'("?)([A-Za-z_][A-Za-z0-9_]*)\1', text) or re.fullmatch(r'(")([!#-\[\]-~]+)"', text):
+    elif found := (re.fullmatch(r'("?)([A-Za-z_][A-Za-z0-9_]*(?:\.[1-9][0-9]?)?)\1', text)
+                   or re.fullmatch(r'(")([!#-\[\]-~]+)"', text)):
         return found[2]
     elif re.fullmatch(r"#([0-9a-f]{2})*", text):
         return bytes.fromhex(text[1:])
@@ -88,9 +90,9 @@ def seconds_of(text):
     return Fraction(text)
 
 
-def definition(lines):
+def definition(title, lines):
     """The text of a definition, of which the first line was read."""
-    text = ["snova 1"]
+    text = [title]
     for _, line in lines:
         text.append(line)
         if line == "end":
@@ -104,8 +106,8 @@ def bundles(piece):
     lines = iter(enumerate(piece.splitlines(), 1))
     for number, line in lines:
         try:
-            if line == "snova 1":
-                found[-1][1].append(message("/d_recv", [definition(lines)]))
+            if line in TITLES:
+                found[-1][1].append(message("/d_recv", [definition(line, lines)]))
             elif line.startswith("at "):
                 found.append((seconds_of(line[3:]), []))
                 if found[-1][0] < found[-2][0]:

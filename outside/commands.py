@@ -174,7 +174,7 @@ class Commands:
 
         def row():
             c, count, value = t.name_or_number(), t.int(0), t.int()
-            return c, [value] * min(count, 128)
+            return c, [value] * min(count, 512)
 
         self.set_rows(row)
 

@@ -5,6 +5,8 @@ from fractions import Fraction
 ONE = 1 << 24
 LEAST, MOST = -(1 << 31), (1 << 31) - 1
 KEPT = {"snova", "def", "control", "end"}
+MOST_CONTROLS = {1: 128, 2: 512}
+MOST_ELEMENTS = 64
 
 # The inputs of each unit: s a signal, # an index, ! a constant, and + 1 to 8 signals; then its outputs: a number, or + for 1 to 8.
 UNITS = {
@@ -73,7 +75,7 @@ class Unit:
 
 class Definition:
     def __init__(self):
-        self.name, self.controls, self.units = None, [], []
+        self.version, self.name, self.controls, self.arrays, self.units = None, None, [], [], []
         self.names, self.wires, self.index_controls = {}, 0, set()
 
     def __deepcopy__(self, _):
@@ -82,16 +84,30 @@ class Definition:
     def words(self, rate):
         return sum(unit.words(rate) for unit in self.units)
 
+    def begins_lines(self, word):
+        return word in KEPT or word == "array" and self.version == 2
+
     def new_name(self, word):
-        want(re.fullmatch(r"[A-Za-z_][A-Za-z0-9_]{0,30}", word, re.A) and word not in KEPT and word not in self.names)
+        want(re.fullmatch(r"[A-Za-z_][A-Za-z0-9_]{0,30}", word, re.A) and not self.begins_lines(word) and word not in self.names)
         return word
 
-    def control_line(self, fields):
-        want(len(fields) == 3 and not self.units and len(self.controls) < 128)
-        name, value = self.new_name(fields[1]), literal(fields[2])
-        want(value is not None)
+    def control(self, name, value):
+        want(value is not None and len(self.controls) < MOST_CONTROLS[self.version])
         self.names[name] = ("c", len(self.controls))
         self.controls.append((name, value))
+
+    def control_line(self, fields):
+        want(len(fields) == 3 and not self.units)
+        self.control(self.new_name(fields[1]), literal(fields[2]))
+
+    def array_line(self, fields):
+        """The elements are NAME, NAME.1, NAME.2 and so on, each a control of its own."""
+        name, values = fields[1], fields[2:]
+        want(1 <= len(values) <= MOST_ELEMENTS and not self.units)
+        self.arrays.append((len(self.controls), len(values)))
+        self.control(self.new_name(name), literal(values[0]))
+        for k, value in enumerate(values[1:], 1):
+            self.control(f"{name}.{k}", literal(value))
 
     def input(self, kind, word):
         value = literal(word)
@@ -125,12 +141,16 @@ class Definition:
         fields = text.split(" ")
         want("" not in fields)
         if number == 1:
-            want(fields == ["snova", "1"])
+            want(fields in (["snova", "1"], ["snova", "2"]))
+            self.version = int(fields[1])
         elif number == 2:
             want(len(fields) == 2 and fields[0] == "def")
             self.name = self.new_name(fields[1])
         elif fields[0] == "control":
             self.control_line(fields)
+        elif fields[0] == "array" and self.version == 2:
+            want(len(fields) >= 3)
+            self.array_line(fields)
         elif fields == ["end"]:
             return True
         elif "=" in fields:

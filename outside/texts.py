@@ -1,8 +1,8 @@
 """Definition texts that the cases send."""
 
 
-def definition(name, *lines):
-    return ("\n".join(["snova 1", "def " + name, *lines, "end"]) + "\n").encode()
+def definition(name, *lines, version=1):
+    return ("\n".join([f"snova {version}", "def " + name, *lines, "end"]) + "\n").encode()
 
 
 def shown(name, *lines, wire="y"):
@@ -34,6 +34,8 @@ TEXTS = {
     "frames": definition("frames", "control buf 0", "n = BufFrames buf", "Out.ar 0 n"),
     "hush": definition("hush", "control x 0", "a = DetectSilence x 0.25 2 2", "Out.ar 0 a"),
     "nothing": definition("nothing"),
+    "bank": definition("bank", "array amp 0.5 0.25 0", "control out 0", "a = SinOsc 440000 0", "m = Mul a amp.1", "Out.ar out m", version=2),
+    "outs": definition("outs", "control amp 0.5", "array out 0 1 2", "Out.ar out.1 amp", "Out.ar out.2 amp", version=2),
 }
 
 PULSE = "g = LFPulse 3000000 0 8388608"
@@ -74,7 +76,7 @@ HEARD = {name: shown("unit", *lines) for name, lines in UNITS.items()}
 HEAD = ["snova 1", "def bad"]
 BAD = {
     "empty": b"", "cut": b"snova 1\ndef a\nend", "no end": b"snova 1\ndef a\n", "behind": b"snova 1\ndef a\nend\nend\n", "cut behind": b"snova 1\ndef a\nend\n ",
-    "version": b"snova 2\ndef a\nend\n", "name": b"snova 1\ndef 1a\nend\n", "kept name": b"snova 1\ndef end\nend\n",
+    "version": b"snova 3\ndef a\nend\n", "name": b"snova 1\ndef 1a\nend\n", "kept name": b"snova 1\ndef end\nend\n",
     "long name": b"snova 1\ndef " + b"a" * 32 + b"\nend\n", "two spaces": b"snova 1\ndef a\ncontrol  x 1\nend\n",
     "space at end": b"snova 1\ndef a \nend\n", "empty line": b"snova 1\ndef a\n\nend\n", "return": b"snova 1\r\ndef a\r\nend\r\n",
 }
@@ -91,10 +93,27 @@ BAD_LINES = {
     "257 units": [f"w{i} = WhiteNoise" for i in range(257)], "513 wires": [" ".join(f"w{8 * k + j}" for j in range(8)) + " = In.ar 0" for k in range(64)] + ["x = WhiteNoise"],
 }
 BAD.update((name, definition("bad", *lines)) for name, lines in BAD_LINES.items())
+ZEROS = " 0" * 64
+BAD_ARRAYS = {
+    "array without a literal": ["array a"], "array of no name": ["array = SinOsc 1 2"], "array late": ["a = WhiteNoise", "array b 1"], "array with two spaces": ["array a  1"],
+    "65 elements": ["array a 0" + ZEROS], "513 controls": [f"array a{k}{ZEROS}" for k in range(8)] + ["control b 0"],
+    "513 elements": [f"array a{k}{ZEROS}" for k in range(7)] + ["array b" + " 0" * 63, "array c 0 0"], "array kept": ["array array 1"], "array twice": ["control a 1", "array a 2"],
+    "array dotted": ["array a.1 2"], "array number": ["array a 1 x 2"], "element 0": ["array a 1 2", "b = Neg a.0"], "element past": ["array a 1 2", "b = Neg a.2"],
+    "element 01": ["array a 1 2", "b = Neg a.01"], "element as a wire": ["array a 1 2", "a.1 = WhiteNoise"], "element of an element": ["array a 1 2", "b = Neg a.1.1"],
+    "element constant": ["array d 2 2", "a = Line 0 1 1 d.1"], "array as a wire": ["a array = In.ar 0"],
+}
+BAD.update((name, definition("bad", *lines, version=2)) for name, lines in BAD_ARRAYS.items())
+BAD["array in version 1"] = definition("bad", "array a 1 2")
+BAD["129 controls in version 1"] = definition("bad", *[f"control c{i} 0" for i in range(129)])
+BAD["name array in version 2"] = definition("array", version=2)
 GOOD = {
     "128 controls": definition("good", *[f"control c{i} {i}" for i in range(128)]),
     "256 units": definition("good", *[f"w{i} = WhiteNoise" for i in range(256)]),
     "512 wires": definition("good", *BAD_LINES["513 wires"][:64]),
     "names": definition("Go_od9", "control array 1", "control SinOsc -0.00000001", "control Out 127.99999999", "_ = SinOsc SinOsc array"),
+    "64 elements": definition("good", "array a" + ZEROS, "b = Neg a.63", version=2),
+    "512 controls": definition("good", *[f"control c{i} {i}" for i in range(512)], version=2),
+    "512 elements": definition("good", *[f"array {'a' * 31 if k == 7 else f'a{k}'}{ZEROS}" for k in range(8)], "b = Neg " + "a" * 31 + ".63", version=2),
+    "version 2": definition("good", "control a 1", "array b 2 3 4", "control c 5", "array d 6", "e = MulAdd a b.2 d", version=2),
     "name of 31": definition("a" * 31), "edges": definition("good", "control a -2147483648", "control b 2147483647", "control c -128.0", "a0 = DelayN a 60000 b"),
 }

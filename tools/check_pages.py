@@ -224,20 +224,18 @@ class Code:
     def __init__(self):
         self.specs = Specs(ROOT, {"read": plain_message})
         self.module = self.specs.module("sn_world", "Commands")
+        self.called = self.specs.module("sn_world", "Addresses")
         failing = (ROOT / "crates/sn_reply/specs/Failing.antt").read_text()
         self.texts = dict(re.findall(r'^reason_text \(?Reasons\.(\w+)(?: line\))? = (?:codes "([^"]+)"|definition_line line)', failing, re.M))
         self.texts["DefinitionLine"] = "definition line N"
 
     def addresses(self):
-        found = []
-        for name in ("node_command_of", "tree_command_of", "bus_command_of", "buffer_command_of", "server_command_of"):
-            found += re.findall(r'codes "(/\w+)"', self.module.clauses[name][0])
-        return found
+        return re.findall(r'codes "(/\w+)"', self.called.clauses["every_command"][0])
 
     def command(self, address):
         """The row of a command, and how it is applied."""
         for finder, row in (("node_command_of", "node_row"), ("bus_command_of", "whole_row")):
-            found = apply(self.module.value(finder), thunk(address))
+            found = apply(self.called.value(finder), thunk(address))
             if found.name == "Some":
                 return forced(found.args[0]), row
         raise KeyError(address)

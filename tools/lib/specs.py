@@ -99,6 +99,11 @@ def option_map(f, o):
     return o if o.name == "None" else Con("Some", [Thunk(lambda: apply(f, o.args[0]))])
 
 
+def find(test, xs):
+    found = [x for x in elements(xs) if forced(thunk(apply(test, x))).name == "true"]
+    return Con("Some", [found[0]]) if found else Con("None")
+
+
 STD = {
     "not": strict(1, lambda b: boolean(b.name == "false")),
     "is_none": strict(1, lambda o: boolean(o.name == "None")),
@@ -115,6 +120,7 @@ STD = {
     "replicate": strict(2, lambda n, x: listed([x] * n)),
     "map": strict(2, lambda f, xs: of_thunks([Thunk(lambda x=x: apply(f, x)) for x in elements(xs)])),
     "option_map": strict(2, option_map),
+    "find": strict(2, find),
     "slice_index_or": strict(3, lambda xs, i, d: forced(list(elements(xs))[i]) if i < sum(1 for _ in elements(xs)) else d),
     "slice_set": strict(3, lambda xs, i, x: of_thunks([thunk(x) if k == i else e for k, e in enumerate(elements(xs))])),
     "bytes_eq": strict(2, lambda a, b: boolean(a == b)),

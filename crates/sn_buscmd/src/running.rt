@@ -9,7 +9,8 @@ ghost use Rattle.sn_world.specs.World.{turn_of};
 ghost use Rattle.sn_world.specs.Pictures.{Pictures, WritesWorld, KeepsOutside};
 ghost use Rattle.sn_osc.specs.Reading.{read};
 ghost use Rattle.sn_world.specs.Completing.{one_message};
-ghost use Rattle.sn_world.specs.Commands.{ArgumentsOf, bus_command_of, buffer_command_of, server_command_of, bus_row, carrying_row, run_bus, next_alone, next_with, next_of, done_with};
+ghost use Rattle.sn_world.specs.Addresses.{bus_command_of};
+ghost use Rattle.sn_world.specs.Commands.{ArgumentsOf, bus_row, carrying_row, run_bus, next_alone, next_with, next_of, done_with};
 ghost use Rattle.sn_world.specs.Answers.{Follows, UnlessFollowed, Handles, UnlessDone, IsNext, NextHas};
 ghost use Rattle.sn_buscmd.specs.Refusing.{IfRefused, IfFailed};
 
@@ -35,91 +36,18 @@ use sn_mem::Port;
 use sn_osc::{Arg, Body, Message};
 use sn_ports::NoMemory;
 use sn_reply::{Reason, Replies};
-use sn_world::{BusCommand, Handled, Stage};
+use sn_world::{BusCommand, Command, Handled, Stage, command_of};
 use std::alloc::Global;
-
-/// The command on definitions or on the server itself with an address.
-fn server_command_of(address: &[u8]) -> Option<BusCommand>
-    ensures { result ≡ server_command_of address.now }
-{
-    if address == b"/sync".as_slice() {
-        return Some(BusCommand::Sync);
-    }
-    if address == b"/d_recv".as_slice() {
-        return Some(BusCommand::Receive);
-    }
-    if address == b"/d_free".as_slice() {
-        return Some(BusCommand::Free);
-    }
-    if address == b"/status".as_slice() {
-        return Some(BusCommand::Status);
-    }
-    if address == b"/clearSched".as_slice() {
-        return Some(BusCommand::ClearSched);
-    }
-    if address == b"/quit".as_slice() {
-        return Some(BusCommand::Quit);
-    }
-    None
-}
-
-/// The command on buffers, on definitions or on the server itself with an address.
-fn buffer_command_of(address: &[u8]) -> Option<BusCommand>
-    ensures { result ≡ buffer_command_of address.now }
-{
-    if address == b"/b_alloc".as_slice() {
-        return Some(BusCommand::AllocBuffer);
-    }
-    if address == b"/b_allocRead".as_slice() {
-        return Some(BusCommand::ReadBuffer);
-    }
-    if address == b"/b_free".as_slice() {
-        return Some(BusCommand::FreeBuffer);
-    }
-    if address == b"/b_zero".as_slice() {
-        return Some(BusCommand::ZeroBuffer);
-    }
-    if address == b"/b_query".as_slice() {
-        return Some(BusCommand::QueryBuffers);
-    }
-    if address == b"/b_set".as_slice() {
-        return Some(BusCommand::SetSamples);
-    }
-    if address == b"/b_setn".as_slice() {
-        return Some(BusCommand::SetSampleRuns);
-    }
-    if address == b"/b_fill".as_slice() {
-        return Some(BusCommand::FillSamples);
-    }
-    if address == b"/b_get".as_slice() {
-        return Some(BusCommand::GetSamples);
-    }
-    if address == b"/b_getn".as_slice() {
-        return Some(BusCommand::GetSampleRuns);
-    }
-    server_command_of(address)
-}
 
 /// The command on control buses, on buffers, on definitions or on the server itself with an address.
 pub fn bus_command_of(address: &[u8]) -> Option<BusCommand>
     ensures { result ≡ bus_command_of address.now }
 {
-    if address == b"/c_set".as_slice() {
-        return Some(BusCommand::Set);
+    match command_of(address) {
+        Some(Command::OnServer(command)) => Some(command),
+        Some(Command::OnNodes(_)) => None,
+        None => None,
     }
-    if address == b"/c_setn".as_slice() {
-        return Some(BusCommand::SetRuns);
-    }
-    if address == b"/c_fill".as_slice() {
-        return Some(BusCommand::Fill);
-    }
-    if address == b"/c_get".as_slice() {
-        return Some(BusCommand::Get);
-    }
-    if address == b"/c_getn".as_slice() {
-        return Some(BusCommand::GetRuns);
-    }
-    buffer_command_of(address)
 }
 
 /// The arguments of a message, where they are read.

@@ -42,14 +42,28 @@ fn filled<H: Files>(rt: &H) -> Result<bool, Unanswered> {
     Ok(is_first && is_second && fill(&mut source, &mut into) == Ok(0))
 }
 
-/// A definition is printed with whole numbers.
-fn printed(alloc: Global) -> Result<bool, Unanswered> {
-    let text = b"snova 1\ndef half\ncontrol x 0.5\na = SinOsc x -0.1\nend\n";
-    let whole = b"snova 1\ndef half\ncontrol x 8388608\na = SinOsc x -1677722\nend\n";
+fn is_printed(alloc: Global, text: &[u8], printed: &[u8]) -> Result<bool, NoMemory> {
     match read(alloc, text) {
-        Ok(def) => Ok(print(alloc, &def)?.as_slice() == whole.as_slice()),
+        Ok(def) => Ok(print(alloc, &def)?.as_slice() == printed),
         Err(_) => Ok(false),
     }
+}
+
+/// A definition is printed with whole numbers, in version 1 if it has no array.
+fn printed(alloc: Global) -> Result<bool, Unanswered> {
+    let one = b"snova 1\ndef half\ncontrol x 0.5\na = SinOsc x -0.1\nend\n";
+    let two = b"snova 2\ndef half\ncontrol x 0.5\na = SinOsc x -0.1\nend\n";
+    let whole = b"snova 1\ndef half\ncontrol x 8388608\na = SinOsc x -1677722\nend\n";
+    Ok(is_printed(alloc, one, whole)? && is_printed(alloc, two, whole)?)
+}
+
+/// A definition with arrays is printed in version 2, each array in its place.
+fn arrays_printed(alloc: Global) -> Result<bool, Unanswered> {
+    let bank =
+        b"snova 2\ndef bank\narray amp 0.5 0.25 0\ncontrol out 0\narray a 1\nOut.ar out amp.1\nend\n";
+    let whole =
+        b"snova 2\ndef bank\narray amp 8388608 4194304 0\ncontrol out 0\narray a 1\nOut.ar out amp.1\nend\n";
+    Ok(is_printed(alloc, bank, whole)?)
 }
 
 fn is_at_fault(alloc: Global, text: &[u8], kind: DefKind, line: u32) -> bool {
@@ -66,6 +80,23 @@ fn at_fault(alloc: Global) -> Result<bool, Unanswered> {
     Ok(
         is_at_fault(alloc, number, DefKind::Number, 3)
             && is_at_fault(alloc, index, DefKind::Index, 4),
+    )
+}
+
+/// What is wrong with the line of an array is judged in order: the name, whether it is given already,
+/// and then each literal; and in version 1 it is the line of a unit.
+fn arrays_at_fault(alloc: Global) -> Result<bool, Unanswered> {
+    let unit = b"snova 1\ndef a\narray x 1 2\nend\n";
+    let shape = b"snova 2\ndef a\narray = SinOsc 1 2\nend\n";
+    let name = b"snova 2\ndef a\narray x.1 y\nend\n";
+    let twice = b"snova 2\ndef a\ncontrol x 1\narray x y\nend\n";
+    let number = b"snova 2\ndef a\narray x 1 y 2\nend\n";
+    Ok(
+        is_at_fault(alloc, unit, DefKind::Unit, 3)
+            && is_at_fault(alloc, shape, DefKind::Line, 3)
+            && is_at_fault(alloc, name, DefKind::Name, 3)
+            && is_at_fault(alloc, twice, DefKind::Twice, 4)
+            && is_at_fault(alloc, number, DefKind::Number, 3),
     )
 }
 
@@ -176,13 +207,15 @@ fn listed(alloc: Global) -> Result<bool, Unanswered> {
 }
 
 /// The calls, and whether each answers as it should.
-pub fn calls<H: Files>(rt: &H, alloc: Global) -> [(&'static str, Result<bool, Unanswered>); 14] {
+pub fn calls<H: Files>(rt: &H, alloc: Global) -> [(&'static str, Result<bool, Unanswered>); 16] {
     [
         ("show", shown(alloc)),
         ("into_inner of a sink", given_back(alloc)),
         ("fill of a file", filled(rt)),
         ("print", printed(alloc)),
+        ("print arrays", arrays_printed(alloc)),
         ("read", at_fault(alloc)),
+        ("read arrays", arrays_at_fault(alloc)),
         ("spellable", spelled(alloc)),
         ("frames_of", framed_stream(alloc)),
         ("clash", clashing(alloc)),

@@ -7,7 +7,7 @@ use crate::rounds::{no_jobs, put};
 use sn_machine::{Machine, Script, View, Words, may_write};
 use sn_mem::{Extent, Extents, Foot, clash};
 use sn_ports::NoMemory;
-use sn_round::{Ids, Job, Jobs, Plan};
+use sn_round::{Ids, Job, Jobs, Plan, SharedFoot};
 use std::alloc::Global;
 
 /// How many memory words and job words a machine has.
@@ -61,7 +61,7 @@ fn random_job(alloc: Global, dice: &mut Dice, jobs: &[Job]) -> Result<Job, NoMem
     let mut before = Jobs::new(alloc);
     let mut number: u32 = 0;
     for job in jobs {
-        let clashes = clash(&job.foot, &foot);
+        let clashes = clash(job.foot.as_foot(), &foot);
         if clashes && !dice.one_in(8) || dice.one_in(5) {
             before.push(number)?;
         }
@@ -69,7 +69,7 @@ fn random_job(alloc: Global, dice: &mut Dice, jobs: &[Job]) -> Result<Job, NoMem
     }
     Ok(Job {
         synths: Ids::new(alloc),
-        foot,
+        foot: SharedFoot::new(alloc, foot)?,
         before,
     })
 }

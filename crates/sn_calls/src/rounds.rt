@@ -6,7 +6,7 @@ ghost use Rattle.sn_round.specs.Jobs.{AreJobs, times};
 use crate::line::{Answer, Line, Rows, Unanswered, number, said};
 use sn_mem::{Extent, Extents, Foot};
 use sn_ports::NoMemory;
-use sn_round::{Ids, Job, Jobs, Plan};
+use sn_round::{Ids, Job, Jobs, Plan, SharedFoot};
 use std::alloc::Global;
 use std::mem;
 
@@ -72,13 +72,11 @@ fn ids(alloc: Global, numbers: &[u32]) -> Result<Ids, Unanswered> {
 }
 
 /// What writes the ten words from a place on.
-fn foot(alloc: Global, at: u32) -> Result<Foot, NoMemory> {
+fn foot(alloc: Global, at: u32) -> Result<SharedFoot, NoMemory> {
     let mut writes = Extents::new(alloc);
     writes.push(Extent { at, len: 10 })?;
-    Ok(Foot {
-        reads: Extents::new(alloc),
-        writes,
-    })
+    let reads = Extents::new(alloc);
+    SharedFoot::new(alloc, Foot { reads, writes })
 }
 
 /// Puts a job at the end, where its predecessors stand before it. It answers whether they do.

@@ -10,7 +10,6 @@ mod hold;
 mod opening;
 mod pace;
 mod seating;
-mod sweeping;
 mod widths;
 mod working;
 

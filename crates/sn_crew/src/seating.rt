@@ -10,11 +10,10 @@ ghost use Rattle.sn_crew.specs.Rounded.{Rounded};
 
 use crate::hands::Hand;
 use crate::pace::Pace;
-use crate::sweeping::sweep;
 use sn_mem::Scratch;
 use sn_ports::Gate;
 use sn_round::{Plan, Work};
-use sn_table::{MainSeat, Shared};
+use sn_table::{MainSeat, Shared, sweep};
 
 /// Drops the hints that an earlier round has left.
 fn clear(hands: &mut [Hand])

@@ -40,15 +40,15 @@ absent_there n m [] k h i = cc
 absent_there n m (x ∷ xs) zero h i = let same : x ≡ m = cc in subst (λ (y : List ℕ). bytes_eq y n ≡ false) same (absent-cons n x xs h).0
 absent_there n m (x ∷ xs) (suc k) h i = absent_there n m xs k (absent-cons n x xs h).1 i
 
-nothing_named : (n : List ℕ) → place_of n [] ≡ None
+pub absent-none : (n : List ℕ) → place_of n [] ≡ None
 unfolding place_of
-nothing_named n = refl
+absent-none n = refl
 
 pub distinct-push : (ns : List (List ℕ)) (n : List ℕ) → AreDistinct ns → place_of n ns ≡ None → AreDistinct (ns ++ n ∷ [])
-distinct-push [] n h i = (nothing_named n, tt)
+distinct-push [] n h i = (absent-none n, tt)
 distinct-push (m ∷ ms) n h i =
     let p = absent-cons n m ms i in
-    (absent-append m ms (n ∷ []) h.0 (absent-from m n [] (other_way m n p.0) (nothing_named m)), distinct-push ms n h.1 p.1)
+    (absent-append m ms (n ∷ []) h.0 (absent-from m n [] (other_way m n p.0) (absent-none m)), distinct-push ms n h.1 p.1)
 
 pub distinct-left : (xs ys : List (List ℕ)) → AreDistinct (xs ++ ys) → AreDistinct xs
 distinct-left [] ys h = tt
@@ -60,7 +60,7 @@ distinct-right (x ∷ xs) ys h = distinct-right xs ys h.1
 
 -- what stands behind does not stand in front
 pub distinct_before : (xs ys : List (List ℕ)) (n : List ℕ) (k : ℕ) → AreDistinct (xs ++ ys) → slice_get ys k ≡ Some n → place_of n xs ≡ None
-distinct_before [] ys n k h i = nothing_named n
+distinct_before [] ys n k h i = absent-none n
 distinct_before (x ∷ xs) ys n k h i = absent-from n x xs (other_way n x (absent_there x n ys k (absent_parts x xs ys h.0).1 i)) (distinct_before xs ys n k h.1 i)
 
 get_more : (xs : List (List ℕ)) (x n : List ℕ) (o : Option ℕ) → IfSome o (λ k. slice_get xs k ≡ Some n) → IfSome (one_more o) (λ k. slice_get (x ∷ xs) k ≡ Some n)

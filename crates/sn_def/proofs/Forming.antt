@@ -11,6 +11,9 @@ use Rattle.sn_fixed.specs.Literal.{literal}
 use Rattle.sn_def.specs.declared.fault.DefKind.{DefKind}
 use Rattle.sn_def.specs.declared.fault.DefKind.TheVariants as wrong
 use Rattle.sn_def.specs.declared.fault.DefFault.{DefFault}
+use Rattle.sn_def.specs.declared.arrays.Run.{Run}
+use Rattle.sn_def.specs.declared.version.Version.{Version}
+use Rattle.sn_def.specs.declared.version.Version.TheVariants as versions
 use Rattle.sn_def.specs.declared.kind.Kind.{Kind}
 use Rattle.sn_def.specs.declared.table.Mark.{Mark}
 use Rattle.sn_def.specs.declared.table.Mark.TheVariants.{Signal, Index, Constant, Longest}
@@ -18,9 +21,11 @@ use Rattle.sn_def.specs.declared.unit.Input.{Input}
 use Rattle.sn_def.specs.declared.unit.Input.TheVariants.{Literal, Control, Wire}
 use Rattle.sn_def.specs.declared.unit.Unit.{Unit as UnitLine}
 use Rattle.sn_def.specs.Units.{row_of, every_kind, kind_named}
-use Rattle.sn_def.specs.Definition.{Definition, Parameter, named, named_only, with_control, with_wires, with_unit, unit_line}
-use Rattle.sn_def.specs.Reading.{◌>>=◌, pieces, is_name, is_known, is_reserved, first_of, default_at, control_at, mark_at, literal_at, name_at, value_or_name_at, input_at, inputs_at, wires_at, UnitParts, counts_fit, unit_of, unit_if_known, unit_at, unit_line_at, unit_parts, control_line_at, line_at, fault, line_number, at_line, is_over, end_at, body_at, named_at, def_at, after_title, title_at, text_at, IsWritten}
-use Rattle.sn_def.specs.WellFormed.{IsSample, IsDelay, IsAllowed, AreAllowed, UnitFits, UnitsFit, outputs_of, IsWellFormed}
+use Rattle.sn_def.specs.Definition.{Definition, Parameter, named, named_only, elements, run, with_control, with_array, with_wires, with_unit, unit_line}
+use Rattle.sn_def.specs.Versions.{version_of, most_controls}
+use Rattle.sn_def.specs.Reading.{◌>>=◌, pieces, is_name, is_known, is_array_word, is_reserved, first_of, default_at, control_at, default_of, defaults_at, array_at, mark_at, literal_at, name_at, value_or_name_at, input_at, inputs_at, wires_at, UnitParts, counts_fit, unit_of, unit_if_known, unit_at, unit_line_at, unit_parts, control_line_at, array_line_at, line_at, fault, at_line, is_over, end_at, body_at, named_at, def_at, after_title, versioned_at, title_at, text_at, IsWritten}
+use Rattle.sn_def.specs.WellFormed.{IsSample, IsDelay, IsAllowed, AreAllowed, UnitFits, UnitsFit, outputs_of, RunsFit, IsWellFormed}
+use Rattle.sn_def.proofs.ElementNames.{length-elements}
 use Rattle.sn_def.proofs.Samples.{below, a_literal}
 use Rattle.sn_def.proofs.Standing.{IsThere, named_there}
 
@@ -116,37 +121,93 @@ outputs-push : (us : List UnitLine) (u : UnitLine) → outputs_of (us ++ u ∷ [
 outputs-push [] u = omega arith
 outputs-push (v ∷ us) u = let more = outputs-push us u in omega arith
 
-control_kept : (d : Definition) (n : List ℕ) (v : ℤ) → IsWellFormed d → length d.units ≡ 0 → length d.controls < 128 → IsWellFormed (with_control d n v)
-control_kept d n v ok none room = record {
-  controls = let p : Parameter = record { name = n; default = v } in omega (arith, length-append d.controls (p ∷ []));
-  units = ok.units;
-  wires = ok.wires;
-  outputs = ok.outputs;
-  fit = no_units d.units (length (with_control d n v).controls) 0 none;
-}
+-- more controls behind the last array
+runs_wider : (from controls more : ℕ) (rs : List Run) → controls ≤ more → RunsFit from controls rs → RunsFit from more rs
+runs_wider from controls more [] le h = omega arith
+runs_wider from controls more (r ∷ rs) le h = (h.0, h.1, h.2, runs_wider (r.first + r.len) controls more rs le h.3)
+
+-- an array behind all controls
+runs_fit-push : (from controls len : ℕ) (rs : List Run) → 1 ≤ len → len ≤ 64 → RunsFit from controls rs → RunsFit from (controls + len) (rs ++ run controls len ∷ [])
+runs_fit-push from controls len [] some few h = (h, some, few, omega arith)
+runs_fit-push from controls len (r ∷ rs) some few h = (h.0, h.1, h.2, runs_fit-push (r.first + r.len) controls len rs some few h.3)
+
+pub most_few : (v : Version) → most_controls v ≤ 512
+most_few versions.One = omega arith
+most_few versions.Two = omega arith
+
+control_kept : (d : Definition) (n : List ℕ) (v : ℤ) → IsWellFormed d → length d.units ≡ 0 → length d.controls < 512 → IsWellFormed (with_control d n v)
+control_kept d n v ok none room =
+    let p : Parameter = record { name = n; default = v } in
+    let more : length (d.controls ++ p ∷ []) ≡ length d.controls + 1 = length-append d.controls (p ∷ []) in
+    record {
+      controls = omega arith;
+      arrays = runs_wider 0 (length d.controls) (length (d.controls ++ p ∷ [])) d.arrays (omega arith) ok.arrays;
+      units = ok.units;
+      wires = ok.wires;
+      outputs = ok.outputs;
+      fit = no_units d.units (length (with_control d n v).controls) 0 none;
+    }
+
+array_kept : (d : Definition) (n : List ℕ) (vs : List ℤ) → IsWellFormed d → length d.units ≡ 0 → 1 ≤ length vs → length vs ≤ 64 → length d.controls + length vs ≤ 512 → IsWellFormed (with_array d n vs)
+array_kept d n vs ok none some few room =
+    let more : length (d.controls ++ elements n 0 vs) ≡ length d.controls + length vs = length-append d.controls (elements n 0 vs) ∙ ap (λ (k : ℕ). length d.controls + k) (length-elements n 0 vs) in
+    record {
+      controls = omega arith;
+      arrays = subst (λ (k : ℕ). RunsFit 0 k (d.arrays ++ run (length d.controls) (length vs) ∷ [])) (sym more) (runs_fit-push 0 (length d.controls) (length vs) d.arrays some few ok.arrays);
+      units = ok.units;
+      wires = ok.wires;
+      outputs = ok.outputs;
+      fit = no_units d.units (length (with_array d n vs).controls) 0 none;
+    }
 
 unit_kept : (d : Definition) (names : List (List ℕ)) (kind : Kind) (inputs : List Input) → IsWellFormed d → length d.units < 256 → length d.wires + length names ≤ 512
     → UnitFits (length d.controls) (length d.wires) (unit_line kind inputs (length names)) → IsWellFormed (with_unit (with_wires d names) kind inputs (length names))
 unit_kept d names kind inputs ok room few fits = record {
   controls = ok.controls;
+  arrays = ok.arrays;
   units = let u = unit_line kind inputs (length names) in omega (arith, length-append d.units (u ∷ []));
   wires = omega (arith, length-append d.wires names);
   outputs = outputs-push d.units (unit_line kind inputs (length names)) ∙ ap (λ (n : ℕ). n + length names) ok.outputs ∙ sym (length-append d.wires names);
   fit = units_fit-push d.units (unit_line kind inputs (length names)) (length d.controls) 0 ok.fit (subst (λ (n : ℕ). UnitFits (length d.controls) n (unit_line kind inputs (length names))) (sym (zero-add (outputs_of d.units) ∙ ok.outputs)) fits);
 }
 
-default_kept : (d e : Definition) (name : List ℕ) (o : Option ℤ) → IsWellFormed d → length d.units ≡ 0 → length d.controls < 128 → default_at d name o ≡ Ok e → IsWellFormed e
+default_kept : (d e : Definition) (name : List ℕ) (o : Option ℤ) → IsWellFormed d → length d.units ≡ 0 → length d.controls < 512 → default_at d name o ≡ Ok e → IsWellFormed e
 default_kept d e name (Some v) ok none room h = subst IsWellFormed (same_ok {E = DefKind} (with_control d name v) e h) (control_kept d name v ok none room)
 default_kept d e name None ok none room h = cc
 
-control_at_kept : (d e : Definition) (name value : List ℕ) → IsWellFormed d → control_at d name value ≡ Ok e → IsWellFormed e
+control_at_kept : (v : Version) (d e : Definition) (name value : List ℕ) → IsWellFormed d → control_at v d name value ≡ Ok e → IsWellFormed e
 unfolding control_at
-control_at_kept d e name value ok h =
+control_at_kept v d e name value ok h =
     let a = past (not (length d.units == 0)) wrong.Line _ e h in
-    let b = past (nat_le 128 (length d.controls)) wrong.Limit _ e a.1 in
-    let i = past (not (is_name name)) wrong.Name _ e b.1 in
+    let b = past (nat_le (most_controls v) (length d.controls)) wrong.Limit _ e a.1 in
+    let i = past (not (is_name v name)) wrong.Name _ e b.1 in
     let j = past (is_known d name) wrong.Twice _ e i.1 in
-    default_kept d e name (literal value) ok (eqb-true (length d.units) 0 (not-false (length d.units == 0) a.0)) (leb-false 128 (length d.controls) b.0) j.1
+    let room : length d.controls < most_controls v = leb-false (most_controls v) (length d.controls) b.0 in
+    default_kept d e name (literal value) ok (eqb-true (length d.units) 0 (not-false (length d.units == 0) a.0)) (omega (arith, most_few v)) j.1
+
+-- literals that are read have one value each
+pub as_many_defaults : (fields : List (List ℕ)) (vs : List ℤ) → defaults_at fields ≡ Ok vs → length vs ≡ length fields
+unfolding defaults_at
+as_many_defaults [] vs h = ap length (sym (same_ok {E = DefKind} [] vs h))
+as_many_defaults (field ∷ fields) vs h =
+    let one = steps (default_of (literal field)) _ vs h in
+    let more = steps (defaults_at fields) _ vs one.2 in
+    ap length (sym (same_ok {E = DefKind} (one.0 ∷ more.0) vs more.2)) ∙ ap suc (as_many_defaults fields more.0 more.1)
+
+array_at_kept : (v : Version) (d e : Definition) (name : List ℕ) (literals : List (List ℕ)) → 0 < length literals → IsWellFormed d → array_at v d name literals ≡ Ok e → IsWellFormed e
+unfolding array_at
+array_at_kept v d e name literals some ok h =
+    let a = past (not (length d.units == 0)) wrong.Line _ e h in
+    let b = past (nat_lt 64 (length literals) || nat_lt (most_controls v) (length d.controls + length literals)) wrong.Limit _ e a.1 in
+    let i = past (not (is_name v name)) wrong.Name _ e b.1 in
+    let j = past (is_known d name) wrong.Twice _ e i.1 in
+    let few = or_parts (nat_lt 64 (length literals)) (nat_lt (most_controls v) (length d.controls + length literals)) b.0 in
+    let s = steps (defaults_at literals) _ e j.1 in
+    let many : length s.0 ≡ length literals = as_many_defaults literals s.0 s.1 in
+    let least : length literals ≤ 64 = ltb-false 64 (length literals) few.0 in
+    let room : length d.controls + length literals ≤ most_controls v = ltb-false (most_controls v) (length d.controls + length literals) few.1 in
+    subst IsWellFormed (same_ok {E = DefKind} (with_array d name s.0) e s.2)
+    (array_kept d name s.0 ok (eqb-true (length d.units) 0 (not-false (length d.units == 0) a.0)) (omega arith) (omega arith) (omega (arith, most_few v)))
 
 counts : (inputs_always signals least most inputs outputs : ℕ) → (nat_le (inputs_always + cond (signals == 0) 0 1) inputs && nat_le inputs (inputs_always + signals) && nat_le least outputs && nat_le outputs most) ≡ true
     → (inputs_always + cond (signals == 0) 0 1 ≤ inputs) × (inputs ≤ inputs_always + signals) × (least ≤ outputs) × (outputs ≤ most)
@@ -156,11 +217,11 @@ counts a s l m i o h =
     let r = and_parts (nat_le (a + cond (s == 0) 0 1) i) (nat_le i (a + s)) q.0 in
     (leb-true (a + cond (s == 0) 0 1) i r.0, leb-true i (a + s) r.1, leb-true l o q.1, leb-true o m p.1)
 
-unit_of_kept : (d e : Definition) (parts : UnitParts) (kind : Kind) → IsWellFormed d → length d.units < 256 → length d.wires + length parts.outputs ≤ 512 → unit_of d parts kind ≡ Ok e → IsWellFormed e
+unit_of_kept : (v : Version) (d e : Definition) (parts : UnitParts) (kind : Kind) → IsWellFormed d → length d.units < 256 → length d.wires + length parts.outputs ≤ 512 → unit_of v d parts kind ≡ Ok e → IsWellFormed e
 unfolding unit_of
-unit_of_kept d e parts kind ok room few h =
+unit_of_kept v d e parts kind ok room few h =
     let a = past (not (counts_fit (row_of kind) (length parts.inputs) (length parts.outputs))) wrong.Count _ e h in
-    let b = past (not (list_all is_name parts.outputs)) wrong.Name _ e a.1 in
+    let b = past (not (list_all (is_name v) parts.outputs)) wrong.Name _ e a.1 in
     let w = steps (wires_at d parts.outputs) _ e b.1 in
     let i = steps (inputs_at d (row_of kind).inputs 0 parts.inputs) _ e w.2 in
     let read = inputs_allowed d (row_of kind).inputs 0 parts.inputs i.0 i.1 in
@@ -176,38 +237,50 @@ unit_of_kept d e parts kind ok room few h =
     ap (λ (g : Definition). with_unit g kind i.0 (length parts.outputs)) (sym (wires_given d w.0 parts.outputs w.1)) ∙ same_ok {E = DefKind} (with_unit w.0 kind i.0 (length parts.outputs)) e i.2 in
     subst IsWellFormed made (unit_kept d parts.outputs kind i.0 ok room few unit)
 
-unit_if_known_kept : (d e : Definition) (parts : UnitParts) (o : Option Kind) → IsWellFormed d → length d.units < 256 → length d.wires + length parts.outputs ≤ 512 → unit_if_known d parts o ≡ Ok e → IsWellFormed e
-unit_if_known_kept d e parts (Some kind) ok room few h = unit_of_kept d e parts kind ok room few h
-unit_if_known_kept d e parts None ok room few h = cc
+unit_if_known_kept : (v : Version) (d e : Definition) (parts : UnitParts) (o : Option Kind) → IsWellFormed d → length d.units < 256 → length d.wires + length parts.outputs ≤ 512 → unit_if_known v d parts o ≡ Ok e → IsWellFormed e
+unit_if_known_kept v d e parts (Some kind) ok room few h = unit_of_kept v d e parts kind ok room few h
+unit_if_known_kept v d e parts None ok room few h = cc
 
-unit_at_kept : (d e : Definition) (parts : UnitParts) → IsWellFormed d → unit_at d parts ≡ Ok e → IsWellFormed e
+unit_at_kept : (v : Version) (d e : Definition) (parts : UnitParts) → IsWellFormed d → unit_at v d parts ≡ Ok e → IsWellFormed e
 unfolding unit_at
-unit_at_kept d e parts ok h =
+unit_at_kept v d e parts ok h =
     let a = past (nat_le 256 (length d.units) || nat_lt 512 (length d.wires + length parts.outputs)) wrong.Limit _ e h in
     let b = or_parts (nat_le 256 (length d.units)) (nat_lt 512 (length d.wires + length parts.outputs)) a.0 in
-    unit_if_known_kept d e parts (kind_named parts.unit) ok (leb-false 256 (length d.units) b.0) (ltb-false 512 (length d.wires + length parts.outputs) b.1) a.1
+    unit_if_known_kept v d e parts (kind_named parts.unit) ok (leb-false 256 (length d.units) b.0) (ltb-false 512 (length d.wires + length parts.outputs) b.1) a.1
 
-unit_line_kept : (d e : Definition) (o : Option UnitParts) → IsWellFormed d → unit_line_at d o ≡ Ok e → IsWellFormed e
-unit_line_kept d e (Some parts) ok h = unit_at_kept d e parts ok h
-unit_line_kept d e None ok h = cc
+unit_line_kept : (v : Version) (d e : Definition) (o : Option UnitParts) → IsWellFormed d → unit_line_at v d o ≡ Ok e → IsWellFormed e
+unit_line_kept v d e (Some parts) ok h = unit_at_kept v d e parts ok h
+unit_line_kept v d e None ok h = cc
 
-control_line_kept : (d e : Definition) (fields : List (List ℕ)) → IsWellFormed d → control_line_at d fields ≡ Ok e → IsWellFormed e
-control_line_kept d e (word ∷ name ∷ value ∷ []) ok h = control_at_kept d e name value ok h
-control_line_kept d e [] ok h = cc
-control_line_kept d e (a ∷ []) ok h = cc
-control_line_kept d e (a ∷ b ∷ []) ok h = cc
-control_line_kept d e (a ∷ b ∷ x ∷ y ∷ z) ok h = cc
+control_line_kept : (v : Version) (d e : Definition) (fields : List (List ℕ)) → IsWellFormed d → control_line_at v d fields ≡ Ok e → IsWellFormed e
+control_line_kept v d e (word ∷ name ∷ value ∷ []) ok h = control_at_kept v d e name value ok h
+control_line_kept v d e [] ok h = cc
+control_line_kept v d e (a ∷ []) ok h = cc
+control_line_kept v d e (a ∷ b ∷ []) ok h = cc
+control_line_kept v d e (a ∷ b ∷ x ∷ y ∷ z) ok h = cc
+
+pub some_literals : (literals : List (List ℕ)) → (length literals == 0) ≡ false → 0 < length literals
+some_literals [] h = cc
+some_literals (l ∷ ls) h = omega arith
+
+array_line_kept : (v : Version) (d e : Definition) (fields : List (List ℕ)) → IsWellFormed d → array_line_at v d fields ≡ Ok e → IsWellFormed e
+array_line_kept v d e [] ok h = cc
+array_line_kept v d e (a ∷ []) ok h = cc
+array_line_kept v d e (word ∷ name ∷ literals) ok h =
+    let a = past (length literals == 0 || bytes_eq name (codes "=")) wrong.Line _ e h in
+    array_at_kept v d e name literals (some_literals literals (or_parts (length literals == 0) (bytes_eq name (codes "=")) a.0).0) ok a.1
 
 pub either_kept : {X E : Type 0} (b : Bool) (r s : Result X E) (x : X) (P : Type 0) → (r ≡ Ok x → P) → (s ≡ Ok x → P) → cond b r s ≡ Ok x → P
 either_kept true r s x P f g h = f h
 either_kept false r s x P f g h = g h
 
-line_kept : (d e : Definition) (fields : List (List ℕ)) → IsWellFormed d → line_at d fields ≡ Ok e → IsWellFormed e
+line_kept : (v : Version) (d e : Definition) (fields : List (List ℕ)) → IsWellFormed d → line_at v d fields ≡ Ok e → IsWellFormed e
 unfolding line_at
-line_kept d e fields ok h =
+line_kept v d e fields ok h =
     let a = past (list_any (λ f. length f == 0) fields) wrong.Line _ e h in
-    either_kept (bytes_eq (first_of fields) (codes "control")) (control_line_at d fields) _ e (IsWellFormed e) (control_line_kept d e fields ok)
-    (λ i. unit_line_kept d e (unit_parts fields) ok (past (is_reserved (first_of fields)) wrong.Line _ e i).1) a.1
+    either_kept (bytes_eq (first_of fields) (codes "control")) (control_line_at v d fields) _ e (IsWellFormed e) (control_line_kept v d e fields ok)
+    (either_kept (is_array_word v (first_of fields)) (array_line_at v d fields) _ e (IsWellFormed e) (array_line_kept v d e fields ok)
+    (λ i. unit_line_kept v d e (unit_parts fields) ok (past (is_reserved v (first_of fields)) wrong.Line _ e i).1)) a.1
 
 pub at_line_ok : (n : ℕ) (r : Result Definition DefKind) (e : Definition) → at_line n r ≡ Ok e → r ≡ Ok e
 at_line_ok n (Ok d) e h = let same : d ≡ e = cc in ap (λ (g : Definition). Ok g) same
@@ -217,42 +290,46 @@ end_if : (d e : Definition) (b : Bool) (f : DefFault) → cond b (Ok d) (Err f) 
 end_if d e true f h = cc
 end_if d e false f h = cc
 
-pub end_same : (d e : Definition) (after : List (List ℕ)) → end_at d after ≡ Ok e → d ≡ e
-end_same d e after h = end_if d e (is_over after) (fault (line_number d + 1) wrong.Line) h
+pub end_same : (n : ℕ) (d e : Definition) (after : List (List ℕ)) → end_at n d after ≡ Ok e → d ≡ e
+end_same n d e after h = end_if d e (is_over after) (fault (n + 1) wrong.Line) h
 
-body_kept : (d e : Definition) (lines : List (List ℕ)) → IsWellFormed d → body_at d lines ≡ Ok e → IsWellFormed e
+body_kept : (v : Version) (n : ℕ) (d e : Definition) (lines : List (List ℕ)) → IsWellFormed d → body_at v n d lines ≡ Ok e → IsWellFormed e
 unfolding body_at
-body_kept d e [] ok h = cc
-body_kept d e (line ∷ after) ok h =
-    let a = past (length after == 0) (fault (line_number d) wrong.Line) _ e h in
-    either_kept (bytes_eq line (codes "end")) (end_at d after) _ e (IsWellFormed e) (λ i. subst IsWellFormed (end_same d e after i) ok)
-    (λ i. let p = steps (at_line (line_number d) (line_at d (pieces 32 line))) _ e i in body_kept p.0 e after (line_kept d p.0 (pieces 32 line) ok (at_line_ok (line_number d) _ p.0 p.1)) p.2) a.1
+body_kept v n d e [] ok h = cc
+body_kept v n d e (line ∷ after) ok h =
+    let a = past (length after == 0) (fault n wrong.Line) _ e h in
+    either_kept (bytes_eq line (codes "end")) (end_at n d after) _ e (IsWellFormed e) (λ i. subst IsWellFormed (end_same n d e after i) ok)
+    (λ i. let p = steps (at_line n (line_at v d (pieces 32 line))) _ e i in body_kept v (n + 1) p.0 e after (line_kept v d p.0 (pieces 32 line) ok (at_line_ok n _ p.0 p.1)) p.2) a.1
 
 named_only_formed : (name : List ℕ) → IsWellFormed (named_only name)
-named_only_formed name = record { controls = lit≤ tt; units = lit≤ tt; wires = lit≤ tt; outputs = refl; fit = tt }
+named_only_formed name = record { controls = lit≤ tt; arrays = lit≤ tt; units = lit≤ tt; wires = lit≤ tt; outputs = refl; fit = tt }
 
-named_formed : (word name : List ℕ) (e : Definition) → named_at word name ≡ Ok e → IsWellFormed e
-named_formed word name e h =
+named_formed : (v : Version) (word name : List ℕ) (e : Definition) → named_at v word name ≡ Ok e → IsWellFormed e
+named_formed v word name e h =
     let a = past (not (bytes_eq word (codes "def")) || length name == 0) (fault 2 wrong.Line) _ e h in
-    let b = past (not (is_name name)) (fault 2 wrong.Name) _ e a.1 in
+    let b = past (not (is_name v name)) (fault 2 wrong.Name) _ e a.1 in
     subst IsWellFormed (same_ok {E = DefFault} (named_only name) e b.1) (named_only_formed name)
 
-def_formed : (fields : List (List ℕ)) (e : Definition) → def_at fields ≡ Ok e → IsWellFormed e
-def_formed [] e h = cc
-def_formed (a ∷ []) e h = cc
-def_formed (word ∷ name ∷ []) e h = named_formed word name e h
-def_formed (a ∷ b ∷ x ∷ y) e h = cc
+def_formed : (v : Version) (fields : List (List ℕ)) (e : Definition) → def_at v fields ≡ Ok e → IsWellFormed e
+def_formed v [] e h = cc
+def_formed v (a ∷ []) e h = cc
+def_formed v (word ∷ name ∷ []) e h = named_formed v word name e h
+def_formed v (a ∷ b ∷ x ∷ y) e h = cc
 
-after_title_formed : (lines : List (List ℕ)) (e : Definition) → after_title lines ≡ Ok e → IsWellFormed e
-after_title_formed [] e h = cc
-after_title_formed (line ∷ after) e h =
+after_title_formed : (v : Version) (lines : List (List ℕ)) (e : Definition) → after_title v lines ≡ Ok e → IsWellFormed e
+after_title_formed v [] e h = cc
+after_title_formed v (line ∷ after) e h =
     let a = past (length after == 0) (fault 2 wrong.Line) _ e h in
-    let b = steps (def_at (pieces 32 line)) _ e a.1 in
-    body_kept b.0 e after (def_formed (pieces 32 line) b.0 b.1) b.2
+    let b = steps (def_at v (pieces 32 line)) _ e a.1 in
+    body_kept v 3 b.0 e after (def_formed v (pieces 32 line) b.0 b.1) b.2
+
+versioned_formed : (o : Option Version) (after : List (List ℕ)) (e : Definition) → versioned_at o after ≡ Ok e → IsWellFormed e
+versioned_formed None after e h = cc
+versioned_formed (Some v) after e h = after_title_formed v after e h
 
 title_formed : (lines : List (List ℕ)) (e : Definition) → title_at lines ≡ Ok e → IsWellFormed e
 title_formed [] e h = cc
-title_formed (line ∷ after) e h = after_title_formed after e (past (length after == 0 || not (bytes_eq line (codes "snova 1"))) (fault 1 wrong.Line) _ e h).1
+title_formed (line ∷ after) e h = versioned_formed (version_of line) after e (past (length after == 0) (fault 1 wrong.Line) _ e h).1
 
 pub written_formed : (d : Definition) → IsWritten d → IsWellFormed d
 unfolding text_at
@@ -277,6 +354,10 @@ all_allowed_prop : (marks : List Mark) (c w i : ℕ) (xs : List Input) → IsPro
 all_allowed_prop marks c w i [] = hlevel props
 all_allowed_prop marks c w i (x ∷ xs) = hlevel (props, allowed_prop, all_allowed_prop marks c w (i + 1) xs)
 
+runs_prop : (from controls : ℕ) (rs : List Run) → IsProp (RunsFit from controls rs)
+runs_prop from controls [] = hlevel props
+runs_prop from controls (r ∷ rs) = hlevel (props, runs_prop (r.first + r.len) controls rs)
+
 fits_prop : (c w : ℕ) (u : UnitLine) → IsProp (UnitFits c w u)
 fits_prop c w u = hlevel (props, all_allowed_prop)
 
@@ -285,7 +366,7 @@ all_fit_prop c w [] = hlevel props
 all_fit_prop c w (u ∷ us) = hlevel (props, fits_prop, all_fit_prop c (w + u.outputs) us)
 
 formed_prop : (d : Definition) → IsProp (IsWellFormed d)
-formed_prop d = hlevel (props, all_fit_prop)
+formed_prop d = hlevel (props, runs_prop, all_fit_prop)
 
 pub formed : (d : Definition) → ∥ IsWritten d ∥₁ → IsWellFormed d
 formed d w = ∥∥₁_elim w (formed_prop d) (written_formed d)

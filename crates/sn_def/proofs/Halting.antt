@@ -1,5 +1,5 @@
 -- Where reading ends at a fault.
-use Rattle.std.proofs.Common.{◌≡◌, ℕ, ◌+◌, ◌<◌, ◌==◌, Bool, true, false, cond, not, List, [], ◌∷◌, ◌++◌, length, Result, Ok, Err, ◌⊎◌, inl, inr, refl, sym, ap, ◌∙◌, arith, codes, append_assoc, length-append, eqb-true, All, get_or}
+use Rattle.std.proofs.Common.{◌≡◌, ℕ, ◌+◌, ◌<◌, ◌==◌, Bool, true, false, cond, not, List, [], ◌∷◌, ◌++◌, length, Result, Ok, Err, ◌⊎◌, inl, inr, refl, sym, ap, subst, ◌∙◌, arith, codes, append_assoc, length-append, eqb-true, All, get_or}
 use Rattle.std.specs.Str.{bytes_eq}
 use Rattle.std.specs.List.{list_all, onto_first}
 use Rattle.std.proofs.lemmas.Bool.{false_from_ne_true, both_ways, and_from, not_from_true, not_from_false}
@@ -8,97 +8,103 @@ use Rattle.std.proofs.lemmas.List.Folds.{list_all_at}
 use Rattle.sn_def.specs.declared.fault.DefKind.{DefKind}
 use Rattle.sn_def.specs.declared.fault.DefKind.TheVariants as wrong
 use Rattle.sn_def.specs.declared.fault.DefFault.{DefFault}
-use Rattle.sn_def.specs.Definition.{Definition, Parameter}
-use Rattle.sn_def.specs.Reading.{◌>>=◌, pieces, line_at, fault, line_number, at_line, is_over, end_at, body_at}
-use Rattle.sn_def.specs.Grammar.{names_of}
+use Rattle.sn_def.specs.declared.version.Version.{Version}
+use Rattle.sn_def.specs.Definition.{Definition}
+use Rattle.sn_def.specs.Reading.{◌>>=◌, pieces, line_at, fault, at_line, is_over, end_at, body_at}
 use Rattle.sn_def.specs.Faults.{lines_text}
-use Rattle.sn_def.proofs.Sound.{AreNames, UnitStep, ControlStep, line_says}
+use Rattle.sn_def.proofs.Sound.{Good, UnitStep, ControlStep, line_says}
 use Rattle.sn_def.proofs.Prefix.{long}
 
 pub same_fault : {X : Type 0} (f g : DefFault) → ◌≡◌ {A = Result X DefFault} (Err f) (Err g) → g ≡ f
 same_fault f g h = cc
 
 -- a line more is read
-pub record Goes (d n : Definition) : Type 0 where
-  pub number : line_number n ≡ line_number d + 1
+pub record Goes (v : Version) (n : Definition) : Type 0 where
   pub wires : length n.units ≡ 0 → length n.wires ≡ 0
-  pub good : AreNames (names_of n)
+  pub good : Good v n
 
-control_goes : (d n : Definition) (fields : List (List ℕ)) → (length d.units ≡ 0 → length d.wires ≡ 0) → ControlStep d fields n → Goes d n
-control_goes d n fields none s =
-    let p : Parameter = record { name = s.parts.name; default = s.value } in
-    let controls : length n.controls ≡ length d.controls + 1 = ap (λ (g : Definition). length g.controls) s.made ∙ length-append d.controls (p ∷ []) in
+control_goes : (v : Version) (d n : Definition) (fields : List (List ℕ)) → (length d.units ≡ 0 → length d.wires ≡ 0) → ControlStep v d fields n → Goes v n
+control_goes v d n fields none s =
     let units : length n.units ≡ length d.units = ap (λ (g : Definition). length g.units) s.made in
     let wires : length n.wires ≡ length d.wires = ap (λ (g : Definition). length g.wires) s.made in
-    record { number = omega arith; wires = λ z. wires ∙ none (sym units ∙ z); good = s.good }
+    record { wires = λ z. wires ∙ none (sym units ∙ z); good = s.good }
 
-unit_goes : (d n : Definition) (fields : List (List ℕ)) → UnitStep d fields n → Goes d n
-unit_goes d n fields s =
-    let controls : length n.controls ≡ length d.controls = ap length s.grows.controls in
+unit_goes : (v : Version) (d n : Definition) (fields : List (List ℕ)) → UnitStep v d fields n → Goes v n
+unit_goes v d n fields s =
     let units : length n.units ≡ length d.units + 1 = ap length s.grows.units ∙ length-append d.units (s.unit ∷ []) in
-    record { number = omega arith; wires = λ z. absurd (omega arith); good = s.good }
+    record { wires = λ z. absurd (omega arith); good = s.good }
 
-pub either_goes : (d n : Definition) (fields : List (List ℕ)) → (length d.units ≡ 0 → length d.wires ≡ 0) → ControlStep d fields n ⊎ UnitStep d fields n → Goes d n
-either_goes d n fields none (inl s) = control_goes d n fields none s
-either_goes d n fields none (inr s) = unit_goes d n fields s
+pub either_goes : (v : Version) (d n : Definition) (fields : List (List ℕ)) → (length d.units ≡ 0 → length d.wires ≡ 0) → ControlStep v d fields n ⊎ UnitStep v d fields n → Goes v n
+either_goes v d n fields none (inl s) = control_goes v d n fields none s
+either_goes v d n fields none (inr s) = unit_goes v d n fields s
 
 -- why reading ends at the first of these lines
-pub data How (d : Definition) (f : DefFault) (text : List ℕ) (after : List (List ℕ)) : Type 0 where
-  is_cut : length after ≡ 0 → f ≡ fault (line_number d) wrong.Line → How d f text after
-  is_wrong : (k : DefKind) → 0 < length after → bytes_eq text (codes "end") ≡ false → line_at d (pieces 32 text) ≡ Err k → f ≡ fault (line_number d) k → How d f text after
-  is_behind : 0 < length after → bytes_eq text (codes "end") ≡ true → is_over after ≡ false → f ≡ fault (line_number d + 1) wrong.Line → How d f text after
+pub data How (v : Version) (at : ℕ) (d : Definition) (f : DefFault) (text : List ℕ) (after : List (List ℕ)) : Type 0 where
+  is_cut : length after ≡ 0 → f ≡ fault at wrong.Line → How v at d f text after
+  is_wrong : (k : DefKind) → 0 < length after → bytes_eq text (codes "end") ≡ false → line_at v d (pieces 32 text) ≡ Err k → f ≡ fault at k → How v at d f text after
+  is_behind : 0 < length after → bytes_eq text (codes "end") ≡ true → is_over after ≡ false → f ≡ fault (at + 1) wrong.Line → How v at d f text after
 
-pub record Halts (d : Definition) (lines : List (List ℕ)) (f : DefFault) : Type 0 where
+pub record Halts (v : Version) (at : ℕ) (d : Definition) (lines : List (List ℕ)) (f : DefFault) : Type 0 where
   pub before : List (List ℕ)
   pub text : List ℕ
   pub after : List (List ℕ)
   pub draft : Definition
   pub lines_are : lines ≡ before ++ text ∷ after
-  pub goes_on : (more : List (List ℕ)) → 0 < length more → body_at d (before ++ more) ≡ body_at draft more
-  pub number : line_number draft ≡ line_number d + length before
-  pub how : How draft f text after
+  pub goes_on : (more : List (List ℕ)) → 0 < length more → body_at v at d (before ++ more) ≡ body_at v (at + length before) draft more
+  pub how : How v (at + length before) draft f text after
 
-here : (d : Definition) (text : List ℕ) (after : List (List ℕ)) (f : DefFault) → How d f text after → Halts d (text ∷ after) f
-here d text after f how = record { before = []; text = text; after = after; draft = d; lines_are = refl; goes_on = λ more some. refl; number = omega arith; how = how }
+here : (v : Version) (at : ℕ) (d : Definition) (text : List ℕ) (after : List (List ℕ)) (f : DefFault) → How v at d f text after → Halts v at d (text ∷ after) f
+here v at d text after f how =
+    let same : at ≡ at + 0 = omega arith in
+    record {
+      before = [];
+      text = text;
+      after = after;
+      draft = d;
+      lines_are = refl;
+      goes_on = λ more some. ap (λ (n : ℕ). body_at v n d more) same;
+      how = subst (λ (n : ℕ). How v n d f text after) same how;
+    }
 
-further : (d n : Definition) (text : List ℕ) (after : List (List ℕ)) (f : DefFault) → bytes_eq text (codes "end") ≡ false → line_at d (pieces 32 text) ≡ Ok n → line_number n ≡ line_number d + 1 → Halts n after f → Halts d (text ∷ after) f
+further : (v : Version) (at : ℕ) (d n : Definition) (text : List ℕ) (after : List (List ℕ)) (f : DefFault) → bytes_eq text (codes "end") ≡ false → line_at v d (pieces 32 text) ≡ Ok n → Halts v (at + 1) n after f → Halts v at d (text ∷ after) f
 unfolding body_at
-further d n text after f is read count h = record {
-  before = text ∷ h.before;
-  text = h.text;
-  after = h.after;
-  draft = h.draft;
-  lines_are = ap (λ (ls : List (List ℕ)). text ∷ ls) h.lines_are;
-  goes_on = λ more some. rw (long (h.before ++ more) (omega (arith, length-append h.before more)), is, read) (h.goes_on more some);
-  number = let m = h.number in omega arith;
-  how = h.how;
-}
+further v at d n text after f is read h =
+    let number : at + 1 + length h.before ≡ at + length (text ∷ h.before) = omega arith in
+    record {
+      before = text ∷ h.before;
+      text = h.text;
+      after = h.after;
+      draft = h.draft;
+      lines_are = ap (λ (ls : List (List ℕ)). text ∷ ls) h.lines_are;
+      goes_on = λ more some. rw (long (h.before ++ more) (omega (arith, length-append h.before more)), is, read) (h.goes_on more some ∙ ap (λ (k : ℕ). body_at v k h.draft more) number);
+      how = subst (λ (k : ℕ). How v k h.draft f h.text h.after) number h.how;
+    }
 
-end_fault : (d : Definition) (b : Bool) (f : DefFault) → cond b (Ok d) (Err (fault (line_number d + 1) wrong.Line)) ≡ Err f → (b ≡ false) × (f ≡ fault (line_number d + 1) wrong.Line)
-end_fault d true f h = cc
-end_fault d false f h = (refl, same_fault (fault (line_number d + 1) wrong.Line) f h)
+end_fault : (at : ℕ) (d : Definition) (b : Bool) (f : DefFault) → cond b (Ok d) (Err (fault (at + 1) wrong.Line)) ≡ Err f → (b ≡ false) × (f ≡ fault (at + 1) wrong.Line)
+end_fault at d true f h = cc
+end_fault at d false f h = (refl, same_fault (fault (at + 1) wrong.Line) f h)
 
-behind : (d : Definition) (text : List ℕ) (after : List (List ℕ)) (f : DefFault) → 0 < length after → bytes_eq text (codes "end") ≡ true → end_at d after ≡ Err f → Halts d (text ∷ after) f
-behind d text after f some is h = let e = end_fault d (is_over after) f h in here d text after f (is_behind some is e.0 e.1)
+behind : (v : Version) (at : ℕ) (d : Definition) (text : List ℕ) (after : List (List ℕ)) (f : DefFault) → 0 < length after → bytes_eq text (codes "end") ≡ true → end_at at d after ≡ Err f → Halts v at d (text ∷ after) f
+behind v at d text after f some is h = let e = end_fault at d (is_over after) f h in here v at d text after f (is_behind some is e.0 e.1)
 
-step : (d : Definition) (text : List ℕ) (after : List (List ℕ)) (f : DefFault) (r : Result Definition DefKind) → 0 < length after → bytes_eq text (codes "end") ≡ false → (length d.units ≡ 0 → length d.wires ≡ 0) → AreNames (names_of d) → line_at d (pieces 32 text) ≡ r
-    → ((n : Definition) → Goes d n → body_at n after ≡ Err f → Halts n after f) → (at_line (line_number d) r >>= λ n. body_at n after) ≡ Err f → Halts d (text ∷ after) f
-step d text after f (Ok n) some is none ok read more h =
-    let g = either_goes d n (pieces 32 text) none (line_says d n (pieces 32 text) none ok read) in
-    further d n text after f is read g.number (more n g h)
-step d text after f (Err k) some is none ok read more h = here d text after f (is_wrong k some is read (same_fault (fault (line_number d) k) f h))
+step : (v : Version) (at : ℕ) (d : Definition) (text : List ℕ) (after : List (List ℕ)) (f : DefFault) (r : Result Definition DefKind) → 0 < length after → bytes_eq text (codes "end") ≡ false → (length d.units ≡ 0 → length d.wires ≡ 0) → Good v d → line_at v d (pieces 32 text) ≡ r
+    → ((n : Definition) → Goes v n → body_at v (at + 1) n after ≡ Err f → Halts v (at + 1) n after f) → (at_line at r >>= λ n. body_at v (at + 1) n after) ≡ Err f → Halts v at d (text ∷ after) f
+step v at d text after f (Ok n) some is none ok read more h =
+    let g = either_goes v d n (pieces 32 text) none (line_says v d n (pieces 32 text) none ok read) in
+    further v at d n text after f is read (more n g h)
+step v at d text after f (Err k) some is none ok read more h = here v at d text after f (is_wrong k some is read (same_fault (fault at k) f h))
 
 pub two_ways : {X P : Type 0} (b : Bool) (r s : Result X DefFault) (f : DefFault) → (b ≡ true → r ≡ Err f → P) → (b ≡ false → s ≡ Err f → P) → cond b r s ≡ Err f → P
 two_ways true r s f g h i = g refl i
 two_ways false r s f g h i = h refl i
 
-pub halts : (d : Definition) (text : List ℕ) (after : List (List ℕ)) (f : DefFault) → (length d.units ≡ 0 → length d.wires ≡ 0) → AreNames (names_of d) → body_at d (text ∷ after) ≡ Err f → Halts d (text ∷ after) f
+pub halts : (v : Version) (at : ℕ) (d : Definition) (text : List ℕ) (after : List (List ℕ)) (f : DefFault) → (length d.units ≡ 0 → length d.wires ≡ 0) → Good v d → body_at v at d (text ∷ after) ≡ Err f → Halts v at d (text ∷ after) f
 unfolding body_at
-halts d text [] f none ok h = here d text [] f (is_cut refl (same_fault (fault (line_number d) wrong.Line) f h))
-halts d text (next ∷ after) f none ok h =
-    two_ways (length (next ∷ after) == 0) (Err (fault (line_number d) wrong.Line)) _ f (λ t i. let z : length (next ∷ after) ≡ 0 = eqb-true (length (next ∷ after)) 0 t in absurd (omega arith))
-    (λ t i. two_ways (bytes_eq text (codes "end")) (end_at d (next ∷ after)) _ f (behind d text (next ∷ after) f (omega arith))
-    (λ is q. step d text (next ∷ after) f (line_at d (pieces 32 text)) (omega arith) is none ok refl (λ n g p. halts n next after f g.wires g.good p) q) i) h
+halts v at d text [] f none ok h = here v at d text [] f (is_cut refl (same_fault (fault at wrong.Line) f h))
+halts v at d text (next ∷ after) f none ok h =
+    two_ways (length (next ∷ after) == 0) (Err (fault at wrong.Line)) _ f (λ t i. let z : length (next ∷ after) ≡ 0 = eqb-true (length (next ∷ after)) 0 t in absurd (omega arith))
+    (λ t i. two_ways (bytes_eq text (codes "end")) (end_at at d (next ∷ after)) _ f (behind v at d text (next ∷ after) f (omega arith))
+    (λ is q. step v at d text (next ∷ after) f (line_at v d (pieces 32 text)) (omega arith) is none ok refl (λ n g p. halts v (at + 1) n next after f g.wires g.good p) q) i) h
 
 -- pieces hold no line feed
 abbrev pub AllFree : List (List ℕ) → Type 0

@@ -1,6 +1,8 @@
+pub mod ElementNames
 pub mod Naming
 pub mod Drafting
 pub mod InputLoop
+pub mod DefaultsLoop
 pub mod WireLoop
 pub mod Fielding
 pub mod Uniting
@@ -11,6 +13,7 @@ mod KindNames
 mod Samples
 mod Standing
 pub mod Forming
+pub mod Growing
 pub mod RowLaws
 pub mod Layouts
 mod Counting

@@ -8,7 +8,7 @@ use Rattle.std.proofs.lemmas.List.Splits.{join_with_byte-slice_split}
 use Rattle.std.proofs.lemmas.List.Quantifiers.{position-Some}
 use Rattle.std.proofs.lemmas.Slice.Eq.{bytes_eq-Decides}
 use Rattle.sn_def.specs.Reading.{pieces, UnitParts, parts_from, parts_at, unit_parts}
-use Rattle.sn_def.specs.Grammar.{ControlParts, control_fields, output_fields, unit_fields}
+use Rattle.sn_def.specs.Grammar.{ControlLine, control_fields, output_fields, unit_fields}
 
 pub joined : (b : ℕ) (text : List ℕ) → join_with_byte b (pieces b text) ≡ text
 joined b text = join_with_byte-slice_split b text
@@ -17,7 +17,7 @@ joined b text = join_with_byte-slice_split b text
 abbrev pub ending : List (List ℕ)
 ending = codes "end" ∷ [] ∷ []
 
-abbrev pub control_bytes : ControlParts → List ℕ
+abbrev pub control_bytes : ControlLine → List ℕ
 control_bytes c = join_with_byte 32 (control_fields c)
 
 abbrev pub unit_bytes : UnitParts → List ℕ

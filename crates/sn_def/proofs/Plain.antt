@@ -1,5 +1,5 @@
 -- Fields without spaces and line feeds, and the lines that they make.
-use Rattle.std.proofs.Common.{◌≡◌, ◌≢◌, ℕ, ◌+◌, ◌==◌, ◌&&◌, not, Bool, true, false, nat_lt, nat_le, ℤ, List, [], ◌∷◌, ◌++◌, length, get_or, All, slice_index, position, Option, Some, None, refl, ap, ◌∙◌, arith, codes}
+use Rattle.std.proofs.Common.{◌≡◌, ◌≢◌, ℕ, ◌+◌, ◌==◌, ◌&&◌, not, Bool, true, false, nat_lt, nat_le, ℤ, List, [], ◌∷◌, ◌++◌, length, get_or, All, slice_index, position, Option, Some, None, refl, ap, ◌∙◌, arith, codes, leb-true, ◌≤◌}
 use Rattle.std.specs.List.{list_all, list_any, join_with_byte, position_from}
 use Rattle.std.specs.Str.{bytes_eq}
 use Rattle.std.proofs.lemmas.Bool.{and_parts, and_from, or_parts, eqb-true, not-true, both_ways, false_from_ne_true}
@@ -10,7 +10,9 @@ use Rattle.std.proofs.lemmas.Iterator.Adapters.{position_from-zero}
 use Rattle.std.proofs.lemmas.Slice.Eq.{bytes_eq-Decides}
 use Rattle.sn_fixed.specs.Literal.{literal}
 use Rattle.sn_fixed.specs.Laws.{is_literal_byte, HasLiteralBytes}
+use Rattle.sn_def.specs.declared.version.Version.{Version}
 use Rattle.sn_def.specs.Reading.{pieces, is_name, is_name_byte, begins_name, is_reserved}
+use Rattle.sn_def.specs.Grammar.{is_given_byte, is_given_name}
 
 -- a field that is not empty and has neither space nor line feed
 pub record IsField (f : List ℕ) : Type 0 where
@@ -78,35 +80,49 @@ whole_line (f ∷ []) h = wider f h.0.plain
 whole_line (f ∷ g ∷ gs) h =
     list_all-append (λ b. nat_lt 10 b) f (32 ∷ join_with_byte 32 (g ∷ gs)) ∙ and_from (list_all (λ b. nat_lt 10 b) f) _ (wider f h.0.plain) (whole_line (g ∷ gs) h.1)
 
-letter_above : (b : ℕ) → is_name_byte b ≡ true → nat_lt 32 b ≡ true
+letter_above : (b : ℕ) → is_given_byte b ≡ true → nat_lt 32 b ≡ true
 letter_above b h = grind (arith, nat_tests)
 
-letters_above : (f : List ℕ) → list_all is_name_byte f ≡ true → list_all (λ b. nat_lt 32 b) f ≡ true
+letters_above : (f : List ℕ) → list_all is_given_byte f ≡ true → list_all (λ b. nat_lt 32 b) f ≡ true
 letters_above [] h = refl
 letters_above (b ∷ bs) h =
-    let p = and_parts (is_name_byte b) (list_all is_name_byte bs) h in
+    let p = and_parts (is_given_byte b) (list_all is_given_byte bs) h in
     and_from (nat_lt 32 b) (list_all (λ b. nat_lt 32 b) bs) (letter_above b p.0) (letters_above bs p.1)
 
 -- what a name is
-pub record NameParts (n : List ℕ) : Type 0 where
+pub record NameParts (v : Version) (n : List ℕ) : Type 0 where
   pub begins : begins_name (slice_index n 0) ≡ true
+  pub few : length n ≤ 31
   pub bytes : list_all is_name_byte n ≡ true
-  pub free : is_reserved n ≡ false
+  pub free : is_reserved v n ≡ false
 
-pub name_parts : (n : List ℕ) → is_name n ≡ true → NameParts n
+pub name_parts : (v : Version) (n : List ℕ) → is_name v n ≡ true → NameParts v n
 unfolding is_name
-name_parts n h =
-    let a = and_parts (begins_name (slice_index n 0) && nat_le (length n) 31 && list_all is_name_byte n) (not (is_reserved n)) h in
+name_parts v n h =
+    let a = and_parts (begins_name (slice_index n 0) && nat_le (length n) 31 && list_all is_name_byte n) (not (is_reserved v n)) h in
     let b = and_parts (begins_name (slice_index n 0) && nat_le (length n) 31) (list_all is_name_byte n) a.0 in
     let c = and_parts (begins_name (slice_index n 0)) (nat_le (length n) 31) b.0 in
-    record { begins = c.0; bytes = b.1; free = not-true (is_reserved n) a.1 }
+    record { begins = c.0; few = leb-true (length n) 31 c.1; bytes = b.1; free = not-true (is_reserved v n) a.1 }
+
+-- what a name is that a text gives, be it an element's
+pub record GivenParts (n : List ℕ) : Type 0 where
+  pub begins : begins_name (slice_index n 0) ≡ true
+  pub few : length n ≤ 35
+  pub bytes : list_all is_given_byte n ≡ true
+
+pub given_parts : (n : List ℕ) → is_given_name n ≡ true → GivenParts n
+unfolding is_given_name
+given_parts n h =
+    let b = and_parts (begins_name (slice_index n 0) && nat_le (length n) 35) (list_all is_given_byte n) h in
+    let c = and_parts (begins_name (slice_index n 0)) (nat_le (length n) 35) b.0 in
+    record { begins = c.0; few = leb-true (length n) 35 c.1; bytes = b.1 }
 
 begins_some : (n : List ℕ) → begins_name (slice_index n 0) ≡ true → length n ≢ 0
 begins_some [] h = cc
 begins_some (b ∷ bs) h = λ z. omega arith
 
-pub name_field : (n : List ℕ) → is_name n ≡ true → IsField n
-name_field n h = let p = name_parts n h in record { some = begins_some n p.begins; plain = letters_above n p.bytes }
+pub name_field : (n : List ℕ) → is_given_name n ≡ true → IsField n
+name_field n h = let p = given_parts n h in record { some = begins_some n p.begins; plain = letters_above n p.bytes }
 
 -- a name is no literal
 literal_above : (b : ℕ) → is_literal_byte b ≡ true → nat_lt 32 b ≡ true
@@ -129,8 +145,8 @@ no_literal : (n : List ℕ) (o : Option ℤ) → literal n ≡ o → ((z : ℤ) 
 no_literal n None is h begins = refl
 no_literal n (Some z) is h begins = absurd (both_ways (begins_name (slice_index n 0)) (no_name n (h z is)) begins)
 
-pub name_no_literal : (n : List ℕ) → HasLiteralBytes n → is_name n ≡ true → literal n ≡ None
-name_no_literal n bytes h = no_literal n (literal n) refl bytes (name_parts n h).begins
+pub name_no_literal : (n : List ℕ) → HasLiteralBytes n → is_given_name n ≡ true → literal n ≡ None
+name_no_literal n bytes h = no_literal n (literal n) refl bytes (given_parts n h).begins
 
 empty_no_literal : literal [] ≡ None
 unfolding literal
@@ -143,9 +159,9 @@ literal_some (b ∷ bs) z h = λ e. omega arith
 pub literal_field : (f : List ℕ) (z : ℤ) → HasLiteralBytes f → literal f ≡ Some z → IsField f
 literal_field f z bytes h = record { some = literal_some f z h; plain = literals_above f (bytes z h) }
 
-pub name_no_equals : (n : List ℕ) → is_name n ≡ true → bytes_eq n (codes "=") ≡ false
+pub name_no_equals : (n : List ℕ) → is_given_name n ≡ true → bytes_eq n (codes "=") ≡ false
 name_no_equals n h =
-    let p = name_parts n h in
+    let p = given_parts n h in
     false_from_ne_true (bytes_eq n (codes "=")) (λ e. both_ways (begins_name (slice_index n 0)) (ap (λ (m : List ℕ). begins_name (slice_index m 0)) ((bytes_eq-Decides n (codes "=")).0 e)) p.begins)
 
 pub literal_no_equals : (f : List ℕ) (z : ℤ) → HasLiteralBytes f → literal f ≡ Some z → bytes_eq f (codes "=") ≡ false

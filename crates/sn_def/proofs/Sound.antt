@@ -1,10 +1,10 @@
 -- What is read of a text, its lines say.
-use Rattle.std.proofs.Common.{◌≡◌, ℕ, ℤ, ◌+◌, ◌==◌, ◌&&◌, ◌||◌, Bool, true, false, cond, not, nat_le, nat_lt, List, [], ◌∷◌, ◌++◌, length, map, slice_get, Option, Some, None, IfSome, Result, Ok, Err, ◌⊎◌, inl, inr, refl, sym, ap, subst, ◌∙◌, arith, codes, append_assoc, append-nil, is_some, eqb-true}
+use Rattle.std.proofs.Common.{◌≡◌, ℕ, ℤ, ◌+◌, ◌==◌, ◌&&◌, ◌||◌, Bool, true, false, cond, not, nat_le, nat_lt, List, [], ◌∷◌, ◌++◌, length, map, slice_get, Option, Some, None, IfSome, Result, Ok, Err, ◌⊎◌, inl, inr, refl, sym, ap, subst, ◌∙◌, arith, codes, append_assoc, append-nil, length-append, is_some, eqb-true, ◌<◌, ◌≤◌, leb-false, ltb-false}
 use Rattle.std.specs.Str.{bytes_eq}
 use Rattle.std.specs.List.{list_all, list_any}
-use Rattle.std.proofs.lemmas.Bool.{and_parts, and_from, not-false}
+use Rattle.std.proofs.lemmas.Bool.{and_parts, and_from, or_parts, not-false}
 use Rattle.std.proofs.lemmas.Slice.Eq.{bytes_eq-Decides}
-use Rattle.std.proofs.lemmas.List.{map_push}
+use Rattle.std.proofs.lemmas.List.{map-append}
 use Rattle.std.proofs.lemmas.List.Folds.{list_all-append}
 use Rattle.sn_fixed.specs.Literal.{literal}
 use Rattle.sn_def.specs.declared.fault.DefKind.{DefKind}
@@ -16,24 +16,18 @@ use Rattle.sn_def.specs.declared.unit.Input.{Input}
 use Rattle.sn_def.specs.declared.unit.Input.TheVariants.{Literal, Control, Wire}
 use Rattle.sn_def.specs.declared.unit.Unit.{Unit as UnitLine}
 use Rattle.sn_def.specs.Units.{row_of, kind_named}
-use Rattle.sn_def.specs.Definition.{Definition, Parameter, place_of, or_else, as_control, as_wire, named, control_names, with_control, with_wires, with_unit, unit_line}
-use Rattle.sn_def.specs.Reading.{is_name, is_known, is_reserved, first_of, default_at, control_at, mark_at, literal_at, name_at, value_or_name_at, input_at, inputs_at, wires_at, UnitParts, counts_fit, unit_of, unit_if_known, unit_at, unit_line_at, unit_parts, control_line_at, line_at}
-use Rattle.sn_def.specs.Grammar.{ControlParts, control_fields, unit_fields, Each, IsInput, IsUnit, AreDistinct, names_of}
+use Rattle.sn_def.specs.declared.arrays.Run.{Run}
+use Rattle.sn_def.specs.declared.version.Version.{Version}
+use Rattle.sn_def.specs.declared.version.Version.TheVariants as versions
+use Rattle.sn_def.specs.Definition.{Definition, Parameter, place_of, or_else, as_control, as_wire, named, control_names, elements, run, with_controls, with_control, with_array, with_wires, with_unit, unit_line}
+use Rattle.sn_def.specs.Versions.{most_controls, has_arrays}
+use Rattle.sn_def.specs.Reading.{is_name, is_known, is_array_word, is_reserved, first_of, default_at, control_at, default_of, defaults_at, array_at, mark_at, literal_at, name_at, value_or_name_at, input_at, inputs_at, wires_at, UnitParts, counts_fit, unit_of, unit_if_known, unit_at, unit_line_at, unit_parts, control_line_at, array_line_at, line_at}
+use Rattle.sn_def.specs.Grammar.{ControlLine, control_fields, unit_fields, Each, MayHave, IsValue, IsControlLine, IsInput, IsUnit, names_of}
+use Rattle.sn_def.proofs.ElementNames.{names_in, length-elements, AreRooted, one_more_plain, array_rooted}
 use Rattle.sn_def.proofs.Naming.{no_control, no_wire}
-use Rattle.sn_def.proofs.Distinct.{absent-append, distinct-push, place_get, get_front}
+use Rattle.sn_def.proofs.Distinct.{absent-append, place_get, get_front}
 use Rattle.sn_def.proofs.Lines.{unit_line_fields}
-use Rattle.sn_def.proofs.Forming.{past, steps, same_ok, wires_given}
-
--- names that are names, each given once
-pub record AreNames (ns : List (List ℕ)) : Type 0 where
-  pub names : list_all is_name ns ≡ true
-  pub distinct : AreDistinct ns
-
-pub one_more_name : (ns : List (List ℕ)) (n : List ℕ) → AreNames ns → is_name n ≡ true → place_of n ns ≡ None → AreNames (ns ++ n ∷ [])
-one_more_name ns n ok is fresh = record {
-  names = list_all-append is_name ns (n ∷ []) ∙ and_from (list_all is_name ns) (is_name n && true) ok.names (and_from (is_name n) true is refl);
-  distinct = distinct-push ns n ok.distinct fresh;
-}
+use Rattle.sn_def.proofs.Forming.{past, steps, same_ok, wires_given, as_many_defaults, some_literals}
 
 nothing : (o : Option Input) → is_some o ≡ false → o ≡ None
 nothing None h = refl
@@ -45,19 +39,28 @@ is_fresh d n h =
     let none = nothing (or_else (as_control (place_of n (control_names d))) (as_wire (place_of n d.wires))) h in
     absent-append n (control_names d) d.wires (no_control (place_of n (control_names d)) (place_of n d.wires) none) (no_wire (place_of n (control_names d)) (place_of n d.wires) none)
 
-pub names-control : (d : Definition) (n : List ℕ) (v : ℤ) → d.wires ≡ [] → names_of (with_control d n v) ≡ names_of d ++ n ∷ []
-names-control d n v none =
-    ap (λ (ns : List (List ℕ)). ns ++ d.wires) (map_push (λ (c : Parameter). c.name) d.controls (record { name = n; default = v }))
-    ∙ ap (λ (ws : List (List ℕ)). (control_names d ++ n ∷ []) ++ ws) none ∙ append-nil (control_names d ++ n ∷ [])
-    ∙ ap (λ (ns : List (List ℕ)). ns ++ n ∷ []) (sym (append-nil (control_names d)) ∙ ap (λ (ws : List (List ℕ)). control_names d ++ ws) (sym none))
+-- the names of a definition, those of elements behind their array's, and the names of wires
+pub record Good (v : Version) (d : Definition) : Type 0 where
+  pub names : AreRooted (names_of d)
+  pub wires : list_all (is_name v) d.wires ≡ true
 
-pub wires_named : (d e : Definition) (names : List (List ℕ)) → wires_at d names ≡ Ok e → list_all is_name names ≡ true → AreNames (names_of d) → AreNames (names_of e)
+names-more : (d : Definition) (ps : List Parameter) → d.wires ≡ [] → names_of (with_controls d ps) ≡ names_of d ++ names_in ps
+names-more d ps none =
+    let more : List (List ℕ) = names_in ps in
+    ap (λ (ns : List (List ℕ)). ns ++ d.wires) (map-append (λ (c : Parameter). c.name) d.controls ps)
+    ∙ ap (λ (ws : List (List ℕ)). (control_names d ++ more) ++ ws) none ∙ append-nil (control_names d ++ more)
+    ∙ ap (λ (ns : List (List ℕ)). ns ++ more) (sym (append-nil (control_names d)) ∙ ap (λ (ws : List (List ℕ)). control_names d ++ ws) (sym none))
+
+pub wires_named : (v : Version) (d e : Definition) (names : List (List ℕ)) → wires_at d names ≡ Ok e → list_all (is_name v) names ≡ true → Good v d → Good v e
 unfolding wires_at
-wires_named d e [] h all ok = subst (λ (g : Definition). AreNames (names_of g)) (same_ok {E = DefKind} d e h) ok
-wires_named d e (n ∷ ns) h all ok =
+wires_named v d e [] h all ok = subst (λ (g : Definition). Good v g) (same_ok {E = DefKind} d e h) ok
+wires_named v d e (n ∷ ns) h all ok =
     let p = past (is_known d n) wrong.Twice (wires_at (with_wires d (n ∷ [])) ns) e h in
-    let q = and_parts (is_name n) (list_all is_name ns) all in
-    wires_named (with_wires d (n ∷ [])) e ns p.1 q.1 (subst AreNames (append_assoc (control_names d) d.wires (n ∷ [])) (one_more_name (names_of d) n ok q.0 (is_fresh d n p.0)))
+    let q = and_parts (is_name v n) (list_all (is_name v) ns) all in
+    wires_named v (with_wires d (n ∷ [])) e ns p.1 q.1 (record {
+      names = subst AreRooted (append_assoc (control_names d) d.wires (n ∷ [])) (one_more_plain v (names_of d) n ok.names q.0 (is_fresh d n p.0));
+      wires = list_all-append (is_name v) d.wires (n ∷ []) ∙ and_from (list_all (is_name v) d.wires) (is_name v n && true) ok.wires (and_from (is_name v n) true q.0 refl);
+    })
 
 -- a field that is read as an input says it
 value_says : (d : Definition) (mark : Mark) (field : List ℕ) (v : ℤ) (x : Input) → literal field ≡ Some v → literal_at mark v ≡ Ok x → IsInput d field x
@@ -111,6 +114,7 @@ inputs_say d marks i (field ∷ fields) xs h =
 pub record Grows (d e : Definition) (us : List UnitLine) (ws : List (List ℕ)) : Type 0 where
   pub name : e.name ≡ d.name
   pub controls : e.controls ≡ d.controls
+  pub arrays : e.arrays ≡ d.arrays
   pub units : e.units ≡ d.units ++ us
   pub wires : e.wires ≡ d.wires ++ ws
 
@@ -129,24 +133,25 @@ pub unit_says_kept : (d e : Definition) (us : List UnitLine) (ws : List (List �
 unit_says_kept d e us ws p u g is = record { kind = is.kind; outputs = is.outputs; inputs = inputs_kept d e us ws p.inputs u.inputs g is.inputs }
 
 -- a unit line that is read
-pub record UnitStep (d : Definition) (fields : List (List ℕ)) (e : Definition) : Type 0 where
+pub record UnitStep (v : Version) (d : Definition) (fields : List (List ℕ)) (e : Definition) : Type 0 where
   pub parts : UnitParts
   pub unit : UnitLine
   pub fields_are : fields ≡ unit_fields parts
   pub says : IsUnit d parts unit
   pub grows : Grows d e (unit ∷ []) parts.outputs
-  pub good : AreNames (names_of e)
+  pub good : Good v e
 
-unit_of_says : (d e : Definition) (fields : List (List ℕ)) (parts : UnitParts) (kind : Kind) → fields ≡ unit_fields parts → kind_named parts.unit ≡ Some kind → AreNames (names_of d) → unit_of d parts kind ≡ Ok e → UnitStep d fields e
+unit_of_says : (v : Version) (d e : Definition) (fields : List (List ℕ)) (parts : UnitParts) (kind : Kind) → fields ≡ unit_fields parts → kind_named parts.unit ≡ Some kind → Good v d → unit_of v d parts kind ≡ Ok e → UnitStep v d fields e
 unfolding unit_of
-unit_of_says d e fields parts kind are is ok h =
+unit_of_says v d e fields parts kind are is ok h =
     let a = past (not (counts_fit (row_of kind) (length parts.inputs) (length parts.outputs))) wrong.Count _ e h in
-    let b = past (not (list_all is_name parts.outputs)) wrong.Name _ e a.1 in
+    let b = past (not (list_all (is_name v) parts.outputs)) wrong.Name _ e a.1 in
     let w = steps (wires_at d parts.outputs) _ e b.1 in
     let i = steps (inputs_at d (row_of kind).inputs 0 parts.inputs) _ e w.2 in
     let made : with_unit (with_wires d parts.outputs) kind i.0 (length parts.outputs) ≡ e =
     ap (λ (g : Definition). with_unit g kind i.0 (length parts.outputs)) (sym (wires_given d w.0 parts.outputs w.1)) ∙ same_ok {E = DefKind} (with_unit w.0 kind i.0 (length parts.outputs)) e i.2 in
-    let good : AreNames (names_of w.0) = wires_named d w.0 parts.outputs w.1 (not-false (list_all is_name parts.outputs) b.0) ok in
+    let good : Good v w.0 = wires_named v d w.0 parts.outputs w.1 (not-false (list_all (is_name v) parts.outputs) b.0) ok in
+    let after : Good v (with_unit w.0 kind i.0 (length parts.outputs)) = record { names = good.names; wires = good.wires } in
     let last : with_unit w.0 kind i.0 (length parts.outputs) ≡ e = same_ok {E = DefKind} (with_unit w.0 kind i.0 (length parts.outputs)) e i.2 in
     record {
       parts = parts;
@@ -156,79 +161,152 @@ unit_of_says d e fields parts kind are is ok h =
       grows = record {
         name = ap (λ (g : Definition). g.name) (sym made);
         controls = ap (λ (g : Definition). g.controls) (sym made);
+        arrays = ap (λ (g : Definition). g.arrays) (sym made);
         units = ap (λ (g : Definition). g.units) (sym made);
         wires = ap (λ (g : Definition). g.wires) (sym made);
       };
-      good = subst (λ (g : Definition). AreNames (names_of g)) last good;
+      good = subst (λ (g : Definition). Good v g) last after;
     }
 
-unit_known_says : (d e : Definition) (fields : List (List ℕ)) (parts : UnitParts) (o : Option Kind) → fields ≡ unit_fields parts → kind_named parts.unit ≡ o → AreNames (names_of d) → unit_if_known d parts o ≡ Ok e → UnitStep d fields e
-unit_known_says d e fields parts (Some kind) are is ok h = unit_of_says d e fields parts kind are is ok h
-unit_known_says d e fields parts None are is ok h = cc
+unit_known_says : (v : Version) (d e : Definition) (fields : List (List ℕ)) (parts : UnitParts) (o : Option Kind) → fields ≡ unit_fields parts → kind_named parts.unit ≡ o → Good v d → unit_if_known v d parts o ≡ Ok e → UnitStep v d fields e
+unit_known_says v d e fields parts (Some kind) are is ok h = unit_of_says v d e fields parts kind are is ok h
+unit_known_says v d e fields parts None are is ok h = cc
 
-unit_says : (d e : Definition) (fields : List (List ℕ)) (parts : UnitParts) → fields ≡ unit_fields parts → AreNames (names_of d) → unit_at d parts ≡ Ok e → UnitStep d fields e
+unit_says : (v : Version) (d e : Definition) (fields : List (List ℕ)) (parts : UnitParts) → fields ≡ unit_fields parts → Good v d → unit_at v d parts ≡ Ok e → UnitStep v d fields e
 unfolding unit_at
-unit_says d e fields parts are ok h = unit_known_says d e fields parts (kind_named parts.unit) are refl ok (past (nat_le 256 (length d.units) || nat_lt 512 (length d.wires + length parts.outputs)) wrong.Limit _ e h).1
+unit_says v d e fields parts are ok h = unit_known_says v d e fields parts (kind_named parts.unit) are refl ok (past (nat_le 256 (length d.units) || nat_lt 512 (length d.wires + length parts.outputs)) wrong.Limit _ e h).1
 
-unit_line_says : (d e : Definition) (fields : List (List ℕ)) (o : Option UnitParts) → unit_parts fields ≡ o → AreNames (names_of d) → unit_line_at d o ≡ Ok e → UnitStep d fields e
-unit_line_says d e fields (Some parts) is ok h = unit_says d e fields parts (unit_line_fields fields parts is) ok h
-unit_line_says d e fields None is ok h = cc
+unit_line_says : (v : Version) (d e : Definition) (fields : List (List ℕ)) (o : Option UnitParts) → unit_parts fields ≡ o → Good v d → unit_line_at v d o ≡ Ok e → UnitStep v d fields e
+unit_line_says v d e fields (Some parts) is ok h = unit_says v d e fields parts (unit_line_fields fields parts is) ok h
+unit_line_says v d e fields None is ok h = cc
 
--- a control line that is read
-pub record ControlStep (d : Definition) (fields : List (List ℕ)) (e : Definition) : Type 0 where
-  pub parts : ControlParts
-  pub value : ℤ
-  pub fields_are : fields ≡ control_fields parts
-  pub says : literal parts.value ≡ Some value
-  pub made : e ≡ with_control d parts.name value
+-- a definition with a line of controls more
+abbrev pub line_arrays : ℕ → ControlLine → List Run
+line_arrays before c = cond c.is_array (run before (length c.defaults) ∷ []) []
+
+abbrev pub with_line : Definition → ControlLine → Definition
+with_line d c = record d { controls = d.controls ++ elements c.name 0 c.defaults; arrays = d.arrays ++ line_arrays (length d.controls) c }
+
+-- a line of controls that is read
+pub record ControlStep (v : Version) (d : Definition) (fields : List (List ℕ)) (e : Definition) : Type 0 where
+  pub line : ControlLine
+  pub fields_are : fields ≡ control_fields line
+  pub says : IsControlLine v line
+  pub made : e ≡ with_line d line
   pub none : length d.units ≡ 0
-  pub good : AreNames (names_of e)
+  pub few : length e.controls ≤ most_controls v
+  pub good : Good v e
 
 no_wires : (ws : List (List ℕ)) → length ws ≡ 0 → ws ≡ []
 no_wires [] h = refl
 no_wires (w ∷ ws) h = absurd (omega arith)
 
-default_says : (d e : Definition) (word name value : List ℕ) (o : Option ℤ) → word ≡ codes "control" → literal value ≡ o → d.wires ≡ [] → length d.units ≡ 0 → is_name name ≡ true → is_known d name ≡ false → AreNames (names_of d)
-    → default_at d name o ≡ Ok e → ControlStep d (word ∷ name ∷ value ∷ []) e
-default_says d e word name value (Some v) control is none units named fresh ok h =
-    let made : with_control d name v ≡ e = same_ok {E = DefKind} (with_control d name v) e h in
-    let good : AreNames (names_of (with_control d name v)) = subst AreNames (sym (names-control d name v none)) (one_more_name (names_of d) name ok named (is_fresh d name fresh)) in
-    record {
-      parts = record { name = name; value = value };
-      value = v;
-      fields_are = ap (λ (w : List ℕ). w ∷ name ∷ value ∷ []) control;
-      says = is;
-      made = sym made;
-      none = units;
-      good = subst (λ (g : Definition). AreNames (names_of g)) made good;
-    }
-default_says d e word name value None control is none units named fresh ok h = cc
+-- names of elements more, where there are no wires
+good-more : (v : Version) (d : Definition) (name : List ℕ) (vs : List ℤ) → d.wires ≡ [] → is_name v name ≡ true → is_known d name ≡ false → length vs ≤ 64 → Good v d → AreRooted (names_of (with_controls d (elements name 0 vs)))
+good-more v d name vs none named fresh few ok = subst AreRooted (sym (names-more d (elements name 0 vs) none)) (array_rooted v (names_of d) name vs named few (is_fresh d name fresh) ok.names)
 
-control_says : (d e : Definition) (word name value : List ℕ) → word ≡ codes "control" → (length d.units ≡ 0 → length d.wires ≡ 0) → AreNames (names_of d) → control_at d name value ≡ Ok e → ControlStep d (word ∷ name ∷ value ∷ []) e
+default_says : (v : Version) (d e : Definition) (word name value : List ℕ) (o : Option ℤ) → word ≡ codes "control" → literal value ≡ o → d.wires ≡ [] → length d.units ≡ 0 → length d.controls < most_controls v → is_name v name ≡ true → is_known d name ≡ false → Good v d
+    → default_at d name o ≡ Ok e → ControlStep v d (word ∷ name ∷ value ∷ []) e
+default_says v d e word name value (Some x) control is none units room named fresh ok h =
+    let made : with_control d name x ≡ e = same_ok {E = DefKind} (with_control d name x) e h in
+    let p : Parameter = record { name = name; default = x } in
+    let good : Good v (with_control d name x) = record { names = good-more v d name (x ∷ []) none named fresh (omega arith) ok; wires = ok.wires } in
+    let few : length (d.controls ++ p ∷ []) ≤ most_controls v = omega (arith, length-append d.controls (p ∷ [])) in
+    record {
+      line = record { is_array = false; name = name; literals = value ∷ []; defaults = x ∷ [] };
+      fields_are = ap (λ (w : List ℕ). w ∷ name ∷ value ∷ []) control;
+      says = record { name = named; count = refl; values = (is, tt) };
+      made = sym made ∙ ap (λ (rs : List Run). record d { controls = d.controls ++ p ∷ []; arrays = rs }) (sym (append-nil d.arrays));
+      none = units;
+      few = subst (λ (g : Definition). length g.controls ≤ most_controls v) made few;
+      good = subst (λ (g : Definition). Good v g) made good;
+    }
+default_says v d e word name value None control is none units room named fresh ok h = cc
+
+control_says : (v : Version) (d e : Definition) (word name value : List ℕ) → word ≡ codes "control" → (length d.units ≡ 0 → length d.wires ≡ 0) → Good v d → control_at v d name value ≡ Ok e → ControlStep v d (word ∷ name ∷ value ∷ []) e
 unfolding control_at
-control_says d e word name value is none ok h =
+control_says v d e word name value is none ok h =
     let a = past (not (length d.units == 0)) wrong.Line _ e h in
-    let b = past (nat_le 128 (length d.controls)) wrong.Limit _ e a.1 in
-    let i = past (not (is_name name)) wrong.Name _ e b.1 in
+    let b = past (nat_le (most_controls v) (length d.controls)) wrong.Limit _ e a.1 in
+    let i = past (not (is_name v name)) wrong.Name _ e b.1 in
     let j = past (is_known d name) wrong.Twice _ e i.1 in
     let units : length d.units ≡ 0 = eqb-true (length d.units) 0 (not-false (length d.units == 0) a.0) in
-    default_says d e word name value (literal value) is refl (no_wires d.wires (none units)) units (not-false (is_name name) i.0) j.0 ok j.1
+    default_says v d e word name value (literal value) is refl (no_wires d.wires (none units)) units (leb-false (most_controls v) (length d.controls) b.0) (not-false (is_name v name) i.0) j.0 ok j.1
 
-control_line_says : (d e : Definition) (fields : List (List ℕ)) → first_of fields ≡ codes "control" → (length d.units ≡ 0 → length d.wires ≡ 0) → AreNames (names_of d) → control_line_at d fields ≡ Ok e → ControlStep d fields e
-control_line_says d e (word ∷ name ∷ value ∷ []) is none ok h = control_says d e word name value is none ok h
-control_line_says d e [] is none ok h = cc
-control_line_says d e (a ∷ []) is none ok h = cc
-control_line_says d e (a ∷ b ∷ []) is none ok h = cc
-control_line_says d e (a ∷ b ∷ x ∷ y ∷ z) is none ok h = cc
+control_line_says : (v : Version) (d e : Definition) (fields : List (List ℕ)) → first_of fields ≡ codes "control" → (length d.units ≡ 0 → length d.wires ≡ 0) → Good v d → control_line_at v d fields ≡ Ok e → ControlStep v d fields e
+control_line_says v d e (word ∷ name ∷ value ∷ []) is none ok h = control_says v d e word name value is none ok h
+control_line_says v d e [] is none ok h = cc
+control_line_says v d e (a ∷ []) is none ok h = cc
+control_line_says v d e (a ∷ b ∷ []) is none ok h = cc
+control_line_says v d e (a ∷ b ∷ x ∷ y ∷ z) is none ok h = cc
+
+-- literals that are read say their values
+one_said : (field : List ℕ) (o : Option ℤ) (v : ℤ) → literal field ≡ o → default_of o ≡ Ok v → IsValue field v
+one_said field (Some x) v is h = is ∙ ap (λ (z : ℤ). Some z) (same_ok {E = DefKind} x v h)
+one_said field None v is h = cc
+
+defaults_said : (fields : List (List ℕ)) (vs : List ℤ) → defaults_at fields ≡ Ok vs → Each IsValue fields vs
+unfolding defaults_at
+defaults_said [] vs h = subst (Each IsValue []) (same_ok {E = DefKind} [] vs h) tt
+defaults_said (field ∷ fields) vs h =
+    let one = steps (default_of (literal field)) _ vs h in
+    let more = steps (defaults_at fields) _ vs one.2 in
+    subst (Each IsValue (field ∷ fields)) (same_ok {E = DefKind} (one.0 ∷ more.0) vs more.2) (one_said field (literal field) one.0 refl one.1, defaults_said fields more.0 more.1)
+
+may_have : (v : Version) (n : ℕ) → has_arrays v ≡ true → 1 ≤ n → n ≤ 64 → MayHave v true n
+may_have versions.One n h some few = cc
+may_have versions.Two n h some few = (some, few)
+
+array_says : (v : Version) (d e : Definition) (word name : List ℕ) (literals : List (List ℕ)) → has_arrays v ≡ true → word ≡ codes "array" → 0 < length literals → (length d.units ≡ 0 → length d.wires ≡ 0) → Good v d → array_at v d name literals ≡ Ok e
+    → ControlStep v d (word ∷ name ∷ literals) e
+unfolding array_at
+array_says v d e word name literals arrays is some none ok h =
+    let a = past (not (length d.units == 0)) wrong.Line _ e h in
+    let b = past (nat_lt 64 (length literals) || nat_lt (most_controls v) (length d.controls + length literals)) wrong.Limit _ e a.1 in
+    let i = past (not (is_name v name)) wrong.Name _ e b.1 in
+    let j = past (is_known d name) wrong.Twice _ e i.1 in
+    let units : length d.units ≡ 0 = eqb-true (length d.units) 0 (not-false (length d.units == 0) a.0) in
+    let limits = or_parts (nat_lt 64 (length literals)) (nat_lt (most_controls v) (length d.controls + length literals)) b.0 in
+    let least : length literals ≤ 64 = ltb-false 64 (length literals) limits.0 in
+    let room : length d.controls + length literals ≤ most_controls v = ltb-false (most_controls v) (length d.controls + length literals) limits.1 in
+    let s = steps (defaults_at literals) _ e j.1 in
+    let many : length s.0 ≡ length literals = as_many_defaults literals s.0 s.1 in
+    let made : with_array d name s.0 ≡ e = same_ok {E = DefKind} (with_array d name s.0) e s.2 in
+    let named : is_name v name ≡ true = not-false (is_name v name) i.0 in
+    let good : Good v (with_array d name s.0) = record { names = good-more v d name s.0 (no_wires d.wires (none units)) named j.0 (omega arith) ok; wires = ok.wires } in
+    let few : length (d.controls ++ elements name 0 s.0) ≤ most_controls v = omega (arith, length-append d.controls (elements name 0 s.0), length-elements name 0 s.0) in
+    record {
+      line = record { is_array = true; name = name; literals = literals; defaults = s.0 };
+      fields_are = ap (λ (w : List ℕ). w ∷ name ∷ literals) is;
+      says = record { name = named; count = may_have v (length literals) arrays (omega arith) least; values = defaults_said literals s.0 s.1 };
+      made = sym made;
+      none = units;
+      few = subst (λ (g : Definition). length g.controls ≤ most_controls v) made few;
+      good = subst (λ (g : Definition). Good v g) made good;
+    }
+
+array_line_says : (v : Version) (d e : Definition) (fields : List (List ℕ)) → has_arrays v ≡ true → first_of fields ≡ codes "array" → (length d.units ≡ 0 → length d.wires ≡ 0) → Good v d → array_line_at v d fields ≡ Ok e → ControlStep v d fields e
+array_line_says v d e [] arrays is none ok h = cc
+array_line_says v d e (a ∷ []) arrays is none ok h = cc
+array_line_says v d e (word ∷ name ∷ literals) arrays is none ok h =
+    let a = past (length literals == 0 || bytes_eq name (codes "=")) wrong.Line _ e h in
+    array_says v d e word name literals arrays is (some_literals literals (or_parts (length literals == 0) (bytes_eq name (codes "=")) a.0).0) none ok a.1
 
 pub cond_says : {X E P Q : Type 0} (b : Bool) (r s : Result X E) (x : X) → (b ≡ true → r ≡ Ok x → P) → (s ≡ Ok x → Q) → cond b r s ≡ Ok x → P ⊎ Q
 cond_says true r s x f g h = inl (f refl h)
 cond_says false r s x f g h = inr (g h)
 
-pub line_says : (d e : Definition) (fields : List (List ℕ)) → (length d.units ≡ 0 → length d.wires ≡ 0) → AreNames (names_of d) → line_at d fields ≡ Ok e → ControlStep d fields e ⊎ UnitStep d fields e
+one_of : {P Q : Type 0} → P ⊎ (P ⊎ Q) → P ⊎ Q
+one_of (inl p) = inl p
+one_of (inr q) = q
+
+pub line_says : (v : Version) (d e : Definition) (fields : List (List ℕ)) → (length d.units ≡ 0 → length d.wires ≡ 0) → Good v d → line_at v d fields ≡ Ok e → ControlStep v d fields e ⊎ UnitStep v d fields e
 unfolding line_at
-line_says d e fields none ok h =
+line_says v d e fields none ok h =
     let a = past (list_any (λ f. length f == 0) fields) wrong.Line _ e h in
-    cond_says (bytes_eq (first_of fields) (codes "control")) (control_line_at d fields) _ e
-    (λ t r. control_line_says d e fields ((bytes_eq-Decides (first_of fields) (codes "control")).0 t) none ok r)
-    (λ i. unit_line_says d e fields (unit_parts fields) refl ok (past (is_reserved (first_of fields)) wrong.Line _ e i).1) a.1
+    let word = first_of fields in
+    one_of (cond_says (bytes_eq word (codes "control")) (control_line_at v d fields) _ e
+    (λ t r. control_line_says v d e fields ((bytes_eq-Decides word (codes "control")).0 t) none ok r)
+    (cond_says (is_array_word v word) (array_line_at v d fields) _ e
+    (λ t r. let p = and_parts (has_arrays v) (bytes_eq word (codes "array")) t in array_line_says v d e fields p.0 ((bytes_eq-Decides word (codes "array")).0 p.1) none ok r)
+    (λ i. unit_line_says v d e fields (unit_parts fields) refl ok (past (is_reserved v word) wrong.Line _ e i).1)) a.1)

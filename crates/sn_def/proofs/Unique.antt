@@ -6,10 +6,12 @@ use Rattle.sn_def.specs.declared.fault.DefFault.{DefFault}
 use Rattle.sn_def.specs.Definition.{Definition}
 use Rattle.sn_def.specs.Reading.{pieces, fault, text_at}
 use Rattle.sn_def.specs.Grammar.{DefinitionText}
-use Rattle.sn_def.specs.Faults.{lines_text, Begins, first_kind, line_kinds, IsWrong, KindOf, DefinitionFault}
+use Rattle.sn_def.specs.declared.version.Version.{Version}
+use Rattle.sn_def.specs.Versions.{title, version_of}
+use Rattle.sn_def.specs.Faults.{lines_text, Begins, first_kind, line_kinds, IsWrong, KindBehind, KindOf, DefinitionFault}
 use Rattle.sn_def.proofs.Forming.{same_ok}
 use Rattle.sn_def.proofs.Whole.{in_grammar}
-use Rattle.sn_def.proofs.Complete.{Bytes, is_read}
+use Rattle.sn_def.proofs.Complete.{Bytes, is_read, version-title}
 use Rattle.sn_def.proofs.Prefix.{head_same, nothing_more}
 use Rattle.sn_def.proofs.Faulting.{first_fault, with_end}
 
@@ -54,19 +56,30 @@ not_both bytes ls d e a b =
     let none : lines_text (codes "end" ∷ []) ≡ [] = nothing_more (lines_text ls) (lines_text (codes "end" ∷ [])) e d (is_read bytes (lines_text ls) e b) (is_read bytes (lines_text ls ++ lines_text (codes "end" ∷ [])) d longer) in
     let n : length (lines_text (codes "end" ∷ [])) ≡ 0 = ap length none in absurd (omega arith)
 
-one_wrong : Bytes → (ls : Lines) (line : List ℕ) (j k : DefKind) → IsWrong ls line j → IsWrong ls line k → j ≡ k
-one_wrong bytes ls line j k (inl a) (inl b) =
+one_wrong : Bytes → (v : Version) (ls : Lines) (line : List ℕ) (j k : DefKind) → IsWrong v ls line j → IsWrong v ls line k → j ≡ k
+one_wrong bytes v ls line j k (inl a) (inl b) =
     let text : List ℕ = lines_text (ls ++ codes "end" ∷ []) in
     let same : a.0 ≡ b.0 = same_ok {E = DefFault} a.0 b.0 (sym (is_read bytes text a.0 a.1.0) ∙ is_read bytes text b.0 b.1.0) in
-    same_kind j k (sym a.1.1 ∙ ap (λ (d : Definition). first_kind (line_kinds d (pieces 32 line))) same ∙ b.1.1)
-one_wrong bytes ls line j k (inl a) (inr b) = absurd (not_both bytes ls a.0 b.0.0 a.1.0 b.0.1)
-one_wrong bytes ls line j k (inr a) (inl b) = absurd (not_both bytes ls b.0 a.0.0 b.1.0 a.0.1)
-one_wrong bytes ls line j k (inr a) (inr b) = a.1 ∙ sym b.1
+    same_kind j k (sym a.1.1 ∙ ap (λ (d : Definition). first_kind (line_kinds v d (pieces 32 line))) same ∙ b.1.1)
+one_wrong bytes v ls line j k (inl a) (inr b) = absurd (not_both bytes ls a.0 b.0.0 a.1.0 b.0.1)
+one_wrong bytes v ls line j k (inr a) (inl b) = absurd (not_both bytes ls b.0 a.0.0 b.1.0 a.0.1)
+one_wrong bytes v ls line j k (inr a) (inr b) = a.1 ∙ sym b.1
+
+one_behind : Bytes → (v : Version) (first : List ℕ) (ls : Lines) (line : List ℕ) (j k : DefKind) → KindBehind v first ls line j → KindBehind v first ls line k → j ≡ k
+one_behind bytes v first [] line j k a b = same_kind j k (sym a ∙ b)
+one_behind bytes v first (n ∷ ls) line j k a b = one_wrong bytes v (first ∷ n ∷ ls) line j k a b
+
+same_some : (v w : Version) → ◌≡◌ {A = Option Version} (Some v) (Some w) → v ≡ w
+same_some v w h = cc
+
+same_version : (v w : Version) → title v ≡ title w → v ≡ w
+same_version v w h = same_some v w (sym (version-title v) ∙ ap version_of h ∙ version-title w)
 
 one_kind : Bytes → (ls : Lines) (line : List ℕ) (j k : DefKind) → KindOf ls line j → KindOf ls line k → j ≡ k
 one_kind bytes [] line j k a b = a ∙ sym b
-one_kind bytes (t ∷ []) line j k a b = same_kind j k (sym a ∙ b)
-one_kind bytes (t ∷ n ∷ ls) line j k a b = one_wrong bytes (t ∷ n ∷ ls) line j k a b
+one_kind bytes (t ∷ ls) line j k a b =
+    let same : b.0 ≡ a.0 = same_version b.0 a.0 (sym b.1.0 ∙ a.1.0) in
+    one_behind bytes a.0 t ls line j k a.1.1 (subst (λ (v : Version). KindBehind v t ls line k) same b.1.1)
 
 by_later : Bytes → (text : List ℕ) (m n : ℕ) (j k : DefKind) (f : DefinitionFault text m j) (g : DefinitionFault text n k) (later : Lines) → f.later ≡ later → f.earlier ≡ g.earlier → f.line ≡ g.line → f.later ≡ g.later → j ≡ k
 by_later bytes text m n j k f g [] is e l r = f.cut (ap length is) ∙ sym (g.cut (ap length (sym r ∙ is)))

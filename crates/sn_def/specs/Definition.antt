@@ -1,6 +1,8 @@
 -- What a definition is, without where it lies in memory.
-use Rattle.std.specs.Prelude.{◌+◌, ℕ, ℤ, Option, Some, None, List, [], ◌∷◌, ◌++◌, map, if◌then◌else◌}
+use Rattle.std.specs.Prelude.{◌+◌, ◌==◌, ℕ, ℤ, Option, Some, None, List, [], ◌∷◌, ◌++◌, length, map, if◌then◌else◌}
+use Rattle.std.specs.Fmt.{decimal}
 use Rattle.std.specs.Str.{bytes_eq}
+use Rattle.sn_def.specs.declared.arrays.Run.{Run}
 use Rattle.sn_def.specs.declared.kind.Kind.{Kind}
 use Rattle.sn_def.specs.declared.unit.Input.{Input}
 use Rattle.sn_def.specs.declared.unit.Input.TheVariants.{Control, Wire}
@@ -11,22 +13,48 @@ pub record Parameter : Type 0 where
   pub name : List ℕ
   pub default : ℤ
 
--- controls, units and wires are numbered from 0 in their order; the outputs of a unit are the next wires
+-- controls, units and wires are numbered from 0 in their order; an array is a run of controls; the outputs of a unit are the next wires
 pub record Definition : Type 0 where
   pub name : List ℕ
   pub controls : List Parameter
+  pub arrays : List Run
   pub units : List UnitLine
   pub wires : List (List ℕ)
 
-abbrev pub whole : List ℕ → List Parameter → List UnitLine → List (List ℕ) → Definition
-whole name controls units wires = record { name = name; controls = controls; units = units; wires = wires }
+abbrev pub whole : List ℕ → List Parameter → List Run → List UnitLine → List (List ℕ) → Definition
+whole name controls arrays units wires = record { name = name; controls = controls; arrays = arrays; units = units; wires = wires }
 
 -- a definition with no lines but its first two
 abbrev pub named_only : List ℕ → Definition
-named_only name = record { name = name; controls = []; units = []; wires = [] }
+named_only name = record { name = name; controls = []; arrays = []; units = []; wires = [] }
+
+abbrev pub parameter : List ℕ → ℤ → Parameter
+parameter name default = record { name = name; default = default }
+
+abbrev pub with_controls : Definition → List Parameter → Definition
+with_controls d controls = record d { controls = d.controls ++ controls }
 
 abbrev pub with_control : Definition → List ℕ → ℤ → Definition
-with_control d name default = record d { controls = d.controls ++ record { name = name; default = default } ∷ [] }
+with_control d name default = with_controls d (parameter name default ∷ [])
+
+-- the elements of an array are NAME, NAME.1, NAME.2 and so on; 46 is `.`
+abbrev pub element_name : List ℕ → ℕ → List ℕ
+element_name name number = if number == 0 then name else name ++ 46 ∷ decimal number
+
+-- the elements of an array from this number on
+abbrev pub elements : List ℕ → ℕ → List ℤ → List Parameter
+elements name number [] = []
+elements name number (v ∷ vs) = parameter (element_name name number) v ∷ elements name (number + 1) vs
+
+abbrev pub run : ℕ → ℕ → Run
+run first len = record { first = first; len = len }
+
+abbrev pub with_run : Definition → ℕ → ℕ → Definition
+with_run d first len = record d { arrays = d.arrays ++ run first len ∷ [] }
+
+-- an array more: its elements are the next controls
+abbrev pub with_array : Definition → List ℕ → List ℤ → Definition
+with_array d name defaults = with_run (with_controls d (elements name 0 defaults)) (length d.controls) (length defaults)
 
 abbrev pub unit_line : Kind → List Input → ℕ → UnitLine
 unit_line kind inputs outputs = record { kind = kind; inputs = inputs; outputs = outputs }

@@ -1,5 +1,5 @@
 -- The first fault of a text that defines nothing.
-use Rattle.std.specs.Prelude.{◌≡◌, ◌<◌, ◌+◌, ◌∷◌, ◌++◌, ◌⊎◌, ◌==◌, ◌&&◌, ◌||◌, ℕ, ℤ, pos, int_le, Bool, true, false, not, List, [], length, codes, flat_map, nat_lt, nat_le, slice_get, unwrap_or, Option, Some, None, is_some, if◌then◌else◌}
+use Rattle.std.specs.Prelude.{◌≡◌, ◌<◌, ◌+◌, ◌∷◌, ◌++◌, ◌⊎◌, ◌==◌, ◌&&◌, ◌||◌, ℕ, ℤ, pos, int_le, Bool, true, false, not, List, [], length, codes, flat_map, nat_lt, nat_le, slice_get, unwrap_or, Option, Some, None, is_some, map, drop, if◌then◌else◌}
 use Rattle.std.specs.List.{list_all, list_any}
 use Rattle.std.specs.Str.{bytes_eq}
 use Rattle.sn_fixed.specs.Literal.{literal}
@@ -10,7 +10,9 @@ use Rattle.sn_def.specs.declared.fault.DefKind.{DefKind}
 use Rattle.sn_def.specs.declared.fault.DefKind.TheVariants as wrong
 use Rattle.sn_def.specs.Units.{UnitRow, row_of, kind_named}
 use Rattle.sn_def.specs.Definition.{Definition, control_names}
-use Rattle.sn_def.specs.Reading.{UnitParts, pieces, first_of, is_reserved, is_name, mark_at, unit_parts, counts_fit}
+use Rattle.sn_def.specs.declared.version.Version.{Version}
+use Rattle.sn_def.specs.Versions.{title, most_controls}
+use Rattle.sn_def.specs.Reading.{UnitParts, pieces, first_of, is_array_word, is_reserved, is_name, mark_at, unit_parts, counts_fit}
 use Rattle.sn_def.specs.StateWords.{is_longest}
 use Rattle.sn_def.specs.Grammar.{DefinitionText, names_of}
 
@@ -64,21 +66,35 @@ is_delay (Some v) = int_le (pos 0) v && int_le v (pos 60000)
 is_delay None = false
 
 -- the line `def NAME`
-abbrev pub def_kinds : List (List ℕ) → Kinds
-def_kinds fields =
+abbrev pub def_kinds : Version → List (List ℕ) → Kinds
+def_kinds v fields =
     (not (has_fields 2 fields && bytes_eq (first_of fields) (codes "def")), wrong.Line)
-    ∷ (not (is_name (field_at fields 1)), wrong.Name)
+    ∷ (not (is_name v (field_at fields 1)), wrong.Name)
     ∷ []
 
 -- a line `control NAME LITERAL`; it stands before the units
-abbrev pub control_kinds : Definition → List (List ℕ) → Kinds
-control_kinds d fields =
+abbrev pub control_kinds : Version → Definition → List (List ℕ) → Kinds
+control_kinds v d fields =
     (not (has_fields 3 fields && length d.units == 0), wrong.Line)
-    ∷ (nat_le 128 (length d.controls), wrong.Limit)
-    ∷ (not (is_name (field_at fields 1)), wrong.Name)
+    ∷ (nat_le (most_controls v) (length d.controls), wrong.Limit)
+    ∷ (not (is_name v (field_at fields 1)), wrong.Name)
     ∷ (is_given d (field_at fields 1), wrong.Twice)
     ∷ (not (is_literal (field_at fields 2)), wrong.Number)
     ∷ []
+
+-- literals, from the left
+abbrev pub literals_kinds : List (List ℕ) → Kinds
+literals_kinds fields = map (λ f. (not (is_literal f), wrong.Number)) fields
+
+-- A line `array NAME LITERAL ..`; it stands before the units. With `=` in place of the name it has another shape.
+abbrev pub array_kinds : Version → Definition → List (List ℕ) → Kinds
+array_kinds v d fields =
+    (not (nat_le 3 (length fields) && not (list_any (λ f. length f == 0) fields) && not (bytes_eq (field_at fields 1) (codes "=")) && length d.units == 0), wrong.Line)
+    ∷ (nat_lt 64 (length (drop 2 fields)), wrong.Limit)
+    ∷ (nat_lt (most_controls v) (length d.controls + length (drop 2 fields)), wrong.Limit)
+    ∷ (not (is_name v (field_at fields 1)), wrong.Name)
+    ∷ (is_given d (field_at fields 1), wrong.Twice)
+    ∷ literals_kinds (drop 2 fields)
 
 -- an input of a unit line
 abbrev pub input_kinds : Definition → Mark → List ℕ → Kinds
@@ -95,33 +111,34 @@ inputs_kinds d marks i [] = []
 inputs_kinds d marks i (field ∷ fields) = input_kinds d (mark_at marks i) field ++ inputs_kinds d marks (i + 1) fields
 
 -- a unit line whose unit has this row
-abbrev pub row_kinds : Definition → UnitParts → UnitRow → Kinds
-row_kinds d parts row =
+abbrev pub row_kinds : Version → Definition → UnitParts → UnitRow → Kinds
+row_kinds v d parts row =
     (not (counts_fit row (length parts.inputs) (length parts.outputs)), wrong.Count)
-    ∷ (not (list_all is_name parts.outputs), wrong.Name)
+    ∷ (not (list_all (is_name v) parts.outputs), wrong.Name)
     ∷ (is_given_twice (names_of d) parts.outputs, wrong.Twice)
     ∷ inputs_kinds d row.inputs 0 parts.inputs
 
-abbrev pub known_kinds : Definition → UnitParts → Option Kind → Kinds
-known_kinds d parts None = (true, wrong.Unit) ∷ []
-known_kinds d parts (Some kind) = row_kinds d parts (row_of kind)
+abbrev pub known_kinds : Version → Definition → UnitParts → Option Kind → Kinds
+known_kinds v d parts None = (true, wrong.Unit) ∷ []
+known_kinds v d parts (Some kind) = row_kinds v d parts (row_of kind)
 
 -- a unit line, by its parts
-abbrev pub unit_kinds : Definition → UnitParts → Kinds
-unit_kinds d parts =
+abbrev pub unit_kinds : Version → Definition → UnitParts → Kinds
+unit_kinds v d parts =
     (nat_le 256 (length d.units), wrong.Limit)
     ∷ (nat_lt 512 (length d.wires + length parts.outputs), wrong.Limit)
-    ∷ known_kinds d parts (kind_named parts.unit)
+    ∷ known_kinds v d parts (kind_named parts.unit)
 
-abbrev pub parts_kinds : Definition → Option UnitParts → Kinds
-parts_kinds d None = (true, wrong.Line) ∷ []
-parts_kinds d (Some parts) = unit_kinds d parts
+abbrev pub parts_kinds : Version → Definition → Option UnitParts → Kinds
+parts_kinds v d None = (true, wrong.Line) ∷ []
+parts_kinds v d (Some parts) = unit_kinds v d parts
 
--- A line behind the first two, where the lines before it define d: it is a control's where it begins with that word, and else a unit's, which begins with no word of another line.
-abbrev pub line_kinds : Definition → List (List ℕ) → Kinds
-line_kinds d fields =
-    if bytes_eq (first_of fields) (codes "control") then control_kinds d fields else
-    (list_any (λ f. length f == 0) fields || is_reserved (first_of fields), wrong.Line) ∷ parts_kinds d (unit_parts fields)
+-- A line behind the first two, where the lines before it define d: it is a control's or an array's where it begins with that word, and else a unit's, which begins with no word of another line.
+abbrev pub line_kinds : Version → Definition → List (List ℕ) → Kinds
+line_kinds v d fields =
+    if bytes_eq (first_of fields) (codes "control") then control_kinds v d fields else
+    if is_array_word v (first_of fields) then array_kinds v d fields else
+    (list_any (λ f. length f == 0) fields || is_reserved v (first_of fields), wrong.Line) ∷ parts_kinds v d (unit_parts fields)
 
 -- whole lines, each with its line feed
 abbrev pub lines_text : List (List ℕ) → List ℕ
@@ -135,15 +152,19 @@ abbrev pub Begins : List (List ℕ) → Type 0
 Begins lines = (more : List ℕ) × Defines (lines_text lines ++ more)
 
 -- A line that is judged by what the earlier ones with the line `end` define; behind the line `end` there is none.
-abbrev pub IsWrong : List (List ℕ) → List ℕ → DefKind → Type 0
-IsWrong earlier line kind =
-    ((d : Definition) × (DefinitionText (lines_text (earlier ++ codes "end" ∷ [])) d × (first_kind (line_kinds d (pieces 32 line)) ≡ Some kind))) ⊎ (Defines (lines_text earlier) × (kind ≡ wrong.Line))
+abbrev pub IsWrong : Version → List (List ℕ) → List ℕ → DefKind → Type 0
+IsWrong v earlier line kind =
+    ((d : Definition) × (DefinitionText (lines_text (earlier ++ codes "end" ∷ [])) d × (first_kind (line_kinds v d (pieces 32 line)) ≡ Some kind))) ⊎ (Defines (lines_text earlier) × (kind ≡ wrong.Line))
 
--- the first kind that applies to a line behind the earlier ones
+-- the first kind that applies to a line behind the title and the lines after it
+abbrev pub KindBehind : Version → List ℕ → List (List ℕ) → List ℕ → DefKind → Type 0
+KindBehind v first [] line kind = first_kind (def_kinds v (pieces 32 line)) ≡ Some kind
+KindBehind v first (named ∷ lines) line kind = IsWrong v (first ∷ named ∷ lines) line kind
+
+-- the first kind that applies to a line behind the earlier ones, of which the first tells the version
 abbrev pub KindOf : List (List ℕ) → List ℕ → DefKind → Type 0
 KindOf [] line kind = kind ≡ wrong.Line
-KindOf (title ∷ []) line kind = first_kind (def_kinds (pieces 32 line)) ≡ Some kind
-KindOf (title ∷ named ∷ lines) line kind = IsWrong (title ∷ named ∷ lines) line kind
+KindOf (first ∷ lines) line kind = (v : Version) × ((first ≡ title v) × KindBehind v first lines line kind)
 
 -- The text defines nothing. The lines before this one begin some definition text, and with this one, where it is whole, they begin none; its kind is the first that applies. Where the lines end before, the kind is `Line`.
 pub record DefinitionFault (text : List ℕ) (number : ℕ) (kind : DefKind) : Type 0 where

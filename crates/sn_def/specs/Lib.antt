@@ -1,6 +1,7 @@
 pub mod Units
 pub mod Rows
 pub mod Known
+pub mod Versions
 pub mod Definition
 pub mod Params
 pub mod Drafts

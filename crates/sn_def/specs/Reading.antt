@@ -12,8 +12,10 @@ use Rattle.sn_def.specs.declared.fault.DefKind.TheVariants as wrong
 use Rattle.sn_def.specs.declared.fault.DefFault.{DefFault}
 use Rattle.sn_def.specs.declared.unit.Input.{Input}
 use Rattle.sn_def.specs.declared.unit.Input.TheVariants.{Literal, Wire}
+use Rattle.sn_def.specs.declared.version.Version.{Version}
 use Rattle.sn_def.specs.Units.{UnitRow, row_of, kind_named}
-use Rattle.sn_def.specs.Definition.{Definition, named, named_only, with_control, with_wires, with_unit}
+use Rattle.sn_def.specs.Definition.{Definition, named, named_only, with_control, with_array, with_wires, with_unit}
+use Rattle.sn_def.specs.Versions.{version_of, most_controls, has_arrays}
 
 infixl 10 ◌>>=◌
 abbrev pub ◌>>=◌ : {A B E : Type 0} → Result A E → (A → Result B E) → Result B E
@@ -35,13 +37,18 @@ abbrev pub first_of : List (List ℕ) → List ℕ
 first_of [] = []
 first_of (f ∷ fs) = f
 
+-- the word that begins the line of an array
+abbrev pub is_array_word : Version → List ℕ → Bool
+is_array_word v word = has_arrays v && bytes_eq word (codes "array")
+
 -- the words that begin lines
-abbrev pub is_reserved : List ℕ → Bool
-is_reserved word = bytes_eq word (codes "snova") || bytes_eq word (codes "def") || bytes_eq word (codes "control") || bytes_eq word (codes "end")
+abbrev pub is_reserved : Version → List ℕ → Bool
+is_reserved v word =
+    bytes_eq word (codes "snova") || bytes_eq word (codes "def") || bytes_eq word (codes "control") || bytes_eq word (codes "end") || is_array_word v word
 
 -- 1 to 31 letters, digits and `_`, not beginning with a digit, and no word that begins lines
-unfoldable pub is_name : List ℕ → Bool
-is_name name = begins_name (slice_index name 0) && nat_le (length name) 31 && list_all is_name_byte name && not (is_reserved name)
+unfoldable pub is_name : Version → List ℕ → Bool
+is_name v name = begins_name (slice_index name 0) && nat_le (length name) 31 && list_all is_name_byte name && not (is_reserved v name)
 
 -- a name that stands for something
 abbrev pub is_known : Definition → List ℕ → Bool
@@ -52,12 +59,38 @@ abbrev pub default_at : Definition → List ℕ → Option ℤ → Result Defini
 default_at d name (Some v) = Ok (with_control d name v)
 default_at d name None = Err wrong.Number
 
-unfoldable pub control_at : Definition → List ℕ → List ℕ → Result Definition DefKind
-control_at d name value =
+unfoldable pub control_at : Version → Definition → List ℕ → List ℕ → Result Definition DefKind
+control_at v d name value =
     if not (length d.units == 0) then Err wrong.Line else
-    if nat_le 128 (length d.controls) then Err wrong.Limit else
-    if not (is_name name) then Err wrong.Name else
+    if nat_le (most_controls v) (length d.controls) then Err wrong.Limit else
+    if not (is_name v name) then Err wrong.Name else
     if is_known d name then Err wrong.Twice else default_at d name (literal value)
+
+-- `array NAME LITERAL ..`
+abbrev pub default_of : Option ℤ → Result ℤ DefKind
+default_of (Some v) = Ok v
+default_of None = Err wrong.Number
+
+-- literals, from the left
+unfoldable pub defaults_at : List (List ℕ) → Result (List ℤ) DefKind
+defaults_at [] = Ok []
+defaults_at (field ∷ fields) = do
+  v ← default_of (literal field)
+  others ← defaults_at fields
+  Ok (v ∷ others)
+
+abbrev pub array_with : Definition → List ℕ → List (List ℕ) → Result Definition DefKind
+array_with d name literals = do
+  defaults ← defaults_at literals
+  Ok (with_array d name defaults)
+
+-- 1 to 64 literals
+unfoldable pub array_at : Version → Definition → List ℕ → List (List ℕ) → Result Definition DefKind
+array_at v d name literals =
+    if not (length d.units == 0) then Err wrong.Line else
+    if nat_lt 64 (length literals) || nat_lt (most_controls v) (length d.controls + length literals) then Err wrong.Limit else
+    if not (is_name v name) then Err wrong.Name else
+    if is_known d name then Err wrong.Twice else array_with d name literals
 
 -- what a unit asks of its input number i: past those that it always has, a signal
 abbrev pub mark_at : List Mark → ℕ → Mark
@@ -128,43 +161,49 @@ unit_with d parts kind = do
   Ok (with_unit named_wires kind inputs (length parts.outputs))
 
 -- a unit of this kind
-unfoldable pub unit_of : Definition → UnitParts → Kind → Result Definition DefKind
-unit_of d parts kind =
+unfoldable pub unit_of : Version → Definition → UnitParts → Kind → Result Definition DefKind
+unit_of v d parts kind =
     if not (counts_fit (row_of kind) (length parts.inputs) (length parts.outputs)) then Err wrong.Count else
-    if not (list_all is_name parts.outputs) then Err wrong.Name else unit_with d parts kind
+    if not (list_all (is_name v) parts.outputs) then Err wrong.Name else unit_with d parts kind
 
-abbrev pub unit_if_known : Definition → UnitParts → Option Kind → Result Definition DefKind
-unit_if_known d parts (Some kind) = unit_of d parts kind
-unit_if_known d parts None = Err wrong.Unit
+abbrev pub unit_if_known : Version → Definition → UnitParts → Option Kind → Result Definition DefKind
+unit_if_known v d parts (Some kind) = unit_of v d parts kind
+unit_if_known v d parts None = Err wrong.Unit
 
-unfoldable pub unit_at : Definition → UnitParts → Result Definition DefKind
-unit_at d parts =
+unfoldable pub unit_at : Version → Definition → UnitParts → Result Definition DefKind
+unit_at v d parts =
     if nat_le 256 (length d.units) || nat_lt 512 (length d.wires + length parts.outputs) then Err wrong.Limit else
-    unit_if_known d parts (kind_named parts.unit)
+    unit_if_known v d parts (kind_named parts.unit)
 
-abbrev pub unit_line_at : Definition → Option UnitParts → Result Definition DefKind
-unit_line_at d (Some parts) = unit_at d parts
-unit_line_at d None = Err wrong.Line
+abbrev pub unit_line_at : Version → Definition → Option UnitParts → Result Definition DefKind
+unit_line_at v d (Some parts) = unit_at v d parts
+unit_line_at v d None = Err wrong.Line
 
 -- a line of a control: two fields after the first
-abbrev pub control_line_at : Definition → List (List ℕ) → Result Definition DefKind
-control_line_at d (word ∷ name ∷ value ∷ []) = control_at d name value
-control_line_at d _ = Err wrong.Line
+abbrev pub control_line_at : Version → Definition → List (List ℕ) → Result Definition DefKind
+control_line_at v d (word ∷ name ∷ value ∷ []) = control_at v d name value
+control_line_at v d _ = Err wrong.Line
+
+-- at least one literal; with `=` in place of the name it would be a unit's line, if a wire could have the name `array`
+abbrev pub array_named_at : Version → Definition → List ℕ → List (List ℕ) → Result Definition DefKind
+array_named_at v d name literals = if length literals == 0 || bytes_eq name (codes "=") then Err wrong.Line else array_at v d name literals
+
+-- a line of an array, by its fields
+abbrev pub array_line_at : Version → Definition → List (List ℕ) → Result Definition DefKind
+array_line_at v d (word ∷ name ∷ literals) = array_named_at v d name literals
+array_line_at v d _ = Err wrong.Line
 
 -- a line between the first two and `end`
-unfoldable pub line_at : Definition → List (List ℕ) → Result Definition DefKind
-line_at d fields =
+unfoldable pub line_at : Version → Definition → List (List ℕ) → Result Definition DefKind
+line_at v d fields =
     let word = first_of fields in
     if list_any (λ f. length f == 0) fields then Err wrong.Line else
-    if bytes_eq word (codes "control") then control_line_at d fields else
-    if is_reserved word then Err wrong.Line else unit_line_at d (unit_parts fields)
+    if bytes_eq word (codes "control") then control_line_at v d fields else
+    if is_array_word v word then array_line_at v d fields else
+    if is_reserved v word then Err wrong.Line else unit_line_at v d (unit_parts fields)
 
 abbrev pub fault : ℕ → DefKind → DefFault
 fault line kind = record { line = line; kind = kind }
-
--- the number of the line that comes next
-abbrev pub line_number : Definition → ℕ
-line_number d = 3 + length d.controls + length d.units
 
 abbrev pub at_line : ℕ → Result Definition DefKind → Result Definition DefFault
 at_line line (Ok d) = Ok d
@@ -175,43 +214,47 @@ abbrev pub is_over : List (List ℕ) → Bool
 is_over (p ∷ []) = length p == 0
 is_over _ = false
 
--- the line `end` is the last one
-abbrev pub end_at : Definition → List (List ℕ) → Result Definition DefFault
-end_at d after = if is_over after then Ok d else Err (fault (line_number d + 1) wrong.Line)
+-- the line `end`, of this number, is the last one
+abbrev pub end_at : ℕ → Definition → List (List ℕ) → Result Definition DefFault
+end_at number d after = if is_over after then Ok d else Err (fault (number + 1) wrong.Line)
 
--- the lines after the first two; the last piece of a text is no whole line
-unfoldable pub body_at : Definition → List (List ℕ) → Result Definition DefFault
-body_at d [] = Err (fault (line_number d) wrong.Line)
-body_at d (line ∷ after) =
-    if length after == 0 then Err (fault (line_number d) wrong.Line) else
-    if bytes_eq line (codes "end") then end_at d after else (do
-      next ← at_line (line_number d) (line_at d (pieces 32 line))
-      body_at next after)
+-- lines from this number on, where those before them define d; the last piece of a text is no whole line
+unfoldable pub body_at : Version → ℕ → Definition → List (List ℕ) → Result Definition DefFault
+body_at v number d [] = Err (fault number wrong.Line)
+body_at v number d (line ∷ after) =
+    if length after == 0 then Err (fault number wrong.Line) else
+    if bytes_eq line (codes "end") then end_at number d after else (do
+      next ← at_line number (line_at v d (pieces 32 line))
+      body_at v (number + 1) next after)
 
 -- `def NAME`
-abbrev pub named_at : List ℕ → List ℕ → Result Definition DefFault
-named_at word name =
+abbrev pub named_at : Version → List ℕ → List ℕ → Result Definition DefFault
+named_at v word name =
     if not (bytes_eq word (codes "def")) || length name == 0 then Err (fault 2 wrong.Line) else
-    if not (is_name name) then Err (fault 2 wrong.Name) else Ok (named_only name)
+    if not (is_name v name) then Err (fault 2 wrong.Name) else Ok (named_only name)
 
-abbrev pub def_at : List (List ℕ) → Result Definition DefFault
-def_at (word ∷ name ∷ []) = named_at word name
-def_at _ = Err (fault 2 wrong.Line)
+abbrev pub def_at : Version → List (List ℕ) → Result Definition DefFault
+def_at v (word ∷ name ∷ []) = named_at v word name
+def_at v _ = Err (fault 2 wrong.Line)
 
 -- the line `def NAME`, by its fields, and the lines after it
-abbrev pub def_and_body : List (List ℕ) → List (List ℕ) → Result Definition DefFault
-def_and_body fields after = do
-  d ← def_at fields
-  body_at d after
+abbrev pub def_and_body : Version → List (List ℕ) → List (List ℕ) → Result Definition DefFault
+def_and_body v fields after = do
+  d ← def_at v fields
+  body_at v 3 d after
 
 -- the lines after the first
-abbrev pub after_title : List (List ℕ) → Result Definition DefFault
-after_title [] = Err (fault 2 wrong.Line)
-after_title (line ∷ after) = if length after == 0 then Err (fault 2 wrong.Line) else def_and_body (pieces 32 line) after
+abbrev pub after_title : Version → List (List ℕ) → Result Definition DefFault
+after_title v [] = Err (fault 2 wrong.Line)
+after_title v (line ∷ after) = if length after == 0 then Err (fault 2 wrong.Line) else def_and_body v (pieces 32 line) after
+
+abbrev pub versioned_at : Option Version → List (List ℕ) → Result Definition DefFault
+versioned_at None after = Err (fault 1 wrong.Line)
+versioned_at (Some v) after = after_title v after
 
 abbrev pub title_at : List (List ℕ) → Result Definition DefFault
 title_at [] = Err (fault 1 wrong.Line)
-title_at (line ∷ after) = if length after == 0 || not (bytes_eq line (codes "snova 1")) then Err (fault 1 wrong.Line) else after_title after
+title_at (line ∷ after) = if length after == 0 then Err (fault 1 wrong.Line) else versioned_at (version_of line) after
 
 unfoldable pub text_at : List ℕ → Result Definition DefFault
 text_at text = title_at (pieces 10 text)

@@ -2,6 +2,7 @@
 use Rattle.std.specs.Prelude.{◌≡◌, ◌+◌, ◌<◌, ◌≤◌, ◌==◌, ℕ, ℤ, pos, negsuc, ◌≤ℤ◌, List, [], ◌∷◌, length, if◌then◌else◌}
 use Rattle.sn_def.specs.declared.table.Mark.{Mark}
 use Rattle.sn_def.specs.declared.table.Mark.TheVariants.{Signal, Index, Constant, Longest}
+use Rattle.sn_def.specs.declared.arrays.Run.{Run}
 use Rattle.sn_def.specs.declared.unit.Input.{Input}
 use Rattle.sn_def.specs.declared.unit.Input.TheVariants.{Literal, Control, Wire}
 use Rattle.sn_def.specs.declared.unit.Unit.{Unit as UnitLine}
@@ -57,9 +58,15 @@ abbrev pub outputs_of : List UnitLine → ℕ
 outputs_of [] = 0
 outputs_of (u ∷ us) = u.outputs + outputs_of us
 
--- the limits are kept, each unit line fits, and its outputs are the next wires
+-- arrays of so many controls, from this control on: each has 1 to 64 controls, which come after those of the array before it
+abbrev pub RunsFit : ℕ → ℕ → List Run → Type 0
+RunsFit from controls [] = from ≤ controls
+RunsFit from controls (r ∷ rs) = (from ≤ r.first) × (1 ≤ r.len) × (r.len ≤ 64) × RunsFit (r.first + r.len) controls rs
+
+-- the limits are kept, each array and each unit line fits, and the outputs of a unit are the next wires
 pub record IsWellFormed (d : Definition) : Type 0 where
-  pub controls : length d.controls ≤ 128
+  pub controls : length d.controls ≤ 512
+  pub arrays : RunsFit 0 (length d.controls) d.arrays
   pub units : length d.units ≤ 256
   pub wires : length d.wires ≤ 512
   pub outputs : outputs_of d.units ≡ length d.wires

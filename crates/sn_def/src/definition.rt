@@ -6,6 +6,7 @@ ghost use Rattle.sn_def.specs.Reading.{IsWritten};
 ghost use Rattle.sn_def.specs.StateWords.{units_words};
 ghost use Rattle.sn_def.specs.Layout.{laid_out, words_at};
 
+use crate::arrays::Runs;
 use crate::layout::{UnitWords, laid_out, row_at, words_at};
 use crate::unit::Units;
 use sn_ports::{NoMemory, Text};
@@ -89,8 +90,10 @@ impl Names {
 pub struct Def {
     /// The definition's name.
     pub name: Text,
-    /// At most 128 controls, in the order of the text.
+    /// At most 512 controls, in the order of the text. Each element of an array is one.
     pub controls: Params,
+    /// The arrays of controls, in the order of the text.
+    pub arrays: Runs,
     /// At most 256 units, in the order of the text.
     pub units: Units,
     /// The names of the wires, at most 512, in the order of the text.
@@ -99,10 +102,10 @@ pub struct Def {
     low: Vec<UnitWords>,
     middle: Vec<UnitWords>,
     high: Vec<UnitWords>,
-    pub ghost controls_bound: { length controls ≤ 128 },
+    pub ghost controls_bound: { length controls ≤ 512 },
     pub ghost units_bound: { length units ≤ 256 },
     pub ghost wires_bound: { length wires ≤ 512 },
-    pub ghost written: { ∥ IsWritten (whole name.bytes controls units wires) ∥₁ },
+    pub ghost written: { ∥ IsWritten (whole name.bytes controls arrays units wires) ∥₁ },
     ghost low_is: { low.items ≡ laid_out 44100 0 units },
     ghost middle_is: { middle.items ≡ laid_out 48000 0 units },
     ghost high_is: { high.items ≡ laid_out 96000 0 units },
@@ -114,11 +117,12 @@ impl Def {
         alloc: Global,
         name: Text,
         controls: Params,
+        arrays: Runs,
         units: Units,
         wires: Names,
     ) -> Result<Self, NoMemory>
-        requires { IsWritten (whole name.bytes controls units wires) }
-        ensures { IfOk result (λ d. whole d.name.bytes d.controls d.units d.wires ≡ whole name.bytes controls units wires) }
+        requires { IsWritten (whole name.bytes controls arrays units wires) }
+        ensures { IfOk result (λ d. whole d.name.bytes d.controls d.arrays d.units d.wires ≡ whole name.bytes controls arrays units wires) }
     {
         let low = laid_out(alloc, units.as_slice(), 44100)?;
         let middle = laid_out(alloc, units.as_slice(), 48000)?;
@@ -126,6 +130,7 @@ impl Def {
         Ok(Def {
             name,
             controls,
+            arrays,
             units,
             wires,
             low,

@@ -12,11 +12,11 @@ pub enum DefKind {
     Line,
     /// A name is not made of 1 to 31 letters, digits and `_`, begins with a digit, or is a word that begins lines.
     Name,
-    /// More than 128 controls, 256 units or 512 wires.
+    /// More than 128 controls in version 1 or 512 in version 2, 64 literals of an array, 256 units or 512 wires.
     Limit,
     /// A name is given twice.
     Twice,
-    /// A control's value is no literal.
+    /// The value of a control or of an element of an array is no literal.
     Number,
     /// The unit is unknown.
     Unit,

@@ -1,12 +1,14 @@
 //! Laws about the definitions of this crate. Each function's contract is one law.
-ghost use Rattle.std.specs.Prelude.{◌≡◌, ◌↔◌, ◌++◌, ℕ, List, [], Some};
+ghost use Rattle.std.specs.Prelude.{◌≡◌, ◌↔◌, ◌++◌, ◌∷◌, ℕ, List, [], true, Some};
+ghost use Rattle.std.specs.List.{list_all};
 ghost use Rattle.sn_def.specs.declared.kind.Kind.{Kind};
 ghost use Rattle.sn_def.specs.Units.{row_of, kind_named};
 ghost use Rattle.sn_def.specs.Fitting.{RowFits};
 ghost use Rattle.sn_def.specs.Definition.{Definition};
 ghost use Rattle.sn_def.specs.Reading.{text_at, line_at, def_at, fault, IsWritten};
 ghost use Rattle.sn_def.specs.WellFormed.{IsWellFormed};
-ghost use Rattle.sn_def.specs.Grammar.{DefinitionText};
+ghost use Rattle.sn_def.specs.Grammar.{DefinitionText, is_given_name, names_of};
+ghost use Rattle.sn_def.specs.declared.version.Version.{Version};
 ghost use Rattle.sn_def.specs.Faults.{first_kind, def_kinds, line_kinds, DefinitionFault};
 ghost use Rattle.sn_def.specs.declared.fault.DefFault.{DefFault};
 ghost use Rattle.sn_def.specs.declared.fault.DefKind.{DefKind};
@@ -26,6 +28,11 @@ pub fn rows_fit()
 /// What some text defines is well formed.
 pub fn written_is_well_formed()
     ensures { (d : Definition) → IsWritten d → IsWellFormed d }
+{}
+
+/// The names of a definition, those of elements of arrays among them, have few bytes: letters, digits, `_` and `.`.
+pub fn names_are_short()
+    ensures { (d : Definition) → IsWritten d → list_all is_given_name (d.name ∷ names_of d) ≡ true }
 {}
 
 /// What is read of a text is what its lines say, and what they say is read.
@@ -52,8 +59,8 @@ pub fn no_prefix()
 
 /// A line is judged by the table of kinds: its kind is that of the first test that holds.
 pub fn lines_are_judged()
-    ensures named { (fields : List (List ℕ)) (kind : DefKind) → (def_at fields ≡ Err (fault 2 kind)) ↔ (first_kind (def_kinds fields) ≡ Some kind) }
-    ensures lines { (d : Definition) (fields : List (List ℕ)) (kind : DefKind) → (line_at d fields ≡ Err kind) ↔ (first_kind (line_kinds d fields) ≡ Some kind) }
+    ensures named { (v : Version) (fields : List (List ℕ)) (kind : DefKind) → (def_at v fields ≡ Err (fault 2 kind)) ↔ (first_kind (def_kinds v fields) ≡ Some kind) }
+    ensures lines { (v : Version) (d : Definition) (fields : List (List ℕ)) (kind : DefKind) → (line_at v d fields ≡ Err kind) ↔ (first_kind (line_kinds v d fields) ≡ Some kind) }
 {}
 
 /// Reading gives a fault exactly where it is the first fault of the text.

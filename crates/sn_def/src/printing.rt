@@ -1,17 +1,21 @@
 //! The text of a definition.
-ghost use Rattle.std.specs.Prelude.{◌≡◌, ◌++◌, ◌∷◌, ◌≤◌, [], map, flat_map, length, unwrap_or, slice_get, IfOk, OnOk};
+ghost use Rattle.std.specs.Prelude.{◌≡◌, ◌+◌, ◌-◌, ◌++◌, ◌∷◌, ◌≤◌, [], codes, map, flat_map, take, drop, length, unwrap_or, slice_get, IfOk, OnOk};
+ghost use Rattle.std.specs.Fmt.{signed_decimal};
 ghost use Rattle.std.specs.Option.{option_map};
 ghost use Rattle.sn_def.specs.Definition.{control_names};
 ghost use Rattle.sn_def.specs.Reading.{text_at};
 ghost use Rattle.sn_def.specs.Grammar.{line, control_fields, output_fields, unit_fields, DefinitionText};
-ghost use Rattle.sn_def.specs.Printing.{control_printed, input_printed, unit_printed, units_printed, print_of};
-ghost use Rattle.sn_def.specs.WellFormed.{outputs_of};
+ghost use Rattle.sn_def.specs.Versions.{title};
+ghost use Rattle.sn_def.specs.Printing.{version_for, first_name, control_printed, array_printed, controls_printed, input_printed, unit_printed, units_printed, print_of};
+ghost use Rattle.sn_def.specs.WellFormed.{RunsFit, outputs_of};
 ghost use Rattle.sn_def.specs.Params.{parameter_of};
 ghost use Rattle.sn_def.specs.Defs.{definition_of};
 
+use crate::arrays::Run;
 use crate::definition::{Def, Param};
 use crate::table::row_of;
 use crate::unit::{Input, Unit};
+use crate::version::Version;
 use sn_fixed::{digits_read_back, literal_bytes};
 use sn_ports::{NoMemory, Text, show};
 use std::alloc::Global;
@@ -34,6 +38,79 @@ fn print_controls(alloc: Global, text: &mut Text, controls: &[Param]) -> Result<
         print_control(alloc, text, control)?;
     }
     Ok(())
+}
+
+fn first_name(controls: &[Param]) -> &[u8]
+    ensures { result.now ≡ first_name (map parameter_of controls.now) }
+{
+    match controls {
+        [] => &[],
+        [first, ..] => first.name.as_slice(),
+    }
+}
+
+/// A value, behind a space.
+fn print_value(alloc: Global, text: &mut Text, control: &Param) -> Result<(), NoMemory>
+    ensures { OnOk result (text.new.bytes ≡ text.old.bytes ++ 32 ∷ signed_decimal control.now.default) }
+{
+    text.append(b" ")?;
+    text.append(show(alloc, control.default)?.as_slice())
+}
+
+/// The values of controls, each behind a space.
+fn print_values(alloc: Global, text: &mut Text, controls: &[Param]) -> Result<(), NoMemory>
+    ensures { OnOk result (text.new.bytes ≡ text.old.bytes ++ flat_map (λ c. 32 ∷ signed_decimal c.default) controls.now) }
+{
+    for control in controls {
+        print_value(alloc, text, control)?;
+    }
+    Ok(())
+}
+
+/// A line `array NAME VALUE ..`.
+fn print_array(alloc: Global, text: &mut Text, controls: &[Param]) -> Result<(), NoMemory>
+    ensures { OnOk result (text.new.bytes ≡ text.old.bytes ++ line (control_fields (array_printed (map parameter_of controls.now)))) }
+{
+    text.append(b"array ")?;
+    text.append(first_name(controls))?;
+    print_values(alloc, text, controls)?;
+    text.append(b"\n")
+}
+
+/// The lines of the controls from a number on that stand before an array, and the array's line.
+fn print_run(
+    alloc: Global,
+    text: &mut Text,
+    controls: &[Param],
+    next: usize,
+    array: &Run,
+) -> Result<(), NoMemory>
+    requires from { next ≤ array.now.first }
+    requires within { array.now.first + array.now.len ≤ length controls.now }
+    ensures { OnOk result (text.new.bytes ≡ (text.old.bytes ++ flat_map (λ c. line (control_fields (control_printed (parameter_of c)))) (take (array.now.first - next) (drop next controls.now))) ++ line (control_fields (array_printed (map parameter_of (take array.now.len (drop array.now.first controls.now)))))) }
+{
+    let first = array.first as usize;
+    let after = first + array.len as usize;
+    print_controls(alloc, text, &controls[next..first])?;
+    print_array(alloc, text, &controls[first..after])
+}
+
+/// The lines of controls, where these are their arrays.
+fn print_control_lines(
+    alloc: Global,
+    text: &mut Text,
+    controls: &[Param],
+    arrays: &[Run],
+) -> Result<(), NoMemory>
+    requires { RunsFit 0 (length controls.now) arrays.now }
+    ensures { OnOk result (text.new.bytes ≡ text.old.bytes ++ flat_map (λ c. line (control_fields c)) (controls_printed 0 (map parameter_of controls.now) arrays.now)) }
+{
+    let mut next = 0;
+    for array in arrays {
+        print_run(alloc, text, controls, next, array)?;
+        next = array.first as usize + array.len as usize;
+    }
+    print_controls(alloc, text, &controls[next..])
 }
 
 fn name_at(controls: &[Param], number: u32) -> &[u8]
@@ -137,8 +214,34 @@ fn print_units(
     Ok(())
 }
 
-/// The text of a definition, in which every value is written as a whole number. `read` gives an
-/// equal definition.
+/// The lower version that has the arrays and as many controls.
+fn version_for(arrays: &[Run], controls: usize) -> Version
+    ensures { result ≡ version_for arrays.now controls }
+{
+    match arrays {
+        [] => {
+            if controls <= 128 {
+                return Version::One;
+            }
+            Version::Two
+        }
+        _ => Version::Two,
+    }
+}
+
+/// The title, and the line `def NAME`.
+fn print_title(alloc: Global, version: Version, name: &[u8]) -> Result<Text, NoMemory>
+    ensures { IfOk result (λ text. text.bytes ≡ (title version ++ 10 ∷ []) ++ line (codes "def" ∷ name.now ∷ [])) }
+{
+    let mut text = Text::from_slice(alloc, version.title())?;
+    text.append(b"\ndef ")?;
+    text.append(name)?;
+    text.append(b"\n")?;
+    Ok(text)
+}
+
+/// The text of a definition, in which every value is written as a whole number: in version 1 if it
+/// has no array and at most 128 controls, else in version 2. `read` gives an equal definition.
 ///
 /// # Errors
 ///
@@ -150,10 +253,11 @@ pub fn print(alloc: Global, def: &Def) -> Result<Text, NoMemory>
 {
     digits_read_back();
     literal_bytes();
-    let mut text = Text::from_slice(alloc, b"snova 1\ndef ")?;
-    text.append(def.name.as_slice())?;
-    text.append(b"\n")?;
-    print_controls(alloc, &mut text, def.controls.as_slice())?;
+    let controls = def.controls.as_slice();
+    let arrays = def.arrays.as_slice();
+    let version = version_for(arrays, controls.len());
+    let mut text = print_title(alloc, version, def.name.as_slice())?;
+    print_control_lines(alloc, &mut text, controls, arrays)?;
     print_units(
         alloc,
         &mut text,

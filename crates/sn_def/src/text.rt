@@ -1,6 +1,7 @@
 //! Reading a whole text.
-ghost use Rattle.std.specs.Prelude.{◌≡◌, Err, IfOk};
-ghost use Rattle.sn_def.specs.Reading.{pieces, line_at, at_line, line_number, fault, is_over, body_at, end_at, def_at, def_and_body, named_at, after_title, title_at, text_at};
+ghost use Rattle.std.specs.Prelude.{◌≡◌, ◌+◌, ◌<◌, Err, IfOk};
+ghost use Rattle.sn_def.specs.Reading.{pieces, line_at, at_line, fault, is_over, body_at, end_at, def_at, def_and_body, named_at, after_title, versioned_at, title_at, text_at};
+ghost use Rattle.sn_def.specs.Versions.{version_of};
 ghost use Rattle.sn_def.specs.Defs.{definition_of};
 ghost use Rattle.sn_def.specs.Answers.{Reads, texts, told_at};
 ghost use Rattle.sn_def.specs.Grammar.{DefinitionText};
@@ -13,6 +14,7 @@ use crate::draft::Draft;
 use crate::fault::{DefFault, DefKind, Refused, Unread};
 use crate::fields::{fields, is_name, lines};
 use crate::line::line;
+use crate::version::Version;
 use sn_fixed::literal_bytes;
 use sn_ports::Text;
 use std::alloc::Global;
@@ -34,24 +36,26 @@ fn is_over(after: &[&[u8]]) -> bool
     }
 }
 
-/// The whole definition, where nothing stands after the line `end`.
-fn after_end<'a>(draft: Draft<'a>, after: &[&'a [u8]]) -> Result<Draft<'a>, DefFault>
-    ensures { result ≡ end_at draft.entry (texts after.now) }
+/// The whole definition, where nothing stands after the line `end`, which has this number.
+fn after_end<'a>(number: u32, draft: Draft<'a>, after: &[&'a [u8]]) -> Result<Draft<'a>, DefFault>
+    requires { number < 4294967295 }
+    ensures { result ≡ end_at number draft.entry (texts after.now) }
 {
     if is_over(after) {
         return Ok(draft);
     }
     Err(DefFault {
-        line: draft.line() + 1,
+        line: number + 1,
         kind: DefKind::Line,
     })
 }
 
-/// The line `end` is the last one.
-fn end<'a>(draft: Draft<'a>, after: &[&'a [u8]]) -> Result<Draft<'a>, Unread>
-    ensures { Reads (λ d. d) result (end_at draft.entry (texts after.now)) }
+/// The line `end`, which has this number, is the last one.
+fn end<'a>(number: u32, draft: Draft<'a>, after: &[&'a [u8]]) -> Result<Draft<'a>, Unread>
+    requires { number < 4294967295 }
+    ensures { Reads (λ d. d) result (end_at number draft.entry (texts after.now)) }
 {
-    Ok(after_end(draft, after)?)
+    Ok(after_end(number, draft, after)?)
 }
 
 /// What is told of a line that was refused.
@@ -64,71 +68,87 @@ fn told(line: u32, why: Refused) -> Unread
     }
 }
 
-/// A line between the first two and `end`.
+/// The line of this number, between the first two and `end`.
 #[tactic(auto, using(crate::proofs::Refusing::told_reads))]
-fn next_line<'a>(alloc: Global, draft: Draft<'a>, text: &'a [u8]) -> Result<Draft<'a>, Unread>
-    ensures { Reads (λ d. d) result (at_line (line_number draft.entry) (line_at draft.entry (pieces 32 text.now))) }
+fn next_line<'a>(
+    alloc: Global,
+    version: Version,
+    number: u32,
+    draft: Draft<'a>,
+    text: &'a [u8],
+) -> Result<Draft<'a>, Unread>
+    ensures { Reads (λ d. d) result (at_line number (line_at version draft.entry (pieces 32 text.now))) }
 {
-    let number = draft.line();
     let fields = fields(alloc, text)?;
-    match line(alloc, draft, &fields) {
+    match line(alloc, version, draft, &fields) {
         Ok(next) => Ok(next),
         Err(why) => Err(told(number, why)),
     }
 }
 
 /// The lines after the first two.
-fn body<'a>(alloc: Global, draft: Draft<'a>, lines: &[&'a [u8]]) -> Result<Draft<'a>, Unread>
-    ensures { Reads (λ d. d) result (body_at draft.entry (texts lines.now)) }
+fn body<'a>(
+    alloc: Global,
+    version: Version,
+    draft: Draft<'a>,
+    lines: &[&'a [u8]],
+) -> Result<Draft<'a>, Unread>
+    ensures { Reads (λ d. d) result (body_at version 3 draft.entry (texts lines.now)) }
 {
     let mut read = draft;
     for (at, text) in lines.iter().enumerate() {
+        let number = read.line(at);
         if at + 1 == lines.len() {
-            return Err(bad(read.line(), DefKind::Line));
+            return Err(bad(number, DefKind::Line));
         }
         if *text == b"end".as_slice() {
-            return end(read, &lines[at + 1..]);
+            return end(number, read, &lines[at + 1..]);
         }
-        read = next_line(alloc, read, text)?;
+        read = next_line(alloc, version, number, read, text)?;
     }
-    Err(bad(read.line(), DefKind::Line))
+    Err(bad(read.line(lines.len()), DefKind::Line))
 }
 
 /// The fields of the line `def NAME`.
-fn named<'a>(alloc: Global, word: &[u8], name: &[u8]) -> Result<Draft<'a>, Unread>
-    ensures { Reads (λ d. d) result (named_at word.now name.now) }
+fn named<'a>(alloc: Global, version: Version, word: &[u8], name: &[u8]) -> Result<Draft<'a>, Unread>
+    ensures { Reads (λ d. d) result (named_at version word.now name.now) }
 {
     if word != b"def".as_slice() || name.is_empty() {
         return Err(bad(2, DefKind::Line));
     }
-    if !is_name(name) {
+    if !is_name(version, name) {
         return Err(bad(2, DefKind::Name));
     }
     Ok(Draft::new(alloc, Text::from_slice(alloc, name)?))
 }
 
 /// The line `def NAME`, by its fields.
-fn def<'a>(alloc: Global, fields: &[&[u8]]) -> Result<Draft<'a>, Unread>
-    ensures { Reads (λ d. d) result (def_at (texts fields.now)) }
+fn def<'a>(alloc: Global, version: Version, fields: &[&[u8]]) -> Result<Draft<'a>, Unread>
+    ensures { Reads (λ d. d) result (def_at version (texts fields.now)) }
 {
     match fields {
-        [word, name] => named(alloc, word, name),
+        [word, name] => named(alloc, version, word, name),
         _ => Err(bad(2, DefKind::Line)),
     }
 }
 
 /// The line `def NAME`, and the lines after it.
-fn def_and_body<'a>(alloc: Global, text: &[u8], after: &[&'a [u8]]) -> Result<Draft<'a>, Unread>
-    ensures { Reads (λ d. d) result (def_and_body (pieces 32 text.now) (texts after.now)) }
+fn def_and_body<'a>(
+    alloc: Global,
+    version: Version,
+    text: &[u8],
+    after: &[&'a [u8]],
+) -> Result<Draft<'a>, Unread>
+    ensures { Reads (λ d. d) result (def_and_body version (pieces 32 text.now) (texts after.now)) }
 {
     let fields = fields(alloc, text)?;
-    let draft = def(alloc, &fields)?;
-    body(alloc, draft, after)
+    let draft = def(alloc, version, &fields)?;
+    body(alloc, version, draft, after)
 }
 
 /// The lines after the first.
-fn after_title<'a>(alloc: Global, lines: &[&'a [u8]]) -> Result<Draft<'a>, Unread>
-    ensures { Reads (λ d. d) result (after_title (texts lines.now)) }
+fn after_title<'a>(alloc: Global, version: Version, lines: &[&'a [u8]]) -> Result<Draft<'a>, Unread>
+    ensures { Reads (λ d. d) result (after_title version (texts lines.now)) }
 {
     match lines {
         [] => Err(bad(2, DefKind::Line)),
@@ -136,8 +156,18 @@ fn after_title<'a>(alloc: Global, lines: &[&'a [u8]]) -> Result<Draft<'a>, Unrea
             if after.is_empty() {
                 return Err(bad(2, DefKind::Line));
             }
-            def_and_body(alloc, text, after)
+            def_and_body(alloc, version, text, after)
         }
+    }
+}
+
+/// The lines after the first, which tells the version.
+fn versioned<'a>(alloc: Global, title: &[u8], lines: &[&'a [u8]]) -> Result<Draft<'a>, Unread>
+    ensures { Reads (λ d. d) result (versioned_at (version_of title.now) (texts lines.now)) }
+{
+    match Version::of(title) {
+        None => Err(bad(1, DefKind::Line)),
+        Some(version) => after_title(alloc, version, lines),
     }
 }
 
@@ -148,10 +178,10 @@ fn title<'a>(alloc: Global, lines: &[&'a [u8]]) -> Result<Draft<'a>, Unread>
     match lines {
         [] => Err(bad(1, DefKind::Line)),
         [text, after @ ..] => {
-            if after.is_empty() || *text != b"snova 1".as_slice() {
+            if after.is_empty() {
                 return Err(bad(1, DefKind::Line));
             }
-            after_title(alloc, after)
+            versioned(alloc, text, after)
         }
     }
 }

@@ -7,6 +7,7 @@ ghost use Rattle.sn_def.specs.Answers.{Gives, texts};
 use crate::draft::Draft;
 use crate::fault::{DefKind, Refused};
 use crate::fields::is_name;
+use crate::version::Version;
 use std::alloc::Global;
 
 /// Gives each name to a further wire. Each has to be new.
@@ -28,15 +29,15 @@ pub(crate) fn give_wires<'a>(
     Ok(given)
 }
 
-fn all_names(fields: &[&[u8]]) -> bool
-    ensures { result ≡ list_all (λ f. is_name f.now) fields.now }
+fn all_names(version: Version, fields: &[&[u8]]) -> bool
+    ensures { result ≡ list_all (λ f. is_name version f.now) fields.now }
 {
-    fields.iter().all(|field| is_name(*field))
+    fields.iter().all(|field| is_name(version, *field))
 }
 
 /// Whether each field is a name.
-pub(crate) fn are_names(fields: &[&[u8]]) -> bool
-    ensures { result ≡ list_all is_name (texts fields.now) }
+pub(crate) fn are_names(version: Version, fields: &[&[u8]]) -> bool
+    ensures { result ≡ list_all (is_name version) (texts fields.now) }
 {
-    all_names(fields)
+    all_names(version, fields)
 }

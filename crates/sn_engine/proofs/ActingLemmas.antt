@@ -5,7 +5,7 @@ use Rattle.std.proofs.Math.Bool.{or_assoc, or-false}
 use Rattle.sn_ports.specs.declared.failed.NoMemory.{NoMemory}
 use Rattle.sn_reply.specs.declared.reason.Reason.{Reason}
 use Rattle.sn_world.specs.declared.command.Handled.{Handled}
-use Rattle.sn_world.specs.declared.command.Handled.TheVariants.{Done, Quit, ClearSched, NotMine}
+use Rattle.sn_world.specs.declared.command.Handled.TheVariants.{Done, Quit, ClearSched, Failed, NotMine}
 use Rattle.sn_world.specs.Answers.{Handles, UnlessDone}
 use Rattle.sn_world.specs.Commands.{either as first_there}
 use Rattle.std.specs.List.{AllByRecursion}
@@ -133,3 +133,18 @@ pub handles_other : (r asked : Result Handled NoMemory) (o other told : Option (
 handles_other r asked o other told t after is same none as_told row =
     let found : Handles asked (first_there o other) after = subst (λ x. Handles asked (first_there x other) after) (sym none) (subst (λ x. Handles asked x after) as_told row) in
     subst (λ x. Handles x (first_there o other) t) (sym is) (subst (λ x. Handles asked (first_there o other) x) (sym same) found)
+
+-- ---- a message that is not carried out changes nothing
+
+pub unless_done : (r : Result Handled NoMemory) (x t : Turn) → r ≡ Ok Done → UnlessDone r (x ≡ t)
+unless_done r x t is = subst (λ q. UnlessDone q (x ≡ t)) (sym is) tt
+
+pub unless_failed : (r : Result Handled NoMemory) (h : Handled) (reason : Reason) (x y t : Turn) → r ≡ Ok (Failed reason) → h ≡ Failed reason → x ≡ y → UnlessDone (Ok h) (y ≡ t) → UnlessDone r (x ≡ t)
+unless_failed r h reason x y t is failed same fact =
+    let unchanged_by : y ≡ t = subst (λ k. UnlessDone (Ok k) (y ≡ t)) failed fact in
+    subst (λ q. UnlessDone q (x ≡ t)) (sym is) (same ∙ unchanged_by)
+
+pub unless_other : (r asked : Result Handled NoMemory) (x y after t : Turn) → r ≡ asked → x ≡ y → after ≡ t → UnlessDone asked (y ≡ after) → UnlessDone r (x ≡ t)
+unless_other r asked x y after t is same none fact =
+    let at_first : UnlessDone asked (y ≡ t) = subst (λ z. UnlessDone asked (y ≡ z)) none fact in
+    subst (λ q. UnlessDone q (x ≡ t)) (sym is) (subst (λ z. UnlessDone asked (z ≡ t)) (sym same) at_first)

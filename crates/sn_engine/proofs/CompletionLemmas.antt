@@ -10,7 +10,8 @@ use Rattle.sn_world.specs.declared.command.Handled.TheVariants as answers
 use Rattle.sn_world.specs.World.{Turn}
 use Rattle.sn_world.specs.Ending.{Next, nothing, quitting, clearing, completing, is_completing}
 use Rattle.sn_world.specs.Completing.{carried, own, one_message, message_in}
-use Rattle.sn_world.specs.Commands.{bus_command_of, bus_row, bus_outcome, completion_in, completion_of, each_within, depth_within, acceptable, with_completion, carrying_row, done_with, ending_of, next_with, next_of, next_in, next_after, run_node}
+use Rattle.sn_world.specs.Addresses.{bus_command_of}
+use Rattle.sn_world.specs.Commands.{bus_row, bus_outcome, completion_in, completion_of, each_within, depth_within, acceptable, with_completion, carrying_row, done_with, ending_of, next_with, next_of, next_in, next_after, run_node}
 use Rattle.sn_engine.specs.Boundary.{Acted, acted, completed, all_completed, act_message}
 
 -- ---- one after another

@@ -193,7 +193,7 @@ impl Engine {
         ensures past { IfOk result (λ e. e.past ≡ no_past settings.now.workers) }
     {
         let stage = Stage::new(alloc, settings.rate, settings.memory, clients)?;
-        let planned = Planned::nothing(alloc, &stage)?;
+        let planned = Planned::nothing(alloc)?;
         let copies = BUS_WORDS + settings.memory;
         let memory = Memory::open(alloc, copies + COPY_WORDS)?;
         let outputs = first_buses(alloc, settings.channels)?;
@@ -297,7 +297,7 @@ impl Engine {
         let entries = entries(alloc, packet)?;
         let mut said = Replies::new(alloc);
         let refused = offer_entries(alloc, &mut self.queue, boundary, from, entries, &mut said)?;
-        send(alloc, &mut self.replies, self.room, said)?;
+        send(&mut self.replies, self.room, said)?;
         Ok(refused)
     }
 
@@ -338,7 +338,7 @@ impl Engine {
         let workers = self.settings.workers;
         self.planned
             .unroll(alloc, blocks, workers, &self.outputs, self.copies)?;
-        send(alloc, &mut self.replies, 0, said)?;
+        send(&mut self.replies, 0, said)?;
         self.room = reserve_settling(&self.stage, &mut self.endings, &mut self.replies)?;
         self.holds = true;
         self.standing = Standing::Bounded;
@@ -479,7 +479,7 @@ impl Engine {
         ensures front { OnErr result (EachBegins self.new.running.replies (with_bad_packet from self.old.running).replies) }
     {
         let said = bad_packet(alloc, from)?;
-        send(alloc, &mut self.replies, self.room, said)
+        send(&mut self.replies, self.room, said)
     }
 
     /// How many bytes of replies are still to be sent to a client.

@@ -1,4 +1,4 @@
-//! The plan of a stage, and where the synths of its jobs stand.
+//! The plan of a stage.
 ghost use Rattle.std.specs.Prelude.{◌≡◌, ◌<◌, ◌≤◌, ◌+◌, ◌^◌, [], ℕ, length, IfOk, OnOk};
 ghost use Rattle.sn_round.specs.Jobs.{IsRaceFree};
 ghost use Rattle.sn_span.specs.Unrolling.{start};
@@ -10,7 +10,6 @@ use crate::weighing::{threads_for, units_beside};
 use sn_clash::{Clashes, world_has_the_clashes};
 use sn_graph::{plan, worlds_are_disjoint};
 use sn_mem::{Extent, Extents};
-use sn_play::SynthPlaces;
 use sn_ports::NoMemory;
 use sn_queue::Queue;
 use sn_quiet::is_quiet;
@@ -19,13 +18,11 @@ use sn_span::unroll;
 use sn_world::Stage;
 use std::alloc::Global;
 
-/// The jobs of a stage, and where their synths stand in its tree.
+/// The jobs of a stage.
 #[derive(Drop)]
 pub struct Planned {
     /// The jobs.
     pub jobs: Plan,
-    /// Where their synths stand.
-    pub places: SynthPlaces,
     /// Whether no synth that runs sends a trigger, or pauses or frees itself at the end of a unit.
     pub quiet: bool,
     /// How many units can run beside the longest chain of jobs.
@@ -46,14 +43,12 @@ fn no_plan(alloc: Global) -> Result<Plan, NoMemory>
 
 impl Planned {
     /// No jobs.
-    pub fn nothing(alloc: Global, stage: &Stage) -> Result<Planned, NoMemory>
+    pub fn nothing(alloc: Global) -> Result<Planned, NoMemory>
         ensures { IfOk result (λ p. p.jobs ≡ []) }
     {
         let jobs = no_plan(alloc)?;
-        let places = SynthPlaces::new(alloc, stage, &jobs)?;
         Ok(Planned {
             jobs,
-            places,
             quiet: false,
             beside: 0,
             all: no_plan(alloc)?,
@@ -74,13 +69,11 @@ impl Planned {
         let _count = stage.tree.len();
         let jobs = plan(alloc, stage, clashes.as_slice())?;
         jobs.is_well_formed();
-        let places = SynthPlaces::new(alloc, stage, &jobs)?;
         let beside = units_beside(alloc, stage, &jobs)?;
         let all = no_plan(alloc)?;
         let quiet = is_quiet(stage);
         Ok(Planned {
             jobs,
-            places,
             quiet,
             beside,
             all,

@@ -52,7 +52,6 @@ impl<'a> Part<'a> {
         Block {
             stage: self.stage,
             plan: &self.planned.jobs,
-            places: &self.planned.places,
             block: self.first + u64::from(number),
         }
     }

@@ -2,6 +2,7 @@
 #![tactic(auto)]
 
 mod arithmetic;
+mod division;
 mod durations;
 mod heights;
 mod laws;
@@ -17,10 +18,11 @@ pub use arithmetic::{
     ONE, add, added, mul, mul_add, products, sat, sat_wide, scaled, scaled_sample, sub, times,
     total, weighted,
 };
+pub use division::Division;
 pub use durations::TimeFrames;
 pub use heights::Heights;
 pub use laws::{digits_read_back, literal_bytes};
-pub use lines::{distance, line_at, nearer, portion};
+pub use lines::{distance, line_at, moved, nearer, portion};
 pub use literals::literal;
 pub use naturals::natural;
 pub use phases::{frames_of, sine, step_of};

@@ -66,7 +66,7 @@ pub(crate) fn part(whole: i64, n: u32) -> i64
 }
 
 /// The start moved by so much.
-pub(crate) fn moved(start: i32, by: i64) -> i32
+pub fn moved(start: i32, by: i64) -> i32
     requires { FitsSigned w32 (start +ℤ by) }
     ensures { result ≡ start +ℤ by }
 {

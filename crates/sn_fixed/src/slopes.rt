@@ -1,102 +1,10 @@
 //! Straight lines, from frame to frame.
-ghost use Rattle.std.specs.Prelude.{◌≡◌, ◌<◌, ◌≤◌, ◌+◌, ◌^◌, pos, ◌*ℤ◌, ◌+ℤ◌, ◌-ℤ◌, ◌-◌, unsigned_abs};
-ghost use Rattle.std.specs.Int.{int_rem_euclid};
+ghost use Rattle.std.specs.Prelude.{◌≡◌, ◌<◌, ◌≤◌, pos, ◌*ℤ◌, ◌-ℤ◌};
 ghost use Rattle.sn_fixed.specs.Divisions.{IsDivided};
 ghost use Rattle.sn_fixed.specs.Lines.{line_at};
 
-use crate::lines::{distance, moved, multiple, part, portion};
-
-/// A quotient, rounded down, and its remainder.
-#[derive(Clone, Copy)]
-struct Division {
-    quotient: i64,
-    remainder: u32,
-}
-
-fn remainder(whole: i64, n: u32) -> u32
-    requires { 0 < n }
-    ensures { result ≡ unsigned_abs (int_rem_euclid whole (pos n)) }
-{
-    whole.rem_euclid(i64::from(n)) as u32
-}
-
-fn wide_remainder(product: i128, n: u32) -> u32
-    requires { 0 < n }
-    ensures { result ≡ unsigned_abs (int_rem_euclid product (pos n)) }
-{
-    product.rem_euclid(i128::from(n)) as u32
-}
-
-/// The whole, divided by `n`.
-fn divided(whole: i64, n: u32) -> Division
-    requires whole { unsigned_abs whole ≤ 2 ^ 33 }
-    requires some { 0 < n }
-    ensures { IsDivided whole n result.quotient result.remainder }
-{
-    Division {
-        quotient: part(whole, n),
-        remainder: remainder(whole, n),
-    }
-}
-
-/// `k` times the whole, divided by `n`.
-fn multiple_divided(whole: i64, k: u32, n: u32) -> Division
-    requires whole { unsigned_abs whole ≤ 2 ^ 33 }
-    requires part { k ≤ n }
-    requires some { 0 < n }
-    ensures { IsDivided (whole *ℤ pos k) n result.quotient result.remainder }
-{
-    Division {
-        quotient: portion(whole, k, n),
-        remainder: wide_remainder(multiple(whole, k), n),
-    }
-}
-
-/// The division by `n` of the sum of two numbers, from theirs.
-fn sum(a: Division, b: Division, n: u32) -> Division
-    requires a { unsigned_abs a.quotient ≤ 2 ^ 33 }
-    requires b { unsigned_abs b.quotient ≤ 2 ^ 33 }
-    requires few { a.remainder < n }
-    requires small { b.remainder < n }
-    ensures under { a.remainder + b.remainder < n → (result.quotient ≡ a.quotient +ℤ b.quotient) × (result.remainder ≡ a.remainder + b.remainder) }
-    ensures over { n ≤ a.remainder + b.remainder → (result.quotient ≡ a.quotient +ℤ b.quotient +ℤ pos 1) × (result.remainder ≡ a.remainder + b.remainder - n) }
-{
-    let remainder = u64::from(a.remainder) + u64::from(b.remainder);
-    if remainder < u64::from(n) {
-        Division {
-            quotient: a.quotient + b.quotient,
-            remainder: remainder as u32,
-        }
-    } else {
-        Division {
-            quotient: a.quotient + b.quotient + 1,
-            remainder: (remainder - u64::from(n)) as u32,
-        }
-    }
-}
-
-/// The division by `n` of the difference of two numbers, from theirs.
-fn difference(a: Division, b: Division, n: u32) -> Division
-    requires a { unsigned_abs a.quotient ≤ 2 ^ 33 }
-    requires b { unsigned_abs b.quotient ≤ 2 ^ 33 }
-    requires few { a.remainder < n }
-    requires small { b.remainder < n }
-    ensures over { b.remainder ≤ a.remainder → (result.quotient ≡ a.quotient -ℤ b.quotient) × (result.remainder ≡ a.remainder - b.remainder) }
-    ensures under { a.remainder < b.remainder → (result.quotient ≡ a.quotient -ℤ b.quotient -ℤ pos 1) × (result.remainder ≡ a.remainder + n - b.remainder) }
-{
-    if b.remainder <= a.remainder {
-        Division {
-            quotient: a.quotient - b.quotient,
-            remainder: a.remainder - b.remainder,
-        }
-    } else {
-        let remainder = u64::from(a.remainder) + u64::from(n) - u64::from(b.remainder);
-        Division {
-            quotient: a.quotient - b.quotient - 1,
-            remainder: remainder as u32,
-        }
-    }
-}
+use crate::division::Division;
+use crate::lines::{distance, moved};
 
 /// The samples between which a line goes.
 #[derive(Clone, Copy)]
@@ -149,12 +57,14 @@ impl Slope {
         ensures frames { result.frames ≡ frames }
     {
         let whole = distance(ends.start, ends.end);
+        let gone = Division::of_multiple(whole, frame, frames);
+        let each = Division::new(whole, frames);
         Slope {
             ends,
             frame,
             frames,
-            gone: multiple_divided(whole, frame, frames),
-            each: divided(whole, frames),
+            gone,
+            each,
         }
     }
 
@@ -175,7 +85,7 @@ impl Slope {
             ends: self.ends,
             frame: self.frame + 1,
             frames: self.frames,
-            gone: sum(self.gone, self.each, self.frames),
+            gone: self.gone.plus(self.each, self.frames),
             each: self.each,
         }
     }
@@ -188,7 +98,7 @@ impl Slope {
             ends: self.ends,
             frame: self.frame - 1,
             frames: self.frames,
-            gone: difference(self.gone, self.each, self.frames),
+            gone: self.gone.minus(self.each, self.frames),
             each: self.each,
         }
     }

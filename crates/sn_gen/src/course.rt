@@ -1,77 +1,12 @@
 //! 64 frames of a line that goes on behind them.
-ghost use Rattle.std.specs.Prelude.{◌≡◌, ◌<◌, ◌≤◌, ◌+◌, ◌-◌, ◌^◌, pos, ◌*ℤ◌, ◌+ℤ◌, ◌-ℤ◌, unsigned_abs, FitsSigned};
-ghost use Rattle.std.specs.Int.{w32, int_rem_euclid};
+ghost use Rattle.std.specs.Prelude.{◌≡◌, ◌<◌, ◌≤◌, ◌+◌, pos, ◌*ℤ◌, ◌-ℤ◌};
 ghost use Rattle.sn_fixed.specs.Divisions.{IsDivided};
 ghost use Rattle.sn_fixed.specs.Lines.{line_at};
 ghost use Rattle.sn_mem.specs.Blocks.{table};
 
 use crate::line::Sweep;
-use sn_fixed::{distance, portion};
+use sn_fixed::{Division, distance, moved};
 use sn_mem::Block;
-
-/// A quotient, rounded down, and its remainder.
-#[derive(Clone, Copy)]
-struct Division {
-    quotient: i64,
-    remainder: u32,
-}
-
-fn multiple(whole: i64, k: u32) -> i128
-    requires { unsigned_abs whole ≤ 2 ^ 33 }
-    ensures { result ≡ whole *ℤ pos k }
-{
-    i128::from(whole) * i128::from(k)
-}
-
-fn remainder(product: i128, n: u32) -> u32
-    requires { 0 < n }
-    ensures { result ≡ unsigned_abs (int_rem_euclid product (pos n)) }
-{
-    product.rem_euclid(i128::from(n)) as u32
-}
-
-/// `k` times the whole, divided by `n`.
-fn divided(whole: i64, k: u32, n: u32) -> Division
-    requires whole { unsigned_abs whole ≤ 2 ^ 33 }
-    requires part { k ≤ n }
-    requires some { 0 < n }
-    ensures { IsDivided (whole *ℤ pos k) n result.quotient result.remainder }
-{
-    Division {
-        quotient: portion(whole, k, n),
-        remainder: remainder(multiple(whole, k), n),
-    }
-}
-
-/// The division by `n` of the sum of two numbers, from theirs.
-fn sum(a: Division, b: Division, n: u32) -> Division
-    requires a { unsigned_abs a.quotient ≤ 2 ^ 33 }
-    requires b { unsigned_abs b.quotient ≤ 2 ^ 33 }
-    requires few { a.remainder < n }
-    requires small { b.remainder < n }
-    ensures under { a.remainder + b.remainder < n → (result.quotient ≡ a.quotient +ℤ b.quotient) × (result.remainder ≡ a.remainder + b.remainder) }
-    ensures over { n ≤ a.remainder + b.remainder → (result.quotient ≡ a.quotient +ℤ b.quotient +ℤ pos 1) × (result.remainder ≡ a.remainder + b.remainder - n) }
-{
-    let remainder = u64::from(a.remainder) + u64::from(b.remainder);
-    if remainder < u64::from(n) {
-        Division {
-            quotient: a.quotient + b.quotient,
-            remainder: remainder as u32,
-        }
-    } else {
-        Division {
-            quotient: a.quotient + b.quotient + 1,
-            remainder: (remainder - u64::from(n)) as u32,
-        }
-    }
-}
-
-fn raised(start: i32, by: i64) -> i32
-    requires { FitsSigned w32 (start +ℤ by) }
-    ensures { result ≡ start +ℤ by }
-{
-    (i64::from(start) + by) as i32
-}
 
 /// A line at its next frame. Unlike a `Slope` it is not told at each frame where it is, and goes from each to the one
 /// after it.
@@ -94,8 +29,8 @@ impl Course {
         ensures { result.line ≡ line }
     {
         let whole = distance(line.start, line.end);
-        let gone = divided(whole, line.frame, line.frames);
-        let each = divided(whole, 1, line.frames);
+        let gone = Division::of_multiple(whole, line.frame, line.frames);
+        let each = Division::new(whole, line.frames);
         Course { line, gone, each }
     }
 
@@ -104,7 +39,7 @@ impl Course {
         ensures { result ≡ line_at self.now.line.start self.now.line.end self.now.line.frame self.now.line.frames }
     {
         let line = self.line;
-        raised(line.start, self.gone.quotient)
+        moved(line.start, self.gone.quotient)
     }
 
     /// The line after that frame.
@@ -116,7 +51,7 @@ impl Course {
         let frame = line.frame + 1;
         Course {
             line: Sweep { frame, ..line },
-            gone: sum(self.gone, self.each, line.frames),
+            gone: self.gone.plus(self.each, line.frames),
             each: self.each,
         }
     }

@@ -11,7 +11,7 @@ use crate::nodes::{Running, Voice};
 use sn_foot::canonical;
 use sn_mem::{Extent, Foot};
 use sn_ports::NoMemory;
-use sn_round::{Ids, Job, Jobs, Plan};
+use sn_round::{Ids, Job, Jobs, Plan, SharedFoot};
 use std::alloc::Global;
 
 /// Puts extents at the end.
@@ -77,7 +77,7 @@ fn job_with(alloc: Global, run: &[&Voice], before: Jobs) -> Result<Job, NoMemory
 {
     Ok(Job {
         synths: ids_of(alloc, run)?,
-        foot: foot_of(alloc, run)?,
+        foot: SharedFoot::new(alloc, foot_of(alloc, run)?)?,
         before,
     })
 }

@@ -1,4 +1,5 @@
 pub mod Samples
+pub mod SampleWords
 pub mod OneMore
 pub mod Heard
 pub mod Mixing

@@ -1,5 +1,5 @@
 -- Sums of samples, as words hold them.
-use Rattle.std.proofs.Common.{◌≡◌, ℤ, pos, negsuc, ◌+ℤ◌, ◌≤ℤ◌, SFits, w32, ap, ◌∙◌, arith}
+use Rattle.std.proofs.Common.{◌≡◌, ℤ, pos, negsuc, ◌≤ℤ◌, SFits, w32, arith}
 use Rattle.std.proofs.lemmas.Int.{ints, clamps}
 use Rattle.sn_fixed.specs.Fixed.{sat}
 
@@ -15,7 +15,3 @@ pub sat_same : (z : ℤ) → SFits w32 z → sat z ≡ z
 unfolding sat
 sat_same (pos n) fits = let h = fits.sfits in omega (arith, ints, clamps)
 sat_same (negsuc n) fits = let h = fits.sfits in omega (arith, ints, clamps)
-
--- nothing and a sample
-pub sat_alone : (x : ℤ) → SFits w32 x → sat (pos 0 +ℤ x) ≡ x
-sat_alone x fits = let e : pos 0 +ℤ x ≡ x = omega (arith, ints) in ap sat e ∙ sat_same x fits

@@ -18,22 +18,6 @@ fn hears(feedback: bool, block: u64, written: u64) -> bool
     written == block + 1 || (feedback && block > 0 && written == block)
 }
 
-/// The samples in the 64 words from `at` on.
-fn samples_at<P: Port>(port: &mut P, at: u32) -> Block
-    requires { MayRead (P.foot port.old) at 64 }
-    ensures value { result ≡ samples_at (P.words port.old) at }
-    ensures words { P.words port.new ≡ P.words port.old }
-    ensures foot { P.foot port.new ≡ P.foot port.old }
-    ensures rest { P.rest port.new ≡ P.rest port.old }
-{
-    let mut samples = [0i32; 64];
-    for frame in 0..64 {
-        let word = port.load(at + frame as u32);
-        samples[frame] = sample_of(word);
-    }
-    samples
-}
-
 /// What is heard of the audio bus at a place.
 fn heard_at<P: Port>(port: &mut P, feedback: bool, block: u64, at: u32) -> Block
     requires block { block < 2 ^ 63 }
@@ -45,7 +29,7 @@ fn heard_at<P: Port>(port: &mut P, feedback: bool, block: u64, at: u32) -> Block
 {
     let written = port.load(at);
     if hears(feedback, block, written) {
-        samples_at(port, at + 1)
+        port.load_samples(at + 1)
     } else {
         [0; 64]
     }

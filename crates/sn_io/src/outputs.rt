@@ -1,38 +1,48 @@
 //! Out.ar, ReplaceOut and Out.kr: signals onto buses.
-ghost use Rattle.std.specs.Prelude.{◌≡◌, ◌<◌, ◌≤◌, ◌+◌, ◌^◌, ℕ, IfSome, length};
+ghost use Rattle.std.specs.Prelude.{◌≡◌, ◌<◌, ◌≤◌, ◌+◌, ◌^◌, ◌+ℤ◌, pos, ℕ, IfSome, length, slice_index_or};
+ghost use Rattle.sn_fixed.specs.Fixed.{sat};
 ghost use Rattle.sn_mem.specs.Words.{MayWrite};
+ghost use Rattle.sn_mem.specs.Blocks.{changed, table};
 ghost use Rattle.sn_io.specs.Channels.{audio_channel, control_channel, channels, signals};
-ghost use Rattle.sn_io.specs.OverWords.{onto_block, onto_audio, onto_audio_channel, held_at, onto_value, onto_control, onto_control_channel};
+ghost use Rattle.sn_io.specs.OverWords.{summed, overwritten, onto_block, onto_audio, onto_audio_channel, held_at, onto_value, onto_control, onto_control_channel};
 ghost use Rattle.sn_io.specs.Conditions.{MayWriteAudio, MayWriteControl};
 
 use crate::channels::{audio_channel, control_channel};
 use sn_fixed::add;
-use sn_mem::{Block, Blocks, Change, Places, Port, change_block, sample_of, word_of};
+use sn_mem::{Block, Blocks, Places, Port, sample_of, word_of};
 
-#[derive(Clone, Copy)]
-struct Mix;
-
-impl Change for Mix {
-    ghost use Rattle.sn_io.specs.OverWords.{summed};
-
-    ghost change = { λ _. summed };
-
-    fn change(&self, word: u64, x: i32) -> u64 {
-        word_of(add(sample_of(word), x))
+/// The sums of two blocks, sample by sample.
+#[inline(always)]
+fn sums(a: &Block, b: &Block) -> Block
+    ensures { result ≡ table (λ k. sat (slice_index_or a.now k (pos 0) +ℤ slice_index_or b.now k (pos 0))) 64 }
+{
+    let mut samples = [0i32; 64];
+    for frame in 0..64 {
+        samples[frame] = add(a[frame], b[frame]);
     }
+    samples
 }
 
-#[derive(Clone, Copy)]
-struct Overwrite;
+/// Adds a signal to the 64 words from `at` on.
+fn mix_block<P: Port>(port: &mut P, at: u32, signal: &Block)
+    requires { MayWrite (P.foot port.old) at 64 }
+    ensures words { P.words port.new ≡ changed summed (P.words port.old) at signal.now }
+    ensures foot { P.foot port.new ≡ P.foot port.old }
+    ensures rest { P.rest port.new ≡ P.rest port.old }
+{
+    let held = port.load_samples(at);
+    port.store_samples(at, &sums(&held, signal));
+}
 
-impl Change for Overwrite {
-    ghost use Rattle.sn_io.specs.OverWords.{overwritten};
-
-    ghost change = { λ _ _. overwritten };
-
-    fn change(&self, _word: u64, x: i32) -> u64 {
-        word_of(x)
-    }
+/// Puts a signal into the 64 words from `at` on, as if they held silence.
+fn set_block<P: Port>(port: &mut P, at: u32, signal: &Block)
+    requires { MayWrite (P.foot port.old) at 64 }
+    ensures words { P.words port.new ≡ changed (λ _. overwritten) (P.words port.old) at signal.now }
+    ensures foot { P.foot port.new ≡ P.foot port.old }
+    ensures rest { P.rest port.new ≡ P.rest port.old }
+{
+    let silence = [0i32; 64];
+    port.store_samples(at, &sums(&silence, signal));
 }
 
 /// Puts a signal onto the audio bus at a place. With `adds` it adds to what was written in this
@@ -46,9 +56,9 @@ fn put_block<P: Port>(port: &mut P, adds: bool, block: u64, at: u32, signal: &Bl
 {
     let written = port.load(at);
     if adds && written == block + 1 {
-        change_block(&Mix, port, at + 1, signal);
+        mix_block(port, at + 1, signal);
     } else {
-        change_block(&Overwrite, port, at + 1, signal);
+        set_block(port, at + 1, signal);
         port.store(at, block + 1);
     }
 }

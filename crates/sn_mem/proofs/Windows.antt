@@ -1,11 +1,11 @@
 -- Windows and tables, item by item: where a run of words was put, and where not.
-use Rattle.std.proofs.Common.{◌≡◌, ◌≢◌, ◌≤◌, ◌<◌, ◌⊎◌, ℕ, zero, suc, ◌+◌, List, [], ◌∷◌, ◌++◌, length, get_or, set, refl, ap, sym, ◌∙◌, ⊎_elim, arith, length-set, get_or-set_same, get_or-set_other}
+use Rattle.std.proofs.Common.{◌≡◌, ◌≢◌, ◌≤◌, ◌<◌, ◌⊎◌, ℕ, zero, suc, ◌+◌, List, [], ◌∷◌, ◌++◌, ℤ, pos, length, replicate, get_or, set, refl, ap, sym, ◌∙◌, ⊎_elim, arith, length-set, get_or-set_same, get_or-set_other}
 use Rattle.std.proofs.lemmas.Bool.{cases_eq}
 use Rattle.std.proofs.lemmas.List.{ext_get_or, get_or_append_left, get_or_push}
-use Rattle.sn_mem.specs.Blocks.{put, window, table}
-use Rattle.sn_mem.proofs.Steps.{length-window}
-use Rattle.sn_mem.proofs.Tables.{length-table, past_put}
-use Rattle.sn_mem.proofs.Puts.{before_put}
+use Rattle.sn_mem.specs.Blocks.{put, window, table, word_for, sample_in, samples_at, sample_words}
+use Rattle.sn_mem.proofs.Steps.{length-put, length-window, put_more}
+use Rattle.sn_mem.proofs.Tables.{length-table, past_put, table_more}
+use Rattle.sn_mem.proofs.Puts.{before_put, in_put}
 
 -- ---- tables
 
@@ -73,3 +73,31 @@ window_put ws at len p (x ∷ xs) le inside =
 
 pub apart_put : (ws : List ℕ) (at j : ℕ) (xs : List ℕ) → (j < at) ⊎ (at + length xs ≤ j) → get_or (put ws at xs) j 0 ≡ get_or ws j 0
 apart_put ws at j xs apart = ⊎_elim (λ (l : j < at). before_put ws at j xs l) (λ (r : at + length xs ≤ j). past_put ws at j xs r) apart
+
+-- ---- samples in words
+
+-- the samples of words that were loaded, and of words that are seen alike
+pub samples_of_window : (us ws : List ℕ) (at : ℕ) → us ≡ window ws at 64 → samples_at us 0 ≡ samples_at ws at
+samples_of_window us ws at e = table_same (λ k. sample_in (get_or us (0 + k) 0)) (λ k. sample_in (get_or ws (at + k) 0)) 64
+    (λ k lt. let here : 0 + k ≡ k = omega arith in ap (λ n. sample_in (get_or us n 0)) here ∙ ap sample_in (ap (λ (vs : List ℕ). get_or vs k 0) e ∙ window_at ws at 64 k lt))
+
+pub samples_same : (us ws : List ℕ) (at : ℕ) → window us at 64 ≡ window ws at 64 → samples_at us at ≡ samples_at ws at
+samples_same us ws at e = table_same (λ k. sample_in (get_or us (at + k) 0)) (λ k. sample_in (get_or ws (at + k) 0)) 64
+    (λ k lt. ap sample_in (sym (window_at us at 64 k lt) ∙ (ap (λ (vs : List ℕ). get_or vs k 0) e ∙ window_at ws at 64 k lt)))
+
+-- one more value of a table, put into words
+pub put_table : (ws us : List ℕ) (at k w : ℕ) (f : ℕ → ℕ) → us ≡ put ws at (table f k) → w ≡ f k → set us (at + k) w ≡ put ws at (table f (k + 1))
+put_table ws us at k w f e h = ap (λ (us : List ℕ). set us (at + k) w) e
+    ∙ (ap (λ n. set (put ws at (table f k)) (at + n) w) (sym (length-table f k))
+    ∙ (sym (put_more ws at (table f k) w) ∙ ap (put ws at) (ap (λ x. table f k ++ x ∷ []) h ∙ sym (table_more f k))))
+
+-- words that all take the place of as many
+put_all : (ws xs : List ℕ) → length ws ≡ length xs → put ws 0 xs ≡ xs
+put_all ws xs e = ext_get_or 0 (put ws 0 xs) xs (length-put ws 0 xs ∙ e)
+    (λ k lt.
+    let low : k < length xs = omega (arith, lt, length-put ws 0 xs, e) in
+    let here : k ≡ 0 + k = omega arith in
+    ap (λ n. get_or (put ws 0 xs) n 0) here ∙ in_put ws 0 k xs low (omega (arith, e)))
+
+pub samples_alone : (xs : List ℤ) → put (replicate 64 0) 0 (sample_words xs) ≡ sample_words xs
+samples_alone xs = put_all (replicate 64 0) (sample_words xs) (sym (length-table (λ k. word_for (get_or xs k (pos 0))) 64))

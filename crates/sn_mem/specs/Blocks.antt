@@ -56,6 +56,10 @@ recurred size loaded stored step ws at inputs = let r = recurrence loaded stored
 abbrev pub samples_at : List ℕ → ℕ → List ℤ
 samples_at ws at = table (λ k. sample_in (slice_index ws (at + k))) 64
 
+-- the words that hold 64 samples
+abbrev pub sample_words : List ℤ → List ℕ
+sample_words xs = table (λ k. word_for (slice_index_or xs k (pos 0))) 64
+
 -- the words of a block after each was changed by its frame's sample
 abbrev pub changed : (ℕ → ℤ → ℕ) → List ℕ → ℕ → List ℤ → List ℕ
 changed f ws at xs = put ws at (table (λ k. f (slice_index ws (at + k)) (slice_index_or xs k (pos 0))) 64)

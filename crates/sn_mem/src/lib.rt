@@ -3,7 +3,6 @@
 
 mod blocks;
 mod buffers;
-mod bus_words;
 mod clashes;
 mod done;
 mod extents;
@@ -20,7 +19,6 @@ mod stored;
 
 pub use blocks::{Block, Blocks, MOST_BLOCKS};
 pub use buffers::{BUFFERS, BufferPlace, Buffers};
-pub use bus_words::{Change, change_block};
 pub use clashes::clash;
 pub use done::ended;
 pub use extents::{Extent, Extents, Foot};

@@ -1,13 +1,15 @@
 //! A port with a plain copy of its first words.
 ghost use Rattle.std.specs.Prelude.{◌≡◌, ◌≤◌, ◌<◌, ◌+◌, ◌^◌, ℕ, true, min, length, slice_set};
 ghost use Rattle.sn_mem.specs.Words.{has, covers, touches, writes};
-ghost use Rattle.sn_mem.specs.Blocks.{window};
+ghost use Rattle.sn_mem.specs.Blocks.{samples_at, window};
 ghost use Rattle.sn_mem.specs.Frames.{outside};
 ghost use Rattle.sn_mem.specs.Copies.{IsCopied, covered_below, had_below, localized};
 
+use crate::blocks::Block;
 use crate::extents::{Extent, Foot};
 use crate::port::Port;
 use crate::runs::copy_in;
+use crate::samples::{put_samples, samples_in};
 use std::collections::LinkedList;
 
 /// What a port with a copy keeps. No value of it is made.
@@ -119,6 +121,15 @@ impl<'a, P> LocalPort<'a, P> {
     {
         into.copy_from_slice(&self.copy[at..at + into.len()]);
     }
+
+    /// The samples in the 64 words of the copy from `at` on.
+    #[inline(always)]
+    fn copied_samples(&self, at: usize) -> Block
+        requires { at + 64 ≤ length self.now.copy.now }
+        ensures { result ≡ samples_at self.now.copy.now at }
+    {
+        samples_in(self.copy, at)
+    }
 }
 
 impl<'a, P: Port> LocalPort<'a, P> {
@@ -212,6 +223,34 @@ impl<P: Port> Port for LocalPort<'_, P> {
             for i in 0..run.len() {
                 self.store(at + i as u32, run[i]);
             }
+        }
+    }
+
+    /// Out of the copy, if it has all of the words.
+    #[inline(always)]
+    fn load_samples(&mut self, at: u32) -> Block {
+        let begin = at as usize;
+        let end = begin + 64;
+        if end <= self.copy.len() {
+            self.copied_samples(begin)
+        } else {
+            let mut words = [0u64; 64];
+            self.load_run(at, &mut words);
+            samples_in(&words, 0)
+        }
+    }
+
+    /// Into the copy, if it has all of the words.
+    #[inline(always)]
+    fn store_samples(&mut self, at: u32, samples: &Block) {
+        let begin = at as usize;
+        let end = begin + 64;
+        if end <= self.copy.len() {
+            put_samples(samples, self.copy, begin);
+        } else {
+            let mut words = [0u64; 64];
+            put_samples(samples, &mut words, 0);
+            self.store_run(at, &words);
         }
     }
 

@@ -52,6 +52,22 @@ fn run_frames<U: Recurrence>(
     state
 }
 
+/// The same where the inputs are steady. It is a function of its own, so that a compiler doesn't make one call of both,
+/// and its loop reads the inputs once and not at each frame.
+#[inline(always)]
+fn run_steady_frames<U: Recurrence>(
+    unit: &U,
+    begin: U::State,
+    inputs: &Blocks,
+    samples: &mut Block,
+) -> U::State
+    requires { U.arity unit.now ≤ length inputs.now }
+    ensures state { result ≡ (scan (U.step unit.now) begin inputs.now 64).0 }
+    ensures samples { samples.new ≡ (scan (U.step unit.now) begin inputs.now 64).1 }
+{
+    run_frames(unit, begin, inputs, samples)
+}
+
 /// Runs a unit for a block, with its state in the words from `at` on.
 pub fn run_recurrence<U: Recurrence, P: Port>(
     unit: &U,
@@ -72,9 +88,8 @@ pub fn run_recurrence<U: Recurrence, P: Port>(
     load_words(port, at, words);
     let begin = U::State::load(words);
     let mut samples = [0i32; 64];
-    // The same twice, so that the first loop reads the inputs once and not at each frame.
     let state = if inputs.is_steady() {
-        run_frames(unit, begin, inputs, &mut samples)
+        run_steady_frames(unit, begin, inputs, &mut samples)
     } else {
         run_frames(unit, begin, inputs, &mut samples)
     };

@@ -22,7 +22,8 @@ use Rattle.sn_def.specs.declared.control.Control.{Control}
 use Rattle.sn_def.specs.declared.definition.Def.{Def}
 use Rattle.sn_def.specs.Definition.{Definition, Parameter, control_names}
 use Rattle.sn_def.specs.Defs.{definition_of}
-use Rattle.sn_def.specs.Reading.{IsWritten, is_name}
+use Rattle.sn_def.specs.Reading.{IsWritten}
+use Rattle.sn_def.specs.Grammar.{is_given_name, names_of}
 use Rattle.sn_def.specs.Asked.{control_named}
 use Rattle.sn_synth.specs.Synths.{control_value}
 use Rattle.sn_synth.specs.Conditions.{MayFollow, no_control}
@@ -44,7 +45,7 @@ use Rattle.sn_world.specs.NewSynth.{ControlName, numbered, named, control_name, 
 use Rattle.sn_world.specs.ControlRuns.{ForNode, for_node, asked_of}
 use Rattle.sn_world.specs.SynthQueries.{value_arguments, values_asked, values_message, payload_at, values_from, values_outcome}
 use Rattle.sn_nodecmd.specs.Getting.{CanBeTold}
-use Rattle.sn_nodecmd.proofs.NameLemmas.{LinesAreRead}
+use Rattle.sn_nodecmd.proofs.NameLemmas.{NamesAreShort}
 
 -- ---- the names of a definition's controls
 
@@ -57,26 +58,26 @@ all-left p (x ∷ xs) ys h =
 a_test : (b : Bool) → IsProp (b ≡ true)
 a_test b = hlevel props
 
-pub controls_named_well : LinesAreRead → (d : Definition) → ∥ IsWritten d ∥₁ → list_all is_name (control_names d) ≡ true
-controls_named_well read d w =
-    ∥∥₁_elim w (a_test (list_all is_name (control_names d))) (λ t. all-left is_name (control_names d) d.wires (read t.0 d t.1).names)
+pub controls_named_well : NamesAreShort → (d : Definition) → ∥ IsWritten d ∥₁ → list_all is_given_name (control_names d) ≡ true
+controls_named_well short d w =
+    ∥∥₁_elim w (a_test (list_all is_given_name (control_names d))) (λ t. all-left is_given_name (control_names d) d.wires (second-of (is_given_name d.name) (list_all is_given_name (names_of d)) (short d t)))
 
-name-at : (cs : List Parameter) (k : ℕ) (c : Parameter) → k < length cs → list_all is_name (map (λ (p : Parameter). p.name) cs) ≡ true → is_name (get_or cs k c).name ≡ true
+name-at : (cs : List Parameter) (k : ℕ) (c : Parameter) → k < length cs → list_all is_given_name (map (λ (p : Parameter). p.name) cs) ≡ true → is_given_name (get_or cs k c).name ≡ true
 name-at [] k c lt h = absurd (omega arith)
-name-at (p ∷ ps) zero c lt h = first-of (is_name p.name) (list_all is_name (map (λ (q : Parameter). q.name) ps)) h
-name-at (p ∷ ps) (suc k) c lt h = name-at ps k c (omega arith) (second-of (is_name p.name) (list_all is_name (map (λ (q : Parameter). q.name) ps)) h)
+name-at (p ∷ ps) zero c lt h = first-of (is_given_name p.name) (list_all is_given_name (map (λ (q : Parameter). q.name) ps)) h
+name-at (p ∷ ps) (suc k) c lt h = name-at ps k c (omega arith) (second-of (is_given_name p.name) (list_all is_given_name (map (λ (q : Parameter). q.name) ps)) h)
 
 no_parameter : Parameter
 no_parameter = record { name = []; default = pos 0 }
 
-found-name : (d : Definition) (name : List ℕ) (o : Option ℕ) → control_named d name ≡ o → is_some o ≡ true → list_all is_name (control_names d) ≡ true → is_name name ≡ true
+found-name : (d : Definition) (name : List ℕ) (o : Option ℕ) → control_named d name ≡ o → is_some o ≡ true → list_all is_given_name (control_names d) ≡ true → is_given_name name ≡ true
 found-name d name None e h all = absurd cc
 found-name d name (Some k) e h all =
     let found = position-Some (λ (c : Parameter). bytes_eq c.name name) d.controls k no_parameter e in
     let same : (get_or d.controls k no_parameter).name ≡ name = (bytes_eq-Decides (get_or d.controls k no_parameter).name name).0 found.1 in
-    ap is_name (sym same) ∙ name-at d.controls k no_parameter found.0 all
+    ap is_given_name (sym same) ∙ name-at d.controls k no_parameter found.0 all
 
-pub known-name : (d : Definition) (name : List ℕ) → is_some (control_named d name) ≡ true → list_all is_name (control_names d) ≡ true → is_name name ≡ true
+pub known-name : (d : Definition) (name : List ℕ) → is_some (control_named d name) ≡ true → list_all is_given_name (control_names d) ≡ true → is_given_name name ≡ true
 known-name d name h all = found-name d name (control_named d name) refl h all
 
 -- ---- the number of a control

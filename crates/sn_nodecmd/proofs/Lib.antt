@@ -4,6 +4,7 @@ pub mod Judged
 pub mod Clearing
 pub mod MakingLemmas
 pub mod RunLemmas
+pub mod RunningLemmas
 pub mod CoveringLemmas
 pub mod TurningLemmas
 pub mod ReworkLemmas

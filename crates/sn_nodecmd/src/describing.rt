@@ -2,7 +2,7 @@
 ghost use Rattle.std.specs.Prelude.{◌≡◌, ◌≤◌, ◌∷◌, ◌++◌, [], List, ℕ, pos, negsuc, length, map, true, IfOk, OnOk};
 ghost use Rattle.sn_osc.specs.Shape.{argument_of, message_of, int, string};
 ghost use Rattle.sn_reply.specs.Sending.{IsSendable};
-ghost use Rattle.sn_def.specs.Reading.{is_name};
+ghost use Rattle.sn_def.specs.Grammar.{is_given_name};
 ghost use Rattle.sn_tree.specs.Trees.{count};
 ghost use Rattle.sn_world.specs.World.{turn_of};
 ghost use Rattle.sn_world.specs.TreeQueries.{tree_row};
@@ -11,7 +11,7 @@ ghost use Rattle.sn_nodecmd.specs.Describing.{held_arguments, described, HaveFew
 
 use crate::judging::is_synth;
 use crate::questions::{Question, answer_all};
-use sn_def::{Def, lines_are_read};
+use sn_def::{Def, names_are_short};
 use sn_osc::{Arg, Message};
 use sn_ports::NoMemory;
 use sn_reply::{Answer, Reason, Replies, To};
@@ -21,9 +21,9 @@ use std::alloc::Global;
 
 /// A law: a definition has a name.
 fn is_named(def: &Def)
-    ensures { is_name def.now.name.bytes ≡ true }
+    ensures { is_given_name def.now.name.bytes ≡ true }
 {
-    lines_are_read();
+    names_are_short();
 }
 
 /// A synth: its id, -1, and the name of its definition.

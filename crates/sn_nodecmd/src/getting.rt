@@ -7,7 +7,7 @@ ghost use Rattle.sn_osc.specs.Bytes.{arguments_bytes};
 ghost use Rattle.sn_mem.specs.Buses.{control_buses};
 ghost use Rattle.sn_def.specs.Definition.{control_names};
 ghost use Rattle.sn_def.specs.Defs.{definition_of};
-ghost use Rattle.sn_def.specs.Reading.{is_name};
+ghost use Rattle.sn_def.specs.Grammar.{is_given_name};
 ghost use Rattle.sn_def.specs.Asked.{control_named};
 ghost use Rattle.sn_synth.specs.Conditions.{AreControlsOf, no_control};
 ghost use Rattle.sn_reply.specs.Sending.{IsSendable};
@@ -22,7 +22,7 @@ ghost use Rattle.sn_nodecmd.specs.Runs.{name_of};
 ghost use Rattle.sn_nodecmd.specs.Getting.{request_of, CanBeTold};
 
 use crate::names::{NamedControl, control_name, number_of};
-use sn_def::{Control, Controls, Def, lines_are_read};
+use sn_def::{Control, Controls, Def, names_are_short};
 use sn_mem::Port;
 use sn_osc::{Arg, Message};
 use sn_ports::NoMemory;
@@ -67,9 +67,9 @@ fn asked_controls(alloc: Global, arguments: &[Arg]) -> Result<Option<AskedContro
 
 /// A law: the controls of a definition have names.
 fn are_named(def: &Def)
-    ensures { list_all is_name (control_names (definition_of def.now)) ≡ true }
+    ensures { list_all is_given_name (control_names (definition_of def.now)) ≡ true }
 {
-    lines_are_read();
+    names_are_short();
 }
 
 /// The name of a control of the definition.

@@ -8,7 +8,8 @@ ghost use Rattle.sn_osc.specs.Bytes.{arguments_bytes};
 ghost use Rattle.sn_reply.specs.Sending.{IsAnswerable};
 ghost use Rattle.sn_world.specs.World.{turn_of};
 ghost use Rattle.sn_world.specs.Pictures.{Pictures, WritesWorld, KeepsOutside};
-ghost use Rattle.sn_world.specs.Commands.{ArgumentsOf, tree_command_of, node_command_of, node_row, run_node};
+ghost use Rattle.sn_world.specs.Addresses.{node_command_of};
+ghost use Rattle.sn_world.specs.Commands.{ArgumentsOf, node_row, run_node};
 ghost use Rattle.sn_world.specs.Answers.{Follows, UnlessFollowed, Handles, UnlessDone, AsksNothing};
 
 use crate::describing::run_tree_query;
@@ -27,82 +28,21 @@ use sn_mem::Port;
 use sn_osc::{Arg, Body, Message};
 use sn_ports::NoMemory;
 use sn_reply::{Reason, Replies};
-use sn_tree::Action;
-use sn_world::{DeepFree, FreeAll, Handled, NodeCommand, NodeId, RunFlag, Stage, pairs, singles};
+use sn_world::{
+    Command, DeepFree, FreeAll, Handled, NodeCommand, NodeId, RunFlag, Stage, command_of, pairs,
+    singles,
+};
 use std::alloc::Global;
-
-/// The command with an address that makes, moves or frees nodes.
-fn tree_command_of(address: &[u8]) -> Option<NodeCommand>
-    ensures { result ≡ tree_command_of address.now }
-{
-    if address == b"/g_new".as_slice() {
-        return Some(NodeCommand::NewGroup);
-    }
-    if address == b"/p_new".as_slice() {
-        return Some(NodeCommand::NewParallel);
-    }
-    if address == b"/n_free".as_slice() {
-        return Some(NodeCommand::Free);
-    }
-    if address == b"/g_freeAll".as_slice() {
-        return Some(NodeCommand::FreeAll);
-    }
-    if address == b"/g_deepFree".as_slice() {
-        return Some(NodeCommand::DeepFree);
-    }
-    if address == b"/g_queryTree".as_slice() {
-        return Some(NodeCommand::QueryTree);
-    }
-    if address == b"/n_before".as_slice() {
-        return Some(NodeCommand::Move(Action::Before));
-    }
-    if address == b"/n_after".as_slice() {
-        return Some(NodeCommand::Move(Action::After));
-    }
-    if address == b"/g_head".as_slice() {
-        return Some(NodeCommand::Move(Action::Head));
-    }
-    if address == b"/g_tail".as_slice() {
-        return Some(NodeCommand::Move(Action::Tail));
-    }
-    if address == b"/n_order".as_slice() {
-        return Some(NodeCommand::Order);
-    }
-    None
-}
 
 /// The command on nodes with an address.
 fn node_command_of(address: &[u8]) -> Option<NodeCommand>
     ensures { result ≡ node_command_of address.now }
 {
-    if address == b"/s_new".as_slice() {
-        return Some(NodeCommand::New);
+    match command_of(address) {
+        Some(Command::OnNodes(command)) => Some(command),
+        Some(Command::OnServer(_)) => None,
+        None => None,
     }
-    if address == b"/notify".as_slice() {
-        return Some(NodeCommand::Notify);
-    }
-    if address == b"/n_run".as_slice() {
-        return Some(NodeCommand::TurnNodes);
-    }
-    if address == b"/n_set".as_slice() {
-        return Some(NodeCommand::SetControls);
-    }
-    if address == b"/n_setn".as_slice() {
-        return Some(NodeCommand::SetRuns);
-    }
-    if address == b"/n_fill".as_slice() {
-        return Some(NodeCommand::FillRuns);
-    }
-    if address == b"/n_map".as_slice() {
-        return Some(NodeCommand::MapControls);
-    }
-    if address == b"/n_query".as_slice() {
-        return Some(NodeCommand::Query);
-    }
-    if address == b"/s_get".as_slice() {
-        return Some(NodeCommand::GetControls);
-    }
-    tree_command_of(address)
 }
 
 /// The arguments of a message, where they are read.

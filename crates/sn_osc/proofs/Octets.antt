@@ -1,5 +1,5 @@
 -- The bytes of a packet whose texts hold octets are octets.
-use Rattle.std.proofs.Common.{◌≡◌, ℕ, zero, suc, ◌+◌, ◌-◌, ◌/◌, ◌%◌, ◌^◌, ◌<◌, ◌≤◌, true, ltb, List, [], ◌∷◌, ◌++◌, length, get_or, drop, map, replicate, refl, sym, ap, ◌∙◌, arith}
+use Rattle.std.proofs.Common.{◌≡◌, ℕ, zero, suc, ◌+◌, ◌-◌, ◌/◌, ◌%◌, ◌^◌, ◌<◌, ◌≤◌, true, ltb, List, [], ◌∷◌, ◌++◌, length, get_or, drop, map, replicate, refl, sym, ap, ◌∙◌, append_assoc, arith}
 use Rattle.std.specs.Int.{w32, w64, to_be_bytes, byte_at, bytes_high_first}
 use Rattle.std.proofs.lemmas.Bool.{lt-ltb}
 use Rattle.std.proofs.lemmas.List.{drop_more, at_drop_all, length-append}
@@ -72,6 +72,13 @@ pub arguments_fewer : (xs : List Arg) (x : Arg) (i : ℕ) → i < length xs → 
 arguments_fewer xs x i lt is =
     ap (λ (ys : List Arg). length (arguments_bytes (map argument_of ys))) (drop_more xs i x lt ∙ ap (λ (y : Arg). y ∷ drop (i + 1) xs) (sym is))
     ∙ length-append (argument_bytes (argument_of x)) (arguments_bytes (map argument_of (drop (i + 1) xs)))
+
+pub arguments_put : (xs : List Arg) (x : Arg) (i : ℕ) (before now whole : List ℕ) → i < length xs → x ≡ get_or xs i x → now ≡ before ++ argument_bytes (argument_of x)
+    → before ++ arguments_bytes (map argument_of (drop i xs)) ≡ whole → now ++ arguments_bytes (map argument_of (drop (i + 1) xs)) ≡ whole
+arguments_put xs x i before now whole lt is put so_far =
+    let rest = arguments_bytes (map argument_of (drop (i + 1) xs)) in
+    let at : drop i xs ≡ x ∷ drop (i + 1) xs = drop_more xs i x lt ∙ ap (λ (y : Arg). y ∷ drop (i + 1) xs) (sym is) in
+    ap (λ (l : List ℕ). l ++ rest) put ∙ append_assoc before (argument_bytes (argument_of x)) rest ∙ sym (ap (λ (ys : List Arg). before ++ arguments_bytes (map argument_of ys)) at) ∙ so_far
 
 -- the elements are those of a list that is the same
 behind_first : (xs ys : List Packet) (x : Packet) (i : ℕ) → ys ≡ xs → i < length ys → x ≡ get_or ys i x → drop i xs ≡ x ∷ drop (i + 1) xs

@@ -95,7 +95,8 @@ fn foreign_tags_len(tags: &[u8]) -> u64
     tags_len(tags.len())
 }
 
-fn message_len(message: &Message) -> u64
+/// How many bytes the message's spelling has, or 2^31 where there are more. Each of them is below 256.
+pub(crate) fn message_len(message: &Message) -> u64
     ensures len { result ≡ min (length (message_bytes (message_of message.now))) (2 ^ 31) }
     ensures octets { IsTrue (are_octets (message_bytes (message_of message.now))) }
 {

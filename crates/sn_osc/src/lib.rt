@@ -13,7 +13,7 @@ mod reading;
 mod spelling;
 
 pub use decoding::decode;
-pub use encoding::encode;
+pub use encoding::{append_frame, encode};
 pub use fault::{PacketFault, PacketKind, StreamFault, Undecoded};
 pub use frame::{Frame, NoFrame, Unframed, first_frame};
 pub use framer::{Framer, frames_of};

@@ -160,7 +160,7 @@ fn arguments<'a>(
     ensures value { Gives (λ x. (map argument_of x.0, x.1.now)) result (arguments_at end tags.now bytes.now) }
     ensures shorter { IfOk result (λ x. length x.1.now ≤ length bytes.now) }
 {
-    let mut items = Vec::new(alloc);
+    let mut items = Vec::with_capacity(alloc, tags.len())?;
     let mut rest = bytes;
     for tag in tags {
         let (argument, after) = argument(alloc, end, *tag, rest)?;

@@ -1,7 +1,6 @@
 //! The jobs of a block, as the work of a round.
 ghost use Rattle.std.specs.Prelude.{◌≡◌};
 
-use crate::places::SynthPlaces;
 use crate::playing::run_job;
 use sn_mem::{Foot, Port, Scratch};
 use sn_round::{Plan, Work};
@@ -14,8 +13,6 @@ pub struct Block<'a> {
     pub stage: &'a Stage,
     /// The jobs.
     pub plan: &'a Plan,
-    /// Where their synths stand.
-    pub places: &'a SynthPlaces,
     /// The block's number, from 0.
     pub block: u64,
 }
@@ -49,7 +46,6 @@ impl Work for Block<'_> {
             self.stage,
             self.block,
             synths.as_slice(),
-            self.places.of_job(job),
             scratch,
         );
     }

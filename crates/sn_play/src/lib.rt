@@ -4,7 +4,6 @@
 
 mod block;
 mod laws;
-mod places;
 mod playing;
 mod span;
 
@@ -14,5 +13,4 @@ pub use laws::{
     job_feet_suffice, jobs_run_by_foot, plan_is_the_walk, shares_are_the_walk, span_is_the_walks,
     voices_are_the_walk,
 };
-pub use places::SynthPlaces;
 pub use span::Span;

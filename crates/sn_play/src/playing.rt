@@ -46,15 +46,8 @@ fn run_held<P: Port>(
     }
 }
 
-/// Runs the attached node of an id, which may stand at a place.
-fn run_node<P: Port>(
-    port: &mut P,
-    stage: &Stage,
-    block: u64,
-    node: i32,
-    place: u32,
-    scratch: &mut Scratch,
-)
+/// Runs the attached node of an id.
+fn run_node<P: Port>(port: &mut P, stage: &Stage, block: u64, node: i32, scratch: &mut Scratch)
     requires rate { 0 < stage.now.rate }
     requires base { stage.now.pool.region.at ≡ 10368 }
     requires block { block < 2 ^ 63 }
@@ -63,22 +56,14 @@ fn run_node<P: Port>(
     ensures foot { P.foot port.new ≡ P.foot port.old }
     ensures rest { P.rest port.new ≡ P.rest port.old }
 {
-    match stage.tree.payload_near(node, place) {
+    match stage.tree.payload(node) {
         Some(held) => run_held(port, stage, block, node, held, scratch),
         None => {}
     }
 }
 
-/// Runs the attached nodes of some ids for a block, in order. The first of them may stand at the
-/// first of the places, and so on.
-fn run_nodes<P: Port>(
-    port: &mut P,
-    stage: &Stage,
-    block: u64,
-    nodes: &[i32],
-    places: &[u32],
-    scratch: &mut Scratch,
-)
+/// Runs the attached nodes of some ids for a block, in order.
+fn run_nodes<P: Port>(port: &mut P, stage: &Stage, block: u64, nodes: &[i32], scratch: &mut Scratch)
     requires rate { 0 < stage.now.rate }
     requires base { stage.now.pool.region.at ≡ 10368 }
     requires block { block < 2 ^ 63 }
@@ -87,9 +72,8 @@ fn run_nodes<P: Port>(
     ensures foot { P.foot port.new ≡ P.foot port.old }
     ensures rest { P.rest port.new ≡ P.rest port.old }
 {
-    for (number, node) in nodes.iter().enumerate() {
-        let place = places.get(number).copied().unwrap_or(0);
-        run_node(port, stage, block, *node, place, scratch);
+    for node in nodes {
+        run_node(port, stage, block, *node, scratch);
     }
 }
 
@@ -100,7 +84,6 @@ fn run_in_copy<P: Port>(
     stage: &Stage,
     block: u64,
     nodes: &[i32],
-    places: &[u32],
     copy: &mut [u64],
     scratch: &mut Scratch,
 )
@@ -116,7 +99,7 @@ fn run_in_copy<P: Port>(
     ensures rest { P.rest port.new ≡ P.rest port.old }
 {
     let mut local = LocalPort::new(port, foot, copy);
-    run_nodes(&mut local, stage, block, nodes, places, scratch);
+    run_nodes(&mut local, stage, block, nodes, scratch);
     local.flush(foot);
 }
 
@@ -128,7 +111,6 @@ pub fn run_job<P: Port>(
     stage: &Stage,
     block: u64,
     nodes: &[i32],
-    places: &[u32],
     scratch: &mut Scratch,
 )
     requires rate { 0 < stage.now.rate }
@@ -142,21 +124,12 @@ pub fn run_job<P: Port>(
     ensures rest { P.rest port.new ≡ P.rest port.old }
 {
     if nodes.len() < 2 {
-        run_nodes(port, stage, block, nodes, places, scratch);
+        run_nodes(port, stage, block, nodes, scratch);
         return;
     }
     let alloc = *scratch.buses.allocator();
     let mut buses = mem::replace(&mut scratch.buses, Vec::new(alloc));
     let size = buses.len().min(BUS_WORDS);
-    run_in_copy(
-        port,
-        foot,
-        stage,
-        block,
-        nodes,
-        places,
-        &mut buses[..size],
-        scratch,
-    );
+    run_in_copy(port, foot, stage, block, nodes, &mut buses[..size], scratch);
     scratch.buses = buses;
 }

@@ -73,7 +73,6 @@ impl Work for Span<'_> {
             let played = Block {
                 stage: self.first.stage,
                 plan: self.first.plan,
-                places: self.first.places,
                 block,
             };
             played.run(place.number, port, scratch);

@@ -1,3 +1,4 @@
 pub mod Sending
 pub mod FrameLaws
+pub mod Framed
 pub mod Pieces

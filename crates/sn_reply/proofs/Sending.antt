@@ -1,5 +1,5 @@
 -- Lengths of messages, and replies that can be sent.
-use Rattle.std.proofs.Common.{◌≡◌, ◌≤◌, ◌<◌, ℕ, zero, suc, ◌+◌, ◌-◌, ◌*◌, ◌^◌, ◌%◌, Bool, true, false, not, ◌&&◌, List, [], ◌∷◌, ◌++◌, length, map, take, replicate, refl, ap, subst, ◌∙◌, arith, length-append}
+use Rattle.std.proofs.Common.{◌≡◌, ◌≤◌, ◌<◌, ℕ, zero, suc, ◌+◌, ◌-◌, ◌*◌, ◌^◌, ◌%◌, Bool, true, false, not, ◌&&◌, List, [], ◌∷◌, ◌++◌, length, map, replicate, refl, ap, subst, ◌∙◌, arith, length-append}
 use Rattle.std.specs.Prelude.{codes, ◌==◌}
 use Rattle.std.specs.List.{list_all}
 use Rattle.std.specs.Fmt.{decimal}
@@ -11,9 +11,8 @@ use Rattle.std.proofs.lemmas.List.Folds.{list_all-append}
 use Rattle.sn_osc.specs.Shape.{Argument, string, BodyShape, arguments, MessageShape}
 use Rattle.sn_osc.specs.Bytes.{begins_with, is_body, body_bytes, string_bytes, argument_bytes, arguments_bytes, tags_bytes, tag_of, has_no_null, is_argument}
 use Rattle.sn_osc.proofs.Encoded.{four_each}
-use Rattle.sn_reply.specs.Replies.{ReplyShape}
 use Rattle.sn_reply.specs.Failing.{definition_line}
-use Rattle.sn_reply.specs.Sending.{IsSendable, IsAnswerable, AllSendable, IsShortText}
+use Rattle.sn_reply.specs.Sending.{IsSendable, IsAnswerable, IsShortText}
 use Rattle.sn_reply.specs.Answering.{AreShort, IsAddress}
 
 -- ---- tests
@@ -89,13 +88,6 @@ sendable-fail address text words clean short = record {
       let body = length-append (tags_bytes (115 ∷ 115 ∷ [])) (arguments_bytes (string address ∷ string text ∷ [])) in
       omega arith;
 }
-
--- ---- lists of replies
-
-pub all-take : (n : ℕ) (rs : List ReplyShape) → AllSendable rs → AllSendable (take n rs)
-all-take zero rs all = tt
-all-take (suc n) [] all = tt
-all-take (suc n) (x ∷ rs) all = (all.0, all-take n rs all.1)
 
 -- the address of a message that can be answered
 pub answerable-address : (m : MessageShape) → IsAnswerable m → (has_no_null m.address ≡ true) × (length m.address < 2 ^ 30)

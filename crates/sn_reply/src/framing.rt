@@ -1,17 +1,13 @@
 //! What is still to be sent to each client: frames of replies.
-ghost use Rattle.std.specs.Prelude.{◌≡◌, ◌+◌, ◌++◌, ◌≤◌, ◌<◌, ◌^◌, map, length, IfOk, OnOk, OnErr};
-ghost use Rattle.sn_osc.specs.Shape.{message_of};
+ghost use Rattle.std.specs.Prelude.{◌≡◌, ◌+◌, ◌++◌, ◌≤◌, ◌<◌, ◌^◌, map, length, OnOk, OnErr};
 ghost use Rattle.sn_osc.specs.Bytes.{message_bytes, frame_bytes};
 ghost use Rattle.sn_ports.specs.Octets.{bytes_of};
 ghost use Rattle.sn_ports.specs.Transfer.{Before};
 ghost use Rattle.sn_reply.specs.Frames.{goes_to, frame_to, with_frame, with_frames, EachBegins, EachHasRoom};
-ghost use Rattle.sn_reply.specs.Replies.{ReplyShape, reply_of};
-ghost use Rattle.sn_reply.specs.Sending.{IsSendable};
+ghost use Rattle.sn_reply.specs.Replies.{ReplyShape};
 
-use crate::replies::{Replies, Reply, To};
-use sn_osc::{Message, Packet, encode};
+use crate::replies::{Replies, To};
 use sn_ports::{NoMemory, Text};
-use std::alloc::Global;
 
 /// Whether a client is among those that a reply goes to.
 fn goes_to(client: u32, to: To) -> bool
@@ -21,18 +17,6 @@ fn goes_to(client: u32, to: To) -> bool
         To::Client(number) => number == client,
         To::All => true,
     }
-}
-
-/// The frame of a message: its int32 size, and its spelling.
-fn frame(alloc: Global, message: Message) -> Result<Text, NoMemory>
-    requires { IsSendable (message_of message) }
-    ensures bytes { IfOk result (λ t. t.bytes ≡ frame_bytes (message_bytes (message_of message))) }
-    ensures short { IfOk result (λ t. length t.bytes < 2 ^ 31 + 4) }
-{
-    let bytes = encode(alloc, &Packet::Message(message))?;
-    let mut frame = Text::from_slice(alloc, &(bytes.len() as u32).to_be_bytes())?;
-    frame.append(bytes.as_slice())?;
-    Ok(frame)
 }
 
 /// Appends a reply's frame to what a client is sent, where it goes to that client. Room for so many more bytes stays.
@@ -68,25 +52,9 @@ fn put_frame(out: &mut [Text], room: u32, client: u32, to: To, frame: &[u8]) -> 
     put_frame(rest, room, client + 1, to, frame)
 }
 
-/// Appends a reply's frame to what each client that it goes to is sent. Room for so many more bytes stays.
-fn put_reply(alloc: Global, out: &mut [Text], room: u32, reply: Reply) -> Result<(), NoMemory>
-    requires room { room < 2 ^ 30 }
-    requires clients { length out.old < 2 ^ 32 }
-    requires sendable { IsSendable (message_of reply.message) }
-    ensures len { length out.new ≡ length out.old }
-    ensures frames { OnOk result (map bytes_of out.new ≡ with_frame 0 (reply_of reply) (map bytes_of out.old)) }
-    ensures behind { EachBegins (map bytes_of out.old) (map bytes_of out.new) }
-    ensures front { OnErr result (EachBegins (map bytes_of out.new) (with_frame 0 (reply_of reply) (map bytes_of out.old))) }
-    ensures room { EachHasRoom room out.old → EachHasRoom room out.new }
-{
-    let to = reply.to;
-    let frame = frame(alloc, reply.message)?;
-    put_frame(out, room, 0, to, frame.as_slice())
-}
-
 /// Appends the frames of replies to what each client that they go to is sent, in order. Where each had room for so many bytes more, it
 /// still has. After `NoMemory` nothing that a client was to be sent is lost, and what stands behind it is a front of these frames.
-pub fn send(alloc: Global, out: &mut [Text], room: u32, replies: Replies) -> Result<(), NoMemory>
+pub fn send(out: &mut [Text], room: u32, replies: Replies) -> Result<(), NoMemory>
     requires room { room < 2 ^ 30 }
     requires clients { length out.old < 2 ^ 32 }
     ensures len { length out.new ≡ length out.old }
@@ -95,8 +63,11 @@ pub fn send(alloc: Global, out: &mut [Text], room: u32, replies: Replies) -> Res
     ensures front { OnErr result (EachBegins (map bytes_of out.new) (with_frames 0 replies (map bytes_of out.old))) }
     ensures room { EachHasRoom room out.old → EachHasRoom room out.new }
 {
-    for reply in replies.into_vec() {
-        put_reply(alloc, out, room, reply)?;
+    let mut left = replies.frames();
+    for mark in replies.marks() {
+        let (frame, others) = left.split_at(mark.len as usize);
+        put_frame(out, room, 0, mark.to, frame)?;
+        left = others;
     }
     Ok(())
 }

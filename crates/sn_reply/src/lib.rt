@@ -13,4 +13,4 @@ pub use events::{Notice, Place, event_frame};
 pub use failing::fail;
 pub use framing::send;
 pub use reason::Reason;
-pub use replies::{Replies, Reply, To};
+pub use replies::{Replies, To};

@@ -1,7 +1,7 @@
 //! The jobs of a round.
 ghost use Rattle.std.specs.Prelude.{◌≡◌, ◌++◌, ◌∷◌, [], IfOk, OnOk, OnErr};
 
-use sn_mem::{Extent, Extents, Foot};
+use crate::shared_foot::SharedFoot;
 use sn_ports::NoMemory;
 use std::alloc::Global;
 use std::marker::Model;
@@ -132,39 +132,19 @@ pub struct Job {
     /// The synths that it renders.
     pub synths: Ids,
     /// The words that it may touch.
-    pub foot: Foot,
+    pub foot: SharedFoot,
     /// Its predecessors.
     pub before: Jobs,
 }
 
-fn copied_extents(alloc: Global, extents: &[Extent]) -> Result<Extents, NoMemory>
-    ensures { IfOk result (λ copy. copy ≡ extents.now) }
-{
-    let mut copy = Extents::new(alloc);
-    for extent in extents {
-        copy.push(*extent)?;
-    }
-    Ok(copy)
-}
-
-/// A copy of a foot.
-pub fn copied_foot(alloc: Global, foot: &Foot) -> Result<Foot, NoMemory>
-    ensures { IfOk result (λ copy. copy ≡ foot.now) }
-{
-    Ok(Foot {
-        reads: copied_extents(alloc, foot.reads.as_slice())?,
-        writes: copied_extents(alloc, foot.writes.as_slice())?,
-    })
-}
-
 impl Job {
-    /// A copy.
+    /// A copy, which shares the foot.
     pub fn copied(&self, alloc: Global) -> Result<Job, NoMemory>
         ensures { IfOk result (λ copy. copy ≡ self.now) }
     {
         Ok(Job {
             synths: self.synths.copied(alloc)?,
-            foot: copied_foot(alloc, &self.foot)?,
+            foot: self.foot.again()?,
             before: self.before.copied(alloc)?,
         })
     }

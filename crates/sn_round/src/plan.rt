@@ -3,6 +3,7 @@ ghost use Rattle.std.specs.Prelude.{◌≡◌, ◌<◌, IfOk, length};
 ghost use Rattle.sn_round.specs.Jobs.{AreJobs, job_at, foot_at, predecessors, successors};
 
 use crate::jobs::{Ids, Job, Jobs};
+use crate::shared_foot::SharedFoot;
 use crate::successors::successors_of;
 use sn_mem::Foot;
 use sn_ports::NoMemory;
@@ -92,6 +93,14 @@ impl Plan {
 
     /// The words that a job may touch.
     pub fn foot(&self, job: u32) -> &Foot
+        requires { job < length self.now }
+        ensures { result.now ≡ foot_at self.now job }
+    {
+        self.shared_foot(job).as_foot()
+    }
+
+    /// The same words, to be shared with a job of another plan.
+    pub fn shared_foot(&self, job: u32) -> &SharedFoot
         requires { job < length self.now }
         ensures { result.now ≡ foot_at self.now job }
     {

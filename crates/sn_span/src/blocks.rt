@@ -8,7 +8,7 @@ ghost use Rattle.sn_span.specs.Unrolling.{block_of, capture_foot, capture_of, co
 
 use sn_mem::{Extent, Extents, Foot};
 use sn_ports::NoMemory;
-use sn_round::{Ids, Job, Jobs, Plan, copied_foot};
+use sn_round::{Ids, Job, Jobs, Plan, SharedFoot};
 use std::alloc::Global;
 
 /// How many words a copy of the outputs has.
@@ -61,7 +61,7 @@ fn job_in(alloc: Global, plan: &Plan, block: u32, job: u32) -> Result<Job, NoMem
     plan.is_well_formed();
     Ok(Job {
         synths: plan.synths(job).copied(alloc)?,
-        foot: copied_foot(alloc, plan.foot(job))?,
+        foot: plan.shared_foot(job).again()?,
         before: predecessors_in(alloc, plan.jobs(), block, plan.predecessors(job))?,
     })
 }
@@ -92,7 +92,12 @@ fn copied_extents(alloc: Global, extents: &Extents) -> Result<Extents, NoMemory>
 }
 
 /// What the capture of a block may touch.
-fn capture_foot(alloc: Global, outputs: &Extents, at: u32, block: u32) -> Result<Foot, NoMemory>
+fn capture_foot(
+    alloc: Global,
+    outputs: &Extents,
+    at: u32,
+    block: u32,
+) -> Result<SharedFoot, NoMemory>
     requires { at + 512 * block < 4294967296 }
     ensures { IfOk result (λ foot. foot ≡ capture_foot outputs.now at block) }
 {
@@ -102,7 +107,7 @@ fn capture_foot(alloc: Global, outputs: &Extents, at: u32, block: u32) -> Result
         at: at + COPY * block,
         len: COPY,
     })?;
-    Ok(Foot { reads, writes })
+    SharedFoot::new(alloc, Foot { reads, writes })
 }
 
 /// Puts the jobs of a block.

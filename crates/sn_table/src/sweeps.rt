@@ -1,4 +1,4 @@
-//! The sweep: every job that is still to run, in walk order.
+//! The sweep: every job that is still to run, in walk order, behind a gate.
 ghost use Rattle.std.specs.Prelude.{◌≡◌, ◌+◌, ◌<◌, ℕ, List, length, true};
 ghost use Rattle.sn_mem.specs.declared.extents.Foot.{Foot};
 ghost use Rattle.sn_machine.specs.States.{Runs};
@@ -10,6 +10,7 @@ ghost use Rattle.sn_table.specs.Sweeps.{Ran, IsDone, Paid, SweepsWell, Serves};
 use crate::job::run_job;
 use crate::seats::{Claim, Release, Shared, WorkerSeat};
 use sn_mem::Scratch;
+use sn_ports::Gate;
 use sn_round::{Plan, Work};
 
 /// Pays every debt.
@@ -52,15 +53,16 @@ pub fn run_one<W: Work>(
     release_all(shared, seat, plan);
 }
 
-/// Runs each job that has not ended, in walk order.
-pub fn sweep<W: Work>(
+/// Runs each job that has not ended, in walk order. It passes the gate before each.
+pub fn sweep<W: Work, G: Gate>(
     shared: &Shared,
     seat: &mut WorkerSeat,
     work: &W,
     plan: &Plan,
+    gate: &G,
     scratch: &mut Scratch,
 )
-    requires ready { W.ready work.now }
+    requires may { W.ready work.now }
     requires seat { IsSeatOf shared.now seat.old }
     requires plan { plan.now ≡ (view seat.old).worker.jobs }
     requires work { Serves (W.jobs work.now) (W.foot_of work.now) (W.outcome work.now) (view seat.old) }
@@ -72,7 +74,10 @@ pub fn sweep<W: Work>(
     plan.is_well_formed();
     for job in 0..plan.jobs() {
         match shared.claim(seat, job) {
-            Claim::Got => run_one(shared, seat, work, plan, job, scratch),
+            Claim::Got => {
+                gate.pass(job);
+                run_one(shared, seat, work, plan, job, scratch);
+            }
             Claim::Busy { word: _ } => {}
         }
     }

@@ -16,7 +16,7 @@ use Rattle.sn_tree.specs.declared.node.TreeFault.TheVariants.{NoNode, InUse, Not
 use Rattle.sn_tree.specs.Faults.{first_fault, is_beside_root, is_missing, is_in_synth, detach_fault, insert_fault, move_fault, attach_fault}
 use Rattle.sn_tree.specs.Order.{Key}
 use Rattle.sn_tree.specs.Arranged.{Arranged}
-use Rattle.sn_tree.specs.Saving.{SavedNodes, HasSpare, spent, noted, forgotten}
+use Rattle.sn_tree.specs.Saving.{SavedNodes, HasSpare, spent, noted}
 use Rattle.sn_tree.specs.Model.{NodeTree}
 use Rattle.sn_tree.specs.Steps.{HasRoom, followed, stepped, inserted, inserting, detaching, attaching, moving, setting, detached, attached, moved, running}
 use Rattle.sn_tree.specs.Kept.{same_key, uses, payload_of, filled, IsRooted, IsSaved, IsKept, mark_of, origin, journal_shown, shown}
@@ -302,13 +302,6 @@ insert_gives root s0 s1 s2 nodes nodes' saved saved' tree id kind spot' spot pay
     )
 
 -- nothing was put in
-
-pub forget_noted : (key : ℕ) (saved saved1 saved2 : Option SavedNodes) → saved1 ≡ noted key saved → saved2 ≡ forgotten saved1 → saved2 ≡ saved
-forget_noted key saved saved1 saved2 n f = f ∙ (ap forgotten n ∙ there saved)
-  where
-    there : (s : Option SavedNodes) → forgotten (noted key s) ≡ s
-    there None = refl
-    there (Some s) = refl
 
 pub same_slots : {P : Type 0} (s0 s1 : Slab P) → s1 ≡ record s0 { capacity = s1.capacity } → s1.slots ≡ s0.slots
 same_slots s0 s1 e = ap (λ (s : Slab _). s.slots) e

@@ -1,84 +1,23 @@
 -- What lies below a node.
-use Rattle.std.proofs.Common.{◌≡◌, ℕ, ◌+◌, ◌≤◌, ℤ, pos, Bool, true, false, ◌||◌, List, [], ◌∷◌, ◌++◌, length, take, drop, sym, refl, ap, ◌∙◌, subst, ⊎_elim, arith, append_assoc, length-append, Option, Some, None}
+use Rattle.std.proofs.Common.{◌≡◌, ℕ, ◌≤◌, ℤ, pos, Bool, true, false, ◌||◌, List, ◌∷◌, ◌++◌, sym, refl, ap, ◌∙◌, ⊎_elim, arith, Option, Some, None}
 use Rattle.std.specs.Prelude.{if◌then◌else◌}
-use Rattle.std.specs.List.{IsFirstAndRest, All}
+use Rattle.std.specs.List.{All}
 use Rattle.std.specs.Option.{option_map}
 use Rattle.std.specs.Ordering.{int_eq}
 use Rattle.std.proofs.lemmas.Bool.{cases_Bool, or_from, or_parts}
 use Rattle.std.proofs.lemmas.List.Elements.{All-nil, All-cons, All-append}
-use Rattle.sn_tree.specs.declared.entry.Entry.{Entry}
 use Rattle.sn_tree.specs.declared.node.NodeKind.TheVariants.{Group}
 use Rattle.sn_tree.specs.Trees.{Label, Nodes, none, node, count, holds, ids, label_of, children, subtree, with_payloads}
 use Rattle.sn_tree.specs.Faults.{is_synth}
-use Rattle.sn_tree.specs.Order.{Key, entry_of, flat, tree_of, IsFlat, length-flat, take_at, drop_at}
-use Rattle.sn_tree.specs.Places.{Spotted}
+use Rattle.sn_tree.specs.Order.{Key}
 use Rattle.sn_tree.specs.Arranged.{Arranged}
 use Rattle.sn_tree.specs.Saving.{SavedNodes}
 use Rattle.sn_tree.specs.Model.{NodeTree}
 use Rattle.sn_tree.specs.Kept.{payload_of, IsRooted, shown}
 use Rattle.sn_tree.specs.Steps.{occurrences, AllDistinct}
-use Rattle.sn_tree.specs.Below.{top_ids, synth_ids, synths_of}
+use Rattle.sn_tree.specs.Below.{top_ids, synth_ids}
 use Rattle.sn_tree.proofs.PayloadLaws.{relabelled, holds-payloads, label-payloads, children-payloads, subtree-payloads}
 use Rattle.sn_tree.proofs.Distinct.{occurs-node}
-use Rattle.sn_tree.proofs.Viewing.{cut_tree, first_back}
-
--- the entries of all nodes below
-
-drop_one : (xs : List Entry) (e : Entry) (rest : List Entry) (n : ℕ) → n ≡ length xs + 1 → drop n (xs ++ (e ∷ rest)) ≡ rest
-drop_one xs e rest n h =
-    ap (drop n) (sym (append_assoc xs (e ∷ []) rest)) ∙ drop_at n (xs ++ (e ∷ [])) rest (omega (arith, h, length-append xs (e ∷ [])))
-
-pub below_list : (es : List Entry) (id : ℤ) (p : ℕ) (s : Spotted es id p) (n : ℕ) → n ≡ count s.place.below → take n (drop (p + 1) es) ≡ flat (children id (tree_of es))
-below_list es id p s n h =
-    let e : Entry = entry_of s.place.label (count s.place.below) in
-    let rest : List Entry = flat s.place.below ++ s.place.ys in
-    ap (λ l. take n (drop (p + 1) l)) s.is
-    ∙ (ap (take n) (drop_one s.place.xs e rest (p + 1) (omega (arith, s.at)))
-    ∙ (take_at n (flat s.place.below) s.place.ys (omega (arith, h, length-flat s.place.below))
-    ∙ sym (ap flat s.place.kids)))
-
--- the nodes just below
-
-pub record IsListing (whole rest : List Entry) (found : List ℤ) : Type 0 where
-  pub flat : IsFlat rest
-  pub same : found ++ top_ids (tree_of rest) ≡ top_ids (tree_of whole)
-
-pub listing_next : (whole rest : List Entry) (found more : List ℤ) (e : Entry) (after past : List Entry) → IsListing whole rest found → IsFirstAndRest rest e after → past ≡ drop e.below after → more ≡ found ++ (e.id ∷ []) → IsListing whole past more
-listing_next whole rest found more e after past h f p m =
-    let fl : IsFlat (e ∷ after) = subst (λ l. IsFlat l) f.0 h.flat in
-    record {
-      flat = first_back rest e after past h.flat f p;
-      same = ap (λ l. l ++ top_ids (tree_of past)) m
-          ∙ (append_assoc found (e.id ∷ []) (top_ids (tree_of past))
-          ∙ (ap (λ l. found ++ (e.id ∷ top_ids (tree_of l))) p
-          ∙ (ap (λ t. found ++ top_ids t) (sym (cut_tree e after fl))
-          ∙ (ap (λ l. found ++ top_ids (tree_of l)) (sym f.0)
-          ∙ h.same))));
-    }
-
--- the synths
-
-pub synths-append : (xs ys : List Entry) → synths_of (xs ++ ys) ≡ synths_of xs ++ synths_of ys
-synths-append [] ys = refl
-synths-append (e ∷ xs) ys = at (is_synth e.kind) (synths-append xs ys)
-  where
-    at : (b : Bool) → synths_of (xs ++ ys) ≡ synths_of xs ++ synths_of ys
-        → (if b then e.id ∷ synths_of (xs ++ ys) else synths_of (xs ++ ys)) ≡ (if b then e.id ∷ synths_of xs else synths_of xs) ++ synths_of ys
-    at true h = ap (λ l. e.id ∷ l) h
-    at false h = h
-
-pub synths-flat : (t : Nodes Key) → synths_of (flat t) ≡ synth_ids t
-synths-flat none = refl
-synths-flat (node label below after) =
-    at (is_synth label.kind) (synths-append (flat below) (flat after) ∙ (λ i. synths-flat below i ++ synths-flat after i))
-  where
-    at : (b : Bool) → synths_of (flat below ++ flat after) ≡ synth_ids below ++ synth_ids after
-        → (if b then label.id ∷ synths_of (flat below ++ flat after) else synths_of (flat below ++ flat after)) ≡ (if b then label.id ∷ (synth_ids below ++ synth_ids after) else synth_ids below ++ synth_ids after)
-    at true h = ap (λ l. label.id ∷ l) h
-    at false h = h
-
-pub synths_list : (es : List Entry) (t : Nodes Key) → IsFlat es → tree_of es ≡ t → synths_of es ≡ synth_ids t
-synths_list es t h e = ap synths_of h ∙ (synths-flat (tree_of es) ∙ ap synth_ids e)
 
 -- payloads changed
 
@@ -153,7 +92,7 @@ root_below id nodes r d =
     at false true b p = p
     at false false b p = refl
 
-root_whole : (nodes : Nodes Key) → IsRooted nodes → subtree (pos 0) nodes ≡ nodes
+pub root_whole : (nodes : Nodes Key) → IsRooted nodes → subtree (pos 0) nodes ≡ nodes
 root_whole nodes r =
     ap (subtree (pos 0)) r.is
     ∙ ap (λ (y : ℤ). if int_eq y (pos 0) then node r.label r.below none else if holds (pos 0) r.below then subtree (pos 0) r.below else none) r.id

@@ -1,19 +1,23 @@
 -- Going over a node and all nodes below it.
-use Rattle.std.proofs.Common.{◌≡◌, ℕ, ◌+◌, ◌≤◌, ℤ, List, [], ◌∷◌, ◌++◌, length, take, drop, Option, Some, sym, refl, ap, ◌∙◌, subst, arith, append_assoc, length-drop}
-use Rattle.std.specs.List.{IsFirstAndRest}
-use Rattle.sn_tree.specs.declared.entry.Entry.{Entry}
+use Rattle.std.proofs.Common.{◌≡◌, ℕ, ◌+◌, ◌≤◌, ℤ, List, [], ◌∷◌, ◌++◌, Option, Some, None, sym, refl, ap, ◌∙◌, append_assoc, arith}
+use Rattle.sn_forest.specs.Trees.{Trees, count}
+use Rattle.sn_forest.specs.Walking.{behind_node}
+use Rattle.sn_forest.proofs.Keys.{count-joined}
+use Rattle.sn_tree.specs.declared.item.Item.{Item}
 use Rattle.sn_tree.specs.Trees.{Nodes, none, node, joined, subtree, running_labels, with_payloads}
-use Rattle.sn_tree.specs.Order.{Key, label_in, tree_of, IsFlat}
+use Rattle.sn_tree.specs.Order.{Key}
 use Rattle.sn_tree.specs.Arranged.{Arranged}
 use Rattle.sn_tree.specs.Saving.{SavedNodes}
 use Rattle.sn_tree.specs.Model.{NodeTree}
 use Rattle.sn_tree.specs.Kept.{uses, payload_of, IsFilled, shown}
+use Rattle.sn_tree.specs.Keyed.{label_by, labels, first_row, below_first}
 use Rattle.sn_tree.specs.Walking.{payload_at, left_of, IsLeft}
 use Rattle.sn_tree.specs.Members.{tops, members, members_of}
 use Rattle.sn_tree.proofs.PayloadLaws.{relabelled, joined-payloads, subtree-payloads}
 use Rattle.sn_tree.proofs.Keeping.{uses-parts}
-use Rattle.sn_tree.proofs.Walking.{parts, rest_tree, first_flat, first_payload}
-use Rattle.sn_tree.proofs.Viewing.{cut_tree, first_back}
+use Rattle.sn_tree.proofs.KeyedLaws.{labels-joined}
+use Rattle.sn_tree.proofs.RowLaws.{Begins, begins, no_first}
+use Rattle.sn_tree.proofs.Walking.{first_held}
 
 pub tops-payloads : {P Q : Type 0} (f : P → Q) (t : Nodes P) → tops (with_payloads f t) ≡ tops t
 tops-payloads f none = refl
@@ -25,80 +29,52 @@ members-joined (node label below after) t =
     ap (λ l. (label, tops below) ∷ (members below ++ l)) (members-joined after t)
     ∙ ap (λ l. (label, tops below) ∷ l) (sym (append_assoc (members below) (members after) (members t)))
 
--- counting
+-- the walk is at its end
+pub members_end : {P : Type 0} (root : P) (slots : List (Option P)) (t : Trees Item) → None ≡ first_row t → members_of root slots t ≡ []
+members_end root slots t e = ap (members_of root slots) (no_first t e)
 
-pub record IsCounting (whole rest : List Entry) (count : ℕ) : Type 0 where
-  pub flat : IsFlat rest
-  pub same : count + tops (tree_of rest) ≡ tops (tree_of whole)
-  pub within : count + length rest ≤ length whole
+-- how many nodes are left
+pub few_below : (t : Trees Item) (key : ℕ) (item : Item) (most : ℕ) → Some (key, item) ≡ first_row t → count t ≤ most → count (below_first t) ≤ most
+few_below t key item most e l =
+    let b : Begins t key item = begins t key item e in
+    omega (arith, l, ap (λ (x : Trees Item). count x) b.is, ap (λ (x : Trees Item). count (below_first x)) b.is)
 
-pub counting_next : (whole rest : List Entry) (count : ℕ) (e : Entry) (after past : List Entry) → IsCounting whole rest count → IsFirstAndRest rest e after → past ≡ drop e.below after → IsCounting whole past (count + 1)
-counting_next whole rest count e after past h f p =
-    let fl : IsFlat (e ∷ after) = subst (λ l. IsFlat l) f.0 h.flat in
-    record {
-      flat = first_back rest e after past h.flat f p;
-      same = omega (arith, ap (λ l. tops (tree_of l)) p, ap tops (cut_tree e after fl), ap (λ l. tops (tree_of l)) f.0, h.same);
-      within = omega (arith, ap length p, length-drop e.below after, ap length f.0, h.within);
-    }
+pub few_next : (t now : Trees Item) (key : ℕ) (item : Item) (most : ℕ) → Some (key, item) ≡ first_row t → now ≡ behind_node t → count t ≤ most → count now ≤ most
+few_next t now key item most e f l =
+    let b : Begins t key item = begins t key item e in
+    omega (arith, l, ap (λ (x : Trees Item). count x) b.is, ap (λ (x : Trees Item). count x) (f ∙ ap behind_node b.is), count-joined b.below b.after)
 
--- the steps of the walk
-
-module _ {P : Type 0} (root : P) (slots : List (Option P)) (es : List Entry) (e : Entry) (after : List Entry) (left : IsLeft slots es) (f : IsFirstAndRest es e after) where
-  whole : IsFlat (e ∷ after)
-  whole = first_flat root slots es e after left f
-
-  member_steps : members_of root slots es ≡ (relabelled (payload_of root slots) (label_in e), tops (tree_of (take e.below after))) ∷ members_of root slots after
-  member_steps =
-      let g : Key → P = payload_of root slots in
-      let a : Nodes Key = tree_of (take e.below after) in
-      let b : Nodes Key = tree_of (drop e.below after) in
-      let cut : tree_of (e ∷ after) ≡ node (label_in e) a b = cut_tree e after whole in
-      let rest : tree_of after ≡ joined a b = rest_tree e after whole ∙ (λ i. joined (below_of cut i) (after_of cut i)) in
-      ap (members_of root slots) f.0
-      ∙ (ap (λ t. members (with_payloads g t)) cut
-      ∙ (ap (λ n. (relabelled g (label_in e), n) ∷ (members (with_payloads g a) ++ members (with_payloads g b))) (tops-payloads g a)
-      ∙ ap (λ l. (relabelled g (label_in e), tops a) ∷ l) (sym (ap (λ t. members (with_payloads g t)) rest ∙ (ap members (sym (joined-payloads g a b)) ∙ members-joined (with_payloads g a) (with_payloads g b))))))
-    where
-      below_in : Nodes Key → Nodes Key
-      below_in none = none
-      below_in (node label below after) = below
-
-      after_in : Nodes Key → Nodes Key
-      after_in none = none
-      after_in (node label below after) = after
-
-      below_of : {a b : Nodes Key} → tree_of (e ∷ after) ≡ node (label_in e) a b → (parts e after whole).below ≡ a
-      below_of cut = ap below_in (sym ((parts e after whole).tree) ∙ cut)
-
-      after_of : {a b : Nodes Key} → tree_of (e ∷ after) ≡ node (label_in e) a b → (parts e after whole).after ≡ b
-      after_of cut = ap after_in (sym ((parts e after whole).tree) ∙ cut)
-
-  pub member_given : (id : ℤ) (payload : P) (children : ℕ) (below : List Entry) → id ≡ e.id → Some payload ≡ payload_at root slots e.key → below ≡ take e.below after → children ≡ tops (tree_of below)
-      → members_of root slots es ≡ ((record { id = id; kind = e.kind; running = e.running; payload = payload }), children) ∷ members_of root slots after
-  member_given id payload children below i p b c =
-      let same : payload_of root slots e.key ≡ payload = some_same (sym (first_payload root slots es e after left f) ∙ sym p) in
-      let n : tops (tree_of (take e.below after)) ≡ children = sym (c ∙ ap (λ l. tops (tree_of l)) b) in
-      member_steps ∙ (λ j. ((record { id = sym i j; kind = e.kind; running = e.running; payload = same j }), n j) ∷ members_of root slots after)
-    where
-      some_same : {A : Type 0} {a b : A} → Some a ≡ Some b → a ≡ b
-      some_same q = cc
-
-pub members_end : {P : Type 0} (root : P) (slots : List (Option P)) (es : List Entry) → length es ≡ 0 → members_of root slots es ≡ []
-members_end root slots [] z = refl
-members_end root slots (e ∷ es) z = absurd (omega arith)
+-- the walk gives the node to which it has come, and goes on
+pub member_given : {P : Type 0} (root : P) (slots : List (Option P)) (t now : Trees Item) (key : ℕ) (item : Item) (id : ℤ) (payload : P) (children : ℕ) → IsLeft slots t → Some (key, item) ≡ first_row t → now ≡ behind_node t
+    → id ≡ item.id → Some payload ≡ payload_at root slots item.key → children ≡ tops (labels (below_first t))
+    → members_of root slots t ≡ ((record { id = id; kind = item.kind; running = item.running; payload = payload }), children) ∷ members_of root slots now
+member_given {P = P} root slots t now key item id payload children left e f i p c =
+    let g : Key → P = payload_of root slots in
+    let b : Begins t key item = begins t key item e in
+    let here : g item.key ≡ payload = same_of (sym (first_held root slots t key item left e) ∙ sym p) in
+    let number : tops (with_payloads g (labels b.below)) ≡ children = tops-payloads g (labels b.below) ∙ sym (c ∙ ap (λ x. tops (labels (below_first x))) b.is) in
+    let rest : members (with_payloads g (labels b.below)) ++ members (with_payloads g (labels b.after)) ≡ members_of root slots now =
+    sym (members-joined (with_payloads g (labels b.below)) (with_payloads g (labels b.after)))
+    ∙ (ap members (joined-payloads g (labels b.below) (labels b.after))
+    ∙ (ap (λ x. members (with_payloads g x)) (sym (labels-joined b.below b.after)) ∙ sym (ap (members_of root slots) (f ∙ ap behind_node b.is)))) in
+    ap (members_of root slots) b.is
+    ∙ (λ j. ((record { id = sym i j; kind = item.kind; running = item.running; payload = here j }), number j) ∷ rest j)
+  where
+    same_of : {A : Type 0} {a b : A} → Some a ≡ Some b → a ≡ b
+    same_of q = cc
 
 -- the whole walk
 
-module _ {P : Type 0} (root : P) (slots : List (Option P)) (nodes : Arranged) (id : ℤ) (es : List Entry) (fl : IsFlat es) (value : tree_of es ≡ subtree id nodes.attached) where
-  pub members_left : IsFilled slots nodes → IsLeft slots es
-  members_left kept = record { flat = fl; keys = λ key. omega (arith, ap (uses key) value, uses-parts key id nodes.attached, kept.keys key) }
+module _ {P : Type 0} (root : P) (slots : List (Option P)) (nodes : Arranged) (id : ℤ) (t : Trees Item) (value : labels t ≡ subtree id nodes.attached) where
+  pub members_left : IsFilled slots nodes → IsLeft slots t
+  members_left kept key = omega (arith, ap (uses key) value, uses-parts key id nodes.attached, kept.keys key)
 
-  pub members_shown : (saved : Option SavedNodes) (tree : NodeTree P) → shown root slots nodes saved ≡ tree → members_of root slots es ≡ members (subtree id tree.attached)
+  pub members_shown : (saved : Option SavedNodes) (tree : NodeTree P) → shown root slots nodes saved ≡ tree → members_of root slots t ≡ members (subtree id tree.attached)
   members_shown saved tree view =
-      ap (λ t. members (with_payloads (payload_of root slots) t)) value
-      ∙ (ap members (sym (subtree-payloads (payload_of root slots) id nodes.attached)) ∙ ap (λ (t : NodeTree P). members (subtree id t.attached)) view)
+      ap (λ x. members (with_payloads (payload_of root slots) x)) value
+      ∙ (ap members (sym (subtree-payloads (payload_of root slots) id nodes.attached)) ∙ ap (λ (x : NodeTree P). members (subtree id x.attached)) view)
 
-  pub walk_shown : (saved : Option SavedNodes) (tree : NodeTree P) → shown root slots nodes saved ≡ tree → left_of root slots es ≡ running_labels (subtree id tree.attached)
+  pub walk_shown : (saved : Option SavedNodes) (tree : NodeTree P) → shown root slots nodes saved ≡ tree → left_of root slots t ≡ running_labels (subtree id tree.attached)
   walk_shown saved tree view =
-      ap (λ t. running_labels (with_payloads (payload_of root slots) t)) value
-      ∙ (ap running_labels (sym (subtree-payloads (payload_of root slots) id nodes.attached)) ∙ ap (λ (t : NodeTree P). running_labels (subtree id t.attached)) view)
+      ap (λ x. running_labels (with_payloads (payload_of root slots) x)) value
+      ∙ (ap running_labels (sym (subtree-payloads (payload_of root slots) id nodes.attached)) ∙ ap (λ (x : NodeTree P). running_labels (subtree id x.attached)) view)

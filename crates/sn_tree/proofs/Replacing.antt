@@ -1,27 +1,21 @@
 -- A new node in the place of another, which is taken out.
-use Rattle.std.proofs.Common.{◌≡◌, ℕ, ◌+◌, ◌-◌, ◌≤◌, ℤ, pos, Bool, true, false, not, ◌||◌, List, [], ◌∷◌, ◌++◌, length, take, drop, reverse, Option, Some, None, sym, refl, ap, ◌∙◌, subst, ⊎_elim, arith, length-append}
+use Rattle.std.proofs.Common.{◌≡◌, ℕ, ℤ, pos, Bool, true, false, not, ◌||◌, List, [], ◌∷◌, Option, Some, None, sym, refl, ap, ◌∙◌, subst, ⊎_elim}
 use Rattle.std.specs.Ordering.{int_eq}
 use Rattle.std.proofs.lemmas.Bool.{cases_Bool}
-use Rattle.sn_tree.specs.declared.entry.Entry.{Entry}
-use Rattle.sn_tree.specs.declared.entry.Place.{Place}
 use Rattle.slab.specs.Slab.{Slab, get, Updates}
 use Rattle.sn_tree.specs.declared.node.NodeKind.{NodeKind}
 use Rattle.sn_tree.specs.declared.node.Spot.{Spot}
 use Rattle.sn_tree.specs.declared.node.Action.TheVariants.{Before}
 use Rattle.sn_tree.specs.declared.node.TreeFault.{TreeFault}
 use Rattle.sn_tree.specs.declared.node.TreeFault.TheVariants.{NoNode, InUse, IsRoot}
-use Rattle.sn_tree.specs.Trees.{Nodes, none, node, holds, joined, put, leaf, subtree, without, count}
-use Rattle.sn_tree.specs.Faults.{first_fault, detach_fault, replace_fault}
-use Rattle.sn_tree.specs.Order.{Key, flat, tree_of, IsFlat, length-flat, take_at, drop_at, flat_is, tree_is}
-use Rattle.sn_tree.specs.Places.{Found, IsPlace, IsDetached, lifted}
-use Rattle.sn_tree.specs.Arranged.{Arranged, arranged, IsArranged}
+use Rattle.sn_tree.specs.Trees.{Nodes, none, node, holds, put, leaf, subtree}
+use Rattle.sn_tree.specs.Faults.{first_fault, replace_fault}
+use Rattle.sn_tree.specs.Arranged.{Arranged}
 use Rattle.sn_tree.specs.Saving.{SavedNodes, HasSpare, spent, noted}
 use Rattle.sn_tree.specs.Model.{NodeTree}
 use Rattle.sn_tree.specs.Steps.{HasRoom, inserting, inserted, replacing, replaced}
 use Rattle.sn_tree.specs.Kept.{IsKept, shown}
-use Rattle.sn_tree.proofs.Placing.{found}
 use Rattle.sn_tree.proofs.Following.{insert_gives, detach_gives, detach_keeps, spare}
-use Rattle.sn_tree.proofs.Arranging.{Shows, IsPutList, put_list, taken_shows}
 
 -- ---- the target, once the new node stands before it
 
@@ -71,68 +65,8 @@ can_replace id target t h = at (holds id t) (holds target t) (int_eq target (pos
     at false true true a b c h = absurd cc
     at false true false a b c h = record { free = a; there = b; below_root = c }
 
-pub can_detach : {P : Type 0} (id target : ℤ) (kind : NodeKind) (payload : P) (t : Nodes P) → CanReplace id target t → detach_fault target (put Before target (leaf id kind payload) t) ≡ None
-can_detach id target kind payload t c = let held = still_held id target kind payload t c.there in let root = c.below_root in rw (held, root) refl
-
 pub no_fault : {fault : TreeFault} → None ≡ Some fault → ⊥
 no_fault e = cc
-
--- ---- the list
-
-pub some_count : (id : ℤ) (t : Nodes Key) → holds id t ≡ true → 1 ≤ count (subtree id t)
-some_count id t h = let r : Found t id [] = found t id [] h in omega (arith, ap count r.top)
-
-module _ (es : List Entry) (n : ℕ) (id : ℤ) (kind : NodeKind) (key : Key) (target : ℤ) (place : Place) (out : List Entry)
-    (s : IsArranged es n) (p : IsPlace (flat (arranged es n).attached) Before target place) (allowed : replace_fault id target (arranged es n).attached ≡ None)
-    (is : out ≡ lifted place 1 (take place.at es ++ (flat (leaf id kind key) ++ drop place.at es))) where
-  abbrev pub changed : Nodes Key
-  changed = put Before target (leaf id kind key) (arranged es n).attached
-
-  abbrev pub aside : Nodes Key
-  aside = (arranged es n).detached
-
-  put_in : IsPutList out (n + 1) changed aside
-  put_in = put_list es n Before target place (leaf id kind key) out s p is
-
-  long : n + 1 ≡ length (flat changed)
-  long = put_in.long ∙ sym (length-flat changed)
-
-  front : take (n + 1) out ≡ flat changed
-  front = ap (take (n + 1)) put_in.list ∙ take_at (n + 1) (flat changed) (reverse (flat aside)) long
-
-  behind : drop (n + 1) out ≡ reverse (flat aside)
-  behind = ap (drop (n + 1)) put_in.list ∙ drop_at (n + 1) (flat changed) (reverse (flat aside)) long
-
-  pub new_cut : n + 1 ≤ length out
-  new_cut = omega (arith, long, ap length put_in.list, length-append (flat changed) (reverse (flat aside)))
-
-  pub new_flat : IsFlat (take (n + 1) out)
-  new_flat = flat_is (take (n + 1) out) changed front
-
-  new_tree : tree_of (take (n + 1) out) ≡ changed
-  new_tree = tree_is (take (n + 1) out) changed front
-
-  can : CanReplace id target (arranged es n).attached
-  can = can_replace id target (arranged es n).attached allowed
-
-  pub new_goes : detach_fault target (tree_of (take (n + 1) out)) ≡ None
-  new_goes = ap (detach_fault target) new_tree ∙ can_detach id target kind key (arranged es n).attached can
-
-  module _ (k : ℕ) (fronts rest : List Entry) (h : IsDetached (take (n + 1) out) fronts target k) (e : rest ≡ fronts ++ drop (n + 1) out) where
-    all : count (without target changed) + k ≡ n + 1
-    all = omega (arith, h.rest, ap (λ u. count (without target u)) new_tree, ap count new_tree, put_in.long)
-
-    some : 1 ≤ k
-    some = omega (arith, h.long, ap (λ u. count (subtree target u)) new_tree, some_count target changed (still_held id target kind key (arranged es n).attached can.there))
-
-    pub replaced_within : k ≤ n + 1
-    replaced_within = omega (arith, all)
-
-    pub replaced_shows : Shows rest (n + 1 - k) (without target changed) (joined aside (subtree target changed))
-    replaced_shows =
-        taken_shows out (n + 1) changed aside target rest k behind
-        (e ∙ ap (λ l. l ++ drop (n + 1) out) (h.lists ∙ ap (λ u. flat (without target u) ++ reverse (flat (subtree target u))) new_tree))
-        all (omega (arith, some, s.few))
 
 -- ---- the tree
 

@@ -1,18 +1,20 @@
 -- Payloads changed in a node and in all nodes below it.
-use Rattle.std.proofs.Common.{◌≡◌, ◌≢◌, ◌||◌, suc, ◌+◌, ◌<◌, ◌≤◌, ℤ, Bool, true, false, List, [], ◌∷◌, ◌++◌, Option, Some, None, sym, refl, ap, ◌∙◌, subst, ⊎_elim, arith}
+use Rattle.std.proofs.Common.{◌≡◌, ◌≢◌, ◌||◌, ◌+◌, ◌<◌, ◌≤◌, ℤ, Bool, true, false, List, [], ◌∷◌, ◌++◌, Option, Some, None, sym, refl, ap, ◌∙◌, subst, ⊎_elim, arith}
 use Rattle.std.specs.Prelude.{◌==◌, is_some, slice_index_or, if◌then◌else◌}
-use Rattle.std.specs.List.{IsFirstAndRest}
 use Rattle.std.specs.Ordering.{int_eq}
 use Rattle.std.proofs.lemmas.Bool.{cases_Bool, or_parts}
 use Rattle.std.proofs.lemmas.Bool.Decides.{eqb_tells}
-use Rattle.sn_tree.specs.declared.entry.Entry.{Entry}
 use Rattle.sn_tree.specs.Trees.{Nodes, none, node, holds, subtree, without, with_payloads}
-use Rattle.sn_tree.specs.Order.{Key, flat, tree_of, IsFlat}
+use Rattle.sn_tree.specs.Order.{Key}
+use Rattle.sn_forest.specs.Trees.{Trees, none as none_trees, tree as tree_node}
+use Rattle.sn_tree.specs.declared.item.Item.{Item}
+use Rattle.sn_tree.specs.Keyed.{labels, rows_of}
+use Rattle.sn_tree.specs.Reading.{KeyedItems, hits_by, AreChangedBy}
 use Rattle.sn_tree.specs.Arranged.{Arranged}
 use Rattle.sn_tree.specs.Saving.{SavedNodes}
 use Rattle.sn_tree.specs.Model.{NodeTree}
 use Rattle.sn_tree.specs.Kept.{same_key, uses, payload_of, filled, IsFilled, journal_shown, shown}
-use Rattle.sn_tree.specs.Reworking.{reworked, changed_below, repeated, hits, IsChangedAt, AreChanged}
+use Rattle.sn_tree.specs.Reworking.{reworked, changed_below, repeated}
 use Rattle.sn_tree.proofs.PayloadLaws.{holds-payloads}
 use Rattle.sn_tree.proofs.Keeping.{agree, uses_here, uses-parts}
 
@@ -24,45 +26,20 @@ no_subtree id (node label below after) h =
     let b = or_parts (holds id below) (holds id after) d.1 in
     rw (d.0, b.0) (no_subtree id after b.1)
 
-hits-append : (key : Key) (xs ys : List Entry) → hits key (xs ++ ys) ≡ hits key xs + hits key ys
-hits-append key [] ys = omega arith
-hits-append key (x ∷ xs) ys = omega (arith, hits-append key xs ys)
-
-pub hits-flat : (key : Key) (t : Nodes Key) → hits key (flat t) ≡ uses key t
-hits-flat key none = refl
-hits-flat key (node label below after) = omega (arith, hits-append key (flat below) (flat after), hits-flat key below, hits-flat key after)
-
--- the loop
-
-pub record IsChanging {P : Type 0} (change : P → P) (root : P) (slots : List (Option P)) (es : List Entry) (root' : P) (slots' : List (Option P)) (rest : List Entry) : Type 0 where
-  pub keeps : (key : Key) → filled slots' key ≡ filled slots key
-  pub each : (key : Key) → 1 ≤ filled slots key → repeated change (hits key rest) (payload_of root' slots' key) ≡ repeated change (hits key es) (payload_of root slots key)
-
 pub same_key_is : (a b : Key) → same_key a b ≡ true → a ≡ b
 same_key_is None None h = refl
 same_key_is None (Some b) h = cc
 same_key_is (Some a) None h = cc
 same_key_is (Some a) (Some b) h = ⊎_elim (λ (t : ((a == b) ≡ true) × (a ≡ b)). ap Some t.1) (λ (t : ((a == b) ≡ false) × (a ≢ b)). let bad : true ≡ false = sym h ∙ t.0 in cc) (eqb_tells a b)
 
-module _ {P : Type 0} (change : P → P) (root : P) (slots : List (Option P)) (es : List Entry) where
-  pub changing_next : (root1 root2 : P) (slots1 slots2 : List (Option P)) (rest : List Entry) (e : Entry) (after : List Entry)
-      → IsChanging change root slots es root1 slots1 rest → IsFirstAndRest rest e after → IsChangedAt change root1 slots1 root2 slots2 e.key → IsChanging change root slots es root2 slots2 after
-  changing_next root1 root2 slots1 slots2 rest e after h f s = record {
-    keeps = λ key. s.keeps key ∙ h.keeps key;
-    each = λ key full.
-        let full1 : 1 ≤ filled slots1 key = subst (λ n. 1 ≤ n) (sym (h.keeps key)) full in
-        let before : repeated change (hits key (e ∷ after)) (payload_of root1 slots1 key) ≡ repeated change (hits key es) (payload_of root slots key) = ap (λ l. repeated change (hits key l) (payload_of root1 slots1 key)) (sym f.0) ∙ h.each key full in
-        ⊎_elim
-        (λ (k : same_key e.key key ≡ true).
-        let same : e.key ≡ key = same_key_is e.key key k in
-        let now : payload_of root2 slots2 key ≡ change (payload_of root1 slots1 key) = subst (λ (x : Key). payload_of root2 slots2 x ≡ change (payload_of root1 slots1 x)) same (s.this (subst (λ (x : Key). 1 ≤ filled slots1 x) (sym same) full1)) in
-        let more : hits key (e ∷ after) ≡ suc (hits key after) = rw k (omega arith) in
-        ap (repeated change (hits key after)) now ∙ (ap (λ n. repeated change n (payload_of root1 slots1 key)) (sym more) ∙ before))
-        (λ (k : same_key e.key key ≡ false).
-        let more : hits key (e ∷ after) ≡ hits key after = rw k (omega arith) in
-        ap (repeated change (hits key after)) (s.others key k full1) ∙ (ap (λ n. repeated change n (payload_of root1 slots1 key)) (sym more) ∙ before))
-        (cases_Bool (same_key e.key key));
-  }
+-- how many rows have a key
+hits-append : (key : Key) (xs ys : KeyedItems) → hits_by key (xs ++ ys) ≡ hits_by key xs + hits_by key ys
+hits-append key [] ys = omega arith
+hits-append key ((k, item) ∷ xs) ys = omega (arith, hits-append key xs ys)
+
+hits-rows : (key : Key) (t : Trees Item) → hits_by key (rows_of t) ≡ uses key (labels t)
+hits-rows key none_trees = refl
+hits-rows key (tree_node k item below after) = omega (arith, hits-append key (rows_of below) (rows_of after), hits-rows key below, hits-rows key after)
 
 -- what the change makes of the nodes
 
@@ -114,23 +91,23 @@ filled_once slots (Some key) = there (is_some (slice_index_or slots key None))
     there true = omega arith
     there false = omega arith
 
-module _ {P : Type 0} (change : P → P) (root : P) (slots : List (Option P)) (root' : P) (slots' : List (Option P)) (nodes : Arranged) (saved : Option SavedNodes) (tree : NodeTree P) (id : ℤ) (es : List Entry)
-    (view : shown root slots nodes saved ≡ tree) (closed : tree.journal ≡ None) (kept : IsFilled slots nodes) (fl : IsFlat es) (value : tree_of es ≡ subtree id nodes.attached)
-    (c : AreChanged change root slots root' slots' es) where
-  hit : (key : Key) → hits key es ≡ uses key (subtree id nodes.attached)
-  hit key = ap (hits key) fl ∙ (hits-flat key (tree_of es) ∙ ap (uses key) value)
+module _ {P : Type 0} (change : P → P) (root : P) (slots : List (Option P)) (root' : P) (slots' : List (Option P)) (nodes : Arranged) (saved : Option SavedNodes) (tree : NodeTree P) (id : ℤ) (left : Trees Item)
+    (view : shown root slots nodes saved ≡ tree) (closed : tree.journal ≡ None) (kept : IsFilled slots nodes) (value : labels left ≡ subtree id nodes.attached)
+    (c : AreChangedBy change root slots root' slots' (rows_of left)) where
+  hit : (key : Key) → hits_by key (rows_of left) ≡ uses key (subtree id nodes.attached)
+  hit key = hits-rows key left ∙ ap (uses key) value
 
   whole : (key : Key) → (uses key (without id nodes.attached) + uses key (subtree id nodes.attached)) + uses key nodes.detached ≤ filled slots key
   whole key = omega (arith, uses-parts key id nodes.attached, kept.keys key)
 
   inside_changed : (key : Key) → 0 < uses key (subtree id nodes.attached) → payload_of root' slots' key ≡ change (payload_of root slots key)
   inside_changed key u =
-      let one : hits key es ≡ 1 = omega (arith, hit key, u, whole key, filled_once slots key) in
+      let one : hits_by key (rows_of left) ≡ 1 = omega (arith, hit key, u, whole key, filled_once slots key) in
       c.each key (omega (arith, whole key, u)) ∙ ap (λ n. repeated change n (payload_of root slots key)) one
 
   outside_kept : (key : Key) → 0 < uses key (without id nodes.attached) + uses key nodes.detached → payload_of root' slots' key ≡ payload_of root slots key
   outside_kept key u =
-      let no : hits key es ≡ 0 = omega (arith, hit key, u, whole key, filled_once slots key) in
+      let no : hits_by key (rows_of left) ≡ 0 = omega (arith, hit key, u, whole key, filled_once slots key) in
       c.each key (omega (arith, whole key, u)) ∙ ap (λ n. repeated change n (payload_of root slots key)) no
 
   no_journal : (s : Option SavedNodes) → journal_shown root slots nodes s ≡ None → journal_shown root' slots' nodes s ≡ None

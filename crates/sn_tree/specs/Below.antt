@@ -1,6 +1,5 @@
 -- The ids of nodes that lie below a node.
 use Rattle.std.specs.Prelude.{ℤ, if◌then◌else◌, List, [], ◌∷◌, ◌++◌}
-use Rattle.sn_tree.specs.declared.entry.Entry.{Entry}
 use Rattle.sn_tree.specs.Trees.{Nodes, none, node}
 use Rattle.sn_tree.specs.Faults.{is_synth}
 
@@ -16,8 +15,3 @@ module _ {P : Type 0} where
   synth_ids (node label below after) =
       if is_synth label.kind then label.id ∷ (synth_ids below ++ synth_ids after)
       else synth_ids below ++ synth_ids after
-
--- of the synths of entries
-abbrev pub synths_of : List Entry → List ℤ
-synths_of [] = []
-synths_of (e ∷ es) = if is_synth e.kind then e.id ∷ synths_of es else synths_of es

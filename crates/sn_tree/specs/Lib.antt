@@ -1,7 +1,6 @@
 pub mod Trees
 pub mod Faults
 pub mod Order
-pub mod Places
 pub mod Model
 pub mod Arranged
 pub mod Saving
@@ -9,10 +8,14 @@ pub mod Kept
 pub mod Steps
 pub mod Walking
 pub mod Views
-pub mod Reaching
 pub mod Reworking
 pub mod Members
 pub mod Lends
-pub mod Aside
 pub mod Tallies
 pub mod Below
+pub mod Keyed
+pub mod Stored
+pub mod Undoing
+pub mod Journals
+pub mod Ordered
+pub mod Reading

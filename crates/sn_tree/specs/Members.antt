@@ -1,11 +1,12 @@
 -- A node and all nodes below it, each with the number of nodes just below it.
 use Rattle.std.specs.Prelude.{ℕ, ◌+◌, List, [], ◌∷◌, ◌++◌, Option}
 use Rattle.std.specs.Coded.{Coded, coded×, coded_list, coded_ℕ}
-use Rattle.sn_tree.specs.declared.entry.Entry.{Entry}
+use Rattle.sn_forest.specs.Trees.{Trees}
+use Rattle.sn_tree.specs.declared.item.Item.{Item}
 use Rattle.sn_tree.specs.Trees.{Label, Nodes, none, node, with_payloads}
-use Rattle.sn_tree.specs.Order.{tree_of}
 use Rattle.sn_tree.specs.Model.{label_code}
 use Rattle.sn_tree.specs.Kept.{payload_of}
+use Rattle.sn_tree.specs.Keyed.{labels}
 
 module _ {P : Type 0} where
   -- how many nodes stand beside each other
@@ -22,5 +23,5 @@ abbrev pub members_code : {P : Type 0} → Coded P → Coded (List (Label P × �
 members_code code = coded_list (coded× (label_code code) coded_ℕ)
 
 -- the nodes that are left of a walk over all of them
-abbrev pub members_of : {P : Type 0} → P → List (Option P) → List Entry → List (Label P × ℕ)
-members_of root slots es = members (with_payloads (payload_of root slots) (tree_of es))
+abbrev pub members_of : {P : Type 0} → P → List (Option P) → Trees Item → List (Label P × ℕ)
+members_of root slots rest = members (with_payloads (payload_of root slots) (labels rest))

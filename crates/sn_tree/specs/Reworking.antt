@@ -1,7 +1,6 @@
 -- Payloads changed in a node and in all nodes below it.
-use Rattle.std.specs.Prelude.{◌≡◌, ℕ, zero, suc, ◌+◌, ◌≤◌, ℤ, false, if◌then◌else◌, List, [], ◌∷◌, Option}
+use Rattle.std.specs.Prelude.{◌≡◌, ℕ, zero, suc, ◌+◌, ◌≤◌, ℤ, false, if◌then◌else◌, List, Option}
 use Rattle.std.specs.Ordering.{int_eq}
-use Rattle.sn_tree.specs.declared.entry.Entry.{Entry}
 use Rattle.sn_tree.specs.Trees.{Nodes, none, node, holds, with_payload, with_payloads}
 use Rattle.sn_tree.specs.Order.{Key}
 use Rattle.sn_tree.specs.Model.{NodeTree}
@@ -24,19 +23,9 @@ module _ {P : Type 0} (change : P → P) where
   repeated zero payload = payload
   repeated (suc n) payload = repeated n (change payload)
 
--- how many entries have a key
-abbrev pub hits : Key → List Entry → ℕ
-hits key [] = 0
-hits key (e ∷ es) = (if same_key e.key key then 1 else 0) + hits key es
-
 module _ {P : Type 0} (change : P → P) (root : P) (slots : List (Option P)) (root' : P) (slots' : List (Option P)) where
   -- the payload under one key is changed
   pub record IsChangedAt (at : Key) : Type 0 where
     pub keeps : (key : Key) → filled slots' key ≡ filled slots key
     pub this : 1 ≤ filled slots at → payload_of root' slots' at ≡ change (payload_of root slots at)
     pub others : (key : Key) → same_key at key ≡ false → 1 ≤ filled slots key → payload_of root' slots' key ≡ payload_of root slots key
-
-  -- the payload of each entry is changed
-  pub record AreChanged (es : List Entry) : Type 0 where
-    pub keeps : (key : Key) → filled slots' key ≡ filled slots key
-    pub each : (key : Key) → 1 ≤ filled slots key → payload_of root' slots' key ≡ repeated change (hits key es) (payload_of root slots key)

@@ -24,11 +24,3 @@ spent cost (Some saved) = Some (record saved { room = saved.room - cost })
 abbrev pub noted : ℕ → Option SavedNodes → Option SavedNodes
 noted key None = None
 noted key (Some saved) = Some (record saved { made = key ∷ saved.made })
-
-abbrev pub without_last_key : List ℕ → List ℕ
-without_last_key [] = []
-without_last_key (key ∷ keys) = keys
-
-abbrev pub forgotten : Option SavedNodes → Option SavedNodes
-forgotten None = None
-forgotten (Some saved) = Some (record saved { made = without_last_key saved.made })

@@ -1,20 +1,26 @@
 //! The tree of synths and groups: an id, a kind, a run flag and a payload for each node.
 #![tactic(auto)]
 
-mod aside;
-mod below;
-mod change;
-mod entry;
+mod climb;
+mod cursor;
+mod index;
+mod item;
+mod journal;
+mod level;
+mod meets;
 mod members;
-mod moves;
 mod node;
 mod order;
 mod payloads;
-mod saved;
-mod scratch;
-mod search;
+mod reading;
+mod rows;
+mod spots;
+mod steps;
+mod store;
 mod tally;
+mod tops;
 mod tree;
+mod undo;
 mod views;
 mod walk;
 

@@ -1,14 +1,10 @@
 //! The walk over a node and all nodes below it.
-ghost use Rattle.std.specs.Prelude.{◌≡◌, ◌≤◌, length};
+ghost use Rattle.std.specs.Prelude.{◌≡◌};
 ghost use Rattle.std.specs.Iterator.{YieldsFirstBy, item_count};
-ghost use Rattle.sn_tree.specs.Order.{IsFlat, tree_of};
-ghost use Rattle.sn_tree.specs.Members.{tops};
 
-use crate::entry::Entry;
+use crate::cursor::{Cursor, count_tops};
 use crate::node::NodeKind;
-use crate::search::past;
-use crate::views::front;
-use crate::walk::payload_at;
+use crate::payloads::payload_at;
 use slab::Slab;
 use std::iter::FusedIterator;
 use std::marker::Model;
@@ -36,12 +32,13 @@ pub struct Members<'a, P> {
     pub(crate) root: &'a P,
     /// The payloads of the other nodes, by their keys.
     pub(crate) payloads: &'a Slab<P>,
-    /// The nodes that are left, in the order of the walk.
-    pub(crate) entries: &'a [Entry],
+    /// The nodes that are left.
+    pub(crate) rest: Cursor<'a>,
 }
 
 impl<'a, P> Model for Members<'a, P> {
-    ghost use Rattle.std.specs.Prelude.{List, ℕ};
+    ghost use Rattle.std.specs.Prelude.{◌≤◌, List, ℕ};
+    ghost use Rattle.sn_forest.specs.Trees.{count};
     ghost use Rattle.sn_tree.specs.Trees.{Label};
     ghost use Rattle.sn_tree.specs.Members.{members_code, members_of};
 
@@ -51,24 +48,9 @@ impl<'a, P> Model for Members<'a, P> {
 
     ghost use Rattle.sn_tree.specs.Walking.{IsLeft};
 
-    ghost view = { λ m. members_of m.root.now m.payloads.now.slots m.entries.now };
+    ghost view = { λ m. members_of m.root.now m.payloads.now.slots m.rest };
 
-    ghost invariant = { λ m. IsLeft m.payloads.now.slots m.entries.now };
-}
-
-/// How many nodes stand beside the first one, itself among them, where there are so many nodes at most.
-fn tops(entries: &[Entry], most: u32) -> u32
-    requires flat { IsFlat entries.now }
-    requires few { length entries.now ≤ most }
-    ensures { result ≡ tops (tree_of entries.now) }
-{
-    let mut count = 0;
-    let mut rest = entries;
-    while let Some((entry, after)) = rest.split_first() {
-        count += 1;
-        rest = past(after, entry.below);
-    }
-    count
+    ghost invariant = { λ m. IsLeft m.payloads.now.slots m.rest × (count m.rest ≤ 4096) };
 }
 
 impl<'a, P> Iterator for Members<'a, P> {
@@ -79,18 +61,18 @@ impl<'a, P> Iterator for Members<'a, P> {
     ghost remaining = { item_count (λ rest. rest) };
 
     fn next(&mut self) -> Option<Member<'a, P>> {
-        let Some((entry, after)) = self.entries.split_first() else {
+        let Some(row) = self.rest.row() else {
             return None;
         };
-        let Some(payload) = payload_at(self.root, self.payloads, entry.key) else {
+        let Some(payload) = payload_at(self.root, self.payloads, row.item.key) else {
             return None;
         };
-        let children = tops(front(after, entry.below), entry.below);
-        self.entries = after;
+        let children = count_tops(self.rest.below());
+        self.rest.step();
         Some(Member {
-            id: entry.id,
-            kind: entry.kind,
-            running: entry.running,
+            id: row.item.id,
+            kind: row.item.kind,
+            running: row.item.running,
             children,
             payload,
         })

@@ -1,10 +1,12 @@
-//! Changes of payloads.
-ghost use Rattle.std.specs.Prelude.{◌≡◌, ◌≢◌, ℕ};
+//! Payloads by their keys, and changes of them.
+ghost use Rattle.std.specs.Prelude.{◌≡◌, ◌≢◌, ℕ, option_copied};
 ghost use Rattle.std.specs.Option.{option_map};
 ghost use Rattle.slab.specs.Slab.{get};
-ghost use Rattle.sn_tree.specs.Reworking.{AreChanged, IsChangedAt};
+ghost use Rattle.sn_tree.specs.Reworking.{IsChangedAt};
+ghost use Rattle.sn_tree.specs.Walking.{payload_at};
+ghost use Rattle.sn_tree.specs.Reading.{AreChangedBy};
 
-use crate::entry::Entry;
+use crate::rows::Rows;
 use slab::Slab;
 
 /// A change of one payload.
@@ -15,6 +17,16 @@ pub trait ChangePayload<P> {
     /// Changes a payload.
     fn change(&self, payload: &mut P)
         ensures { payload.new ≡ changed self.now payload.old };
+}
+
+/// The payload under a key, where none is the root's.
+pub fn payload_at<'a, P>(root: &'a P, payloads: &'a Slab<P>, key: Option<usize>) -> Option<&'a P>
+    ensures { option_copied result ≡ payload_at root.now payloads.now.slots key }
+{
+    match key {
+        None => Some(root),
+        Some(key) => payloads.get(key),
+    }
 }
 
 fn change_slot<P, C: ChangePayload<P>>(payloads: &mut Slab<P>, key: usize, change: &C)
@@ -42,17 +54,15 @@ fn change_at<P, C: ChangePayload<P>>(
 }
 
 /// Changes the payload of each of these nodes.
-pub fn change_all<P, C: ChangePayload<P>>(
+pub fn change_rows<P, C: ChangePayload<P>>(
     root: &mut P,
     payloads: &mut Slab<P>,
-    entries: &[Entry],
+    rows: Rows<'_>,
     change: &C,
 )
-    ensures { AreChanged (C.changed change.now) root.old payloads.old.slots root.new payloads.new.slots entries.now }
+    ensures { AreChangedBy (C.changed change.now) root.old payloads.old.slots root.new payloads.new.slots rows.entry }
 {
-    let mut rest = entries;
-    while let Some((entry, after)) = rest.split_first() {
-        change_at(root, payloads, entry.key, change);
-        rest = after;
+    for row in rows {
+        change_at(root, payloads, row.item.key, change);
     }
 }

@@ -1,9 +1,10 @@
 //! Going over all payloads.
 ghost use Rattle.std.specs.Prelude.{◌≡◌};
-ghost use Rattle.sn_tree.specs.Tallies.{gathered, held_in};
+ghost use Rattle.sn_tree.specs.Tallies.{gathered};
+ghost use Rattle.sn_tree.specs.Reading.{held_by};
 
-use crate::entry::Entry;
-use crate::walk::payload_at;
+use crate::payloads::payload_at;
+use crate::rows::Rows;
 use slab::Slab;
 
 /// What is gathered from payloads, one after the other.
@@ -17,12 +18,12 @@ pub trait Tally<P> {
         ensures { self.new ≡ with_one self.old payload.now };
 }
 
-/// Goes over the payloads of entries.
-pub fn tally_entries<P, T: Tally<P>>(root: &P, payloads: &Slab<P>, entries: &[Entry], tally: &mut T)
-    ensures { tally.new ≡ gathered T.with_one tally.old (held_in root.now payloads.now.slots entries.now) }
+/// Goes over the payloads of nodes.
+pub fn tally_rows<P, T: Tally<P>>(root: &P, payloads: &Slab<P>, rows: Rows<'_>, tally: &mut T)
+    ensures { tally.new ≡ gathered T.with_one tally.old (held_by root.now payloads.now.slots rows.entry) }
 {
-    for entry in entries {
-        match payload_at(root, payloads, entry.key) {
+    for row in rows {
+        match payload_at(root, payloads, row.item.key) {
             Some(payload) => tally.add(payload),
             None => {}
         }

@@ -10,6 +10,7 @@ ghost use Rattle.std.specs.Ordering.{int_eq};
 ghost use Rattle.sn_tree.specs.declared.node.NodeView.{NodeView};
 ghost use Rattle.sn_tree.specs.Steps.{AllDistinct, HasRoom, IsOpen, IsOpened, inserted, replaced, detached, attached, moved, running, undone, committed, freed};
 ghost use Rattle.sn_tree.specs.Kept.{times};
+ghost use Rattle.sn_tree.specs.Ordered.{fault_among, fault_in};
 ghost use Rattle.sn_tree.specs.Views.{views_below};
 ghost use Rattle.sn_tree.specs.Members.{members};
 ghost use Rattle.sn_tree.specs.Below.{top_ids, synth_ids};
@@ -17,15 +18,14 @@ ghost use Rattle.sn_tree.specs.Reworking.{changed_below};
 ghost use Rattle.sn_tree.specs.Tallies.{gathered};
 ghost use Rattle.slab.specs.Slab.{get};
 
-use crate::below::{synths_in, tops_in};
+use crate::cursor::{first_id, list_tops};
 use crate::members::Members;
 use crate::node::{NodeKind, NodeView, Spot, TreeFault, Uninserted};
-use crate::order::Order;
-use crate::payloads::{ChangePayload, change_all};
-use crate::saved::{Saved, forget, note, spend};
-use crate::scratch::Scratch;
-use crate::tally::{Tally, tally_entries};
-use crate::views::{view_in, views_in};
+use crate::order::{Order, Refused};
+use crate::payloads::{ChangePayload, change_rows};
+use crate::reading::synths_in;
+use crate::rows::Rows;
+use crate::tally::{Tally, tally_rows};
 use crate::walk::Walk;
 use slab::Slab;
 use sn_ports::NoMemory;
@@ -38,9 +38,6 @@ pub struct Tree<P> {
     root: P,
     payloads: Slab<P>,
     order: Order,
-    scratch: Scratch,
-    // What the open journal keeps, if there is one.
-    saved: Option<Saved>,
 }
 
 impl<P> Model for Tree<P> {
@@ -52,9 +49,9 @@ impl<P> Model for Tree<P> {
 
     ghost use Rattle.sn_tree.specs.Kept.{shown, IsKept};
 
-    ghost view = { λ t. shown t.root t.payloads.slots t.order t.saved };
+    ghost view = { λ t. shown t.root t.payloads.slots t.order.now t.order.saved };
 
-    ghost invariant = { λ t. IsKept t.payloads.slots t.order t.saved };
+    ghost invariant = { λ t. IsKept t.payloads.slots t.order.now t.order.saved };
 }
 
 /// Drops the payloads under these keys, and no other.
@@ -68,6 +65,28 @@ fn remove_all<P: Drop>(payloads: &mut Slab<P>, keys: Vec<usize>)
     }
 }
 
+/// Why a node is not put in.
+fn uninserted<P>(refused: Refused, payload: P) -> Uninserted<P>
+    ensures fault { fault_in result ≡ fault_among refused }
+    ensures returned { returned result ≡ payload }
+{
+    match refused {
+        Refused::NoMemory => Uninserted::NoMemory(payload),
+        Refused::Fault(fault) => Uninserted::Fault(fault, payload),
+    }
+}
+
+/// Why a node is not put in where there is no room for its payload: its fault comes before want of memory.
+fn unreserved<P>(fault: Option<TreeFault>, payload: P) -> Uninserted<P>
+    ensures fault { fault_in result ≡ fault }
+    ensures returned { returned result ≡ payload }
+{
+    match fault {
+        Some(fault) => Uninserted::Fault(fault, payload),
+        None => Uninserted::NoMemory(payload),
+    }
+}
+
 impl<P: Drop> Tree<P> {
     ghost use Rattle.sn_tree.specs.Lends.{lends_payload};
 
@@ -76,14 +95,11 @@ impl<P: Drop> Tree<P> {
         ensures { IfOk result (λ t. t ≡ record { attached = leaf (pos 0) Group root; detached = none; journal = None }) }
     {
         let order = Order::new(alloc)?;
-        let scratch = Scratch::new(alloc)?;
         let payloads = Slab::new(alloc);
         Ok(Tree {
             root,
             payloads,
             order,
-            scratch,
-            saved: None,
         })
     }
 
@@ -91,10 +107,7 @@ impl<P: Drop> Tree<P> {
     pub fn refusal(&self, id: i32, spot: Spot) -> Option<TreeFault>
         ensures { result ≡ insert_fault id spot.action spot.target self.now.attached }
     {
-        match self.order.place_for_new(id, spot) {
-            Ok(_) => None,
-            Err(fault) => Some(fault),
-        }
+        self.order.refusal(id, spot)
     }
 
     /// Puts a new node, which runs, at a spot. Any number that no attached node has may be its id, -1 too, which stands for no node in a
@@ -111,38 +124,25 @@ impl<P: Drop> Tree<P> {
         ensures refused { OnErr result (self.new ≡ self.old) }
         ensures returned { IfErr result (λ u. returned u ≡ payload) }
     {
-        let place = match self.order.place_for_new(id, spot) {
-            Ok(place) => place,
-            Err(fault) => return Err(Uninserted::Fault(fault, payload)),
-        };
         match self.payloads.reserve(1) {
             Ok(()) => {}
-            Err(_) => return Err(Uninserted::NoMemory(payload)),
+            Err(_) => return Err(unreserved(self.order.refusal(id, spot), payload)),
         }
         let key = self.payloads.vacant_key();
-        match note(&mut self.saved, key) {
-            Ok(()) => {}
-            Err(_) => return Err(Uninserted::NoMemory(payload)),
-        }
-        match self.order.put_new(place, id, kind, key) {
-            Ok(()) => {}
-            Err(_) => {
-                forget(&mut self.saved);
-                return Err(Uninserted::NoMemory(payload));
+        match self.order.insert(id, kind, spot, key) {
+            Ok(()) => {
+                let _ = self.payloads.insert_reserved(payload);
+                Ok(())
             }
+            Err(refused) => Err(uninserted(refused, payload)),
         }
-        let _ = self.payloads.insert_reserved(payload);
-        Ok(())
     }
 
     /// Why a new node can't take the place of another, or `None` where want of memory alone can refuse it.
     pub fn refusal_to_replace(&self, id: i32, target: i32) -> Option<TreeFault>
         ensures { result ≡ replace_fault id target self.now.attached }
     {
-        match self.order.place_to_replace(id, target) {
-            Ok(_) => None,
-            Err(refused) => Some(refused),
-        }
+        self.order.refusal_to_replace(id, target)
     }
 
     /// Puts a new node, which runs, in the place of the target. That one is taken out with all below it and kept aside, behind
@@ -160,29 +160,20 @@ impl<P: Drop> Tree<P> {
         ensures refused { OnErr result (self.new ≡ self.old) }
         ensures returned { IfErr result (λ u. returned u ≡ payload) }
     {
-        let place = match self.order.place_to_replace(id, target) {
-            Ok(place) => place,
-            Err(refused) => return Err(Uninserted::Fault(refused, payload)),
-        };
         match self.payloads.reserve(1) {
             Ok(()) => {}
-            Err(_) => return Err(Uninserted::NoMemory(payload)),
-        }
-        let key = self.payloads.vacant_key();
-        match note(&mut self.saved, key) {
-            Ok(()) => {}
-            Err(_) => return Err(Uninserted::NoMemory(payload)),
-        }
-        match self.order.replace(place, id, kind, key) {
-            Ok(()) => {}
             Err(_) => {
-                forget(&mut self.saved);
-                return Err(Uninserted::NoMemory(payload));
+                return Err(unreserved(self.order.refusal_to_replace(id, target), payload));
             }
         }
-        spend(&mut self.saved);
-        let _ = self.payloads.insert_reserved(payload);
-        Ok(())
+        let key = self.payloads.vacant_key();
+        match self.order.replace(id, kind, target, key) {
+            Ok(()) => {
+                let _ = self.payloads.insert_reserved(payload);
+                Ok(())
+            }
+            Err(refused) => Err(uninserted(refused, payload)),
+        }
     }
 
     /// Takes a node and all below it out of the tree, and keeps them aside, behind what was detached before.
@@ -193,12 +184,7 @@ impl<P: Drop> Tree<P> {
         ensures ok { OnOk result (self.new ≡ detached id self.old) }
         ensures refused { OnErr result (self.new ≡ self.old) }
     {
-        match self.order.detach(id) {
-            Ok(()) => {}
-            Err(fault) => return Err(fault),
-        }
-        spend(&mut self.saved);
-        Ok(())
+        self.order.detach(id)
     }
 
     /// Puts the detached node with this id that was detached last back in at a spot, with all below it. It takes no memory.
@@ -209,12 +195,7 @@ impl<P: Drop> Tree<P> {
         ensures ok { OnOk result (self.new ≡ attached id spot.action spot.target self.old) }
         ensures refused { OnErr result (self.new ≡ self.old) }
     {
-        match self.order.attach(id, spot, &mut self.scratch) {
-            Ok(()) => {}
-            Err(fault) => return Err(fault),
-        }
-        spend(&mut self.saved);
-        Ok(())
+        self.order.attach(id, spot)
     }
 
     /// Takes a node with all below it out and puts it in at a spot. It takes no memory. A refusal changes nothing.
@@ -224,12 +205,7 @@ impl<P: Drop> Tree<P> {
         ensures ok { OnOk result (self.new ≡ moved id spot.action spot.target self.old) }
         ensures refused { OnErr result (self.new ≡ self.old) }
     {
-        match self.order.move_to(id, spot) {
-            Ok(()) => {}
-            Err(fault) => return Err(fault),
-        }
-        spend(&mut self.saved);
-        Ok(())
+        self.order.move_to(id, spot)
     }
 
     /// Sets the run flag of an attached node. It takes no memory. A refusal changes nothing.
@@ -239,12 +215,7 @@ impl<P: Drop> Tree<P> {
         ensures ok { OnOk result (self.new ≡ running id on self.old) }
         ensures refused { OnErr result (self.new ≡ self.old) }
     {
-        match self.order.set_run(id, on) {
-            Ok(()) => {}
-            Err(fault) => return Err(fault),
-        }
-        spend(&mut self.saved);
-        Ok(())
+        self.order.set_run(id, on)
     }
 
     /// Opens a journal with room for so many calls of `replace`, `detach`, `attach`, `move_to` and `set_run`. After want of memory
@@ -254,9 +225,7 @@ impl<P: Drop> Tree<P> {
         ensures ok { OnOk result (IsOpened steps self.old self.new) }
         ensures err { OnErr result (self.new ≡ self.old) }
     {
-        let order = self.order.copy()?;
-        self.saved = Some(Saved::new(self.order.alloc(), order, steps));
-        Ok(())
+        self.order.begin(steps)
     }
 
     /// Restores the nodes as they were when the open journal was opened, and drops the payloads that were put in since.
@@ -265,12 +234,8 @@ impl<P: Drop> Tree<P> {
         requires open { IsOpen self.old.journal }
         ensures { self.new ≡ undone self.old }
     {
-        match self.saved.take() {
-            Some(saved) => {
-                let (order, made) = saved.into_parts();
-                self.order = order;
-                remove_all(&mut self.payloads, made);
-            }
+        match self.order.undo() {
+            Some(made) => remove_all(&mut self.payloads, made),
             None => {}
         }
     }
@@ -280,7 +245,7 @@ impl<P: Drop> Tree<P> {
         requires open { IsOpen self.old.journal }
         ensures { self.new ≡ committed self.old }
     {
-        self.saved = None;
+        self.order.commit();
     }
 
     /// Ends one detached node and gives its payload, in the order of detaching and then of the walk. Those just below it
@@ -309,18 +274,6 @@ impl<P: Drop> Tree<P> {
         }
     }
 
-    /// The payload of an attached node, with a hint: the place, from 0, at which the node may stand among all attached ones in the
-    /// order of the walk. The hint matters for time alone: a node that stands there is found at once, any other one by a search.
-    pub fn payload_near(&self, id: i32, place: u32) -> Option<&P>
-        ensures { option_copied result ≡ option_map (λ l. l.payload) (label_of id self.now.attached) }
-    {
-        match self.order.key_near(id, place) {
-            None => None,
-            Some(None) => Some(&self.root),
-            Some(Some(key)) => self.payloads.get(key),
-        }
-    }
-
     /// The payload of an attached node, for writing. What is written through it becomes that node's payload, and all
     /// else stays as it was.
     pub fn payload_mut(&mut self, id: i32) -> Option<&mut P>
@@ -339,8 +292,8 @@ impl<P: Drop> Tree<P> {
         requires closed { self.old.journal ≡ None }
         ensures { self.new ≡ changed_below (C.changed change.now) id self.old }
     {
-        let entries = self.order.subtree_entries(id);
-        change_all(&mut self.root, &mut self.payloads, entries, change);
+        let rows = Rows::new(self.order.cursor(id));
+        change_rows(&mut self.root, &mut self.payloads, rows, change);
     }
 
     /// The walk over the running nodes: a node comes before those below it, and these before those after it.
@@ -351,7 +304,7 @@ impl<P: Drop> Tree<P> {
         Walk {
             root: &self.root,
             payloads: &self.payloads,
-            entries: self.order.attached_entries(),
+            rest: self.order.cursor(0),
         }
     }
 
@@ -363,7 +316,7 @@ impl<P: Drop> Tree<P> {
         Walk {
             root: &self.root,
             payloads: &self.payloads,
-            entries: self.order.subtree_entries(id),
+            rest: self.order.cursor(id),
         }
     }
 
@@ -371,19 +324,15 @@ impl<P: Drop> Tree<P> {
     pub fn tally<T: Tally<P>>(&self, tally: &mut T)
         ensures { tally.new ≡ gathered T.with_one tally.old (payloads self.now.attached) }
     {
-        tally_entries(
-            &self.root,
-            &self.payloads,
-            self.order.attached_entries(),
-            tally,
-        );
+        let rows = Rows::new(self.order.cursor(0));
+        tally_rows(&self.root, &self.payloads, rows, tally);
     }
 
     /// An attached node as it stands in the tree.
     pub fn node(&self, id: i32) -> Option<NodeView>
         ensures { result ≡ view_of id self.now.attached }
     {
-        view_in(self.order.attached_entries(), id)
+        self.order.node(id)
     }
 
     /// An attached node and all below it as they stand in the tree, by their ids, in the order of the walk. Where no such
@@ -391,7 +340,7 @@ impl<P: Drop> Tree<P> {
     pub fn views(&self, id: i32) -> Result<Vec<(i32, NodeView)>, NoMemory>
         ensures { IfOk result (λ views. views.items ≡ views_below id self.now.attached) }
     {
-        views_in(self.order.alloc(), self.order.attached_entries(), id)
+        self.order.views(id)
     }
 
     /// An attached node and all nodes below it, running or not, in the order of the walk. Where no such node is attached
@@ -402,7 +351,7 @@ impl<P: Drop> Tree<P> {
         Members {
             root: &self.root,
             payloads: &self.payloads,
-            entries: self.order.subtree_entries(id),
+            rest: self.order.cursor(id),
         }
     }
 
@@ -410,21 +359,22 @@ impl<P: Drop> Tree<P> {
     pub fn first(&self, group: i32) -> Option<i32>
         ensures { result ≡ first_of (children group self.now.attached) }
     {
-        self.order.first_in(group)
+        first_id(&self.order.cursor(group).below())
     }
 
     /// The ids of the nodes just below an attached one, from the head on.
     pub fn children(&self, id: i32) -> Result<Vec<i32>, NoMemory>
         ensures { IfOk result (λ found. found.items ≡ top_ids (children id self.now.attached)) }
     {
-        tops_in(self.order.alloc(), self.order.entries_below(id))
+        list_tops(self.order.alloc(), self.order.cursor(id).below())
     }
 
     /// The ids of all synths below an attached node, in the order of the walk.
     pub fn synths_below(&self, id: i32) -> Result<Vec<i32>, NoMemory>
         ensures { IfOk result (λ found. found.items ≡ synth_ids (children id self.now.attached)) }
     {
-        synths_in(self.order.alloc(), self.order.entries_below(id))
+        let rows = Rows::new(self.order.cursor(id).below());
+        synths_in(self.order.alloc(), rows)
     }
 
     /// The node after an attached one in the order of the walk: a node comes before those below it, and these before those after it.

@@ -1,11 +1,10 @@
 //! The walk over the nodes that run.
-ghost use Rattle.std.specs.Prelude.{◌≡◌, true, option_copied};
+ghost use Rattle.std.specs.Prelude.{◌≡◌, true};
 ghost use Rattle.std.specs.Iterator.{YieldsFirstBy, item_count};
-ghost use Rattle.sn_tree.specs.Walking.{payload_at};
 
-use crate::entry::Entry;
+use crate::cursor::{Cursor, skip_paused};
 use crate::node::NodeKind;
-use crate::search::from_running;
+use crate::payloads::payload_at;
 use slab::Slab;
 use std::iter::FusedIterator;
 use std::marker::Model;
@@ -29,8 +28,8 @@ pub struct Walk<'a, P> {
     pub(crate) root: &'a P,
     /// The payloads of the other nodes, by their keys.
     pub(crate) payloads: &'a Slab<P>,
-    /// The nodes that are left, paused ones among them, in the order of the walk.
-    pub(crate) entries: &'a [Entry],
+    /// The nodes that are left, paused ones among them.
+    pub(crate) rest: Cursor<'a>,
 }
 
 impl<'a, P> Model for Walk<'a, P> {
@@ -45,19 +44,9 @@ impl<'a, P> Model for Walk<'a, P> {
 
     ghost use Rattle.sn_tree.specs.Walking.{left_of, IsLeft};
 
-    ghost view = { λ w. left_of w.root.now w.payloads.now.slots w.entries.now };
+    ghost view = { λ w. left_of w.root.now w.payloads.now.slots w.rest };
 
-    ghost invariant = { λ w. IsLeft w.payloads.now.slots w.entries.now };
-}
-
-/// The payload under a key, where none is the root's.
-pub fn payload_at<'a, P>(root: &'a P, payloads: &'a Slab<P>, key: Option<usize>) -> Option<&'a P>
-    ensures { option_copied result ≡ payload_at root.now payloads.now.slots key }
-{
-    match key {
-        None => Some(root),
-        Some(key) => payloads.get(key),
-    }
+    ghost invariant = { λ w. IsLeft w.payloads.now.slots w.rest };
 }
 
 impl<'a, P> Iterator for Walk<'a, P> {
@@ -68,27 +57,19 @@ impl<'a, P> Iterator for Walk<'a, P> {
     ghost remaining = { item_count (λ rest. rest) };
 
     fn next(&mut self) -> Option<Visit<'a, P>> {
-        let rest = from_running(self.entries);
-        let Some((entry, after)) = rest.split_first() else {
+        skip_paused(&mut self.rest);
+        let Some(row) = self.rest.row() else {
             return None;
         };
-        let Some(payload) = payload_at(self.root, self.payloads, entry.key) else {
+        let Some(payload) = payload_at(self.root, self.payloads, row.item.key) else {
             return None;
         };
-        self.entries = after;
+        self.rest.step();
         Some(Visit {
-            id: entry.id,
-            kind: entry.kind,
+            id: row.item.id,
+            kind: row.item.kind,
             payload,
         })
-    }
-}
-
-impl<P> Walk<'_, P> {
-    /// How many nodes stand behind the one that was given last, paused ones and those below them among them. It tells the
-    /// place of that node, which is a hint for `Tree::payload_near`. Nothing is promised of it.
-    pub fn left(&self) -> usize {
-        self.entries.len()
     }
 }
 

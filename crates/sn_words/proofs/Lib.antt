@@ -1,3 +1,4 @@
+pub mod DrillLine
 pub mod FirstBad
 pub mod Loops
 pub mod Passing

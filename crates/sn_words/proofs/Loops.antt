@@ -34,24 +34,24 @@ pub none_given : (key : Key) (words : List Octets) (i : ℕ) → length words �
 unfolding given
 none_given key words i h inv = sym (inv ∙ ap (given key) (drop_of_length-le words h))
 
-pub bad_here : (words : List Octets) (i : ℕ) (w d : Octets) (bytes : List ℕ) (good : Bool) → i < length words → w ≡ get_or words i d → bytes ≡ w.bytes → good ≡ is_good (take i words) bytes → first_bad (take i words) (drop i words) ≡ cond good (first_bad (take (i + 1) words) (drop (i + 1) words)) (Some i)
+pub bad_here : (keys : List Key) (words : List Octets) (i : ℕ) (w d : Octets) (bytes : List ℕ) (good : Bool) → i < length words → w ≡ get_or words i d → bytes ≡ w.bytes → good ≡ is_good keys (take i words) bytes → first_bad keys (take i words) (drop i words) ≡ cond good (first_bad keys (take (i + 1) words) (drop (i + 1) words)) (Some i)
 unfolding first_bad
-bad_here words i w d bytes good h is same e =
-    let test : is_good (take i words) w.bytes ≡ good = ap (is_good (take i words)) (sym same) ∙ sym e in
+bad_here keys words i w d bytes good h is same e =
+    let test : is_good keys (take i words) w.bytes ≡ good = ap (is_good keys (take i words)) (sym same) ∙ sym e in
     let more : take i words ++ w ∷ [] ≡ take (i + 1) words = ap (λ x. take i words ++ x ∷ []) is ∙ sym (take_more words i d h) in
     let size : length (take i words) ≡ i = length-take-le i words (omega arith) in
     let rest : List Octets = drop (i + 1) words in
-    ap (first_bad (take i words)) (here words i w d h is)
-    ∙ ap (λ b. cond b (first_bad (take i words ++ w ∷ []) rest) (Some (length (take i words)))) test
-    ∙ ap (λ l. cond good (first_bad l rest) (Some (length (take i words)))) more
-    ∙ ap (λ n. cond good (first_bad (take (i + 1) words) rest) (Some n)) size
+    ap (first_bad keys (take i words)) (here words i w d h is)
+    ∙ ap (λ b. cond b (first_bad keys (take i words ++ w ∷ []) rest) (Some (length (take i words)))) test
+    ∙ ap (λ l. cond good (first_bad keys l rest) (Some (length (take i words)))) more
+    ∙ ap (λ n. cond good (first_bad keys (take (i + 1) words) rest) (Some n)) size
 
-pub bad : (words : List Octets) (i : ℕ) (w : Octets) (bytes : List ℕ) (good : Bool) → i < length words → w ≡ get_or words i w → bytes ≡ w.bytes → good ≡ is_good (take i words) bytes → first_bad [] words ≡ first_bad (take i words) (drop i words) → good ≡ false → ◌≡◌ {A = Option ℕ} (Some i) (first_bad [] words)
-bad words i w bytes good h is same e inv fails = sym (inv ∙ bad_here words i w w bytes good h is same e ∙ ap (λ b. cond b (first_bad (take (i + 1) words) (drop (i + 1) words)) (Some i)) fails)
+pub bad : (keys : List Key) (words : List Octets) (i : ℕ) (w : Octets) (bytes : List ℕ) (good : Bool) → i < length words → w ≡ get_or words i w → bytes ≡ w.bytes → good ≡ is_good keys (take i words) bytes → first_bad keys [] words ≡ first_bad keys (take i words) (drop i words) → good ≡ false → ◌≡◌ {A = Option ℕ} (Some i) (first_bad keys [] words)
+bad keys words i w bytes good h is same e inv fails = sym (inv ∙ bad_here keys words i w w bytes good h is same e ∙ ap (λ b. cond b (first_bad keys (take (i + 1) words) (drop (i + 1) words)) (Some i)) fails)
 
-pub good_so_far : (words : List Octets) (i : ℕ) (w : Octets) (bytes : List ℕ) (good : Bool) → i < length words → w ≡ get_or words i w → bytes ≡ w.bytes → good ≡ is_good (take i words) bytes → first_bad [] words ≡ first_bad (take i words) (drop i words) → good ≡ true → first_bad [] words ≡ first_bad (take (i + 1) words) (drop (i + 1) words)
-good_so_far words i w bytes good h is same e inv passes = inv ∙ bad_here words i w w bytes good h is same e ∙ ap (λ b. cond b (first_bad (take (i + 1) words) (drop (i + 1) words)) (Some i)) passes
+pub good_so_far : (keys : List Key) (words : List Octets) (i : ℕ) (w : Octets) (bytes : List ℕ) (good : Bool) → i < length words → w ≡ get_or words i w → bytes ≡ w.bytes → good ≡ is_good keys (take i words) bytes → first_bad keys [] words ≡ first_bad keys (take i words) (drop i words) → good ≡ true → first_bad keys [] words ≡ first_bad keys (take (i + 1) words) (drop (i + 1) words)
+good_so_far keys words i w bytes good h is same e inv passes = inv ∙ bad_here keys words i w w bytes good h is same e ∙ ap (λ b. cond b (first_bad keys (take (i + 1) words) (drop (i + 1) words)) (Some i)) passes
 
-pub all_good : (words : List Octets) (i : ℕ) → length words ≤ i → first_bad [] words ≡ first_bad (take i words) (drop i words) → ◌≡◌ {A = Option ℕ} None (first_bad [] words)
+pub all_good : (keys : List Key) (words : List Octets) (i : ℕ) → length words ≤ i → first_bad keys [] words ≡ first_bad keys (take i words) (drop i words) → ◌≡◌ {A = Option ℕ} None (first_bad keys [] words)
 unfolding first_bad
-all_good words i h inv = sym (inv ∙ ap (first_bad (take i words)) (drop_of_length-le words h))
+all_good keys words i h inv = sym (inv ∙ ap (first_bad keys (take i words)) (drop_of_length-le words h))

@@ -2,6 +2,7 @@
 use Rattle.std.proofs.Common.{◌≡◌, ◌≤◌, ℕ, Bool, true, false, not, cond, nat_lt, List, [], length, Option, Some, None, Result, Ok, Err, refl, sym, subst, ◌∙◌}
 use Rattle.std.proofs.lemmas.Bool.{true≢false, le-ltb, ltb-false}
 use Rattle.sn_ports.specs.Octets.{Octets}
+use Rattle.sn_words.specs.declared.keys.Key.{Key}
 use Rattle.sn_words.specs.Keys.{first_bad}
 use Rattle.sn_words.specs.Laws.{AreGood, Tells}
 use Rattle.sn_words.proofs.FirstBad.{finds_first_bad}
@@ -33,12 +34,12 @@ not_fewer n most e = ltb-false n most e
 pub not_short : (n most : ℕ) → most ≤ n → nat_lt n most ≡ false
 not_short n most le = le-ltb n most le
 
-pub all_good : (words : List Octets) → first_bad [] words ≡ None → AreGood words (length words)
-all_good words e = let P : Option ℕ → Type 0 = λ index. Tells words index in subst P e (finds_first_bad words)
+pub all_good : (keys : List Key) (words : List Octets) → first_bad keys [] words ≡ None → AreGood keys words (length words)
+all_good keys words e = let P : Option ℕ → Type 0 = λ index. Tells keys words index in subst P e (finds_first_bad keys words)
 
-none_of : (words : List Octets) (index : Option ℕ) → AreGood words (length words) → Tells words index → index ≡ None
-none_of words None good tells = refl
-none_of words (Some i) good tells = absurd (true≢false (sym (good i tells.0) ∙ tells.1))
+none_of : (keys : List Key) (words : List Octets) (index : Option ℕ) → AreGood keys words (length words) → Tells keys words index → index ≡ None
+none_of keys words None good tells = refl
+none_of keys words (Some i) good tells = absurd (true≢false (sym (good i tells.0) ∙ tells.1))
 
-pub none_is_bad : (words : List Octets) → AreGood words (length words) → first_bad [] words ≡ None
-none_is_bad words good = none_of words (first_bad [] words) good (finds_first_bad words)
+pub none_is_bad : (keys : List Key) (words : List Octets) → AreGood keys words (length words) → first_bad keys [] words ≡ None
+none_is_bad keys words good = none_of keys words (first_bad keys [] words) good (finds_first_bad keys words)

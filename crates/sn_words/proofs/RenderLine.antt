@@ -3,7 +3,7 @@ use Rattle.std.proofs.Common.{◌≡◌, ℕ, ◌+◌, Bool, true, false, not, c
 use Rattle.std.specs.Prelude.{codes, option_map}
 use Rattle.sn_ports.specs.Octets.{Octets}
 use Rattle.sn_words.specs.Choices.{Choices}
-use Rattle.sn_words.specs.Keys.{first_bad, choices}
+use Rattle.sn_words.specs.Keys.{setting_keys, first_bad, choices}
 use Rattle.sn_words.specs.Laws.{IsRenderLine, RendersBy}
 use Rattle.sn_words.specs.Words.{begins_with, between, bad_word, settings_of}
 use Rattle.sn_words.proofs.Passing.{went_on, negated, is_negated, not_fewer, not_short, all_good, none_is_bad}
@@ -33,7 +33,7 @@ line_of words chosen e =
     record {
       first = negated (begins_with (codes "render") words) first;
       enough = not_fewer (length words) 4 enough;
-      good = all_good (between words) (none_behind (first_bad [] (between words)) e2);
+      good = all_good setting_keys (between words) (none_behind (first_bad setting_keys [] (between words)) e2);
       settings = settings;
     }
 
@@ -42,7 +42,7 @@ unfolding bad_word
 no_bad_word words chosen line =
     went_on (not (begins_with (codes "render") words)) (Some 0) _ (is_negated (begins_with (codes "render") words) line.first)
     ∙ went_on (nat_lt (length words) 4) (Some (length words)) _ (not_short (length words) 4 line.enough)
-    ∙ ap (option_map (λ i. i + 1)) (none_is_bad (between words) line.good)
+    ∙ ap (option_map (λ i. i + 1)) (none_is_bad setting_keys (between words) line.good)
 
 of_line : (words : List Octets) (chosen : Choices) → IsRenderLine words chosen → settings_of words ≡ Ok chosen
 unfolding settings_of

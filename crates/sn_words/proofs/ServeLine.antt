@@ -7,7 +7,7 @@ use Rattle.sn_fixed.specs.Natural.{natural}
 use Rattle.sn_pcm.specs.Allowed.{is_within}
 use Rattle.sn_ports.specs.Octets.{Octets}
 use Rattle.sn_words.specs.Choices.{Choices}
-use Rattle.sn_words.specs.Keys.{first_bad, choices}
+use Rattle.sn_words.specs.Keys.{setting_keys, first_bad, choices}
 use Rattle.sn_words.specs.Laws.{IsServeLine, ServesBy}
 use Rattle.sn_words.specs.Serving.{ServeChoices, between, port_word, port_of, by_port, by_settings, serve_words_of}
 use Rattle.sn_words.specs.Words.{begins_with}
@@ -46,13 +46,13 @@ unfolding serve_words_of
 line_of words chosen e =
     let (first, e1) = passed (not (begins_with (codes "serve") words)) 0 _ chosen e in
     let (enough, e2) = passed (nat_lt (length words) 3) (length words) _ chosen e1 in
-    let (none, e3) = none_bad words (first_bad [] (between words)) chosen e2 in
+    let (none, e3) = none_bad words (first_bad setting_keys [] (between words)) chosen e2 in
     let (port, settings) = has_port words (port_of (natural (port_word words))) chosen e3 in
     let (number, least, greatest) = is_number (natural (port_word words)) chosen.port port in
     record {
       first = negated (begins_with (codes "serve") words) first;
       enough = not_fewer (length words) 3 enough;
-      good = all_good (between words) none;
+      good = all_good setting_keys (between words) none;
       settings = settings;
       port = number;
       least = least;
@@ -64,7 +64,7 @@ unfolding serve_words_of
 of_line words chosen line =
     went_on (not (begins_with (codes "serve") words)) (Err 0) _ (is_negated (begins_with (codes "serve") words) line.first)
     ∙ went_on (nat_lt (length words) 3) (Err (length words)) _ (not_short (length words) 3 line.enough)
-    ∙ ap (by_settings words) (none_is_bad (between words) line.good)
+    ∙ ap (by_settings words) (none_is_bad setting_keys (between words) line.good)
     ∙ by_choice words (port_of (natural (port_word words))) chosen (ap port_of line.port ∙ allowed_port chosen.port line.least line.greatest) line.settings
 
 pub serves_by : (words : List Octets) (chosen : ServeChoices) → ServesBy words chosen

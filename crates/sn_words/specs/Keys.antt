@@ -1,5 +1,5 @@
 -- Words `key=value`, and the settings that a list of them chooses.
-use Rattle.std.specs.Prelude.{ℕ, ◌+◌, ◌==◌, Bool, ◌&&◌, cond, List, [], ◌∷◌, ◌++◌, length, take, drop, position, codes, Option, Some, None, unwrap_or}
+use Rattle.std.specs.Prelude.{ℕ, ◌+◌, ◌==◌, Bool, true, ◌&&◌, cond, List, [], ◌∷◌, ◌++◌, length, take, drop, position, codes, Option, Some, None, unwrap_or}
 use Rattle.std.specs.Option.{is_some, is_none, option_or}
 use Rattle.std.specs.List.{list_any}
 use Rattle.std.specs.Str.{bytes_eq}
@@ -9,8 +9,13 @@ use Rattle.sn_pcm.specs.Allowed.{is_rate, is_width, is_within}
 use Rattle.sn_words.specs.declared.keys.Key.{Key}
 use Rattle.sn_words.specs.Choices.{Choices}
 
-abbrev pub keys : List Key
-keys = Key.Rate ∷ Key.Channels ∷ Key.Bits ∷ Key.Workers ∷ Key.Memory ∷ []
+-- the keys of settings
+abbrev pub setting_keys : List Key
+setting_keys = Key.Rate ∷ Key.Channels ∷ Key.Bits ∷ Key.Workers ∷ Key.Memory ∷ []
+
+-- and those of a drill
+abbrev pub drill_keys : List Key
+drill_keys = Key.Seed ∷ Key.Blocks ∷ setting_keys
 
 abbrev pub name : Key → List ℕ
 name Key.Rate = codes "rate"
@@ -18,14 +23,18 @@ name Key.Channels = codes "channels"
 name Key.Bits = codes "bits"
 name Key.Workers = codes "workers"
 name Key.Memory = codes "memory"
+name Key.Seed = codes "seed"
+name Key.Blocks = codes "blocks"
 
--- the values that a key may have
+-- the values that a key may have, of the numbers of 32 bits
 abbrev pub allows : Key → ℕ → Bool
 allows Key.Rate n = is_rate n
 allows Key.Channels n = is_within 1 8 n
 allows Key.Bits n = is_width n
 allows Key.Workers n = is_within 1 16 n
 allows Key.Memory n = is_within 65536 16777216 n
+allows Key.Seed n = true
+allows Key.Blocks n = is_within 1 20000 n
 
 -- its value where no word gives one
 abbrev pub default_value : Key → ℕ
@@ -34,6 +43,8 @@ default_value Key.Channels = 2
 default_value Key.Bits = 16
 default_value Key.Workers = 4
 default_value Key.Memory = 1048576
+default_value Key.Seed = 1
+default_value Key.Blocks = 1000
 
 -- a number as a value of the key
 abbrev pub allowed : Key → Option ℕ → Option ℕ
@@ -58,14 +69,14 @@ given key (word ∷ words) = option_or (value_in key word.bytes) (given key word
 abbrev pub adds : List Octets → List ℕ → Key → Bool
 adds before word key = is_some (value_in key word) && is_none (given key before)
 
--- A word is good where it gives a value to a key to which the words before it give none.
-abbrev pub is_good : List Octets → List ℕ → Bool
-is_good before word = list_any (adds before word) keys
+-- A word is good where it gives a value to one of the keys to which the words before it give none.
+abbrev pub is_good : List Key → List Octets → List ℕ → Bool
+is_good keys before word = list_any (adds before word) keys
 
 -- The index of the first bad word, where the words before are good and further words follow them.
-unfoldable pub first_bad : List Octets → List Octets → Option ℕ
-first_bad before [] = None
-first_bad before (word ∷ words) = cond (is_good before word.bytes) (first_bad (before ++ word ∷ []) words) (Some (length before))
+unfoldable pub first_bad : List Key → List Octets → List Octets → Option ℕ
+first_bad keys before [] = None
+first_bad keys before (word ∷ words) = cond (is_good keys before word.bytes) (first_bad keys (before ++ word ∷ []) words) (Some (length before))
 
 -- the value of a setting
 abbrev pub value_of : List Octets → Key → ℕ

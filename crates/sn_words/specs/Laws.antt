@@ -1,30 +1,32 @@
--- Laws about the first bad word, about settings that no word chooses, and about the words of `render` and `serve`.
+-- Laws about the first bad word, about settings that no word chooses, and about the words of `render`, `serve` and `drill`.
 use Rattle.std.specs.Prelude.{◌≡◌, ◌<◌, ◌≤◌, ◌↔◌, ℕ, Bool, true, false, List, [], length, get_or, take, codes, Option, Some, MatchOption, Ok}
 use Rattle.sn_fixed.specs.Natural.{natural}
 use Rattle.sn_ports.specs.Octets.{Octets}
 use Rattle.sn_pcm.specs.Opening.{opening}
 use Rattle.sn_words.specs.Choices.{Choices, numbers}
-use Rattle.sn_words.specs.Keys.{is_good, first_bad, choices}
+use Rattle.sn_words.specs.declared.keys.Key.{Key}
+use Rattle.sn_words.specs.Drilling.{DrillChoices, drill_words_of, given_words}
+use Rattle.sn_words.specs.Keys.{setting_keys, drill_keys, is_good, first_bad, choices, value_of}
 use Rattle.sn_words.specs.Serving.{ServeChoices, between, port_word, serve_words_of}
 use Rattle.sn_words.specs.Words.{begins_with, no_word, settings_of, between as settings_between}
 
--- The word with this index is good after the words before it.
-abbrev pub is_good_at : List Octets → ℕ → Bool
-is_good_at words i = is_good (take i words) (get_or words i no_word).bytes
+-- The word with this index is good after the words before it, where these are the keys.
+abbrev pub is_good_at : List Key → List Octets → ℕ → Bool
+is_good_at keys words i = is_good keys (take i words) (get_or words i no_word).bytes
 
-abbrev pub AreGood : List Octets → ℕ → Type 0
-AreGood words n = (i : ℕ) → i < n → is_good_at words i ≡ true
+abbrev pub AreGood : List Key → List Octets → ℕ → Type 0
+AreGood keys words n = (i : ℕ) → i < n → is_good_at keys words i ≡ true
 
 -- The word with this index is bad, and each word before it is good.
-abbrev pub IsFirstBad : List Octets → ℕ → Type 0
-IsFirstBad words i = (i < length words) × (is_good_at words i ≡ false) × AreGood words i
+abbrev pub IsFirstBad : List Key → List Octets → ℕ → Type 0
+IsFirstBad keys words i = (i < length words) × (is_good_at keys words i ≡ false) × AreGood keys words i
 
 -- Each word is good where there is no index; else the index is that of the first bad one.
-abbrev pub Tells : List Octets → Option ℕ → Type 0
-Tells words index = MatchOption index (AreGood words (length words)) (IsFirstBad words)
+abbrev pub Tells : List Key → List Octets → Option ℕ → Type 0
+Tells keys words index = MatchOption index (AreGood keys words (length words)) (IsFirstBad keys words)
 
-abbrev pub FindsFirstBad : List Octets → Type 0
-FindsFirstBad words = Tells words (first_bad [] words)
+abbrev pub FindsFirstBad : List Key → List Octets → Type 0
+FindsFirstBad keys words = Tells keys words (first_bad keys [] words)
 
 abbrev pub HasOpeningDefaults : Type 0
 HasOpeningDefaults = choices [] ≡ numbers opening
@@ -33,7 +35,7 @@ HasOpeningDefaults = choices [] ≡ numbers opening
 pub record IsRenderLine (words : List Octets) (chosen : Choices) : Type 0 where
   pub first : begins_with (codes "render") words ≡ true
   pub enough : 4 ≤ length words
-  pub good : AreGood (settings_between words) (length (settings_between words))
+  pub good : AreGood setting_keys (settings_between words) (length (settings_between words))
   pub settings : chosen ≡ choices (settings_between words)
 
 abbrev pub RendersBy : List Octets → Choices → Type 0
@@ -43,7 +45,7 @@ RendersBy words chosen = (settings_of words ≡ Ok chosen) ↔ IsRenderLine word
 pub record IsServeLine (words : List Octets) (chosen : ServeChoices) : Type 0 where
   pub first : begins_with (codes "serve") words ≡ true
   pub enough : 3 ≤ length words
-  pub good : AreGood (between words) (length (between words))
+  pub good : AreGood setting_keys (between words) (length (between words))
   pub settings : chosen.settings ≡ choices (between words)
   pub port : natural (port_word words) ≡ Some chosen.port
   pub least : 1 ≤ chosen.port
@@ -51,3 +53,14 @@ pub record IsServeLine (words : List Octets) (chosen : ServeChoices) : Type 0 wh
 
 abbrev pub ServesBy : List Octets → ServeChoices → Type 0
 ServesBy words chosen = (serve_words_of words ≡ Ok chosen) ↔ IsServeLine words chosen
+
+-- `drill` and good words
+pub record IsDrillLine (words : List Octets) (chosen : DrillChoices) : Type 0 where
+  pub first : begins_with (codes "drill") words ≡ true
+  pub good : AreGood drill_keys (given_words words) (length (given_words words))
+  pub settings : chosen.settings ≡ choices (given_words words)
+  pub seed : chosen.seed ≡ value_of (given_words words) Key.Seed
+  pub blocks : chosen.blocks ≡ value_of (given_words words) Key.Blocks
+
+abbrev pub DrillsBy : List Octets → DrillChoices → Type 0
+DrillsBy words chosen = (drill_words_of words ≡ Ok chosen) ↔ IsDrillLine words chosen

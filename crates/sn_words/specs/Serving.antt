@@ -5,7 +5,7 @@ use Rattle.sn_fixed.specs.Natural.{natural}
 use Rattle.sn_pcm.specs.Allowed.{is_within}
 use Rattle.sn_ports.specs.Octets.{Octets}
 use Rattle.sn_words.specs.Choices.{Choices}
-use Rattle.sn_words.specs.Keys.{first_bad, choices}
+use Rattle.sn_words.specs.Keys.{setting_keys, first_bad, choices}
 use Rattle.sn_words.specs.Words.{begins_with, no_word}
 
 -- settings, and the port to listen on
@@ -41,4 +41,4 @@ unfoldable pub serve_words_of : List Octets → Result ServeChoices ℕ
 serve_words_of words =
     cond (not (begins_with (codes "serve") words)) (Err 0)
     (cond (nat_lt (length words) 3) (Err (length words))
-    (by_settings words (first_bad [] (between words))))
+    (by_settings words (first_bad setting_keys [] (between words))))

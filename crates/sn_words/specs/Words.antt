@@ -4,7 +4,7 @@ use Rattle.std.specs.List.{slice_range}
 use Rattle.std.specs.Str.{bytes_eq}
 use Rattle.sn_ports.specs.Octets.{Octets}
 use Rattle.sn_words.specs.Choices.{Choices}
-use Rattle.sn_words.specs.Keys.{first_bad, choices}
+use Rattle.sn_words.specs.Keys.{setting_keys, first_bad, choices}
 
 abbrev pub no_word : Octets
 no_word = record { bytes = []; spare = 0 }
@@ -22,7 +22,7 @@ unfoldable pub bad_word : List Octets → Option ℕ
 bad_word words =
     cond (not (begins_with (codes "render") words)) (Some 0)
     (cond (nat_lt (length words) 4) (Some (length words))
-    (option_map (λ i. i + 1) (first_bad [] (between words))))
+    (option_map (λ i. i + 1) (first_bad setting_keys [] (between words))))
 
 -- The settings that the words choose, or the index of the first bad word.
 unfoldable pub settings_of : List Octets → Result Choices ℕ

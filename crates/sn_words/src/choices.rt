@@ -28,32 +28,28 @@ fn adds(before: &[Word], word: &[u8], key: Key) -> bool
     key.value_in(word).is_some() && given(key, before).is_none()
 }
 
-/// Whether the word gives a value to a key to which the words before it give none.
-fn is_good(before: &[Word], word: &[u8]) -> bool
-    ensures { result ≡ is_good before.now word.now }
+/// Whether the word gives a value to one of the keys to which the words before it give none.
+fn is_good(keys: &[Key], before: &[Word], word: &[u8]) -> bool
+    ensures { result ≡ is_good keys.now before.now word.now }
 {
-    adds(before, word, Key::Rate)
-        || adds(before, word, Key::Channels)
-        || adds(before, word, Key::Bits)
-        || adds(before, word, Key::Workers)
-        || adds(before, word, Key::Memory)
+    keys.iter().any(|key| adds(before, word, *key))
 }
 
-/// The index of the first bad word. At most five good words stand before it, one for each key.
-pub(crate) fn first_bad(words: &[Word]) -> Option<usize>
-    ensures value { result ≡ first_bad [] words.now }
+/// The index of the first bad word. At most one good word for each key stands before it.
+pub(crate) fn first_bad(keys: &[Key], words: &[Word]) -> Option<usize>
+    ensures value { result ≡ first_bad keys.now [] words.now }
     ensures within { IfSome result (λ i. i < length words.now) }
 {
     for (i, word) in words.iter().enumerate() {
-        if !is_good(&words[..i], word.as_slice()) {
+        if !is_good(keys, &words[..i], word.as_slice()) {
             return Some(i);
         }
     }
     None
 }
 
-/// The value of a setting.
-fn value_of(words: &[Word], key: Key) -> u32
+/// The value of a key.
+pub(crate) fn value_of(words: &[Word], key: Key) -> u32
     ensures value { result ≡ value_of words.now key }
     ensures allowed { IsTrue (allows key result) }
 {

@@ -1,10 +1,10 @@
-//! The settings, and words `key=value`.
+//! The settings, the numbers of a drill, and words `key=value`.
 ghost use Rattle.std.specs.Prelude.{◌≡◌, ◌==◌, position, IsTrue, IfSome};
-ghost use Rattle.sn_words.specs.Keys.{name, allows, default_value, allowed, value_in};
+ghost use Rattle.sn_words.specs.Keys.{setting_keys, drill_keys, name, allows, default_value, allowed, value_in};
 
 use sn_fixed::natural;
 
-/// A setting that a word may choose.
+/// What a word may choose.
 #[derive(Clone, Copy, Debug)]
 pub(crate) enum Key {
     /// Frames a second.
@@ -17,6 +17,38 @@ pub(crate) enum Key {
     Workers,
     /// Words of 8 bytes in the pool.
     Memory,
+    /// The seed of a drill.
+    Seed,
+    /// The blocks of a drill.
+    Blocks,
+}
+
+/// The keys of settings.
+pub(crate) fn setting_keys() -> [Key; 5]
+    ensures { result ≡ setting_keys }
+{
+    [
+        Key::Rate,
+        Key::Channels,
+        Key::Bits,
+        Key::Workers,
+        Key::Memory,
+    ]
+}
+
+/// The keys of a drill.
+pub(crate) fn drill_keys() -> [Key; 7]
+    ensures { result ≡ drill_keys }
+{
+    [
+        Key::Seed,
+        Key::Blocks,
+        Key::Rate,
+        Key::Channels,
+        Key::Bits,
+        Key::Workers,
+        Key::Memory,
+    ]
 }
 
 impl Key {
@@ -30,6 +62,8 @@ impl Key {
             Key::Bits => b"bits",
             Key::Workers => b"workers",
             Key::Memory => b"memory",
+            Key::Seed => b"seed",
+            Key::Blocks => b"blocks",
         }
     }
 
@@ -42,6 +76,8 @@ impl Key {
             Key::Bits => value == 16 || value == 24,
             Key::Workers => 1 <= value && value <= 16,
             Key::Memory => 65_536 <= value && value <= 16_777_216,
+            Key::Seed => true,
+            Key::Blocks => 1 <= value && value <= 20_000,
         }
     }
 
@@ -56,6 +92,8 @@ impl Key {
             Key::Bits => 16,
             Key::Workers => 4,
             Key::Memory => 1_048_576,
+            Key::Seed => 1,
+            Key::Blocks => 1_000,
         }
     }
 

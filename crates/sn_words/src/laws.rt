@@ -2,13 +2,15 @@
 ghost use Rattle.std.specs.Prelude.{List};
 ghost use Rattle.sn_ports.specs.Octets.{Octets};
 ghost use Rattle.sn_words.specs.Choices.{Choices};
-ghost use Rattle.sn_words.specs.Laws.{FindsFirstBad, HasOpeningDefaults, RendersBy, ServesBy};
+ghost use Rattle.sn_words.specs.Laws.{FindsFirstBad, DrillsBy, HasOpeningDefaults, RendersBy, ServesBy};
+ghost use Rattle.sn_words.specs.Drilling.{DrillChoices};
 ghost use Rattle.sn_words.specs.Serving.{ServeChoices};
+ghost use Rattle.sn_words.specs.declared.keys.Key.{Key};
 
 /// The index of the first bad word is that of a bad word, and each word before it is good. Where
 /// there is no such index, each word is good.
 pub fn first_bad_word()
-    ensures { (words : List Octets) → FindsFirstBad words }
+    ensures { (keys : List Key) (words : List Octets) → FindsFirstBad keys words }
 {}
 
 /// Where no word gives a value, the settings are those of `Settings::new`.
@@ -24,4 +26,9 @@ pub fn chosen_settings()
 /// Words choose settings and a port exactly where they are `serve`, good words, a port from 1 to 65535 and one more word.
 pub fn chosen_port()
     ensures { (words : List Octets) (chosen : ServeChoices) → ServesBy words chosen }
+{}
+
+/// Words choose a drill exactly where they are `drill` and good words.
+pub fn chosen_drill()
+    ensures { (words : List Octets) (chosen : DrillChoices) → DrillsBy words chosen }
 {}

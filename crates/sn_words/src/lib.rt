@@ -3,6 +3,7 @@
 
 mod choices;
 mod convert;
+mod drill;
 mod keys;
 mod laws;
 mod lines;
@@ -10,7 +11,8 @@ mod render;
 mod serve;
 
 pub use convert::{Conversion, convert_words};
-pub use laws::{chosen_port, chosen_settings, defaults_stand, first_bad_word};
+pub use drill::{DrillWords, drill_words};
+pub use laws::{chosen_drill, chosen_port, chosen_settings, defaults_stand, first_bad_word};
 pub use lines::BadWord;
 pub use render::settings;
 pub use serve::{ServeWords, serve_words};

@@ -4,6 +4,7 @@ ghost use Rattle.sn_words.specs.Choices.{numbers};
 ghost use Rattle.sn_words.specs.Words.{between, bad_word, settings_of};
 
 use crate::choices::{chosen, first_bad};
+use crate::keys::setting_keys;
 use crate::lines::{BadWord, begins_with};
 use sn_pcm::Settings;
 use sn_ports::Word;
@@ -28,7 +29,7 @@ fn bad_word(words: &[Word]) -> Option<usize>
     if words.len() < 4 {
         return Some(words.len());
     }
-    let at = first_bad(between(words))?;
+    let at = first_bad(&setting_keys(), between(words))?;
     Some(at + 1)
 }
 

@@ -5,6 +5,7 @@ ghost use Rattle.sn_words.specs.Choices.{numbers};
 ghost use Rattle.sn_words.specs.Serving.{between, port_word, port_of, serve_words_of};
 
 use crate::choices::{chosen, first_bad};
+use crate::keys::setting_keys;
 use crate::lines::{BadWord, begins_with};
 use sn_fixed::natural;
 use sn_pcm::Settings;
@@ -68,7 +69,7 @@ pub fn serve_words(words: &[Word]) -> Result<ServeWords, BadWord>
     if count < 3 {
         return Err(BadWord { index: count });
     }
-    if let Some(at) = first_bad(between(words)) {
+    if let Some(at) = first_bad(&setting_keys(), between(words)) {
         return Err(BadWord {
             index: at as u32 + 1,
         });

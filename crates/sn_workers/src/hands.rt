@@ -13,6 +13,7 @@ ghost use Rattle.sn_workers.specs.Hands.{Seated};
 
 use sn_machine::ENDED;
 use sn_mem::Scratch;
+use sn_ports::Open;
 use sn_round::{Plan, Work};
 use sn_table::{Claim, MainSeat, Shared, WorkerSeat, run_one, sweep};
 use std::thread::{Threads, for_each_mut};
@@ -200,7 +201,7 @@ fn finish<W: Work>(
     ensures words { memory_in (main_view main.new).main.phase ≡ last_list (main_view main.old).main.phase }
 {
     let mut last = shared.split(main);
-    sweep(shared, &mut last, work, plan, scratch);
+    sweep(shared, &mut last, work, plan, &Open, scratch);
     shared.join(main, last);
     shared.rest(main);
 }

@@ -12,7 +12,7 @@ use sn_jobs::{no_jobs, put};
 use sn_machine::{are_within, is_race_free};
 use sn_mem::{Extent, Extents, Foot, Scratch};
 use sn_ports::{Gate, NoMemory};
-use sn_round::{Ids, Job, Jobs, Plan};
+use sn_round::{Ids, Job, Jobs, Plan, SharedFoot};
 use sn_table::{MainSeat, Shared};
 use std::alloc::Global;
 use std::thread::Threads;
@@ -42,7 +42,7 @@ fn mixing_job(alloc: Global, job: u32) -> Result<Job, NoMemory> {
     }
     Ok(Job {
         synths: Ids::new(alloc),
-        foot: Foot { reads, writes },
+        foot: SharedFoot::new(alloc, Foot { reads, writes })?,
         before,
     })
 }

@@ -35,7 +35,8 @@ use Rattle.sn_world.specs.BufferNumbers.{number_refusal, buffer_refusal, at_numb
 use Rattle.sn_world.specs.BufferSamples as samples
 use Rattle.sn_world.specs.Buses.{judge_set, act_set, judge_fill, act_fill, judge_get, answer_get, sync_number, sync_outcome, bus_value, bus_fill, bus_number}
 use Rattle.sn_world.specs.Choosing.{AreChosen}
-use Rattle.sn_world.specs.Commands.{bus_row, node_row, carrying_row, whole_row, with_completion, acceptable, with_arguments, bus_outcome, node_outcome, run_bus, run_node, bus_command_of, node_command_of, either, or_unknown, answered, command}
+use Rattle.sn_world.specs.Addresses.{bus_command_of, node_command_of}
+use Rattle.sn_world.specs.Commands.{bus_row, node_row, carrying_row, whole_row, with_completion, acceptable, with_arguments, bus_outcome, node_outcome, run_bus, run_node, either, or_unknown, answered, command}
 use Rattle.sn_world.specs.Completing.{carried, own, one_message}
 use Rattle.sn_world.specs.ControlRuns.{ForNode, ControlRun, in_synth, with_runs, judge_node, set_outcome, asked_of, asked_runs, value_run, values_run, fill_run}
 use Rattle.sn_world.specs.Emptying.{free_all, deep_free, judge_free_all, act_free_all, judge_deep_free, act_deep_free, freed_each}

@@ -24,4 +24,5 @@ pub mod SettleWalks
 pub mod HeldIds
 pub mod MapFolds
 pub mod ChosenIds
+pub mod AddressLemmas
 pub mod ChoosingLaws

@@ -1,16 +1,15 @@
 -- What a message does, whichever command it is.
-use Rattle.std.specs.Prelude.{◌≡◌, ℕ, zero, suc, ◌-◌, Bool, true, false, is_none, List, [], Option, Some, None, Result, Ok, Err, if◌then◌else◌, codes}
-use Rattle.std.specs.Str.{bytes_eq}
+use Rattle.std.specs.Prelude.{◌≡◌, ℕ, zero, suc, ◌-◌, Bool, true, false, is_none, List, [], Option, Some, None, Result, Ok, Err, if◌then◌else◌}
 use Rattle.sn_osc.specs.Shape.{Argument, BodyShape, bare, arguments, foreign, MessageShape}
 use Rattle.sn_osc.specs.Reading.{read}
 use Rattle.sn_reply.specs.declared.reason.Reason.{Reason}
 use Rattle.sn_reply.specs.declared.reason.Reason.TheVariants.{UnknownCommand, ArgumentType, Arguments}
 use Rattle.sn_reply.specs.Failing.{fail_message}
-use Rattle.sn_tree.specs.declared.node.Action.TheVariants.{Head, Tail, Before, After}
 use Rattle.sn_world.specs.declared.command.BusCommand.{BusCommand}
 use Rattle.sn_world.specs.declared.command.BusCommand.TheVariants as buses
 use Rattle.sn_world.specs.declared.command.NodeCommand.{NodeCommand}
 use Rattle.sn_world.specs.declared.command.NodeCommand.TheVariants as nodes
+use Rattle.sn_world.specs.Addresses.{node_command_of, bus_command_of}
 use Rattle.sn_world.specs.World.{Turn, replied}
 use Rattle.sn_world.specs.Buses.{set_row, fill_row, get_row, sync_row}
 use Rattle.sn_world.specs.Runs.{setn_row, getn_row}
@@ -38,43 +37,7 @@ use Rattle.sn_world.specs.Emptying.{free_all_row, deep_free_row}
 use Rattle.sn_world.specs.Moving.{move_row}
 use Rattle.sn_world.specs.NodeOrder.{order_row}
 
--- the command on definitions or on the server itself with an address
-abbrev pub server_command_of : List ℕ → Option BusCommand
-server_command_of address =
-    if bytes_eq address (codes "/sync") then Some buses.Sync
-    else if bytes_eq address (codes "/d_recv") then Some buses.Receive
-    else if bytes_eq address (codes "/d_free") then Some buses.Free
-    else if bytes_eq address (codes "/status") then Some buses.Status
-    else if bytes_eq address (codes "/clearSched") then Some buses.ClearSched
-    else if bytes_eq address (codes "/quit") then Some buses.Quit
-    else None
-
--- the command on buffers, on definitions or on the server itself with an address
-abbrev pub buffer_command_of : List ℕ → Option BusCommand
-buffer_command_of address =
-    if bytes_eq address (codes "/b_alloc") then Some buses.AllocBuffer
-    else if bytes_eq address (codes "/b_allocRead") then Some buses.ReadBuffer
-    else if bytes_eq address (codes "/b_free") then Some buses.FreeBuffer
-    else if bytes_eq address (codes "/b_zero") then Some buses.ZeroBuffer
-    else if bytes_eq address (codes "/b_query") then Some buses.QueryBuffers
-    else if bytes_eq address (codes "/b_set") then Some buses.SetSamples
-    else if bytes_eq address (codes "/b_setn") then Some buses.SetSampleRuns
-    else if bytes_eq address (codes "/b_fill") then Some buses.FillSamples
-    else if bytes_eq address (codes "/b_get") then Some buses.GetSamples
-    else if bytes_eq address (codes "/b_getn") then Some buses.GetSampleRuns
-    else server_command_of address
-
--- the command on control buses, on buffers, on definitions or on the server itself with an address
-abbrev pub bus_command_of : List ℕ → Option BusCommand
-bus_command_of address =
-    if bytes_eq address (codes "/c_set") then Some buses.Set
-    else if bytes_eq address (codes "/c_setn") then Some buses.SetRuns
-    else if bytes_eq address (codes "/c_fill") then Some buses.Fill
-    else if bytes_eq address (codes "/c_get") then Some buses.Get
-    else if bytes_eq address (codes "/c_getn") then Some buses.GetRuns
-    else buffer_command_of address
-
--- its row
+-- the row of a command on buses, buffers, definitions or the server itself
 abbrev pub bus_row : BusCommand → ℕ → List Argument → Turn → Result Turn Reason
 bus_row buses.Set = set_row
 bus_row buses.SetRuns = setn_row
@@ -174,37 +137,7 @@ abbrev pub next_of : Option BusCommand → BodyShape → Next
 next_of None body = nothing
 next_of (Some command) body = next_with command (completion_in (Some command) body)
 
--- the command with an address that makes, moves or frees nodes
-abbrev pub tree_command_of : List ℕ → Option NodeCommand
-tree_command_of address =
-    if bytes_eq address (codes "/g_new") then Some nodes.NewGroup
-    else if bytes_eq address (codes "/p_new") then Some nodes.NewParallel
-    else if bytes_eq address (codes "/n_free") then Some nodes.Free
-    else if bytes_eq address (codes "/g_freeAll") then Some nodes.FreeAll
-    else if bytes_eq address (codes "/g_deepFree") then Some nodes.DeepFree
-    else if bytes_eq address (codes "/g_queryTree") then Some nodes.QueryTree
-    else if bytes_eq address (codes "/n_before") then Some (nodes.Move Before)
-    else if bytes_eq address (codes "/n_after") then Some (nodes.Move After)
-    else if bytes_eq address (codes "/g_head") then Some (nodes.Move Head)
-    else if bytes_eq address (codes "/g_tail") then Some (nodes.Move Tail)
-    else if bytes_eq address (codes "/n_order") then Some nodes.Order
-    else None
-
--- the command on nodes with an address
-abbrev pub node_command_of : List ℕ → Option NodeCommand
-node_command_of address =
-    if bytes_eq address (codes "/s_new") then Some nodes.New
-    else if bytes_eq address (codes "/notify") then Some nodes.Notify
-    else if bytes_eq address (codes "/n_run") then Some nodes.TurnNodes
-    else if bytes_eq address (codes "/n_set") then Some nodes.SetControls
-    else if bytes_eq address (codes "/n_setn") then Some nodes.SetRuns
-    else if bytes_eq address (codes "/n_fill") then Some nodes.FillRuns
-    else if bytes_eq address (codes "/n_map") then Some nodes.MapControls
-    else if bytes_eq address (codes "/n_query") then Some nodes.Query
-    else if bytes_eq address (codes "/s_get") then Some nodes.GetControls
-    else tree_command_of address
-
--- its row
+-- the row of a command on nodes
 abbrev pub node_row : NodeCommand → ℕ → List Argument → Turn → Result Turn Reason
 node_row nodes.New = new_row
 node_row nodes.Notify = notify_row

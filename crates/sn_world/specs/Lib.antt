@@ -36,6 +36,7 @@ pub mod Mappings
 pub mod Folds
 pub mod Moving
 pub mod NodeOrder
+pub mod Addresses
 pub mod Commands
 pub mod Answers
 pub mod Settling

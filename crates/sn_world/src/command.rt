@@ -88,6 +88,15 @@ pub enum NodeCommand {
     Order,
 }
 
+/// A command. Each family is carried out by a crate of its own.
+#[derive(Clone, Copy, Debug, PartialEq, Eq)]
+pub enum Command {
+    /// On nodes, and `/notify`.
+    OnNodes(NodeCommand),
+    /// On buses, buffers, definitions or the server itself.
+    OnServer(BusCommand),
+}
+
 /// How deep completion messages may nest.
 pub const MOST_COMPLETIONS: u32 = 8;
 

@@ -1,6 +1,7 @@
 //! What the world of a server is, and what a command does to it.
 #![tactic(auto)]
 
+mod addresses;
 mod arguments;
 mod buffer_repetition;
 mod choosing;
@@ -20,12 +21,13 @@ mod runs;
 mod stage;
 mod tree_query;
 
+pub use addresses::command_of;
 pub use arguments::{Pair, Single, Triple, pairs, singles, some_of, triples};
 pub use buffer_repetition::{
     BufferNumber, NewBuffer, SampleFill, SampleIndex, SampleRun, SampleValue,
 };
 pub use choosing::{chosen_ids_are_free, chosen_ids_stay_below};
-pub use command::{BusCommand, Handled, MOST_COMPLETIONS, NodeCommand};
+pub use command::{BusCommand, Command, Handled, MOST_COMPLETIONS, NodeCommand};
 pub use defs::Defs;
 pub use emptying::{DeepFree, FreeAll};
 pub use endings::{Ending, Endings};

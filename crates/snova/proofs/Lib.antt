@@ -1,4 +1,5 @@
 pub mod ByWordsLemmas
 pub mod ServeLemmas
 pub mod ConvertLemmas
+pub mod DrillLemmas
 pub mod ShelfLemmas

@@ -1,5 +1,5 @@
 -- The lines that are printed, and the statuses.
-use Rattle.std.specs.Prelude.{ℕ, List, ◌++◌, codes, Option, Some, None}
+use Rattle.std.specs.Prelude.{ℕ, Bool, true, false, List, ◌++◌, codes, Option, Some, None}
 use Rattle.std.specs.Fmt.{decimal, signed_decimal}
 use Rattle.sn_osc.specs.declared.fault.PacketKind.{PacketKind}
 use Rattle.sn_osc.specs.declared.fault.PacketKind.TheVariants.{Size, Start, Unended, Padding, NoTags, ShortArgs, LongArgs, BlobSize, ElementSize, Head, NestedEarly, TooDeep}
@@ -7,6 +7,7 @@ use Rattle.sn_osc.specs.declared.fault.StreamFault.{StreamFault}
 use Rattle.sn_osc.specs.declared.fault.StreamFault.TheVariants.{Packet, FrameSize, FrameCut}
 use Rattle.sn_render.specs.declared.outcome.Outcome.{Outcome}
 use Rattle.sn_render.specs.declared.outcome.Outcome.TheVariants as outcome
+use Rattle.sn_render.specs.Statuses.{outcome_status}
 use Rattle.sn_server.specs.declared.ended.Ended.{Ended}
 use Rattle.sn_server.specs.declared.ended.Ended.TheVariants as ends
 use Rattle.snova.specs.Connection.{served_status}
@@ -99,7 +100,30 @@ exit_line exit.Version = Some (codes "snova 0.1.0")
 exit_line (exit.Rendered outcome) = Some (shelf_line outcome)
 exit_line (exit.Served served) = Some (served_line served)
 exit_line (exit.Converted converted) = Some (converted_line converted)
+exit_line (exit.Drilled outcome) = Some (outcome_line outcome)
 exit_line exit.NotOpened = Some (codes "cannot open")
+
+-- a drill that was done has printed its own line
+abbrev pub is_unfinished : Outcome → Bool
+is_unfinished (outcome.Done blocks) = false
+is_unfinished outcome.NoMemory = true
+is_unfinished (outcome.BadWords index) = true
+is_unfinished (outcome.BadStream packet place fault) = true
+is_unfinished (outcome.LongStream bytes) = true
+is_unfinished (outcome.LongSound blocks) = true
+is_unfinished outcome.ReadFault = true
+is_unfinished outcome.SoundFault = true
+is_unfinished outcome.ReplyFault = true
+
+-- whether the line is still to be printed
+abbrev pub has_line : Exit → Bool
+has_line exit.Help = true
+has_line exit.Version = true
+has_line (exit.Rendered outcome) = true
+has_line (exit.Served served) = true
+has_line (exit.Converted converted) = true
+has_line (exit.Drilled outcome) = is_unfinished outcome
+has_line exit.NotOpened = true
 
 abbrev pub exit_status : Exit → ℕ
 exit_status exit.Help = 0
@@ -107,4 +131,5 @@ exit_status exit.Version = 0
 exit_status (exit.Rendered outcome) = shelf_status outcome
 exit_status (exit.Served served) = served_status served
 exit_status (exit.Converted converted) = converted_status converted
+exit_status (exit.Drilled outcome) = outcome_status outcome
 exit_status exit.NotOpened = 9

@@ -1,7 +1,7 @@
 //! What came of the words: the line that is printed, and the status of the program.
 ghost use Rattle.std.specs.Prelude.{◌≡◌, Some};
 ghost use Rattle.std.specs.Fmt.{DisplaysOnOk};
-ghost use Rattle.snova.specs.Lines.{bad_stream_line, converted_line, end_line, exit_line, exit_status, fault_number, outcome_line, shelf_line};
+ghost use Rattle.snova.specs.Lines.{bad_stream_line, converted_line, end_line, exit_line, exit_status, fault_number, has_line, outcome_line, shelf_line};
 
 use crate::converting::Converted;
 use crate::serving::Served;
@@ -30,6 +30,8 @@ pub(crate) enum Exit {
     Served(Served),
     /// A text was made a stream, or a stream a text.
     Converted(Converted),
+    /// A drill was played.
+    Drilled(Outcome),
     /// A file could not be opened, no connection be taken at the port, or the clock not be read, or one
     /// file would be written over another.
     NotOpened,
@@ -45,7 +47,18 @@ impl Exit {
             Exit::Rendered(outcome) => outcome.status(),
             Exit::Served(served) => served.status(),
             Exit::Converted(converted) => converted.status(),
+            Exit::Drilled(outcome) => outcome.status(),
             Exit::NotOpened => CANNOT_OPEN,
+        }
+    }
+
+    /// Whether its line is still to be printed: a drill that was done has printed its own.
+    pub(crate) fn has_line(&self) -> bool
+        ensures { result ≡ has_line self.now }
+    {
+        match self {
+            Exit::Drilled(Outcome::Done { .. }) => false,
+            _ => true,
         }
     }
 }
@@ -172,6 +185,7 @@ impl fmt::Display for Exit {
             Exit::Served(Served::BadWords { index }) => write!(f, "bad word {index}"),
             Exit::Served(Served::Ran(how)) => write_end(f, *how),
             Exit::Converted(converted) => write_converted(f, *converted),
+            Exit::Drilled(outcome) => write_outcome(f, *outcome),
             Exit::NotOpened => f.write_str("cannot open"),
         }
     }

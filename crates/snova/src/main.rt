@@ -1,9 +1,10 @@
 //! A sound server: reads a file of commands, or serves a connection, and writes its sound and its replies.
-//! It also writes commands as text, and makes commands of a text.
+//! It also writes commands as text, makes commands of a text, and plays commands that a seed chooses.
 #![tactic(auto)]
 
 mod clock;
 mod converting;
+mod drilling;
 mod exit;
 mod files;
 mod forms;
@@ -14,6 +15,7 @@ mod serving;
 mod shelving;
 mod usage;
 
+use drilling::drill_printed;
 use exit::{BAD_WORDS, Exit};
 use files::render_files;
 use forms::convert_files;
@@ -21,7 +23,7 @@ use listening::serve_port;
 use shelving::ShelfOutcome;
 use sn_ports::{NoMemory, Text, Word};
 use sn_server::Outcome;
-use std::io::{Eprint, IsTerminal};
+use std::io::{Eprint, IsTerminal, Print};
 use std::net::Net;
 use std::process::ExitCode;
 use std::rt::{Clock, Env, Files};
@@ -52,7 +54,7 @@ fn as_words<H: AllocGlobal>(rt: &H, args: &[String]) -> Result<Vec<Word>, NoMemo
 }
 
 /// Does what the words of the command line say, and tells how far it is if somebody watches.
-fn carry_out<H: Env + Files + Clock + Eprint + Net + AllocGlobal + Threads + Sync>(
+fn carry_out<H: Env + Files + Clock + Print + Eprint + Net + AllocGlobal + Threads + Sync>(
     rt: &H,
     is_watched: bool,
 ) -> Result<Exit, NoMemory> {
@@ -66,6 +68,7 @@ fn carry_out<H: Env + Files + Clock + Eprint + Net + AllocGlobal + Threads + Syn
         Call::Version => Ok(Exit::Version),
         Call::Serve => serve_port(rt, &args, &words),
         Call::Convert => convert_files(rt, &args, &words),
+        Call::Drill => Ok(drill_printed(rt, &words)),
         Call::Render => render_files(rt, &args, &words, is_watched),
     }
 }
@@ -76,7 +79,9 @@ fn main(rt: HostRuntime) -> io::Result<ExitCode> {
         Outcome::NoMemory,
     )));
     // Whether anything can be printed or not, the status stands.
-    let _ = println!(rt; "{exit}");
+    if exit.has_line() {
+        let _ = println!(rt; "{exit}");
+    }
     let status = exit.status();
     if status == BAD_WORDS {
         let _ = rt.eprintln(USAGE);

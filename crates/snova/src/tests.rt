@@ -1,6 +1,7 @@
 ghost use Rattle.std.specs.Prelude.{◌<◌, ◌^◌, IfOk, vec_len};
 
 use crate::clock::now;
+use crate::drilling::drill;
 use crate::exit::Exit;
 use crate::files::render_files;
 use crate::running::run;
@@ -169,6 +170,60 @@ fn a_port_that_is_refused(rt: HostRuntime) -> Result<(), Fail> {
     let talk = serve_words(&rt, &["serve", "0", "out"], &[0])?;
     assert_eq!(rt; talk.served, Served::BadWords { index: 1 });
     assert_eq!(rt; [talk.link.faults(), talk.sound.faults()], [0, 0]);
+    Ok(())
+}
+
+/// Drills by these words, onto a sink whose calls with these numbers fail.
+fn drilled<H: AllocGlobal + Threads + Sync>(
+    rt: &H,
+    texts: &[&str],
+    fails: &[u32],
+) -> Result<(Outcome, MemorySink), NoMemory> {
+    let alloc = rt.alloc();
+    let words = words(rt, texts)?;
+    let mut out = MemorySink::new(alloc, 100, 20, calls(rt, fails)?)?;
+    let outcome = drill(rt, alloc, &words, &mut out, &Open);
+    Ok((outcome, out))
+}
+
+#[test]
+fn a_drill_is_played(rt: HostRuntime) -> Result<(), Fail> {
+    let (outcome, out) = drilled(&rt, &["drill", "seed=1", "blocks=1"], &[])?;
+    assert_eq!(rt; outcome, Outcome::Done { blocks: 1 });
+    assert_eq!(rt;
+        out.taken(),
+        b"drill blocks 1 sound 300 replies 48 sum 2003\n".as_slice()
+    );
+    for workers in ["workers=1", "workers=8"] {
+        let (outcome, out) = drilled(&rt, &["drill", "seed=1", workers, "blocks=64"], &[])?;
+        assert_eq!(rt; outcome, Outcome::Done { blocks: 64 });
+        assert_eq!(rt;
+            out.taken(),
+            b"drill blocks 64 sound 16428 replies 96 sum 1804405\n".as_slice()
+        );
+    }
+    Ok(())
+}
+
+/// The first call of the sink fails, or the second, which follows 20 bytes.
+#[test]
+fn a_drill_that_ends_early(rt: HostRuntime) -> Result<(), Fail> {
+    let rows: [(&[&str], u32); 4] = [
+        (&[], 0),
+        (&["drum"], 0),
+        (&["drill", "blocks=20001"], 1),
+        (&["drill", "blocks=1", "seed=1", "blocks=1"], 3),
+    ];
+    for (texts, index) in rows {
+        let (outcome, out) = drilled(&rt, texts, &[0])?;
+        assert_eq!(rt; outcome, Outcome::BadWords { index });
+        assert_eq!(rt; out.faults(), 0);
+    }
+    for (call, taken) in [(0, 0), (1, 20)] {
+        let (outcome, out) = drilled(&rt, &["drill", "blocks=1"], &[call])?;
+        assert_eq!(rt; outcome, Outcome::SoundFault);
+        assert_eq!(rt; out.taken().len(), taken);
+    }
     Ok(())
 }
 

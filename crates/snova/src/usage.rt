@@ -21,6 +21,9 @@ snova score IN OUT
 snova dump IN OUT
     reads the commands in the file IN, and writes them as text into the file
     OUT
+snova drill [seed=N] [blocks=M] [key=value ..]
+    plays M blocks of notes that the seed N chooses, and prints what came of
+    them
 snova help, snova --help, snova -h
     prints this text
 snova --version
@@ -32,9 +35,13 @@ Keys, and the values where no word gives one:
     bits      16 or 24 in a sample                     16
     workers   1 to 16                                  4
     memory    65536 to 16777216 words of 8 bytes       1048576
+and for drill alone:
+    seed      0 to 4294967295                          1
+    blocks    1 to 20000                               1000
 
 Statuses, and the lines that are printed:
-    0   done B blocks, done N packets, quit, closed
+    0   done B blocks, done N packets, quit, closed,
+        drill blocks M sound S replies R sum T
     1   no memory
     2   bad word I
     3   bad stream: packet N, byte P, fault X
@@ -62,6 +69,8 @@ pub(crate) enum Call {
     Serve,
     /// To make a text a stream, or a stream a text.
     Convert,
+    /// To play commands that a seed chooses.
+    Drill,
     /// To render a file of commands.
     Render,
 }
@@ -86,6 +95,8 @@ fn by_name(word: &[u8]) -> Call
         Call::Serve
     } else if is_conversion(word) {
         Call::Convert
+    } else if word == b"drill".as_slice() {
+        Call::Drill
     } else {
         Call::Render
     }

@@ -7,7 +7,7 @@ use Rattle.sn_reply.specs.declared.reason.Reason.{Reason}
 use Rattle.sn_world.specs.Ending.{Next}
 use Rattle.sn_world.specs.World.{Turn, turn_of}
 use Rattle.sn_world.specs.Completing.{carried}
-use Rattle.sn_world.specs.Commands.{bus_command_of}
+use Rattle.sn_world.specs.Addresses.{bus_command_of}
 use Rattle.sn_world.specs.Answers.{Handles, IsNext}
 use Rattle.sn_buscmd.proofs.RunningLemmas.{outcome-with, next-given}
 use Rattle.sn_buscmd.proofs.running.run_bus_command.Goals as goal

@@ -3,4 +3,4 @@ use Rattle.sn_nodecmd.proofs.NameLemmas.{named_well}
 use Rattle.sn_nodecmd.proofs.describing.is_named.Goals as goal
 
 pub returns : goal.returns
-returns c = named_well c.lines_are_read.ensures.sound (definition_of c.args.def.now) c.args.def.now.written
+returns c = named_well c.names_are_short.ensures (definition_of c.args.def.now) c.args.def.now.written

@@ -3,4 +3,4 @@ use Rattle.sn_nodecmd.proofs.GettingLemmas.{controls_named_well}
 use Rattle.sn_nodecmd.proofs.getting.are_named.Goals as goal
 
 pub returns : goal.returns
-returns c = controls_named_well c.lines_are_read.ensures.sound (definition_of c.args.def.now) c.args.def.now.written
+returns c = controls_named_well c.names_are_short.ensures (definition_of c.args.def.now) c.args.def.now.written

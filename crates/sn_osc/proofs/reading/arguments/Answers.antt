@@ -8,7 +8,7 @@ use Rattle.sn_osc.proofs.reading.arguments.Goals as goal
 
 pub returns-in_err-argument-clause-value : goal.returns-in_err-argument-clause-value
 returns-in_err-argument-clause-value c =
-    let p = err_from_is_err_and c.from_residual.result c.from_residual.ensures.1 in
+    let p = err_from_is_err_and c.from_residual-in_err-argument.result c.from_residual-in_err-argument.ensures.1 in
     rw (p.1, p.2) (ends c.in_err-argument.field-0.0 c.args.end (map argument_of c.loop-tag.items.items) c.args.tags.now c.loop-tag.tag-index c.loop-tag.rest.now _ c.loop-tag-test.true c.in_err-argument.ensures.value c.loop-tag.invariant.read)
 
 pub loop-tag-preserved : goal.loop-tag-preserved

@@ -14,6 +14,6 @@ invariant_of-result c =
     let d : ℤ = c.args.ends.end -ℤ c.args.ends.start in
     record {
       within = c.requires.within;
-      reached = of_whole w d c.args.frame c.args.frames c.multiple_divided.result.remainder c.multiple_divided.result.quotient (to_z-of_z w64 c.distance-whole.result fits ∙ whole) c.multiple_divided.ensures;
-      grows = subst (λ z. IsDivided z c.args.frames c.divided.result.quotient c.divided.result.remainder) (to_z-of_z w64 c.distance-whole.result fits ∙ whole) c.divided.ensures;
+      reached = of_whole w d c.args.frame c.args.frames c.of_multiple-gone.result.remainder c.of_multiple-gone.result.quotient (to_z-of_z w64 c.distance-whole.result fits ∙ whole) c.of_multiple-gone.ensures;
+      grows = subst (λ z. IsDivided z c.args.frames c.new-each.result.quotient c.new-each.result.remainder) (to_z-of_z w64 c.distance-whole.result fits ∙ whole) c.new-each.ensures;
     }

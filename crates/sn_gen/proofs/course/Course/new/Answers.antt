@@ -1,5 +1,5 @@
-use Rattle.std.proofs.Common.{◌≡◌, ℤ, pos, ◌-ℤ◌, ◌*ℤ◌, SFits, w32, w64, to_z, of_z, arith, rules, subst, ◌∙◌}
-use Rattle.std.proofs.lemmas.Int.{to_z-of_z, ints}
+use Rattle.std.proofs.Common.{◌≡◌, ℤ, ◌-ℤ◌, SFits, w32, w64, to_z, of_z, arith, rules, subst, ◌∙◌}
+use Rattle.std.proofs.lemmas.Int.{to_z-of_z}
 use Rattle.sn_fixed.specs.Divisions.{IsDivided}
 use Rattle.sn_fixed.proofs.Multiples.{of_whole}
 use Rattle.sn_gen.proofs.course.Course.new.Goals as goal
@@ -14,10 +14,8 @@ invariant_of-result c =
     let d : ℤ = c.args.line.end -ℤ c.args.line.start in
     let n = c.args.line.frames in
     let is : w ≡ d = to_z-of_z w64 c.distance-whole.result fits ∙ whole in
-    let once : d *ℤ pos 1 ≡ d = omega (arith, ints) in
     record {
       within = c.requires.within;
-      reached = of_whole w d c.args.line.frame n c.divided-gone.result.remainder c.divided-gone.result.quotient is c.divided-gone.ensures;
-      grows = subst (λ z. IsDivided z n c.divided-each.result.quotient c.divided-each.result.remainder) once
-          (of_whole w d 1 n c.divided-each.result.remainder c.divided-each.result.quotient is c.divided-each.ensures);
+      reached = of_whole w d c.args.line.frame n c.of_multiple-gone.result.remainder c.of_multiple-gone.result.quotient is c.of_multiple-gone.ensures;
+      grows = subst (λ z. IsDivided z n c.new-each.result.quotient c.new-each.result.remainder) is c.new-each.ensures;
     }

@@ -3,8 +3,8 @@ use Rattle.std.proofs.lemmas.Int.{to_z-of_z}
 use Rattle.sn_fixed.proofs.Multiples.{in_range_at, sample_at}
 use Rattle.sn_gen.proofs.course.Course.sample.Goals as goal
 
-pub raised-requires : goal.raised-requires
-raised-requires c =
+pub moved-requires : goal.moved-requires
+moved-requires c =
     let s = c.args.self.now in
     let start : SFits w32 c.args.self.now.line.start = search rules in
     let end : SFits w32 c.args.self.now.line.end = search rules in
@@ -16,6 +16,6 @@ returns c =
     let s = c.args.self.now in
     let start : SFits w32 c.args.self.now.line.start = search rules in
     let height : SFits w64 c.args.self.now.gone.quotient = search rules in
-    let raised : SFits w32 c.raised.result = search rules in
-    let is : c.raised.result ≡ c.args.self.now.line.start +ℤ c.args.self.now.gone.quotient = grind (arith, to_z-of_z) in
-    to_z-of_z w32 c.raised.result raised ∙ sample_at s.line.start s.line.end s.gone.quotient c.raised.result s.line.frame s.line.frames s.gone.remainder is s.reached
+    let moved : SFits w32 c.moved.result = search rules in
+    let is : c.moved.result ≡ c.args.self.now.line.start +ℤ c.args.self.now.gone.quotient = grind (arith, to_z-of_z) in
+    to_z-of_z w32 c.moved.result moved ∙ sample_at s.line.start s.line.end s.gone.quotient c.moved.result s.line.frame s.line.frames s.gone.remainder is s.reached

@@ -1,37 +1,57 @@
-use Rattle.std.proofs.Common.{◌∙◌, ap, w32, take, drop}
+use Rattle.std.proofs.Common.{◌≡◌, ◌≤◌, ◌∙◌, ap, sym, subst, None, Some, w32, arith}
 use mir.Val.{SFits}
 use Rattle.std.proofs.lemmas.Int.{to_z-of_z}
+use Rattle.sn_forest.specs.Walking.{behind_tree}
+use Rattle.sn_tree.specs.Faults.{attach_fault}
+use Rattle.sn_tree.specs.Saving.{HasSpare, spent}
 use Rattle.sn_tree.specs.Steps.{attaching}
-use Rattle.sn_tree.specs.Arranged.{Arranged}
-use Rattle.sn_tree.specs.Aside.{IsAttachable}
-use Rattle.sn_tree.proofs.Attaching.{at_split, behind_within, brought_small, attach_shows}
+use Rattle.sn_tree.specs.Keyed.{labels, front, sides}
+use Rattle.sn_tree.specs.Stored.{IsAttachable}
+use Rattle.sn_tree.specs.Ordered.{Ordered, saved_by}
+use Rattle.sn_tree.proofs.OrderGives.{Gives, spare_of, shift_gives}
+use Rattle.sn_tree.proofs.OrderCalls.{attach_goes}
 use Rattle.sn_tree.proofs.order.Order.attach.Goals as goal
 
-pub put_part_vec-requires-clause-within : goal.put_part_vec-requires-clause-within
-put_part_vec-requires-clause-within c =
-    let h : IsAttachable (take c.self.inside.attached c.self.inside.entries.items) (drop c.self.inside.attached c.self.inside.entries.items) c.args.id c.args.spot.action c.args.spot.target c.in-Ok.found.0 c.in-Ok.found.1 =
-    (let fit : SFits w32 c.args.id = c.ranges.id in let k = simp to_z-of_z at c.in-Ok.ensures in
-    at_split c.deref.result.now c.self.inside.entries.items c.split_at.result.0.now c.split_at.result.1.now c.self.inside.attached c.args.id c.args.spot.action c.args.spot.target c.in-Ok.found.0 c.in-Ok.found.1 k c.split_at.ensures.front c.split_at.ensures.back c.deref.ensures.value) in
-    behind_within c.self.inside.entries.items c.self.inside.attached c.args.id c.args.spot.action c.args.spot.target c.in-Ok.found.0 c.in-Ok.found.1 c.self.invariant h
+pub shift_node-requires-clause-spare : goal.shift_node-requires-clause-spare
+shift_node-requires-clause-spare c = spare_of c.self.inside.store c.self.inside.journal (subst (λ (o : Ordered). HasSpare o.saved) (sym c.self.view_is) c.requires.room)
 
-pub put_part_vec-requires-clause-few : goal.put_part_vec-requires-clause-few
-put_part_vec-requires-clause-few c =
-    let h : IsAttachable (take c.self.inside.attached c.self.inside.entries.items) (drop c.self.inside.attached c.self.inside.entries.items) c.args.id c.args.spot.action c.args.spot.target c.in-Ok.found.0 c.in-Ok.found.1 =
-    (let fit : SFits w32 c.args.id = c.ranges.id in let k = simp to_z-of_z at c.in-Ok.ensures in
-    at_split c.deref.result.now c.self.inside.entries.items c.split_at.result.0.now c.split_at.result.1.now c.self.inside.attached c.args.id c.args.spot.action c.args.spot.target c.in-Ok.found.0 c.in-Ok.found.1 k c.split_at.ensures.front c.split_at.ensures.back c.deref.ensures.value) in
-    brought_small c.self.inside.entries.items c.self.inside.attached c.args.id c.args.spot.action c.args.spot.target c.in-Ok.found.0 c.in-Ok.found.1 c.self.invariant h
+pub shift_node-requires-clause-node : goal.shift_node-requires-clause-node
+shift_node-requires-clause-node c =
+    let h : (attach_fault c.args.id c.args.spot.action c.args.spot.target (labels (front c.self.inside.store)) (labels (behind_tree c.self.inside.store)) ≡ None) × IsAttachable c.self.inside.store c.args.id c.args.spot.action c.args.spot.target c.in-Ok.found.0 c.in-Ok.found.1 = (let fit : SFits w32 c.args.id = c.ranges.id in simp to_z-of_z at c.in-Ok.ensures) in
+    (attach_goes c.self.inside.store c.keys_differ.ensures c.is_sound.ensures c.self.invariant.1 c.args.id c.args.spot.action c.args.spot.target c.in-Ok.found.0 c.in-Ok.found.1 h.0 h.1).node
+
+pub shift_node-requires-clause-place : goal.shift_node-requires-clause-place
+shift_node-requires-clause-place c =
+    let h : (attach_fault c.args.id c.args.spot.action c.args.spot.target (labels (front c.self.inside.store)) (labels (behind_tree c.self.inside.store)) ≡ None) × IsAttachable c.self.inside.store c.args.id c.args.spot.action c.args.spot.target c.in-Ok.found.0 c.in-Ok.found.1 = (let fit : SFits w32 c.args.id = c.ranges.id in simp to_z-of_z at c.in-Ok.ensures) in
+    (attach_goes c.self.inside.store c.keys_differ.ensures c.is_sound.ensures c.self.invariant.1 c.args.id c.args.spot.action c.args.spot.target c.in-Ok.found.0 c.in-Ok.found.1 h.0 h.1).goes
+
+pub shift_node-requires-clause-sound : goal.shift_node-requires-clause-sound
+shift_node-requires-clause-sound c =
+    let h : (attach_fault c.args.id c.args.spot.action c.args.spot.target (labels (front c.self.inside.store)) (labels (behind_tree c.self.inside.store)) ≡ None) × IsAttachable c.self.inside.store c.args.id c.args.spot.action c.args.spot.target c.in-Ok.found.0 c.in-Ok.found.1 = (let fit : SFits w32 c.args.id = c.ranges.id in simp to_z-of_z at c.in-Ok.ensures) in
+    (attach_goes c.self.inside.store c.keys_differ.ensures c.is_sound.ensures c.self.invariant.1 c.args.id c.args.spot.action c.args.spot.target c.in-Ok.found.0 c.in-Ok.found.1 h.0 h.1).sound
 
 pub invariant_of-self : goal.invariant_of-self
 invariant_of-self c =
-    let h : IsAttachable (take c.self.inside.attached c.self.inside.entries.items) (drop c.self.inside.attached c.self.inside.entries.items) c.args.id c.args.spot.action c.args.spot.target c.in-Ok.found.0 c.in-Ok.found.1 =
-    (let fit : SFits w32 c.args.id = c.ranges.id in let k = simp to_z-of_z at c.in-Ok.ensures in
-    at_split c.deref.result.now c.self.inside.entries.items c.split_at.result.0.now c.split_at.result.1.now c.self.inside.attached c.args.id c.args.spot.action c.args.spot.target c.in-Ok.found.0 c.in-Ok.found.1 k c.split_at.ensures.front c.split_at.ensures.back c.deref.ensures.value) in
-    (attach_shows c.self.inside.entries.items c.self.inside.attached c.args.id c.args.spot.action c.args.spot.target c.in-Ok.found.0 c.in-Ok.found.1 c.self.invariant h c.put_part_vec.new.entries.items c.put_part_vec.ensures).sound
+    let h : (attach_fault c.args.id c.args.spot.action c.args.spot.target (labels (front c.self.inside.store)) (labels (behind_tree c.self.inside.store)) ≡ None) × IsAttachable c.self.inside.store c.args.id c.args.spot.action c.args.spot.target c.in-Ok.found.0 c.in-Ok.found.1 = (let fit : SFits w32 c.args.id = c.ranges.id in simp to_z-of_z at c.in-Ok.ensures) in
+    let g : Gives c.shift_node.new.store c.shift_node.new.journal (attaching c.args.id c.args.spot.action c.args.spot.target (sides c.self.inside.store)) (spent 1 (saved_by c.self.inside.store c.self.inside.journal)) = shift_gives c.self.inside.store c.shift_node.new.store c.self.inside.journal c.shift_node.new.journal c.in-Ok.found.0 c.in-Ok.found.1 (attaching c.args.id c.args.spot.action c.args.spot.target (sides c.self.inside.store))
+    (attach_goes c.self.inside.store c.keys_differ.ensures c.is_sound.ensures c.self.invariant.1 c.args.id c.args.spot.action c.args.spot.target c.in-Ok.found.0 c.in-Ok.found.1 h.0 h.1) c.shift_node.ensures.nodes
+    (record { ready = c.shift_node.ensures.ready; kept = c.shift_node.ensures.saved }) in
+    (g.ready, g.few)
 
 pub returns-clause-ok : goal.returns-clause-ok
 returns-clause-ok c =
-    let h : IsAttachable (take c.self.inside.attached c.self.inside.entries.items) (drop c.self.inside.attached c.self.inside.entries.items) c.args.id c.args.spot.action c.args.spot.target c.in-Ok.found.0 c.in-Ok.found.1 =
-    (let fit : SFits w32 c.args.id = c.ranges.id in let k = simp to_z-of_z at c.in-Ok.ensures in
-    at_split c.deref.result.now c.self.inside.entries.items c.split_at.result.0.now c.split_at.result.1.now c.self.inside.attached c.args.id c.args.spot.action c.args.spot.target c.in-Ok.found.0 c.in-Ok.found.1 k c.split_at.ensures.front c.split_at.ensures.back c.deref.ensures.value) in
-    (attach_shows c.self.inside.entries.items c.self.inside.attached c.args.id c.args.spot.action c.args.spot.target c.in-Ok.found.0 c.in-Ok.found.1 c.self.invariant h c.put_part_vec.new.entries.items c.put_part_vec.ensures).shows
-    ∙ ap (λ (a : Arranged). attaching c.args.id c.args.spot.action c.args.spot.target a) c.self.view_is
+    let h : (attach_fault c.args.id c.args.spot.action c.args.spot.target (labels (front c.self.inside.store)) (labels (behind_tree c.self.inside.store)) ≡ None) × IsAttachable c.self.inside.store c.args.id c.args.spot.action c.args.spot.target c.in-Ok.found.0 c.in-Ok.found.1 = (let fit : SFits w32 c.args.id = c.ranges.id in simp to_z-of_z at c.in-Ok.ensures) in
+    let g : Gives c.shift_node.new.store c.shift_node.new.journal (attaching c.args.id c.args.spot.action c.args.spot.target (sides c.self.inside.store)) (spent 1 (saved_by c.self.inside.store c.self.inside.journal)) = shift_gives c.self.inside.store c.shift_node.new.store c.self.inside.journal c.shift_node.new.journal c.in-Ok.found.0 c.in-Ok.found.1 (attaching c.args.id c.args.spot.action c.args.spot.target (sides c.self.inside.store))
+    (attach_goes c.self.inside.store c.keys_differ.ensures c.is_sound.ensures c.self.invariant.1 c.args.id c.args.spot.action c.args.spot.target c.in-Ok.found.0 c.in-Ok.found.1 h.0 h.1) c.shift_node.ensures.nodes
+    (record { ready = c.shift_node.ensures.ready; kept = c.shift_node.ensures.saved }) in
+    g.shows ∙ ap (λ (o : Ordered). let n : Ordered = record { now = attaching c.args.id c.args.spot.action c.args.spot.target o.now; saved = spent 1 o.saved } in n) c.self.view_is
+
+pub returns-in-Err-clause-fault : goal.returns-in-Err-clause-fault
+returns-in-Err-clause-fault c =
+    let h : attach_fault c.args.id c.args.spot.action c.args.spot.target (labels (front c.self.inside.store)) (labels (behind_tree c.self.inside.store)) ≡ Some c.in-Err.fault = (let fit : SFits w32 c.args.id = c.ranges.id in simp to_z-of_z at c.in-Err.ensures) in
+    sym h ∙ ap (λ (o : Ordered). attach_fault c.args.id c.args.spot.action c.args.spot.target o.now.attached o.now.detached) c.self.view_is
+
+pub returns-clause-fault : goal.returns-clause-fault
+returns-clause-fault c =
+    let h : (attach_fault c.args.id c.args.spot.action c.args.spot.target (labels (front c.self.inside.store)) (labels (behind_tree c.self.inside.store)) ≡ None) × IsAttachable c.self.inside.store c.args.id c.args.spot.action c.args.spot.target c.in-Ok.found.0 c.in-Ok.found.1 = (let fit : SFits w32 c.args.id = c.ranges.id in simp to_z-of_z at c.in-Ok.ensures) in
+    sym h.0 ∙ ap (λ (o : Ordered). attach_fault c.args.id c.args.spot.action c.args.spot.target o.now.attached o.now.detached) c.self.view_is

@@ -3,11 +3,15 @@ use Rattle.std.specs.Prelude.{IfOk}
 use mir.Val.{SFits}
 use Rattle.std.proofs.lemmas.Int.{to_z-of_z}
 use Rattle.sn_tree.specs.Below.{top_ids}
+use Rattle.sn_tree.specs.Keyed.{labels}
+use Rattle.sn_tree.proofs.NextLaws.{children_is}
 use Rattle.sn_tree.proofs.Gathering.{tops_shown}
 use Rattle.sn_tree.proofs.tree.Tree.children.Goals as goal
 
 pub returns : goal.returns
 returns g c =
-    subst (λ l. IfOk c.tops_in.result (λ found. found.items ≡ l))
-    (ap top_ids (let fit : SFits w32 c.args.id = c.ranges.id in simp to_z-of_z at c.entries_below.ensures.value) ∙ tops_shown c.self.inside.root c.self.inside.payloads.slots c.self.inside.order c.self.inside.saved c.args.self.now c.self.view_is c.args.id)
-    c.tops_in.ensures
+    let fit : SFits w32 c.args.id = c.ranges.id in
+    let nodes = simp to_z-of_z at c.cursor.ensures.nodes in
+    subst (λ l. IfOk c.list_tops.result (λ found. found.items ≡ l))
+    (ap (λ t. top_ids (labels t)) c.below.ensures ∙ (ap top_ids (children_is c.cursor.result c.args.id c.self.inside.order.now.attached nodes) ∙ tops_shown c.self.inside.root c.self.inside.payloads.slots c.self.inside.order.now c.self.inside.order.saved c.args.self.now c.self.view_is c.args.id))
+    c.list_tops.ensures

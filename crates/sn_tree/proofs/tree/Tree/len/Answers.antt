@@ -4,7 +4,7 @@ use Rattle.sn_tree.proofs.Gathering.{root_counts}
 use Rattle.sn_tree.proofs.tree.Tree.len.Goals as goal
 
 pub returns-clause-value : goal.returns-clause-value
-returns-clause-value g c = c.len.ensures.value ∙ count_shown c.self.inside.root c.self.inside.payloads.slots c.self.inside.order c.self.inside.saved c.args.self.now c.self.view_is
+returns-clause-value g c = c.len.ensures.value ∙ count_shown c.self.inside.root c.self.inside.payloads.slots c.self.inside.order.now c.self.inside.order.saved c.args.self.now c.self.view_is
 
 pub returns-clause-some : goal.returns-clause-some
-returns-clause-some g c = omega (arith, c.len.ensures.value, root_counts c.self.inside.order.attached c.self.invariant.rooted)
+returns-clause-some g c = omega (arith, c.len.ensures.value, root_counts c.self.inside.order.now.attached c.self.invariant.rooted)

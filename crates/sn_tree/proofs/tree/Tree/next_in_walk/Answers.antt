@@ -5,4 +5,4 @@ use Rattle.sn_tree.proofs.Showing.{next_shown}
 use Rattle.sn_tree.proofs.tree.Tree.next_in_walk.Goals as goal
 
 pub returns : goal.returns
-returns g c = (let fit : SFits w32 c.args.id = c.ranges.id in simp to_z-of_z at c.next_of.ensures) ∙ next_shown c.self.inside.root c.self.inside.payloads.slots c.self.inside.order c.self.inside.saved c.args.self.now c.self.view_is c.args.id
+returns g c = (let fit : SFits w32 c.args.id = c.ranges.id in simp to_z-of_z at c.next_of.ensures) ∙ next_shown c.self.inside.root c.self.inside.payloads.slots c.self.inside.order.now c.self.inside.order.saved c.args.self.now c.self.view_is c.args.id

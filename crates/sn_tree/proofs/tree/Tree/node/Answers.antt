@@ -1,12 +1,8 @@
-use Rattle.std.proofs.Common.{◌∙◌, ap, w32}
+use Rattle.std.proofs.Common.{◌∙◌, w32}
 use mir.Val.{SFits}
 use Rattle.std.proofs.lemmas.Int.{to_z-of_z}
-use Rattle.sn_tree.specs.Trees.{view_of}
 use Rattle.sn_tree.proofs.Showing.{view_shown}
 use Rattle.sn_tree.proofs.tree.Tree.node.Goals as goal
 
 pub returns : goal.returns
-returns g c =
-    (let fit : SFits w32 c.args.id = c.ranges.id in simp to_z-of_z at c.view_in.ensures)
-    ∙ (ap (view_of c.args.id) c.attached_entries.ensures.value
-    ∙ view_shown c.self.inside.root c.self.inside.payloads.slots c.self.inside.order c.self.inside.saved c.args.self.now c.self.view_is c.args.id)
+returns g c = (let fit : SFits w32 c.args.id = c.ranges.id in simp to_z-of_z at c.node.ensures) ∙ view_shown c.self.inside.root c.self.inside.payloads.slots c.self.inside.order.now c.self.inside.order.saved c.args.self.now c.self.view_is c.args.id

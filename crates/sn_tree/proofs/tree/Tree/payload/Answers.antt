@@ -13,19 +13,19 @@ pub returns-in-None : goal.returns-in-None
 returns-in-None g c =
     let fit : SFits w32 c.args.id = c.ranges.id in
     let h = simp to_z-of_z at c.in-None.ensures in
-    ap (option_map (payload_of c.self.inside.root c.self.inside.payloads.slots)) h ∙ payload_shown c.self.inside.root c.self.inside.payloads.slots c.self.inside.order c.self.inside.saved c.args.self.now c.self.view_is c.args.id
+    ap (option_map (payload_of c.self.inside.root c.self.inside.payloads.slots)) h ∙ payload_shown c.self.inside.root c.self.inside.payloads.slots c.self.inside.order.now c.self.inside.order.saved c.args.self.now c.self.view_is c.args.id
 
 pub returns-in-Some-None : goal.returns-in-Some-None
 returns-in-Some-None g c =
     let fit : SFits w32 c.args.id = c.ranges.id in
     let e = rw c.in-Some-None.field-0-is at c.in-Some-None.ensures in
     let h = simp to_z-of_z at e in
-    ap (option_map (payload_of c.self.inside.root c.self.inside.payloads.slots)) h ∙ payload_shown c.self.inside.root c.self.inside.payloads.slots c.self.inside.order c.self.inside.saved c.args.self.now c.self.view_is c.args.id
+    ap (option_map (payload_of c.self.inside.root c.self.inside.payloads.slots)) h ∙ payload_shown c.self.inside.root c.self.inside.payloads.slots c.self.inside.order.now c.self.inside.order.saved c.args.self.now c.self.view_is c.args.id
 
 pub returns-in-Some-Some : goal.returns-in-Some-Some
 returns-in-Some-Some g c =
     let fit : SFits w32 c.args.id = c.ranges.id in
     let e = rw c.in-Some-Some.field-0-is at c.in-Some-Some.ensures in
     let h = simp to_z-of_z at e in
-    c.get.ensures ∙ (slot_is c.self.inside.root c.self.inside.payloads.slots c.self.inside.order c.args.id c.in-Some-Some.key c.self.invariant.now (sym h)
+    c.get.ensures ∙ (slot_is c.self.inside.root c.self.inside.payloads.slots c.self.inside.order.now c.args.id c.in-Some-Some.key c.self.invariant.now (sym h)
     ∙ ap (λ (t : NodeTree g.row.P.Denot). option_map (λ (l : Label g.row.P.Denot). l.payload) (label_of c.args.id t.attached)) c.self.view_is)

@@ -2,29 +2,30 @@ use Rattle.std.proofs.Common.{◌∙◌, w32}
 use mir.Val.{SFits}
 use Rattle.std.proofs.lemmas.Int.{to_z-of_z}
 use Rattle.sn_tree.proofs.Showing.{set_run_fault_shown}
-use Rattle.sn_tree.proofs.Following.{run_keeps, run_gives}
+use Rattle.sn_tree.proofs.Following.{spare}
+use Rattle.sn_tree.proofs.OrderedLaws.{run_answered}
 use Rattle.sn_tree.proofs.tree.Tree.set_run.Goals as goal
 
-pub returns-in-Err-clause-fault : goal.returns-in-Err-clause-fault
-returns-in-Err-clause-fault g c =
-    let fit : SFits w32 c.args.id = c.ranges.id in
-    let h = simp to_z-of_z at c.in-Err.ensures.fault in
-    h ∙ set_run_fault_shown c.self.inside.root c.self.inside.payloads.slots c.self.inside.order c.self.inside.saved c.args.self.now c.self.view_is c.args.id
+pub set_run-requires : goal.set_run-requires
+set_run-requires g c = record { room = spare c.self.inside.root c.self.inside.payloads.slots c.self.inside.order.now c.self.inside.order.saved c.args.self.now c.self.view_is c.requires.room }
 
-pub invariant_of-self-2 : goal.invariant_of-self-2
-invariant_of-self-2 g c =
-    let fit : SFits w32 c.args.id = c.ranges.id in
-    let ok = simp to_z-of_z at c.in-Ok.ensures.ok in
-    run_keeps c.self.inside.root c.self.inside.payloads.slots c.self.inside.order c.set_run.new.self c.self.inside.saved c.spend.new.saved c.args.self.now c.self.view_is c.self.invariant c.spend.ensures c.args.id c.args.on ok
+pub invariant_of-self : goal.invariant_of-self
+invariant_of-self g c =
+    (run_answered c.self.inside.root c.self.inside.payloads.slots c.self.inside.order c.set_run.new.self c.args.self.now (record { kept = c.self.invariant; shows = c.self.view_is }) c.args.id c.args.on c.set_run.result
+    (let fit : SFits w32 c.args.id = c.ranges.id in simp to_z-of_z at c.set_run.ensures.fault) (let fit : SFits w32 c.args.id = c.ranges.id in simp to_z-of_z at c.set_run.ensures.ok) c.set_run.ensures.err).kept
 
 pub returns-clause-fault : goal.returns-clause-fault
 returns-clause-fault g c =
     let fit : SFits w32 c.args.id = c.ranges.id in
-    let h = simp to_z-of_z at c.in-Ok.ensures.fault in
-    h ∙ set_run_fault_shown c.self.inside.root c.self.inside.payloads.slots c.self.inside.order c.self.inside.saved c.args.self.now c.self.view_is c.args.id
+    let h = simp to_z-of_z at c.set_run.ensures.fault in
+    h ∙ set_run_fault_shown c.self.inside.root c.self.inside.payloads.slots c.self.inside.order.now c.self.inside.order.saved c.args.self.now c.self.view_is c.args.id
 
 pub returns-clause-ok : goal.returns-clause-ok
 returns-clause-ok g c =
-    let fit : SFits w32 c.args.id = c.ranges.id in
-    let ok = simp to_z-of_z at c.in-Ok.ensures.ok in
-    run_gives c.self.inside.root c.self.inside.payloads.slots c.self.inside.order c.set_run.new.self c.self.inside.saved c.spend.new.saved c.args.self.now c.self.view_is c.self.invariant c.spend.ensures c.args.id c.args.on ok
+    (run_answered c.self.inside.root c.self.inside.payloads.slots c.self.inside.order c.set_run.new.self c.args.self.now (record { kept = c.self.invariant; shows = c.self.view_is }) c.args.id c.args.on c.set_run.result
+    (let fit : SFits w32 c.args.id = c.ranges.id in simp to_z-of_z at c.set_run.ensures.fault) (let fit : SFits w32 c.args.id = c.ranges.id in simp to_z-of_z at c.set_run.ensures.ok) c.set_run.ensures.err).ok
+
+pub returns-clause-refused : goal.returns-clause-refused
+returns-clause-refused g c =
+    (run_answered c.self.inside.root c.self.inside.payloads.slots c.self.inside.order c.set_run.new.self c.args.self.now (record { kept = c.self.invariant; shows = c.self.view_is }) c.args.id c.args.on c.set_run.result
+    (let fit : SFits w32 c.args.id = c.ranges.id in simp to_z-of_z at c.set_run.ensures.fault) (let fit : SFits w32 c.args.id = c.ranges.id in simp to_z-of_z at c.set_run.ensures.ok) c.set_run.ensures.err).refused

@@ -11,5 +11,5 @@ pub returns : goal.returns
 returns g c =
     all_agree c.args.self.now.attached _
     (subst (λ l. AllDistinct int_eq l)
-    (sym (ids-payloads (payload_of c.self.inside.root c.self.inside.payloads.slots) c.self.inside.order.attached) ∙ ap (λ (t : NodeTree g.row.P.Denot). ids t.attached) c.self.view_is)
+    (sym (ids-payloads (payload_of c.self.inside.root c.self.inside.payloads.slots) c.self.inside.order.now.attached) ∙ ap (λ (t : NodeTree g.row.P.Denot). ids t.attached) c.self.view_is)
     c.self.invariant.distinct)

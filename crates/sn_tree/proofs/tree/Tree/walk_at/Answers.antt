@@ -6,8 +6,8 @@ use Rattle.sn_tree.proofs.tree.Tree.walk_at.Goals as goal
 
 pub invariant_of-result : goal.invariant_of-result
 invariant_of-result g c =
-    members_left c.self.inside.root c.self.inside.payloads.slots c.self.inside.order c.args.id c.subtree_entries.result.now c.subtree_entries.ensures.flat (let fit : SFits w32 c.args.id = c.ranges.id in simp to_z-of_z at c.subtree_entries.ensures.value) c.self.invariant.now
+    members_left c.self.inside.root c.self.inside.payloads.slots c.self.inside.order.now c.args.id c.cursor.result (let fit : SFits w32 c.args.id = c.ranges.id in simp to_z-of_z at c.cursor.ensures.nodes) c.self.invariant.now
 
 pub returns : goal.returns
 returns g c =
-    walk_shown c.self.inside.root c.self.inside.payloads.slots c.self.inside.order c.args.id c.subtree_entries.result.now c.subtree_entries.ensures.flat (let fit : SFits w32 c.args.id = c.ranges.id in simp to_z-of_z at c.subtree_entries.ensures.value) c.self.inside.saved c.args.self.now c.self.view_is
+    walk_shown c.self.inside.root c.self.inside.payloads.slots c.self.inside.order.now c.args.id c.cursor.result (let fit : SFits w32 c.args.id = c.ranges.id in simp to_z-of_z at c.cursor.ensures.nodes) c.self.inside.order.saved c.args.self.now c.self.view_is

@@ -1,0 +1,5 @@
+pub mod Lists
+pub mod NoteLemmas
+pub mod Moves
+pub mod StopMoves
+pub mod Opening

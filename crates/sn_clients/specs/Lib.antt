@@ -1,0 +1,5 @@
+pub mod Notes
+pub mod Ends
+pub mod Delivery
+pub mod StopWord
+pub mod Answers

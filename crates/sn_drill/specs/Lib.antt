@@ -1,0 +1,4 @@
+pub mod Definitions
+pub mod Line
+pub mod Stream
+pub mod Valid

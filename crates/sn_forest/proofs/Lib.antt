@@ -1,0 +1,14 @@
+pub mod Keys
+pub mod Frames
+pub mod Paths
+pub mod Rejoining
+pub mod Passing
+pub mod Growing
+pub mod Filling
+pub mod Loose
+pub mod Holes
+pub mod Reading
+pub mod Walking
+pub mod Climbing
+pub mod Calls
+pub mod Returning

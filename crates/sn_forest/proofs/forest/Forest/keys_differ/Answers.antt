@@ -1,0 +1,5 @@
+use Rattle.sn_forest.proofs.Calls.{once_shown}
+use Rattle.sn_forest.proofs.forest.Forest.keys_differ.Goals as goal
+
+pub returns : goal.returns
+returns g c = once_shown c.self.inside.slots.slots c.self.inside.root c.self.inside.end c.args.self.now c.self.invariant c.self.view_is

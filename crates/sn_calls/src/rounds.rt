@@ -7,6 +7,7 @@ use crate::line::{Answer, Line, Rows, Unanswered, number, said};
 use sn_mem::{Extent, Extents, Foot};
 use sn_ports::NoMemory;
 use sn_round::{Ids, Job, Jobs, Plan, SharedFoot};
+use sn_span::unroll;
 use std::alloc::Global;
 use std::mem;
 
@@ -109,7 +110,24 @@ fn put_job(alloc: Global, jobs: &mut Vec<Job>, line: &mut Line<'_>) -> Answer
     said(alloc, if is_put { "ok" } else { "not before it" })
 }
 
-/// The synths, predecessors and successors of a job, and the extents that it writes.
+/// The plan of so many blocks that copy the words of one audio bus.
+fn unrolled(alloc: Global, plan: &Plan, line: &mut Line<'_>) -> Result<Plan, Unanswered> {
+    let blocks = line.natural()?;
+    let bus = line.natural()?;
+    let copies = line.natural()?;
+    if plan.jobs() > 1000 || blocks > 32 || copies > 1_000_000 {
+        return Err(Unanswered::NoRow);
+    }
+    let mut outputs = Extents::new(alloc);
+    outputs.push(Extent { at: bus, len: 65 })?;
+    let copies = Extent {
+        at: copies,
+        len: 512 * blocks,
+    };
+    Ok(unroll(alloc, plan, blocks, &outputs, copies)?)
+}
+
+/// The synths, predecessors and successors of a job, the extents that it writes, and those that it reads.
 fn job_said(alloc: Global, plan: &Plan, job: u32) -> Answer {
     if job >= plan.jobs() {
         return Err(Unanswered::NoRow);
@@ -120,6 +138,9 @@ fn job_said(alloc: Global, plan: &Plan, job: u32) -> Answer {
     let mut out = format!(in alloc; "{synths:?} {before:?} {after:?}")?;
     for extent in plan.foot(job).writes.as_slice() {
         out.push_str(format!(in alloc; " {}+{}", extent.at, extent.len)?.as_str())?;
+    }
+    for extent in plan.foot(job).reads.as_slice() {
+        out.push_str(format!(in alloc; " < {}+{}", extent.at, extent.len)?.as_str())?;
     }
     Ok(out)
 }
@@ -135,6 +156,10 @@ impl RoundRows {
             "plan" => {
                 let jobs = mem::replace(&mut self.jobs, no_jobs(alloc));
                 self.plan = Plan::new(alloc, jobs)?;
+                number(alloc, i128::from(self.plan.jobs()))
+            }
+            "unroll" => {
+                self.plan = unrolled(alloc, &self.plan, line)?;
                 number(alloc, i128::from(self.plan.jobs()))
             }
             "planned" => job_said(alloc, &self.plan, line.natural()?),

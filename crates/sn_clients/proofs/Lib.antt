@@ -3,3 +3,4 @@ pub mod NoteLemmas
 pub mod Moves
 pub mod StopMoves
 pub mod Opening
+pub mod ReadLemmas

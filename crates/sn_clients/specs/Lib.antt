@@ -3,3 +3,5 @@ pub mod Ends
 pub mod Delivery
 pub mod StopWord
 pub mod Answers
+pub mod Reading
+pub mod Clients

@@ -2,15 +2,17 @@ ghost use Rattle.std.specs.Prelude.{◌≡◌, Ok, map, length, IfOk, OnOk};
 ghost use Rattle.std.specs.List.{AllByRecursion};
 ghost use Rattle.sn_osc.specs.Shape.{message_of};
 ghost use Rattle.sn_reply.specs.Sending.{IsAnswerable};
-ghost use Rattle.sn_world.specs.World.{turn_of};
+ghost use Rattle.sn_world.specs.World.{turn_of, world_of};
 ghost use Rattle.sn_world.specs.Ending.{is_completing};
 ghost use Rattle.sn_world.specs.Pictures.{Pictures, WritesWorld};
 ghost use Rattle.sn_world.specs.Commands.{run_node, run_bus, either as first_there, command, next_after};
 ghost use Rattle.sn_world.specs.Answers.{Handles, UnlessDone, TellsNext, NextHas, next_told};
 ghost use Rattle.sn_engine.specs.Boundary.{completed, act_message, act_messages, act_entries, asked_by, both, messages_ask, entries_ask, due_at, later_than, left_at};
 ghost use Rattle.sn_engine.specs.Answerable.{AllAnswerable};
+ghost use Rattle.sn_engine.specs.Holding.{LayoutStays};
 
 use sn_buscmd::run_bus_command;
+use sn_layout::Watch;
 use sn_mem::Port;
 use sn_nodecmd::run_node_command;
 use sn_osc::Message;
@@ -196,13 +198,40 @@ fn act_message<P: Port>(
     Ok(asked_by(&handled))
 }
 
-/// Runs messages of a client, one after another. Gives what they ask besides.
+/// Runs a message from a client with its completion messages, under a watch on the layout. Gives what they ask besides.
+fn act_one<P: Port>(
+    alloc: Global,
+    stage: &mut Stage,
+    port: &mut P,
+    message: &Message,
+    from: u32,
+    watch: &mut Watch,
+    replies: &mut Replies,
+) -> Result<Asked, NoMemory>
+    requires message { IsAnswerable (message_of message.now) }
+    requires pictures { Pictures stage.old (P.words port.old) }
+    requires foot { WritesWorld (P.foot port.old) stage.old.pool.region }
+    ensures acts { OnOk result (turn_of stage.new (P.words port.new) replies.new ≡ (act_message from (message_of message.now) (turn_of stage.old (P.words port.old) replies.old)).turn) }
+    ensures asked { IfOk result (λ a. a ≡ asked_by (act_message from (message_of message.now) (turn_of stage.old (P.words port.old) replies.old)).next) }
+    ensures layout { OnOk result (LayoutStays watch.old.stays watch.new.stays (world_of stage.old (P.words port.old)) (world_of stage.new (P.words port.new))) }
+    ensures pictures { Pictures stage.new (P.words port.new) }
+    ensures region { stage.new.pool.region ≡ stage.old.pool.region }
+    ensures len { length (P.words port.new) ≡ length (P.words port.old) }
+    ensures foot { P.foot port.new ≡ P.foot port.old }
+    ensures rest { P.rest port.new ≡ P.rest port.old }
+{
+    watch.see(stage, message);
+    act_message(alloc, stage, port, message, from, replies)
+}
+
+/// Runs messages of a client, one after another, under a watch on the layout. Gives what they ask besides.
 fn act_messages<P: Port>(
     alloc: Global,
     stage: &mut Stage,
     port: &mut P,
     messages: &[Message],
     from: u32,
+    watch: &mut Watch,
     replies: &mut Replies,
 ) -> Result<Asked, NoMemory>
     requires messages { AllByRecursion IsAnswerable (map message_of messages.now) }
@@ -210,6 +239,7 @@ fn act_messages<P: Port>(
     requires foot { WritesWorld (P.foot port.old) stage.old.pool.region }
     ensures acts { OnOk result (turn_of stage.new (P.words port.new) replies.new ≡ act_messages from (map message_of messages.now) (turn_of stage.old (P.words port.old) replies.old)) }
     ensures asked { IfOk result (λ a. a ≡ messages_ask from (map message_of messages.now) (turn_of stage.old (P.words port.old) replies.old)) }
+    ensures layout { OnOk result (LayoutStays watch.old.stays watch.new.stays (world_of stage.old (P.words port.old)) (world_of stage.new (P.words port.new))) }
     ensures pictures { Pictures stage.new (P.words port.new) }
     ensures region { stage.new.pool.region ≡ stage.old.pool.region }
     ensures len { length (P.words port.new) ≡ length (P.words port.old) }
@@ -218,20 +248,21 @@ fn act_messages<P: Port>(
 {
     let mut asked = NOTHING;
     for message in messages {
-        let more = act_message(alloc, stage, port, message, from, replies)?;
+        let more = act_one(alloc, stage, port, message, from, watch, replies)?;
         asked = both(asked, more);
     }
     Ok(asked)
 }
 
-/// Takes the entries that are due at boundary `now`, in their order, and runs their messages. Gives what they ask
-/// besides.
+/// Takes the entries that are due at boundary `now`, in their order, and runs their messages, under a watch on the
+/// layout. Gives what they ask besides.
 fn act_taken<P: Port>(
     alloc: Global,
     stage: &mut Stage,
     port: &mut P,
     queue: &mut Queue,
     now: u64,
+    watch: &mut Watch,
     replies: &mut Replies,
 ) -> Result<Asked, NoMemory>
     requires waiting { AllAnswerable queue.old.waiting }
@@ -239,6 +270,7 @@ fn act_taken<P: Port>(
     requires foot { WritesWorld (P.foot port.old) stage.old.pool.region }
     ensures acts { OnOk result (turn_of stage.new (P.words port.new) replies.new ≡ act_entries (due_at now queue.old) (turn_of stage.old (P.words port.old) replies.old)) }
     ensures asked { IfOk result (λ a. a ≡ entries_ask (due_at now queue.old) (turn_of stage.old (P.words port.old) replies.old)) }
+    ensures layout { OnOk result (LayoutStays watch.old.stays watch.new.stays (world_of stage.old (P.words port.old)) (world_of stage.new (P.words port.new))) }
     ensures left { OnOk result (queue.new ≡ record queue.old { waiting = later_than now queue.old }) }
     ensures kept { queue.new ≡ record queue.old { waiting = queue.new.waiting } }
     ensures waiting { AllAnswerable queue.new.waiting }
@@ -256,6 +288,7 @@ fn act_taken<P: Port>(
             port,
             entry.messages.as_slice(),
             entry.from,
+            watch,
             replies,
         )?;
         asked = both(asked, more);
@@ -263,14 +296,16 @@ fn act_taken<P: Port>(
     Ok(asked)
 }
 
-/// Runs the messages of the entries that are due at boundary `now`, in their order. Where one of them clears what waits, the entries that
-/// are due later are dropped. Tells whether one of them ends the server.
+/// Runs the messages of the entries that are due at boundary `now`, in their order. Where one of them clears what
+/// waits, the entries that are due later are dropped. A watch sees each message: if it tells that the layout stays,
+/// it does. Tells whether one of them ends the server.
 pub fn act_due<P: Port>(
     alloc: Global,
     stage: &mut Stage,
     port: &mut P,
     queue: &mut Queue,
     now: u64,
+    watch: &mut Watch,
     replies: &mut Replies,
 ) -> Result<bool, NoMemory>
     requires waiting { AllAnswerable queue.old.waiting }
@@ -278,6 +313,7 @@ pub fn act_due<P: Port>(
     requires foot { WritesWorld (P.foot port.old) stage.old.pool.region }
     ensures acts { OnOk result (turn_of stage.new (P.words port.new) replies.new ≡ act_entries (due_at now queue.old) (turn_of stage.old (P.words port.old) replies.old)) }
     ensures quit { IfOk result (λ q. q ≡ (entries_ask (due_at now queue.old) (turn_of stage.old (P.words port.old) replies.old)).quit) }
+    ensures layout { OnOk result (LayoutStays watch.old.stays watch.new.stays (world_of stage.old (P.words port.old)) (world_of stage.new (P.words port.new))) }
     ensures left { OnOk result (queue.new ≡ record queue.old { waiting = left_at now queue.old (turn_of stage.old (P.words port.old) replies.old) }) }
     ensures kept { queue.new ≡ record queue.old { waiting = queue.new.waiting } }
     ensures waiting { AllAnswerable queue.new.waiting }
@@ -287,7 +323,7 @@ pub fn act_due<P: Port>(
     ensures foot { P.foot port.new ≡ P.foot port.old }
     ensures rest { P.rest port.new ≡ P.rest port.old }
 {
-    let asked = act_taken(alloc, stage, port, queue, now, replies)?;
+    let asked = act_taken(alloc, stage, port, queue, now, watch, replies)?;
     if !asked.clear {
         return Ok(asked.quit);
     }

@@ -12,6 +12,7 @@ use crate::acting::act_due;
 use crate::clashing::take_clashes;
 use crate::planning::Planned;
 use sn_clash::Clashes;
+use sn_layout::Watch;
 use sn_mem::Port;
 use sn_ports::NoMemory;
 use sn_queue::Queue;
@@ -19,9 +20,9 @@ use sn_reply::Replies;
 use sn_world::Stage;
 use std::alloc::Global;
 
-/// The entries that are due at boundary `now` act in their order, and then the clashes are taken: those that were not there at the
-/// boundary before are told. Last the stage is planned. Where none is due, and the clashes that are held still hold, nothing is to be
-/// done. Tells whether the server ends.
+/// The entries that are due at boundary `now` act in their order, and then the clashes are taken: those that were
+/// not there at the boundary before are told. Last the stage is planned. Where the clashes that are held still hold,
+/// and what acts leaves the layout, or nothing acts, clashes and plan are kept. Tells whether the server ends.
 pub fn act_boundary<P: Port>(
     alloc: Global,
     stage: &mut Stage,
@@ -58,7 +59,12 @@ pub fn act_boundary<P: Port>(
     if hold && !queue.has_due(now) {
         return Ok(false);
     }
-    let quits = act_due(alloc, stage, port, queue, now, said)?;
+    let mut watch = Watch::new(hold);
+    let quits = act_due(alloc, stage, port, queue, now, &mut watch, said)?;
+    let stays = watch.stays;
+    if stays {
+        return Ok(quits);
+    }
     take_clashes(alloc, stage, held, said)?;
     *planned = Planned::of(alloc, stage, held)?;
     Ok(quits)

@@ -1,7 +1,6 @@
 -- A run that a later one covers is as if it were not there.
 use Rattle.std.proofs.Common.{◌≡◌, ◌≤◌, ◌<◌, ◌+◌, ℕ, zero, suc, ℤ, Bool, true, false, List, [], ◌∷◌, ◌++◌, map, length, drop, set, get_or, Option, Some, None, ◌⊎◌, inl, inr, Ok, Result, refl, ap, sym, subst, ◌∙◌, arith, true≢false, append_assoc}
 use Rattle.std.specs.Prelude.{if◌then◌else◌}
-use Rattle.std.proofs.lemmas.List.{length-map, map-append, drop_more}
 use Rattle.sn_def.specs.declared.control.Control.{Control}
 use Rattle.sn_def.specs.Definition.{Definition}
 use Rattle.sn_world.specs.World.{Turn}
@@ -10,9 +9,8 @@ use Rattle.sn_world.specs.NewSynth.{control_of}
 use Rattle.sn_world.specs.ControlRuns.{ControlRun, in_synth, with_values_from, with_run, with_runs, judge_node, set_outcome}
 use Rattle.sn_tree.specs.Reworking.{reworked}
 use Rattle.sn_nodecmd.specs.declared.runs.Run.{Run}
-use Rattle.sn_nodecmd.specs.declared.latest.Judged.{Judged}
 use Rattle.sn_nodecmd.specs.Runs.{run_of}
-use Rattle.sn_nodecmd.specs.Covering.{Covers, IsCovered, runs_in, AreJudged, uncovered}
+use Rattle.sn_nodecmd.specs.Covering.{Covers, IsCovered, AreLeft}
 
 -- ---- controls that agree but for n of them from the one at k on
 
@@ -105,71 +103,30 @@ but-first : (o : Option ℕ) (vs : List ℤ) (xs : List Control) → AgreeBut o 
 but-first None vs xs = refl
 but-first (Some k) vs xs = values-within vs k xs xs k (length vs) (omega arith) (omega arith) (agree-same xs k (length vs))
 
-covered : (r : ControlRun) (rs : List ControlRun) (d : Definition) (xs ys : List Control) → IsCovered r rs → AgreeBut (control_of d r.control) (length r.values) xs ys → with_runs rs d xs ≡ with_runs rs d ys
+covered : (r : ControlRun) (rs : List ControlRun) (d : Definition) (xs ys : List Control) → IsCovered Covers r rs → AgreeBut (control_of d r.control) (length r.values) xs ys → with_runs rs d xs ≡ with_runs rs d ys
 covered r [] d xs ys is a = absurd is
 covered r (s ∷ ss) d xs ys (inl c) a =
     ap (with_runs ss d) (run-over (control_of d s.control) s.values (length r.values) xs ys c.few (subst (λ n. AgreeBut (control_of d n) (length r.values) xs ys) (sym c.control) a))
 covered r (s ∷ ss) d xs ys (inr is) a =
     covered r ss d (with_run (control_of d s.control) s.values xs) (with_run (control_of d s.control) s.values ys) is (but-run (control_of d r.control) (control_of d s.control) s.values (length r.values) xs ys a)
 
-left_out : (r : ControlRun) (rs : List ControlRun) → IsCovered r rs → (d : Definition) (cs : List Control) → with_runs (r ∷ rs) d cs ≡ with_runs rs d cs
+left_out : (r : ControlRun) (rs : List ControlRun) → IsCovered Covers r rs → (d : Definition) (cs : List Control) → with_runs (r ∷ rs) d cs ≡ with_runs rs d cs
 left_out r rs is d cs = covered r rs d (with_run (control_of d r.control) r.values cs) cs is (but-first (control_of d r.control) r.values cs)
 
-uncovered-next : (j : Judged) (js : List Judged) (d : Definition) (cs : List Control) → AreJudged (j ∷ js) → ((cs : List Control) → with_runs (uncovered js) d cs ≡ with_runs (runs_in js) d cs)
-    → (b : Bool) → j.is_covered ≡ b → with_runs (uncovered (j ∷ js)) d cs ≡ with_runs (runs_in (j ∷ js)) d cs
-uncovered-next j js d cs a same true e =
-    ap (λ (b : Bool). with_runs (if b then uncovered js else run_of j.run ∷ uncovered js) d cs) e ∙ same cs ∙ sym (left_out (run_of j.run) (runs_in js) (a.0 e) d cs)
-uncovered-next j js d cs a same false e =
-    ap (λ (b : Bool). with_runs (if b then uncovered js else run_of j.run ∷ uncovered js) d cs) e ∙ same (with_run (control_of d (run_of j.run).control) (run_of j.run).values cs)
+abbrev pub covers : Run → Run → Type 0
+covers r later = Covers (run_of r) (run_of later)
 
-pub uncovered-same : (js : List Judged) → AreJudged js → (d : Definition) (cs : List Control) → with_runs (uncovered js) d cs ≡ with_runs (runs_in js) d cs
-uncovered-same [] a d cs = refl
-uncovered-same (j ∷ js) a d cs = uncovered-next j js d cs a (λ ds. uncovered-same js a.1 d ds) j.is_covered refl
+covered-runs : (r : Run) (rs : List Run) → IsCovered covers r rs → IsCovered Covers (run_of r) (map run_of rs)
+covered-runs r [] is = is
+covered-runs r (s ∷ ss) (inl c) = inl c
+covered-runs r (s ∷ ss) (inr is) = inr (covered-runs r ss is)
 
--- ---- runs that are marked
-
-abbrev pub Unmarked : List Judged → Type 0
-Unmarked [] = Unit {0}
-Unmarked (j ∷ js) = (j.is_covered ≡ false) × Unmarked js
-
-pub unmarked-more : (js : List Judged) (j : Judged) → j.is_covered ≡ false → Unmarked js → Unmarked (js ++ j ∷ [])
-unmarked-more [] j none u = (none, tt)
-unmarked-more (k ∷ js) j none u = (u.0, unmarked-more js j none u.1)
-
-pub unmarked-next : (js new : List Judged) (r : Run) (b : Bool) (rs : List Run) (i : ℕ) → i < length rs → new ≡ js ++ record { run = r; is_covered = b } ∷ [] → r ≡ get_or rs i r
-    → runs_in new ++ map run_of (drop (i + 1) rs) ≡ runs_in js ++ map run_of (drop i rs)
-unmarked-next js new r b rs i within pushed is =
-    let j : Judged = record { run = r; is_covered = b } in
-    ap (λ (all : List Judged). runs_in all ++ map run_of (drop (i + 1) rs)) pushed
-    ∙ ap (λ (all : List ControlRun). all ++ map run_of (drop (i + 1) rs)) (map-append (λ (x : Judged). run_of x.run) js (j ∷ []))
-    ∙ append_assoc (runs_in js) (run_of r ∷ []) (map run_of (drop (i + 1) rs))
-    ∙ ap (λ (x : Run). runs_in js ++ run_of x ∷ map run_of (drop (i + 1) rs)) is
-    ∙ ap (λ (all : List Run). runs_in js ++ map run_of all) (sym (drop_more rs i r within))
-
-pub unmarked-judged : (js : List Judged) → Unmarked js → AreJudged js
-unmarked-judged [] u = tt
-unmarked-judged (j ∷ js) u = ((λ marked. absurd (true≢false (sym marked ∙ u.0))), unmarked-judged js u.1)
-
-pub mark-runs : (js : List Judged) (i : ℕ) (d : Judged) → i < length js → runs_in (set js i (record { run = (get_or js i d).run; is_covered = true })) ≡ runs_in js
-mark-runs [] i d within = absurd (omega arith)
-mark-runs (j ∷ js) zero d within = refl
-mark-runs (j ∷ js) (suc i) d within = ap (λ rs. run_of j.run ∷ rs) (mark-runs js i d (omega arith))
-
-covered-at : (r : ControlRun) (js : List Judged) (k : ℕ) (d : Judged) → k < length js → Covers r (run_of (get_or js k d).run) → IsCovered r (runs_in js)
-covered-at r [] k d within c = absurd (omega arith)
-covered-at r (j ∷ js) zero d within c = inl c
-covered-at r (j ∷ js) (suc k) d within c = inr (covered-at r js k d (omega arith) c)
-
-pub mark-judged : (js : List Judged) (i k : ℕ) (d e : Judged) → i < k → k < length js → Covers (run_of (get_or js i d).run) (run_of (get_or js k e).run) → AreJudged js
-    → AreJudged (set js i (record { run = (get_or js i d).run; is_covered = true }))
-mark-judged [] i k d e after within c a = absurd (omega arith)
-mark-judged (j ∷ js) i zero d e after within c a = absurd (omega arith)
-mark-judged (j ∷ js) zero (suc k) d e after within c a = ((λ _. covered-at (run_of j.run) js k e (omega arith) c), a.1)
-mark-judged (j ∷ js) (suc i) (suc k) d e after within c a =
-    (subst (λ rs. j.is_covered ≡ true → IsCovered (run_of j.run) rs) (sym (mark-runs js i d (omega arith))) a.0, mark-judged js i k d e (omega arith) (omega arith) c a.1)
-
-pub same-length : (js ks : List Judged) → runs_in js ≡ runs_in ks → length js ≡ length ks
-same-length js ks same = sym (length-map js (λ (j : Judged). run_of j.run)) ∙ ap length same ∙ length-map ks (λ (j : Judged). run_of j.run)
+-- what is left of runs sets the same
+pub left-set : (rs left : List Run) → AreLeft covers rs left → (d : Definition) (cs : List Control) → with_runs (map run_of left) d cs ≡ with_runs (map run_of rs) d cs
+left-set [] left l d cs = ap (λ (all : List Run). with_runs (map run_of all) d cs) l
+left-set (r ∷ rs) left (inl l) d cs =
+    ap (λ (all : List Run). with_runs (map run_of all) d cs) l.1.0 ∙ left-set rs l.0 l.1.1 d (with_run (control_of d (run_of r).control) (run_of r).values cs)
+left-set (r ∷ rs) left (inr l) d cs = left-set rs left l.1 d cs ∙ sym (left_out (run_of r) (map run_of rs) (covered-runs r rs l.0) d cs)
 
 -- ---- what is set in a tree
 

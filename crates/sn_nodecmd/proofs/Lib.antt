@@ -4,6 +4,7 @@ pub mod Judged
 pub mod Clearing
 pub mod MakingLemmas
 pub mod RunLemmas
+pub mod LatestLemmas
 pub mod RunningLemmas
 pub mod CoveringLemmas
 pub mod TurningLemmas
@@ -16,6 +17,7 @@ pub mod Relocating
 pub mod ToldLemmas
 pub mod QueryLemmas
 pub mod MappingLemmas
+pub mod NeededLemmas
 pub mod OrderLemmas
 pub mod Replacing
 pub mod NameLemmas

@@ -203,13 +203,13 @@ module _ (ms : List Mapping) (rate : ℕ) (region : Extent) where
 -- ---- the row
 
 module _ (stage : Stage) (words : List ℕ) (replies : List ReplyShape) (r : ForNode Mapping) where
-  abbrev refusals : Option Reason
+  abbrev pub refusals : Option Reason
   refusals = first_refusal (refusal_in (subtree r.id stage.tree.attached)) r.all
 
-  abbrev after_map : Option Reason → Result Turn Reason
+  abbrev pub after_map : Option Reason → Result Turn Reason
   after_map o = unless o (Ok (record { world = map_buses r (world_of stage words); replies = replies }))
 
-  judged : (o p : Option Reason) → judge_node (world_of stage words) r.id ≡ o → refusals ≡ p → map_outcome (Some r) (turn_of stage words replies) ≡ after_map (or_else o p)
+  pub judged : (o p : Option Reason) → judge_node (world_of stage words) r.id ≡ o → refusals ≡ p → map_outcome (Some r) (turn_of stage words replies) ≡ after_map (or_else o p)
   judged o p is_node is = λ i. after_map (or_else (is_node i) ((refusals-seen words r.id stage.tree.attached r.all ∙ is) i))
 
   pub map-done : judge_node (world_of stage words) r.id ≡ None → refusals ≡ None

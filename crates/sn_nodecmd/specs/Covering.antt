@@ -1,7 +1,6 @@
--- Runs of controls that set nothing but what a later run sets too.
-use Rattle.std.specs.Prelude.{◌≡◌, ◌≤◌, ◌⊎◌, List, [], ◌∷◌, map, length, Bool, true, if◌then◌else◌}
+-- Requests that do nothing but what a later one does too.
+use Rattle.std.specs.Prelude.{◌≡◌, ◌≤◌, ◌⊎◌, List, [], ◌∷◌, map, length, true, if◌then◌else◌}
 use Rattle.sn_world.specs.ControlRuns.{ControlRun}
-use Rattle.sn_nodecmd.specs.Runs.{run_of}
 use Rattle.sn_nodecmd.specs.declared.latest.Judged.{Judged}
 
 -- Each control that r sets is set by s.
@@ -9,21 +8,27 @@ pub record Covers (r s : ControlRun) : Type 0 where
   pub control : s.control ≡ r.control
   pub few : length r.values ≤ length s.values
 
--- One of these runs sets each control that r sets.
-abbrev pub IsCovered : ControlRun → List ControlRun → Type 0
-IsCovered r [] = ⊥
-IsCovered r (s ∷ ss) = Covers r s ⊎ IsCovered r ss
+module _ {A : Type 0} (covered : A → A → Type 0) where
+  -- One of these requests does what r does.
+  abbrev pub IsCovered : A → List A → Type 0
+  IsCovered r [] = ⊥
+  IsCovered r (s ∷ ss) = covered r s ⊎ IsCovered r ss
 
--- the runs among what was judged
-abbrev pub runs_in : List Judged → List ControlRun
-runs_in js = map (λ j. run_of j.run) js
+  -- These are left of requests, in their order: each that isn't is covered by later ones.
+  abbrev pub AreLeft : List A → List A → Type 0
+  AreLeft [] left = left ≡ []
+  AreLeft (r ∷ rs) left = ((others : List A) × ((left ≡ r ∷ others) × AreLeft rs others)) ⊎ (IsCovered r rs × AreLeft rs left)
+
+-- the requests among what was judged
+abbrev pub items_in : {A : Type 0} → List (Judged A) → List A
+items_in js = map (λ j. j.item) js
 
 -- Those that are said to be covered are covered by later ones.
-abbrev pub AreJudged : List Judged → Type 0
-AreJudged [] = Unit {0}
-AreJudged (j ∷ js) = (j.is_covered ≡ true → IsCovered (run_of j.run) (runs_in js)) × AreJudged js
+abbrev pub AreJudged : {A : Type 0} → (A → A → Type 0) → List (Judged A) → Type 0
+AreJudged covered [] = Unit {0}
+AreJudged covered (j ∷ js) = (j.is_covered ≡ true → IsCovered covered j.item (items_in js)) × AreJudged covered js
 
--- the runs that are not said to be covered
-abbrev pub uncovered : List Judged → List ControlRun
+-- the requests that are not said to be covered
+abbrev pub uncovered : {A : Type 0} → List (Judged A) → List A
 uncovered [] = []
-uncovered (j ∷ js) = if j.is_covered then uncovered js else run_of j.run ∷ uncovered js
+uncovered (j ∷ js) = if j.is_covered then uncovered js else j.item ∷ uncovered js

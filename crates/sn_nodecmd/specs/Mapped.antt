@@ -1,15 +1,17 @@
 -- Mappings of controls as they are read, and what is against them in the nodes of a stage.
-use Rattle.std.specs.Prelude.{Bool, false, not, [], ◌∷◌, map, Option}
+use Rattle.std.specs.Prelude.{◌≡◌, Bool, false, not, List, [], ◌∷◌, map, Option, None}
+use Rattle.sn_def.specs.declared.control.Control.{Control}
+use Rattle.sn_def.specs.Definition.{Definition}
 use Rattle.sn_def.specs.Defs.{definition_of}
 use Rattle.sn_reply.specs.declared.reason.Reason.{Reason}
 use Rattle.sn_reply.specs.declared.reason.Reason.TheVariants as Reasons
 use Rattle.sn_tree.specs.Trees.{Nodes}
 use Rattle.sn_world.specs.declared.stage.Held.{Held}
 use Rattle.sn_world.specs.declared.stage.Held.TheVariants as held
-use Rattle.sn_world.specs.Rows.{first_of}
+use Rattle.sn_world.specs.Rows.{first_of, first_refusal}
 use Rattle.sn_world.specs.NewSynth.{ControlName, control_of}
 use Rattle.sn_world.specs.ControlRuns.{ForNode}
-use Rattle.sn_world.specs.Mappings.{is_followable, is_index_of, any_node}
+use Rattle.sn_world.specs.Mappings.{is_followable, is_index_of, any_node, with_buses}
 use Rattle.sn_world.specs.Mappings.{Mapping as AskedMapping}
 use Rattle.sn_nodecmd.specs.declared.mappings.Mapping.{Mapping}
 use Rattle.sn_nodecmd.specs.declared.mappings.AskedMappings.{AskedMappings}
@@ -33,3 +35,8 @@ refusal_in reached m = first_of (
     (not (is_followable m.bus), Reasons.Bus)
     ∷ (any_node (takes_index m.control) reached, Reasons.IndexControl)
     ∷ [])
+
+-- These mappings are refused for the same reason as all, or else do the same.
+pub record AreNeeded (all needed : List AskedMapping) : Type 0 where
+  pub refused : (reached : Nodes Held) → first_refusal (refusal_in reached) needed ≡ first_refusal (refusal_in reached) all
+  pub mapped : (reached : Nodes Held) → first_refusal (refusal_in reached) all ≡ None → (d : Definition) (cs : List Control) → with_buses needed d cs ≡ with_buses all d cs

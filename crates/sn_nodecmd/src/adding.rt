@@ -8,7 +8,7 @@ ghost use Rattle.sn_world.specs.Answers.{Continues};
 ghost use Rattle.sn_nodecmd.specs.Adding.{added};
 
 use crate::judging::{replaces, spot_of};
-use crate::telling::{tell_ends, views_of};
+use crate::telling::tell_all_end;
 use sn_ports::NoMemory;
 use sn_reply::Replies;
 use sn_tree::{NodeKind, Spot, Tree};
@@ -30,8 +30,7 @@ pub fn tell_replaced(
         return Ok(());
     }
     let target = NodeId { id: new.target };
-    let views = views_of(tree, &target)?;
-    tell_ends(alloc, flags, &views, replies)
+    tell_all_end(alloc, tree, flags, &target, replies)
 }
 
 /// Puts a node into the tree.

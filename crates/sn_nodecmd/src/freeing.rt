@@ -9,7 +9,7 @@ ghost use Rattle.sn_nodecmd.specs.Folding.{Keeps};
 ghost use Rattle.sn_nodecmd.specs.Sparing.{SparesRoom};
 
 use crate::folding::Repetition;
-use crate::telling::{tell_ends, view_of, views_of};
+use crate::telling::{tell_all_end, view_of};
 use sn_ports::NoMemory;
 use sn_reply::{Reason, Replies};
 use sn_tree::Tree;
@@ -63,8 +63,7 @@ pub fn free_node(
     ensures spares { SparesRoom stage.old.tree stage.new.tree }
     ensures continues { Continues replies.old replies.new }
 {
-    let views = views_of(&stage.tree, node)?;
-    tell_ends(alloc, &stage.notify, &views, replies)?;
+    tell_all_end(alloc, &stage.tree, &stage.notify, node, replies)?;
     detach(&mut stage.tree, node);
     Ok(())
 }

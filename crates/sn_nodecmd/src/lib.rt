@@ -16,6 +16,7 @@ mod making;
 mod mappings;
 mod moving;
 mod names;
+mod needed;
 mod notifying;
 mod ordering;
 mod placing;

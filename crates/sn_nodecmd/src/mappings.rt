@@ -16,6 +16,7 @@ ghost use Rattle.sn_nodecmd.specs.Runs.{name_of};
 ghost use Rattle.sn_nodecmd.specs.Mapped.{mapping_of, request_of, takes_index, refusal_in};
 
 use crate::names::{NamedControl, control_name, number_of};
+use crate::needed::needed;
 use sn_def::{Control, Controls, Def};
 use sn_osc::Arg;
 use sn_ports::NoMemory;
@@ -143,7 +144,8 @@ fn asked_mappings(alloc: Global, arguments: &[Arg]) -> Result<Option<AskedMappin
     Ok(Some(AskedMappings { id: *id, mappings }))
 }
 
-fn is_followable(bus: i32) -> bool
+/// Whether it is a control bus, or -1 for none.
+pub fn is_followable(bus: i32) -> bool
     ensures { result ≡ is_followable bus }
 {
     -1 <= bus && bus < 1024
@@ -241,5 +243,7 @@ pub fn run_map(
     let Some(asked) = asked_mappings(alloc, arguments)? else {
         return Ok(Some(Reason::Arguments));
     };
-    Ok(map_all(stage, &asked))
+    let AskedMappings { id, mappings } = asked;
+    let mappings = needed(alloc, mappings)?;
+    Ok(map_all(stage, &AskedMappings { id, mappings }))
 }

@@ -10,6 +10,7 @@ ghost use Rattle.sn_world.specs.Runs as given;
 ghost use Rattle.sn_world.specs.ControlRuns.{count_of, one_value, first_values, same_values, left_after, run_with, value_run, values_run, fill_run, repeated, with_values_from, with_run, with_runs};
 ghost use Rattle.sn_nodecmd.specs.Runs.{name_of, is_int, value_in, values_of, run_of, read_of, reader};
 
+use crate::latest::{Covering, is_same};
 use crate::names::{NamedControl, control_name, number_of};
 use sn_def::{Control, Controls, Def};
 use sn_osc::Arg;
@@ -30,6 +31,31 @@ pub enum RunValues<'a> {
 pub struct Run<'a> {
     pub control: NamedControl<'a>,
     pub values: RunValues<'a>,
+}
+
+impl Covering for Run<'_> {
+    ghost use Rattle.sn_nodecmd.specs.Runs.{run_of};
+    ghost use Rattle.sn_nodecmd.specs.Covering.{Covers};
+
+    ghost covered = { λ r later. Covers (run_of r) (run_of later) };
+
+    fn control(&self) -> NamedControl<'_> {
+        self.control
+    }
+
+    fn is_covered_by(&self, later: &Self) -> bool {
+        is_same(self.control, later.control) && count(self.values) <= count(later.values)
+    }
+}
+
+/// How many values these are.
+fn count(values: RunValues<'_>) -> usize
+    ensures { result ≡ length (values_of values.entry) }
+{
+    match values {
+        RunValues::Each(arguments) => arguments.len(),
+        RunValues::Same { value: _, count } => count as usize,
+    }
 }
 
 /// A run, and the arguments after it.

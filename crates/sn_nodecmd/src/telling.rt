@@ -1,5 +1,6 @@
 //! Clients are told of events of nodes.
 ghost use Rattle.std.specs.Prelude.{◌≡◌, ◌++◌, IfOk, OnOk, List, ℕ};
+ghost use Rattle.std.specs.List.{list_any};
 ghost use Rattle.sn_tree.specs.Trees.{view_of};
 ghost use Rattle.sn_tree.specs.Views.{views_below};
 ghost use Rattle.sn_world.specs.World.{World, turn_of};
@@ -13,6 +14,13 @@ use sn_tree::{NodeView, Tree};
 use sn_world::{Flags, Held, NodeEvent, NodeId, Stage, notify};
 use std::alloc::Global;
 
+/// Whether any client is told of events of nodes.
+fn is_heard(flags: &Flags) -> bool
+    ensures { result ≡ list_any (λ on. on) flags.now }
+{
+    flags.as_slice().iter().any(|on| *on)
+}
+
 /// A node as it stands.
 pub fn view_of(tree: &Tree<Held>, node: &NodeId) -> Option<NodeView>
     ensures { result ≡ view_of node.now.id tree.now.attached }
@@ -21,7 +29,7 @@ pub fn view_of(tree: &Tree<Held>, node: &NodeId) -> Option<NodeView>
 }
 
 /// A node and all below it as they stand.
-pub fn views_of(tree: &Tree<Held>, node: &NodeId) -> Result<Vec<(i32, NodeView)>, NoMemory>
+fn views_of(tree: &Tree<Held>, node: &NodeId) -> Result<Vec<(i32, NodeView)>, NoMemory>
     ensures { IfOk result (λ views. views.items ≡ views_below node.now.id tree.now.attached) }
 {
     tree.views(node.id)
@@ -53,6 +61,9 @@ pub fn tell(
     ensures told { OnOk result ((words : List ℕ) → turn_of stage.now words replies.new ≡ told event node.now.id (turn_of stage.now words replies.old)) }
     ensures continues { Continues replies.old replies.new }
 {
+    if !is_heard(&stage.notify) {
+        return Ok(());
+    }
     let Some(view) = view_of(&stage.tree, node) else {
         return Ok(());
     };
@@ -60,7 +71,7 @@ pub fn tell(
 }
 
 /// Tells of nodes that end, at the places where they stand.
-pub fn tell_ends(
+fn tell_ends(
     alloc: Global,
     flags: &Flags,
     ended: &[(i32, NodeView)],
@@ -74,4 +85,22 @@ pub fn tell_ends(
         tell_of(alloc, flags, NodeEvent::Ended, &node, view, replies)?;
     }
     Ok(())
+}
+
+/// Tells of a node and all below it, as of nodes that end, at the places where they stand.
+pub fn tell_all_end(
+    alloc: Global,
+    tree: &Tree<Held>,
+    flags: &Flags,
+    node: &NodeId,
+    replies: &mut Replies,
+) -> Result<(), NoMemory>
+    ensures told { OnOk result ((w : World) → w.notify ≡ flags.now → told_ends (views_below node.now.id tree.now.attached) (record { world = w; replies = replies.old }) ≡ record { world = w; replies = replies.new }) }
+    ensures continues { Continues replies.old replies.new }
+{
+    if !is_heard(flags) {
+        return Ok(());
+    }
+    let views = views_of(tree, node)?;
+    tell_ends(alloc, flags, &views, replies)
 }

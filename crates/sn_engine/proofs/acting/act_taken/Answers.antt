@@ -2,9 +2,10 @@ use Rattle.std.proofs.Common.{map, sym, ap, subst, ◌∙◌}
 use Rattle.std.specs.List.{AllByRecursion}
 use Rattle.sn_osc.specs.Shape.{message_of}
 use Rattle.sn_reply.specs.Sending.{IsAnswerable}
-use Rattle.sn_world.specs.World.{turn_of}
+use Rattle.sn_world.specs.World.{turn_of, world_of}
 use Rattle.sn_engine.specs.Boundary.{act_messages, both, messages_ask, entries_ask, act_entries, due_at}
 use Rattle.sn_engine.proofs.ActingLemmas.{taken, done, taken_kept, both-assoc, both-nothing}
+use Rattle.sn_engine.proofs.KeptLemmas.{then_stays}
 use Rattle.sn_engine.proofs.acting.act_taken.Goals as goal
 
 pub act_messages-requires-clause-messages : goal.act_messages-requires-clause-messages
@@ -42,6 +43,9 @@ loop-entry-preserved g c =
           ∙ t.asks turn_before)
           ∙ i.asked;
       acts = ap (act_entries (due_at c.args.now c.take_due.new.self)) (c.in_ok-more.ensures.acts ∙ ap (λ ms. act_messages c.in-Some.entry.from (map message_of ms) (turn_of c.loop-entry.stage (g.P.Port.words c.loop-entry.port) c.loop-entry.replies)) c.as_slice.ensures) ∙ t.acts _ ∙ i.acts;
+      layout =
+          then_stays c.args.watch.now.stays c.loop-entry.watch.stays c.act_messages.new.watch.stays (world_of c.args.stage.now (g.P.Port.words c.args.port.now)) (world_of c.loop-entry.stage (g.P.Port.words c.loop-entry.port)) (world_of c.act_messages.new.stage (g.P.Port.words c.act_messages.new.port))
+          i.layout c.in_ok-more.ensures.layout;
       left = t.left ∙ i.left;
       kept = taken_kept c.args.now c.args.queue.now c.loop-entry.queue c.take_due.new.self i.kept c.in-Some.ensures.left;
       waiting = t.others i.waiting;

@@ -1,10 +1,11 @@
-use Rattle.std.proofs.Common.{◌∙◌, ap, List}
+use Rattle.std.proofs.Common.{◌∙◌, ap, sym, List}
 use Rattle.sn_reply.specs.Replies.{ReplyShape}
 use Rattle.sn_queue.specs.Waiting.{WaitingList}
 use Rattle.sn_world.specs.World.{world_of}
 use Rattle.sn_engine.specs.Boundary.{due_at, left_at, entries_ask}
 use Rattle.sn_engine.proofs.QuietLemmas as quiet
 use Rattle.sn_engine.proofs.Bounded.{a_turn, acted_turn, acted_clashes, acted_replies}
+use Rattle.sn_engine.proofs.KeptLemmas.{clashes_stay, planned_stays, told_again}
 use Rattle.sn_engine.proofs.PlanLemmas.{none_spanned}
 use Rattle.sn_engine.proofs.bounding.act_boundary.Goals as goal
 
@@ -64,3 +65,44 @@ returns-clause-replies g c =
     acted_replies c.args.now c.args.queue.now (world_of c.args.stage.now (g.P.Port.words c.args.port.now)) (world_of c.act_due.new.stage (g.P.Port.words c.act_due.new.port)) c.act_due.new.replies c.take_clashes.new.said c.args.held.now
     (acted_turn c.args.now c.args.queue.now _ _ c.args.said.now c.act_due.new.replies c.requires.silent c.in_ok-quits.ensures.acts)
     (c.in_ok-take_clashes.ensures.told (g.P.Port.words c.act_due.new.port))
+
+pub returns-then-stays-clause-world : goal.returns-then-stays-clause-world
+returns-then-stays-clause-world g c =
+    ap (λ t. t.world) (acted_turn c.args.now c.args.queue.now (world_of c.args.stage.now (g.P.Port.words c.args.port.now)) (world_of c.act_due.new.stage (g.P.Port.words c.act_due.new.port)) c.args.said.now c.act_due.new.replies c.requires.silent c.in_ok-quits.ensures.acts)
+
+pub returns-then-stays-clause-quit : goal.returns-then-stays-clause-quit
+returns-then-stays-clause-quit g c =
+    c.in_ok-quits.ensures.quit ∙ ap (λ (rs : List ReplyShape). (entries_ask (due_at c.args.now c.args.queue.now) (a_turn (world_of c.args.stage.now (g.P.Port.words c.args.port.now)) rs)).quit) c.requires.silent
+
+pub returns-then-stays-clause-left : goal.returns-then-stays-clause-left
+returns-then-stays-clause-left g c =
+    c.in_ok-quits.ensures.left ∙ ap (λ (rs : List ReplyShape). let q : WaitingList = record c.args.queue.now { waiting = left_at c.args.now c.args.queue.now (a_turn (world_of c.args.stage.now (g.P.Port.words c.args.port.now)) rs) } in q) c.requires.silent
+
+pub returns-then-stays-clause-clashes : goal.returns-then-stays-clause-clashes
+returns-then-stays-clause-clashes g c =
+    let kept = c.in_ok-quits.ensures.layout c.if-stays.true in
+    let clashes = clashes_stay c.args.stage.now c.act_due.new.stage (g.P.Port.words c.args.port.now) (g.P.Port.words c.act_due.new.port) kept.1 c.args.held.now (c.requires.hold (sym c.new-watch.ensures ∙ kept.0)) in
+    acted_clashes c.args.now c.args.queue.now (world_of c.args.stage.now (g.P.Port.words c.args.port.now)) (world_of c.act_due.new.stage (g.P.Port.words c.act_due.new.port)) c.act_due.new.replies c.args.held.now
+    (acted_turn c.args.now c.args.queue.now _ _ c.args.said.now c.act_due.new.replies c.requires.silent c.in_ok-quits.ensures.acts)
+    (clashes (g.P.Port.words c.act_due.new.port))
+
+pub returns-then-stays-clause-hold : goal.returns-then-stays-clause-hold
+returns-then-stays-clause-hold g c =
+    let kept = c.in_ok-quits.ensures.layout c.if-stays.true in
+    λ _. clashes_stay c.args.stage.now c.act_due.new.stage (g.P.Port.words c.args.port.now) (g.P.Port.words c.act_due.new.port) kept.1 c.args.held.now (c.requires.hold (sym c.new-watch.ensures ∙ kept.0))
+
+pub returns-then-stays-clause-planned : goal.returns-then-stays-clause-planned
+returns-then-stays-clause-planned g c =
+    let kept = c.in_ok-quits.ensures.layout c.if-stays.true in
+    planned_stays c.args.stage.now c.act_due.new.stage (g.P.Port.words c.args.port.now) (g.P.Port.words c.act_due.new.port) kept.1 c.args.planned.now.jobs c.args.planned.now.quiet (c.requires.planned (sym c.new-watch.ensures ∙ kept.0))
+
+pub returns-then-stays-clause-spanned : goal.returns-then-stays-clause-spanned
+returns-then-stays-clause-spanned g c = λ outputs copies still. still (sym c.new-watch.ensures ∙ (c.in_ok-quits.ensures.layout c.if-stays.true).0)
+
+pub returns-then-stays-clause-replies : goal.returns-then-stays-clause-replies
+returns-then-stays-clause-replies g c =
+    let kept = c.in_ok-quits.ensures.layout c.if-stays.true in
+    let clashes = clashes_stay c.args.stage.now c.act_due.new.stage (g.P.Port.words c.args.port.now) (g.P.Port.words c.act_due.new.port) kept.1 c.args.held.now (c.requires.hold (sym c.new-watch.ensures ∙ kept.0)) in
+    acted_replies c.args.now c.args.queue.now (world_of c.args.stage.now (g.P.Port.words c.args.port.now)) (world_of c.act_due.new.stage (g.P.Port.words c.act_due.new.port)) c.act_due.new.replies c.act_due.new.replies c.args.held.now
+    (acted_turn c.args.now c.args.queue.now _ _ c.args.said.now c.act_due.new.replies c.requires.silent c.in_ok-quits.ensures.acts)
+    (told_again c.act_due.new.replies c.args.held.now (world_of c.act_due.new.stage (g.P.Port.words c.act_due.new.port)) (clashes (g.P.Port.words c.act_due.new.port)))

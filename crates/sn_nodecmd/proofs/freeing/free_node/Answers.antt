@@ -12,9 +12,9 @@ use Rattle.sn_nodecmd.proofs.freeing.free_node.Goals as goal
 
 pub returns-clause-row : goal.returns-clause-row
 returns-clause-row c =
-    freed_is c.args.stage.now _ c.args.node.now.id c.args.replies.now c.tell_ends.new.replies
+    freed_is c.args.stage.now _ c.args.node.now.id c.args.replies.now c.tell_all_end.new.replies
     (ap (λ (t : NodeTree Held). let s : Stage = record c.args.stage.now { tree = t } in s) c.detach.ensures)
-    (λ w same. ap (λ (vs : List (ℤ × NodeView)). told_ends vs (let t : Turn = record { world = w; replies = c.args.replies.now } in t)) (sym (c.deref.ensures.value ∙ c.in_ok-views.ensures)) ∙ c.in_ok-tell_ends.ensures.told w same)
+    (λ w same. c.in_ok-tell_all_end.ensures.told w same)
 
 pub returns-clause-keeps : goal.returns-clause-keeps
 returns-clause-keeps c =

@@ -1,7 +1,6 @@
-use Rattle.std.proofs.Common.{◌≡◌, ◌++◌, map, drop}
-use Rattle.sn_nodecmd.specs.Runs.{run_of}
+use Rattle.std.proofs.Common.{◌≡◌, ◌++◌, drop}
 use Rattle.sn_nodecmd.specs.Covering.{uncovered}
 use Rattle.sn_nodecmd.proofs.latest.uncovered.Given as goal
 
 abbrev pub invariant-loop-one : goal.invariant-loop-one
-invariant-loop-one l = map run_of l.left.items ++ uncovered (drop l.one-index l.judged) ≡ uncovered l.judged
+invariant-loop-one g l = l.left.items ++ uncovered (drop l.one-index l.judged) ≡ uncovered l.judged

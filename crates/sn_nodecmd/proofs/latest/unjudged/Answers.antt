@@ -1,14 +1,14 @@
-use Rattle.std.proofs.Common.{◌≡◌, ◌<◌, ◌∙◌, subst, sym, refl, length, false, rules}
-use Rattle.sn_nodecmd.proofs.CoveringLemmas.{Unmarked, unmarked-more, unmarked-next, unmarked-judged}
+use Rattle.std.proofs.Common.{◌<◌, ◌∙◌, refl, length, false, rules}
+use Rattle.sn_nodecmd.proofs.LatestLemmas.{unmarked-pushed, items-next, unmarked-judged}
 use Rattle.sn_nodecmd.proofs.latest.unjudged.Goals as goal
 
-pub loop-run-preserved : goal.loop-run-preserved
-loop-run-preserved c =
-    let within : c.loop-run.run-index < length c.args.runs.now = search rules in
+pub loop-one-preserved : goal.loop-one-preserved
+loop-one-preserved g c =
+    let within : c.loop-one.one-index < length c.args.items.now = search rules in
     record {
-      none = subst Unmarked (sym c.in_ok-push.ensures.items) (unmarked-more c.loop-run.judged.items _ refl c.loop-run.invariant.none);
-      runs = unmarked-next c.loop-run.judged.items _ c.run-item.result false c.args.runs.now c.loop-run.run-index within c.in_ok-push.ensures.items c.run-item.is ∙ c.loop-run.invariant.runs;
+      none = unmarked-pushed c.loop-one.judged.items _ _ c.in_ok-push.ensures.items refl c.loop-one.invariant.none;
+      items = items-next c.loop-one.judged.items _ c.one-item.result false c.args.items.now c.loop-one.one-index within c.in_ok-push.ensures.items c.one-item.is ∙ c.loop-one.invariant.items;
     }
 
 pub returns-clause-judged : goal.returns-clause-judged
-returns-clause-judged c = unmarked-judged c.loop-run.judged.items c.loop-run.invariant.none
+returns-clause-judged g c = unmarked-judged g.T.Covering.covered c.loop-one.judged.items c.loop-one.invariant.none

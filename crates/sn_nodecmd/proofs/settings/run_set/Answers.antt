@@ -8,7 +8,7 @@ use Rattle.sn_nodecmd.specs.Reworks.{request_of}
 use Rattle.sn_world.specs.World.{Turn, turn_of}
 use Rattle.sn_world.specs.ControlRuns.{ControlRun, ForNode, set_outcome}
 use Rattle.sn_world.specs.Answers.{Follows}
-use Rattle.sn_nodecmd.proofs.CoveringLemmas.{same-outcome}
+use Rattle.sn_nodecmd.proofs.CoveringLemmas.{left-set, same-outcome}
 use Rattle.sn_nodecmd.proofs.settings.run_set.Goals as goal
 
 pub returns-clause-row : goal.returns-clause-row
@@ -23,5 +23,5 @@ returns-clause-row c =
     let set : Follows (Ok c.set_all.result) (set_outcome (Some (record { id = asked.id; all = left })) before) after =
     subst (λ (n : ℤ). Follows (Ok c.set_all.result) (set_outcome (Some (record { id = n; all = left })) before) after) same (c.set_all.ensures.row words replies) in
     let all : Follows (Ok c.set_all.result) (set_outcome (Some (request_of asked)) before) after =
-    subst (λ (o : Result Turn Reason). Follows (Ok c.set_all.result) o after) (same-outcome asked.id left (map run_of asked.runs.items) c.in_ok-runs.ensures before) set in
+    subst (λ (o : Result Turn Reason). Follows (Ok c.set_all.result) o after) (same-outcome asked.id left (map run_of asked.runs.items) (left-set asked.runs.items c.in_ok-runs.runs.items c.in_ok-runs.ensures) before) set in
     subst (λ (o : Option (ForNode ControlRun)). Follows (Ok c.set_all.result) (set_outcome o before) after) (sym (ap (option_map request_of) c.in-Some.is) ∙ c.in_ok-asked.ensures) all

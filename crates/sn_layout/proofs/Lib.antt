@@ -1,0 +1,7 @@
+pub mod Values
+pub mod Reading
+pub mod Mapped
+pub mod Voices
+pub mod Rows
+pub mod Settings
+pub mod Messages

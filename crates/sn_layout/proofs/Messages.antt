@@ -1,0 +1,166 @@
+-- Messages that leave the layout of a world.
+use Rattle.std.proofs.Common.{◌≡◌, ℕ, suc, Bool, true, false, not, ◌||◌, List, [], ◌∷◌, length, Option, Some, None, Result, Ok, Err, refl, ap, ◌∙◌, arith}
+use Rattle.std.specs.Prelude.{nat_lt}
+use Rattle.std.proofs.lemmas.Bool.{ltb-true}
+use Rattle.sn_osc.specs.Shape.{Argument, int, string, blob, BodyShape, bare, arguments, foreign, MessageShape}
+use Rattle.sn_reply.specs.declared.reason.Reason.{Reason}
+use Rattle.sn_reply.specs.Replies.{ReplyShape}
+use Rattle.sn_tree.specs.Trees.{Nodes, none, node, subtree, with_payloads}
+use Rattle.sn_tree.proofs.PayloadLaws.{subtree-payloads}
+use Rattle.sn_world.specs.declared.command.BusCommand.{BusCommand}
+use Rattle.sn_world.specs.declared.command.BusCommand.TheVariants as servers
+use Rattle.sn_world.specs.declared.command.Command.{Command}
+use Rattle.sn_world.specs.declared.command.Command.TheVariants.{OnNodes, OnServer}
+use Rattle.sn_world.specs.declared.command.Handled.{Handled}
+use Rattle.sn_world.specs.declared.command.Handled.TheVariants as answers
+use Rattle.sn_world.specs.declared.command.NodeCommand.{NodeCommand}
+use Rattle.sn_world.specs.declared.command.NodeCommand.TheVariants as calls
+use Rattle.sn_world.specs.declared.stage.Held.{Held}
+use Rattle.sn_world.specs.declared.stage.Held.TheVariants as held
+use Rattle.sn_world.specs.declared.stage.Stage.{Stage}
+use Rattle.sn_world.specs.Addresses.{command_of, on_nodes_alone, on_server_alone}
+use Rattle.sn_world.specs.Commands.{answered, bus_outcome, carrying_row, done_with, either, ending_of, next_in, next_of, next_with, node_outcome, node_row, or_unknown, whole_row}
+use Rattle.sn_world.specs.Completing.{behind_number, behind_text, carried, message_in}
+use Rattle.sn_world.specs.ControlRuns.{asked_of}
+use Rattle.sn_world.specs.Ending.{Next, is_completing}
+use Rattle.sn_world.specs.Mappings.{any_node}
+use Rattle.sn_world.specs.NewSynth.{ControlName, control_name}
+use Rattle.sn_world.specs.Nodes.{Content, content_of}
+use Rattle.sn_world.specs.Notifying.{notify_flag}
+use Rattle.sn_world.specs.Rows.{singles}
+use Rattle.sn_world.specs.World.{Turn, turn_of}
+use Rattle.sn_layout.specs.Layout.{layout_of}
+use Rattle.sn_layout.specs.Leaving.{LeavesLayout, asked_leaves, holds_laid, lays, node_leaves, server_leaves, sets_laid, sets_plain}
+use Rattle.sn_layout.proofs.Rows.{Leaves, get_leaves, notify_leaves, query_leaves, server_row_leaves, tree_leaves}
+use Rattle.sn_layout.proofs.Settings.{set_row_leaves}
+
+-- ---- no completion message is carried
+
+long : (n : ℕ) → nat_lt (suc (suc n)) 2 ≡ true → ⊥
+long n h = omega (arith, ltb-true (suc (suc n)) 2 h)
+
+number_alone : (xs : List Argument) → nat_lt (length xs) 2 ≡ true → behind_number xs ≡ None
+number_alone [] h = refl
+number_alone (int n ∷ []) h = refl
+number_alone (string s ∷ []) h = refl
+number_alone (blob b ∷ []) h = refl
+number_alone (x ∷ y ∷ xs) h = absurd (long (length xs) h)
+
+text_alone : (xs : List Argument) → nat_lt (length xs) 2 ≡ true → behind_text xs ≡ None
+text_alone [] h = refl
+text_alone (int n ∷ []) h = refl
+text_alone (string s ∷ []) h = refl
+text_alone (blob b ∷ []) h = refl
+text_alone (x ∷ y ∷ xs) h = absurd (long (length xs) h)
+
+carried_none : (c : BusCommand) (xs : List Argument) → server_leaves (length xs) c ≡ true → carried c xs ≡ None
+carried_none servers.Set xs h = refl
+carried_none servers.SetRuns xs h = refl
+carried_none servers.Fill xs h = refl
+carried_none servers.Get xs h = refl
+carried_none servers.GetRuns xs h = refl
+carried_none servers.ZeroBuffer xs h = number_alone xs h
+carried_none servers.QueryBuffers xs h = refl
+carried_none servers.SetSamples xs h = refl
+carried_none servers.SetSampleRuns xs h = refl
+carried_none servers.FillSamples xs h = refl
+carried_none servers.GetSamples xs h = refl
+carried_none servers.GetSampleRuns xs h = refl
+carried_none servers.Sync xs h = refl
+carried_none servers.Receive xs h = text_alone xs h
+carried_none servers.Free xs h = refl
+carried_none servers.Status xs h = refl
+carried_none servers.ClearSched xs h = refl
+carried_none servers.Quit xs h = refl
+carried_none _ xs h = absurd cc
+
+ending_alone : (told : Handled) → is_completing (ending_of told) ≡ false
+ending_alone answers.Done = refl
+ending_alone (answers.Completion m) = refl
+ending_alone answers.Quit = refl
+ending_alone answers.ClearSched = refl
+ending_alone (answers.Failed reason) = refl
+ending_alone answers.NotMine = refl
+
+next_in_alone : (r : Result Turn Reason) (n : Next) → is_completing n ≡ false → is_completing (next_in None (Some r) n) ≡ false
+next_in_alone (Ok t) n h = h
+next_in_alone (Err reason) n h = refl
+
+none_with : (c : BusCommand) (o : Option (List ℕ)) → o ≡ None → is_completing (next_with c (message_in o)) ≡ false
+none_with c o absent = ap (λ (b : Option (List ℕ)). is_completing (next_with c (message_in b))) absent ∙ ending_alone (done_with c)
+
+-- ---- rows
+
+node_row_leaves : (c : NodeCommand) (from : ℕ) (xs : List Argument) (t : Turn) → node_leaves (sets_plain lays t.world.nodes xs) c ≡ true → Leaves t (node_row c from xs t)
+node_row_leaves calls.Notify from xs t h = notify_leaves from (notify_flag xs) t
+node_row_leaves calls.SetControls from xs t h = set_row_leaves from xs t h
+node_row_leaves calls.Query from xs t h = query_leaves from xs t
+node_row_leaves calls.QueryTree from xs t h = tree_leaves from xs t
+node_row_leaves calls.GetControls from xs t h = get_leaves from (asked_of (singles control_name) xs) t
+node_row_leaves _ from xs t h = absurd cc
+
+carrying_leaves : (c : BusCommand) (o : Option (List ℕ)) (from : ℕ) (xs : List Argument) (t : Turn) → o ≡ None → server_leaves (length xs) c ≡ true → Leaves t (carrying_row c o from xs t)
+carrying_leaves c None from xs t e h = server_row_leaves c (length xs) from xs t h
+carrying_leaves c (Some b) from xs t e h = absurd cc
+
+whole_leaves : (c : BusCommand) (from : ℕ) (xs : List Argument) (t : Turn) → server_leaves (length xs) c ≡ true → Leaves t (whole_row c from xs t)
+whole_leaves c from xs t h = carrying_leaves c (carried c xs) from xs t (carried_none c xs h) h
+
+-- ---- messages
+
+answer_leaves : (from : ℕ) (address : List ℕ) (t : Turn) (r : Result Turn Reason) → Leaves t r → layout_of (answered from address t r).world ≡ layout_of t.world
+answer_leaves from address t (Ok after) h = h
+answer_leaves from address t (Err reason) h = refl
+
+-- what is done by a message, of the command that its address calls
+abbrev outcome : ℕ → Option Command → BodyShape → Turn → Result Turn Reason
+outcome from o body t = or_unknown (either (node_outcome (on_nodes_alone o) from body t) (bus_outcome (on_server_alone o) from body t))
+
+outcome_leaves : (from : ℕ) (o : Option Command) (body : BodyShape) (t : Turn) → asked_leaves (sets_plain lays t.world.nodes) o body ≡ true → Leaves t (outcome from o body t)
+outcome_leaves from None body t h = tt
+outcome_leaves from (Some (OnNodes c)) bare t h = node_row_leaves c from [] t h
+outcome_leaves from (Some (OnNodes c)) (arguments xs) t h = node_row_leaves c from xs t h
+outcome_leaves from (Some (OnNodes c)) (foreign tags rest) t h = tt
+outcome_leaves from (Some (OnServer c)) bare t h = whole_leaves c from [] t h
+outcome_leaves from (Some (OnServer c)) (arguments xs) t h = whole_leaves c from xs t h
+outcome_leaves from (Some (OnServer c)) (foreign tags rest) t h = tt
+
+next_alone_after : (plain : List Argument → Bool) (from : ℕ) (o : Option Command) (body : BodyShape) (t : Turn) → asked_leaves plain o body ≡ true
+    → is_completing (next_in (node_outcome (on_nodes_alone o) from body t) (bus_outcome (on_server_alone o) from body t) (next_of (on_server_alone o) body)) ≡ false
+next_alone_after plain from None body t h = refl
+next_alone_after plain from (Some (OnNodes c)) body t h = refl
+next_alone_after plain from (Some (OnServer c)) bare t h = next_in_alone (whole_row c from [] t) (next_with c (message_in (carried c []))) (none_with c (carried c []) (carried_none c [] h))
+next_alone_after plain from (Some (OnServer c)) (arguments xs) t h = next_in_alone (whole_row c from xs t) (next_with c (message_in (carried c xs))) (none_with c (carried c xs) (carried_none c xs h))
+next_alone_after plain from (Some (OnServer c)) (foreign tags rest) t h = refl
+
+leaves_turn : (m : MessageShape) (t : Turn) → asked_leaves (sets_plain lays t.world.nodes) (command_of m.address) m.body ≡ true → LeavesLayout m t
+leaves_turn m t h = record {
+  layout = λ from. answer_leaves from m.address t (outcome from (command_of m.address) m.body t) (outcome_leaves from (command_of m.address) m.body t h);
+  alone = λ from. next_alone_after (sets_plain lays t.world.nodes) from (command_of m.address) m.body t h;
+}
+
+-- ---- what a stage holds
+
+holds_seen : (words : List ℕ) (c : Option ControlName) (h : Held) → lays c (content_of words h) ≡ holds_laid c h
+holds_seen words c held.Group = refl
+holds_seen words c (held.Synth def controls state) = refl
+
+any_seen : (words : List ℕ) (c : Option ControlName) (t : Nodes Held) → any_node (lays c) (with_payloads (content_of words) t) ≡ any_node (holds_laid c) t
+any_seen words c none = refl
+any_seen words c (node label below after) = λ i. holds_seen words c label.payload i || (any_seen words c below i || any_seen words c after i)
+
+sets_seen : (words : List ℕ) (t : Nodes Held) (xs : List Argument) → sets_laid lays (with_payloads (content_of words) t) xs ≡ sets_laid holds_laid t xs
+sets_seen words t [] = refl
+sets_seen words t (c ∷ []) = refl
+sets_seen words t (c ∷ v ∷ rest) = λ i. any_seen words (control_name c) t i || sets_seen words t rest i
+
+plain_seen : (words : List ℕ) (t : Nodes Held) (xs : List Argument) → sets_plain lays (with_payloads (content_of words) t) xs ≡ sets_plain holds_laid t xs
+plain_seen words t [] = refl
+plain_seen words t (int id ∷ xs) = ap not (ap (λ (u : Nodes Content). sets_laid lays u xs) (subtree-payloads (content_of words) id t) ∙ sets_seen words (subtree id t) xs)
+plain_seen words t (string s ∷ xs) = refl
+plain_seen words t (blob b ∷ xs) = refl
+
+pub leaves : (stage : Stage) (words : List ℕ) (replies : List ReplyShape) (m : MessageShape) → asked_leaves (sets_plain holds_laid stage.tree.attached) (command_of m.address) m.body ≡ true → LeavesLayout m (turn_of stage words replies)
+leaves stage words replies m h =
+    leaves_turn m (turn_of stage words replies)
+    ((λ i. asked_leaves (λ xs. plain_seen words stage.tree.attached xs i) (command_of m.address) m.body) ∙ h)

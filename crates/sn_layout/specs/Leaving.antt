@@ -1,0 +1,116 @@
+-- Commands that leave the layout of a world.
+use Rattle.std.specs.Prelude.{◌≡◌, ℕ, Bool, true, false, not, ◌||◌, nat_lt, List, [], ◌∷◌, length, slice_index_or, Option, Some, None, is_some}
+use Rattle.sn_osc.specs.Shape.{Argument, int, string, blob, BodyShape, bare, arguments, foreign, MessageShape}
+use Rattle.sn_def.specs.declared.control.Control.{Control}
+use Rattle.sn_def.specs.Definition.{Definition}
+use Rattle.sn_def.specs.Defs.{definition_of}
+use Rattle.sn_def.specs.Asked.{is_index}
+use Rattle.sn_synth.specs.Conditions.{no_control}
+use Rattle.sn_tree.specs.Trees.{Nodes, subtree}
+use Rattle.sn_world.specs.declared.command.BusCommand.{BusCommand}
+use Rattle.sn_world.specs.declared.command.BusCommand.TheVariants as buses
+use Rattle.sn_world.specs.declared.command.NodeCommand.{NodeCommand}
+use Rattle.sn_world.specs.declared.command.NodeCommand.TheVariants as nodes
+use Rattle.sn_world.specs.declared.command.Command.{Command}
+use Rattle.sn_world.specs.declared.command.Command.TheVariants.{OnNodes, OnServer}
+use Rattle.sn_world.specs.declared.stage.Held.{Held}
+use Rattle.sn_world.specs.declared.stage.Held.TheVariants as held
+use Rattle.sn_world.specs.Commands.{command, next_after}
+use Rattle.sn_world.specs.Ending.{is_completing}
+use Rattle.sn_world.specs.Mappings.{any_node}
+use Rattle.sn_world.specs.NewSynth.{ControlName, control_name, control_of}
+use Rattle.sn_world.specs.Nodes.{Content, group, synth}
+use Rattle.sn_world.specs.World.{Turn}
+use Rattle.sn_layout.specs.Layout.{layout_of}
+
+-- ---- what it is to leave it
+
+-- the message of each client leaves the layout that the turn has, and no completion message acts after it
+pub record LeavesLayout (m : MessageShape) (t : Turn) : Type 0 where
+  pub layout : (from : ℕ) → layout_of (command from m t).world ≡ layout_of t.world
+  pub alone : (from : ℕ) → is_completing (next_after from m t) ≡ false
+
+-- ---- controls
+
+-- A control of a synth that the layout has: an index control, or one that follows a bus. A value that is set would change it.
+abbrev pub is_laid : Definition → List Control → ℕ → Bool
+is_laid d controls k = is_index d k || is_some (slice_index_or controls k no_control).bus
+
+abbrev pub is_laid_at : Definition → List Control → Option ℕ → Bool
+is_laid_at d controls None = false
+is_laid_at d controls (Some k) = is_laid d controls k
+
+-- the number of a control that is named, where there is a name
+abbrev pub number_for : Definition → Option ControlName → Option ℕ
+number_for d None = None
+number_for d (Some c) = control_of d c
+
+abbrev pub lays : Option ControlName → Content → Bool
+lays c group = false
+lays c (synth s) = is_laid_at s.definition s.controls (number_for s.definition c)
+
+-- the same of what a node of a stage holds
+abbrev pub holds_laid : Option ControlName → Held → Bool
+holds_laid c held.Group = false
+holds_laid c (held.Synth def controls state) = is_laid_at (definition_of def.value) controls (number_for (definition_of def.value) c)
+
+-- ---- `/n_set` id (control value)..
+
+module _ {P : Type 0} (test : Option ControlName → P → Bool) where
+  -- one of the controls that are set is laid in one of these nodes
+  abbrev pub sets_laid : Nodes P → List Argument → Bool
+  sets_laid reached [] = false
+  sets_laid reached (c ∷ []) = false
+  sets_laid reached (c ∷ v ∷ rest) = any_node (test (control_name c)) reached || sets_laid reached rest
+
+  -- none is, in the node that is named and in all nodes below it
+  abbrev pub sets_plain : Nodes P → List Argument → Bool
+  sets_plain all [] = true
+  sets_plain all (int id ∷ xs) = not (sets_laid (subtree id all) xs)
+  sets_plain all (string s ∷ xs) = true
+  sets_plain all (blob b ∷ xs) = true
+
+-- ---- commands
+
+-- where the controls that `/n_set` sets are told to be plain, or not
+abbrev pub node_leaves : Bool → NodeCommand → Bool
+node_leaves plain nodes.SetControls = plain
+node_leaves plain nodes.Notify = true
+node_leaves plain nodes.Query = true
+node_leaves plain nodes.QueryTree = true
+node_leaves plain nodes.GetControls = true
+node_leaves plain _ = false
+
+-- With so many arguments it carries no completion message.
+abbrev pub server_leaves : ℕ → BusCommand → Bool
+server_leaves n buses.Set = true
+server_leaves n buses.SetRuns = true
+server_leaves n buses.Fill = true
+server_leaves n buses.Get = true
+server_leaves n buses.GetRuns = true
+server_leaves n buses.ZeroBuffer = nat_lt n 2
+server_leaves n buses.QueryBuffers = true
+server_leaves n buses.SetSamples = true
+server_leaves n buses.SetSampleRuns = true
+server_leaves n buses.FillSamples = true
+server_leaves n buses.GetSamples = true
+server_leaves n buses.GetSampleRuns = true
+server_leaves n buses.Sync = true
+server_leaves n buses.Receive = nat_lt n 2
+server_leaves n buses.Free = true
+server_leaves n buses.Status = true
+server_leaves n buses.ClearSched = true
+server_leaves n buses.Quit = true
+server_leaves n _ = false
+
+module _ (plain : List Argument → Bool) where
+  abbrev pub command_leaves : Command → List Argument → Bool
+  command_leaves (OnNodes c) xs = node_leaves (plain xs) c
+  command_leaves (OnServer c) xs = server_leaves (length xs) c
+
+  -- What is no command, and what has tags that are not read, is refused.
+  abbrev pub asked_leaves : Option Command → BodyShape → Bool
+  asked_leaves None body = true
+  asked_leaves (Some c) bare = command_leaves c []
+  asked_leaves (Some c) (arguments xs) = command_leaves c xs
+  asked_leaves (Some c) (foreign tags rest) = true

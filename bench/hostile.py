@@ -2,11 +2,12 @@
 
     python3 hostile.py SNOVA WORKDIR [NAME..]
 
-SNOVA is the built program. The streams are those of dear.py, which `gen.py WORKDIR dear` writes, about 150 MB of them; they may be thrown away
+SNOVA is the built program. The streams are those of dear.py, which `gen.py WORKDIR dear` writes, about 300 MB of them; they may be thrown away
 afterwards. Each is rendered once by one worker, or only those of the NAMEs. The table has the seconds that a processor spent, the greatest
 memory, how many things the stream must touch and the nanoseconds for one of them, the start of the program among them. It fails if
 a command is refused, or if a stream takes longer than ten minutes.
 """
+import mmap
 import os
 import signal
 import subprocess
@@ -33,7 +34,7 @@ def rendered(snova, folder, dear):
 
 def has_refused(folder):
     with open(f"{folder}/replies", "rb") as file:
-        return REFUSED in file.read(1 << 24)
+        return os.path.getsize(file.name) > 0 and mmap.mmap(file.fileno(), 0, access=mmap.ACCESS_READ).find(REFUSED) >= 0
 
 
 def main():

@@ -1,12 +1,16 @@
 """Clients that behave badly, one after another, each served by a program of its own: python3 clients.py SNOVA [-k WORD] [--random N] [--seed N].
 
-For each it prints how the program ended, after how many seconds, how many blocks of sound it wrote, and what is other than it should be. The ends are those of docs/STATUSES.md. It takes a minute, since a peer that takes nothing is waited for.
+For each it prints how the program ended, after how many seconds, how many blocks of sound it wrote, the most memory that it took, and what is other
+than it should be. The ends are those of docs/STATUSES.md. The program may take 512 MiB of addresses. It takes some minutes, since a peer that takes
+nothing is waited for.
+
 N more clients send streams that were damaged by chance, and close when they have the replies that the model says.
 """
 import argparse
 import itertools
 import os
 import random
+import resource
 import socket
 import struct
 import subprocess
@@ -24,7 +28,9 @@ from random_cases import Chance
 
 BLOCK = 256  # bytes of two channels of 16 bits
 SECOND = 750  # blocks
-CLOSED, LINK_FAULT = ("closed", 0), ("link fault", 12)
+MOST_MEMORY = 1 << 29  # bytes of addresses
+GROUPS = 4000
+CLOSED, LINK_FAULT, NO_MEMORY = ("closed", 0), ("link fault", 12), ("no memory", 1)
 
 
 def framed(*words):
@@ -67,14 +73,41 @@ def sends_single_bytes(link):
     return got + closes(link)
 
 
+def many_groups():
+    return b"".join(framed("/g_new", *[word for i in range(500) for word in (1 + begin + i, 1, 0)]) for begin in range(0, GROUPS, 500))
+
+
 def never_reads(link):
     """Asks for all that stands in the tree again and again. The program can't send it, and then no more is taken."""
-    link.sendall(b"".join(framed("/g_new", *[word for i in range(500) for word in (1 + 500 * k + i, 1, 0)]) for k in range(8)))
+    link.sendall(many_groups())
     try:
         while True:
             link.sendall(framed("/g_queryTree", 0, 0) * 100)
     except OSError:
         return b""
+
+
+def asks_for_too_much(link):
+    """Asks for all that stands in the tree, so often in one message that its replies have 260,000,000 bytes, and in eight such messages of one time."""
+    now = int(time.time()) + 2208988800 << 32
+    asked = osc.frame(osc.bundle(now + (2 << 32), osc.message("/g_queryTree", *[0, 0] * 6500)))
+    return sends(link, [many_groups(), *[asked] * 8])
+
+
+def lets_too_much_wait(link):
+    """Sends messages that are due in an hour, as many as are taken."""
+    now = int(time.time()) + 2208988800 << 32
+    return sends(link, itertools.repeat(osc.frame(osc.bundle(now + (3600 << 32), *[osc.message("/sync", 1)] * 3200))))
+
+
+def sends(link, pieces):
+    """All that comes until the program ends, which gets pieces as long as it takes them."""
+    try:
+        for piece in pieces:
+            link.sendall(piece)
+    except OSError:
+        pass
+    return all_of(link)
 
 
 def floods(link):
@@ -156,7 +189,9 @@ CLIENTS = [
     ("sends a size of -1", sends_a_size_of_minus_one, ("bad frame size -1", 11), lambda got: got in ({}, {"/synced 1": 1}), 0, 5),
     ("resets in a packet", resets, LINK_FAULT, lambda got: got == {}, 0, 5),
     ("resets while it is sent to", resets_while_it_is_sent_to, LINK_FAULT, lambda got: got == {}, 0, 15),
-    ("floods", floods, CLOSED, is_flood_answered, 1, 60),
+    ("asks for too much", asks_for_too_much, NO_MEMORY, lambda got: got == {}, 0, 120),
+    ("lets too much wait", lets_too_much_wait, NO_MEMORY, lambda got: got == {}, 0, 120),
+    ("floods", floods, CLOSED, is_flood_answered, 1, 120),
     ("never reads", never_reads, LINK_FAULT, lambda got: got == {}, 10, 60),
 ]
 
@@ -195,17 +230,32 @@ def sends_damaged(data):
     return client, (line, 11 if is_bad else 10 if line.startswith("cut") else 0), is_wanted, 0, 30
 
 
+def takes_little():
+    resource.setrlimit(resource.RLIMIT_AS, (MOST_MEMORY, MOST_MEMORY))
+
+
+def ended(program):
+    """The line and the status of a program, and the most memory that it took, in MiB."""
+    ends = threading.Timer(300, program.kill)
+    ends.start()
+    line = program.stdout.read().decode().rstrip("\n")
+    _, status, used = os.wait4(program.pid, 0)
+    ends.cancel()
+    program.returncode = os.waitstatus_to_exitcode(status)
+    return (line, program.returncode), used.ru_maxrss // 1024
+
+
 def served(snova, client, folder):
-    """The replies, the line and the status, the seconds, and the blocks."""
+    """The replies, the line and the status, the seconds, the blocks, and the memory in MiB."""
     port, sound = serving.free_port(), os.path.join(folder, "sound")
-    program = subprocess.Popen([snova, "serve", str(port), sound], stdout=subprocess.PIPE)
+    program = subprocess.Popen([snova, "serve", str(port), sound], stdout=subprocess.PIPE, preexec_fn=takes_little)
     link = serving.connected(port)
     link.settimeout(60)
     began = time.monotonic()
     with link:
         got = client(link)
-    line = program.communicate(timeout=60)[0].decode().rstrip("\n")
-    return got, (line, program.returncode), time.monotonic() - began, os.path.getsize(sound) / BLOCK
+    how, memory = ended(program)
+    return got, how, time.monotonic() - began, os.path.getsize(sound) / BLOCK, memory
 
 
 def wrong_of(got, how, seconds, blocks, end, is_wanted, least, most):
@@ -235,11 +285,11 @@ def main():
         for name, client, *wanted in itertools.chain(CLIENTS, drawn):
             if given.k not in name:
                 continue
-            got, how, seconds, blocks = served(given.snova, client, folder)
+            got, how, seconds, blocks, memory = served(given.snova, client, folder)
             found = wrong_of(got, how, seconds, blocks, *wanted)
             wrong += len(found)
             if found or not name.startswith("damaged"):
-                print(f"{name}: {how[0]}, status {how[1]}, {seconds:.1f} s, {blocks:.0f} blocks", *found, sep="\n  ", flush=True)
+                print(f"{name}: {how[0]}, status {how[1]}, {seconds:.1f} s, {blocks:.0f} blocks, {memory} MiB", *found, sep="\n  ", flush=True)
     if given.random:
         print(f"{given.random} clients that send damaged streams, {wrong} differences")
     return 1 if wrong else 0

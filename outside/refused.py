@@ -1,9 +1,9 @@
-"""Refuses memory to a program, at each call that asks for some in turn: python3 refused.py SNOVA [--workers 1,4] [--random N] [--seed N].
+"""Refuses memory and threads to a program, at each call that asks for one in turn: python3 refused.py SNOVA [-k WORD] [--workers 1,4] [--random N] [--seed N].
 
-It needs a C compiler `cc` and the GNU C library, for `refuse.c`. A stream with a parallel group is rendered, and a connection is served over
-which a message and a block come, by each number of workers; and N streams by chance are rendered. Once only the call of a number is refused, and
-once it and all later ones. Each time the program must end as it does with all memory there, or with `no memory`, and the files and the
-replies must be those, or a part from their begin. It prints each other end, and how many ends there were of each kind.
+It needs a C compiler `cc` and the GNU C library, for `refuse.c`. A stream with a parallel group is rendered, and connections of each end are served,
+by each number of workers; and N streams by chance are rendered. Once only the call of a number is refused, and once it and all later ones. Each
+time the program must end as it does with all memory there, or with `no memory`, and the files and the replies must be those, or a part from
+their begin. It prints each other end, and how many ends there were of each kind.
 """
 import argparse
 import collections
@@ -22,7 +22,15 @@ from cases import recv
 from random_cases import Chance, play
 
 HERE = Path(__file__).resolve().parent
-SYNC, SYNCED = osc.frame(osc.message("/sync", 7)), osc.frame(osc.message("/synced", 7))
+SYNC = osc.frame(osc.message("/sync", 7))
+# What comes over a connection, its replies, and how it ends with all memory there.
+CONNECTIONS = [
+    ("a message", SYNC, osc.frame(osc.message("/synced", 7)), ("closed", 0)),
+    ("the front of a packet", SYNC[:7], b"", ("cut after 7 bytes", 10)),
+    ("a packet at fault", osc.frame(b"A\0\0\0"), osc.frame(osc.message("/fail", "packet", "bad packet")), ("closed", 0)),
+    ("a size of 6", b"\0\0\0\x06", b"", ("bad frame size 6", 11)),
+    ("a quit", osc.frame(osc.message("/quit")), osc.frame(osc.message("/done", "/quit")), ("quit", 0)),
+]
 TONES = [osc.message("/s_new", "tone", 10 + i, 1, 1, "out", 16 + i) for i in range(4)]
 COMMANDS = [*map(lambda it: osc.message(*it), recv("tone", "mix")), osc.message("/p_new", 1, 0, 0), *TONES, osc.message("/s_new", "mix", 20, 1, 0)]
 STREAM = osc.frame(osc.bundle(0, *COMMANDS)) + osc.frame(osc.bundle(1 << 32))
@@ -32,7 +40,7 @@ PASSED = 5
 
 
 class Refusing:
-    """Runs a program to which one call for memory is refused, or all from one on."""
+    """Runs a program to which one call is refused, or all from one on."""
 
     def __init__(self, snova, library, folder):
         self.snova, self.library, self.folder = snova, library, folder
@@ -65,10 +73,10 @@ class Refusing:
         running = self.started(["render", "channels=1", f"workers={workers}", "commands", "sound", "replies"], at, goes_on)
         return *self.ended(*running), self.written("sound"), self.written("replies")
 
-    def serve(self, workers, at, goes_on):
+    def serve(self, data, replies, workers, at, goes_on):
         port = serving.free_port()
         program, told = self.started(["serve", "memory=65536", f"workers={workers}", str(port), "sound"], at, goes_on)
-        got = served(program, port)
+        got = served(program, port, data, len(replies))
         refused, how = self.ended(program, told)
         return refused, how, self.written("sound"), got
 
@@ -83,16 +91,16 @@ def connected(program, port):
     return None
 
 
-def served(program, port):
-    """What a client gets that sends a message, waits for its reply, and sends nothing more."""
+def served(program, port, data, length):
+    """What a client gets that sends some bytes, waits for its replies, which have this length, and sends nothing more."""
     link = connected(program, port)
     if link is None:
         return b""
     with link:
         got = b""
         try:
-            link.sendall(SYNC)
-            got = serving.received(link, len(SYNCED))
+            link.sendall(data)
+            got = serving.received(link, length)
             link.shutdown(socket.SHUT_WR)
         except OSError:
             pass
@@ -103,18 +111,18 @@ def is_part(some, whole):
     return whole[:len(some)] == some
 
 
-def wrong_render(whole, how, sound, replies):
+def is_wrong_render(whole, how, sound, replies):
     """Whether a rendering ended as it may not."""
     if how == whole[0]:
         return (how, sound, replies) != whole
     return how != NO_MEMORY or not is_part(sound, whole[1]) or not is_part(replies, whole[2])
 
 
-def wrong_serve(whole, how, sound, replies):
-    """The same of a connection, whose sound is as long as it stood."""
-    if sound.strip(b"\0") or not is_part(replies, SYNCED):
+def is_wrong_serve(wanted, end, whole, how, sound, replies):
+    """The same of a connection, whose sound is as long as it stood. The end with all memory there must be the one that it should have."""
+    if whole[0] != end or sound.strip(b"\0") or not is_part(replies, wanted):
         return True
-    return how != NO_MEMORY and (how != whole[0] or replies != SYNCED)
+    return how != NO_MEMORY and (how != end or replies != wanted)
 
 
 def refuse_in_turn(what, run, is_wrong, workers, goes_on):
@@ -134,6 +142,16 @@ def refuse_in_turn(what, run, is_wrong, workers, goes_on):
     return wrong
 
 
+def tries(refusing, seeds):
+    """What is run, how, and which ends are wrong."""
+    rows = [("render", refusing.render, is_wrong_render)]
+    for name, data, replies, end in CONNECTIONS:
+        rows.append((f"serve {name}", functools.partial(refusing.serve, data, replies), functools.partial(is_wrong_serve, replies, end)))
+    for seed in seeds:
+        rows.append((f"random {seed}", functools.partial(refusing.render, stream=play(Chance(seed))), is_wrong_render))
+    return rows
+
+
 def library(folder):
     """The library that refuses."""
     made = os.path.join(folder, "refuse.so")
@@ -144,19 +162,19 @@ def library(folder):
 def main():
     parser = argparse.ArgumentParser()
     parser.add_argument("snova", help="the built program")
+    parser.add_argument("-k", default="", help="only what has this word in its name")
     parser.add_argument("--workers", default="1,4", help="numbers of workers")
     parser.add_argument("--random", type=int, default=0, help="so many streams by chance besides")
     parser.add_argument("--seed", type=int, default=1, help="the first of them")
     given = parser.parse_args()
     with tempfile.TemporaryDirectory() as folder:
         refusing, wrong = Refusing(os.path.abspath(given.snova), library(folder), Path(folder)), 0
-        tries = [("render", refusing.render, wrong_render), ("serve", refusing.serve, wrong_serve)]
-        for seed in range(given.seed, given.seed + given.random):
-            tries.append((f"random {seed}", functools.partial(refusing.render, stream=play(Chance(seed))), wrong_render))
+        rows = tries(refusing, range(given.seed, given.seed + given.random))
         for workers in given.workers.split(","):
             for goes_on in (False, True):
-                for what, run, is_wrong in tries:
-                    wrong += refuse_in_turn(what, run, is_wrong, workers, goes_on)
+                for what, run, is_wrong in rows:
+                    if given.k in what:
+                        wrong += refuse_in_turn(what, run, is_wrong, workers, goes_on)
     print(f"{wrong} wrong ends")
     return 1 if wrong else 0
 

@@ -18,6 +18,7 @@ class Case:
     def __init__(self, name):
         self.name, self.words, self.ending, self.blocks, self.same, self.sum, self.base = name, [], None, 0, None, None, None
         self.items, self.replies, self.sound, self.events = [], b"", b"", []
+        self.piece, self.fails, self.length, self.left = 4096, [], 0, None
 
     def stream(self):
         """What was put in up to here: packets, bundles with their tags, and bytes without a size."""
@@ -78,6 +79,10 @@ def case_line(case, line, blobs):
         case.blocks = int(rest)
     elif word == "ends":
         case.ending = rest
+    elif word == "leaves":
+        case.left = int(rest)
+    elif word == "source":
+        case.piece, *case.fails = map(int, rest.split())
     elif word == "over":
         case.base = int(rest)
     elif word == "ticks":
@@ -85,7 +90,7 @@ def case_line(case, line, blobs):
         case.events.append(int(rest))
     elif word == ">":
         case.replies += osc.frame(message(rest, blobs))
-    elif word not in ("source", "sound", "replies", "meet", "apart", "again"):
+    elif word not in ("sound", "replies", "meet", "apart", "again"):
         case.element(message(line, blobs))
 
 
@@ -140,6 +145,7 @@ def model_of(case):
     if bad is not None:
         return f"bad word {bad}", b"", b"", b""
     stream = case.stream()
+    case.length = len(stream)
     if case.blocks > LONG:
         packets = server.accepted(server.settings_of(case.words), stream)
         return f"done {server.Run(server.settings_of(case.words), packets).last} blocks", b"", b"", case.replies
@@ -153,6 +159,11 @@ def told(what, script, model):
     return f"  {what}: {len(script)} and {len(model)} bytes, from byte {at}: script {script[at:at + 32].hex()}, model {model[at:at + 32].hex()}"
 
 
+def left_of(case):
+    """How many bytes are not taken: none, or those behind the calls before the first that fails."""
+    return max(0, case.length - case.piece * min(case.fails)) if case.fails else 0
+
+
 def differences(case, made):
     """What of a case is other than in the model."""
     line, samples, sound, replies = made[case.name]
@@ -164,6 +175,8 @@ def differences(case, made):
         wanted = line if case.base is not None else f"done {case.blocks} blocks"
     if line != wanted:
         found.append(f"  ends: script {wanted}, model {line}")
+    if case.left not in (None, left_of(case)):
+        found.append(f"  leaves: script {case.left}, model {left_of(case)}")
     if case.same:
         _, _, said_sound, said_replies = made[case.same]
         if (said_sound, said_replies) != (sound, replies):

@@ -1,10 +1,12 @@
 -- A message that is run by its row.
-use Rattle.std.proofs.Common.{◌≡◌, ℕ, List, [], Option, Some, None, Result, Ok, Err, ap, ◌∙◌}
+use Rattle.std.proofs.Common.{◌≡◌, ℕ, List, [], Option, Some, None, Result, Ok, Err, ap, refl, subst, ◌∙◌}
+use Rattle.std.specs.Prelude.{OnErr}
 use Rattle.sn_ports.specs.declared.failed.NoMemory.{NoMemory}
 use Rattle.sn_osc.specs.Shape.{Argument, BodyShape, bare, arguments, foreign}
 use Rattle.sn_reply.specs.declared.reason.Reason.{Reason}
 use Rattle.sn_world.specs.declared.command.BusCommand.{BusCommand}
 use Rattle.sn_world.specs.World.{Turn}
+use Rattle.sn_world.specs.declared.stage.Stage.{Stage}
 use Rattle.sn_world.specs.Commands.{ArgumentsOf, with_arguments, carrying_row, whole_row, bus_outcome, completion_in, next_with, next_of}
 use Rattle.sn_world.specs.Completing.{carried, message_in}
 use Rattle.sn_world.specs.Answers.{UnlessFollowed}
@@ -45,6 +47,19 @@ pub unless-followed : (P Q : Type 0) (r : Result (Option Reason) NoMemory) → (
 unless-followed P Q (Ok None) f p = tt
 unless-followed P Q (Ok (Some reason)) f p = f p
 unless-followed P Q (Err e) f p = f p
+
+-- want of memory leaves a stage as it was, but for how its definitions are kept
+pub stage-still : (r : Result (Option Reason) NoMemory) (s : Stage) → OnErr r (s ≡ record s { defs = s.defs })
+stage-still (Ok x) s = tt
+stage-still (Err e) s = refl
+
+pub stage-kept : (r : Result (Option Reason) NoMemory) (old new : Stage) → UnlessFollowed r (new ≡ old) → OnErr r (new ≡ record old { defs = new.defs })
+stage-kept (Ok x) old new same = tt
+stage-kept (Err e) old new same = subst (λ (s : Stage). new ≡ record s { defs = new.defs }) same refl
+
+pub stage-but : (r : Result (Option Reason) NoMemory) (P : Type 0) → P → OnErr r P
+stage-but (Ok x) P p = tt
+stage-but (Err e) P p = p
 
 pub if-refused : (P : Type 0) (r : Result (Option Reason) NoMemory) → UnlessFollowed r P → IfRefused r P
 if-refused P (Ok None) p = tt

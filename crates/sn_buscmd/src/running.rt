@@ -1,5 +1,5 @@
 //! Messages that are run as commands.
-ghost use Rattle.std.specs.Prelude.{◌≡◌, ◌+◌, ◌*◌, ◌^◌, ◌<◌, Some, Ok, List, length, map, IfSome};
+ghost use Rattle.std.specs.Prelude.{◌≡◌, ◌+◌, ◌*◌, ◌^◌, ◌<◌, Some, Ok, List, length, map, IfSome, OnErr};
 ghost use Rattle.std.specs.Option.{option_map};
 ghost use Rattle.std.specs.Borrow.{Bor};
 ghost use Rattle.sn_osc.specs.declared.packet.Arg.{Arg};
@@ -79,6 +79,7 @@ fn run_row<P: Port>(
     ensures row { Follows result (bus_row command from (map argument_of arguments.now) (turn_of stage.old (P.words port.old) replies.old)) (turn_of stage.new (P.words port.new) replies.new) }
     ensures unchanged { UnlessFollowed result (turn_of stage.new (P.words port.new) replies.new ≡ turn_of stage.old (P.words port.old) replies.old) }
     ensures stage { IfRefused result (stage.new ≡ stage.old) }
+    ensures kept { OnErr result (stage.new ≡ record stage.old { defs = stage.new.defs }) }
     ensures words { UnlessFollowed result (P.words port.new ≡ P.words port.old) }
     ensures untold { UnlessFollowed result (replies.new ≡ replies.old) }
     ensures pictures { Pictures stage.new (P.words port.new) }
@@ -145,6 +146,7 @@ fn run_alone<P: Port>(
     ensures answerable { NextHas IsAnswerable result }
     ensures unchanged { UnlessDone result (turn_of stage.new (P.words port.new) replies.new ≡ turn_of stage.old (P.words port.old) replies.old) }
     ensures stage { IfFailed result (stage.new ≡ stage.old) }
+    ensures kept { OnErr result (stage.new ≡ record stage.old { defs = stage.new.defs }) }
     ensures words { UnlessDone result (P.words port.new ≡ P.words port.old) }
     ensures untold { UnlessDone result (replies.new ≡ replies.old) }
     ensures pictures { Pictures stage.new (P.words port.new) }
@@ -179,6 +181,7 @@ fn run_carrying<P: Port>(
     ensures answerable { NextHas IsAnswerable result }
     ensures unchanged { UnlessDone result (turn_of stage.new (P.words port.new) replies.new ≡ turn_of stage.old (P.words port.old) replies.old) }
     ensures stage { IfFailed result (stage.new ≡ stage.old) }
+    ensures kept { OnErr result (stage.new ≡ record stage.old { defs = stage.new.defs }) }
     ensures words { UnlessDone result (P.words port.new ≡ P.words port.old) }
     ensures untold { UnlessDone result (replies.new ≡ replies.old) }
     ensures pictures { Pictures stage.new (P.words port.new) }
@@ -201,7 +204,8 @@ fn run_carrying<P: Port>(
 ///
 /// `Done` comes where the command was carried out, `Completion` where one was that carries a completion message, `Quit` and `ClearSched`
 /// where it was the command of that name, `Failed` with the first reason against it, and `NotMine` where the address is that of another
-/// command or of none. `Failed` and `NotMine` leave the stage, the words and the replies as they were.
+/// command or of none. `Failed` and `NotMine` leave the stage, the words and the replies as they were. Want of memory does too, but for how
+/// the definitions are kept, of which there are the same.
 pub fn run_bus_command<P: Port>(
     alloc: Global,
     stage: &mut Stage,
@@ -218,6 +222,7 @@ pub fn run_bus_command<P: Port>(
     ensures answerable { NextHas IsAnswerable result }
     ensures unchanged { UnlessDone result (turn_of stage.new (P.words port.new) replies.new ≡ turn_of stage.old (P.words port.old) replies.old) }
     ensures stage { IfFailed result (stage.new ≡ stage.old) }
+    ensures kept { OnErr result (stage.new ≡ record stage.old { defs = stage.new.defs }) }
     ensures words { UnlessDone result (P.words port.new ≡ P.words port.old) }
     ensures untold { UnlessDone result (replies.new ≡ replies.old) }
     ensures pictures { Pictures stage.new (P.words port.new) }

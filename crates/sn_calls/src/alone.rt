@@ -73,16 +73,6 @@ fn is_at_fault(alloc: Global, text: &[u8], kind: DefKind, line: u32) -> bool {
     }
 }
 
-/// The first fault of a text has its kind and its line.
-fn at_fault(alloc: Global) -> Result<bool, Unanswered> {
-    let number = b"snova 1\ndef a\ncontrol x 007\nend\n";
-    let index = b"snova 1\ndef a\nx = Neg 0\nOut.ar x x\nend\n";
-    Ok(
-        is_at_fault(alloc, number, DefKind::Number, 3)
-            && is_at_fault(alloc, index, DefKind::Index, 4),
-    )
-}
-
 /// What is wrong with the line of an array is judged in order: the name, whether it is given already,
 /// and then each literal; and in version 1 it is the line of a unit.
 fn arrays_at_fault(alloc: Global) -> Result<bool, Unanswered> {
@@ -207,14 +197,13 @@ fn listed(alloc: Global) -> Result<bool, Unanswered> {
 }
 
 /// The calls, and whether each answers as it should.
-pub fn calls<H: Files>(rt: &H, alloc: Global) -> [(&'static str, Result<bool, Unanswered>); 16] {
+pub fn calls<H: Files>(rt: &H, alloc: Global) -> [(&'static str, Result<bool, Unanswered>); 15] {
     [
         ("show", shown(alloc)),
         ("into_inner of a sink", given_back(alloc)),
         ("fill of a file", filled(rt)),
         ("print", printed(alloc)),
         ("print arrays", arrays_printed(alloc)),
-        ("read", at_fault(alloc)),
         ("read arrays", arrays_at_fault(alloc)),
         ("spellable", spelled(alloc)),
         ("frames_of", framed_stream(alloc)),

@@ -10,6 +10,7 @@ mod line;
 mod machines;
 mod pools;
 mod rounds;
+mod texts;
 mod trees;
 
 use connections::ConnectionRows;
@@ -22,6 +23,7 @@ use std::net::Net;
 use std::process::ExitCode;
 use std::rt::Files;
 use std::{env, fs, io};
+use texts::TextRows;
 
 /// Prints a row that was not answered as it should.
 fn print_unanswered(rt: &impl Print, path: &str, row: &str, why: Unanswered) -> io::Result<()> {
@@ -83,6 +85,7 @@ fn try_file<H: Files + Net + Print + AllocGlobal>(rt: &H, path: &str) -> Result<
         "machine.txt" => Ok(try_rows(rt, path, text, MachineRows { alloc })?),
         "round.txt" => Ok(try_rows(rt, path, text, RoundRows::new(alloc)?)?),
         "tcp.txt" => Ok(try_rows(rt, path, text, ConnectionRows { rt, alloc })?),
+        "tone.txt" => Ok(try_rows(rt, path, text, TextRows { alloc })?),
         _ => Err(Unanswered::NoRow),
     }
 }

@@ -78,6 +78,8 @@ pub struct Case {
     pub sum: Option<u64>,
     /// The number of blocks.
     pub blocks: u64,
+    /// How many bytes of the stream are not taken, if that is said.
+    pub left: Option<u64>,
     /// The line of its end, where that is another than `done`.
     pub ending: Option<String>,
     /// The case of the same sound and replies.
@@ -106,6 +108,7 @@ impl Case {
             sound: Text::new(alloc),
             sum: None,
             blocks: 0,
+            left: None,
             ending: None,
             same: None,
             connection: None,

@@ -8,7 +8,7 @@
 //! `> /address argument ..` is a reply, `= HEX ..` are bytes of the sound behind its header, `sum HEX` is the FNV-1a sum of 64 bits of
 //! all its bytes in their place, and `blocks N` its length. `same as NAME` stands for the sound and the replies of another case.
 //! `ends LINE` is the line that the program prints at the end, where it isn't `done N blocks`. After a refusal nothing was written, and
-//! after a fault a prefix of what the case says.
+//! after a fault a prefix of what the case says. `leaves N` says how many bytes of the stream are not taken.
 //!
 //! `source PIECE CALL ..` lets a call move at most so many bytes and the calls of these numbers fail, from 0; so do `sound` and
 //! `replies`.
@@ -284,6 +284,11 @@ fn put_blocks(case: &mut Case, number: &str) -> bool {
     }
 }
 
+fn put_left(case: &mut Case, number: &str) -> bool {
+    case.left = number.parse::<u64>().ok();
+    case.left.is_some()
+}
+
 fn put_ending(alloc: Global, case: &mut Case, line: &str) -> Result<bool, NoMemory> {
     case.ending = Some(String::from_str(alloc, line)?);
     Ok(true)
@@ -366,6 +371,7 @@ fn outcome_line(
     match line.word {
         "ends" => put_ending(alloc, case, line.rest),
         "blocks" => Ok(put_blocks(case, line.rest)),
+        "leaves" => Ok(put_left(case, line.rest)),
         "=" => put_hex(&mut case.sound, line.rest),
         "sum" => Ok(put_sum(case, line.rest)),
         "same" => put_same(alloc, case, line.rest),

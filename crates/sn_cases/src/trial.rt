@@ -6,7 +6,7 @@ use crate::ending::{Written, outcome_line, outcome_writes};
 use crate::serving::served;
 use sn_crew::HoldGate;
 use sn_pcm::Settings;
-use sn_ports::{Gate, MemorySink, MemorySource, NoMemory, Open, Text, Word};
+use sn_ports::{Gate, MemorySink, MemorySource, NoMemory, Open, Source, Text, Word};
 use sn_server::{Outcome, render};
 use sn_words::settings;
 use std::alloc::Global;
@@ -15,6 +15,9 @@ use std::thread::Threads;
 /// How many bytes of sound and of replies a case may give.
 pub const CAPACITY: u32 = 4194304;
 
+/// How often a source is read for what it has left.
+const READS: u32 = 1024;
+
 /// What came of a case.
 #[derive(Drop)]
 pub struct Came {
@@ -22,6 +25,8 @@ pub struct Came {
     pub written: Written,
     pub sound: Text,
     pub replies: Text,
+    /// How many bytes of the stream were not taken, if the case says it.
+    pub left: Option<u64>,
     /// Two jobs ran at the same time, or not, as they should.
     pub is_held: bool,
 }
@@ -40,6 +45,7 @@ impl Came {
             written,
             sound: Text::from_slice(alloc, sound)?,
             replies: Text::from_slice(alloc, replies)?,
+            left: None,
             is_held: true,
         })
     }
@@ -63,6 +69,7 @@ pub enum Verdict {
     Ending(String),
     Replies(Difference),
     Sound(Difference),
+    Left,
     Meeting,
 }
 
@@ -76,6 +83,7 @@ impl Verdict {
             Verdict::Ending(_) => "another end",
             Verdict::Replies(_) => "other replies",
             Verdict::Sound(_) => "another sound",
+            Verdict::Left => "another rest of the stream",
             Verdict::Meeting => "another meeting",
         }
     }
@@ -116,6 +124,16 @@ fn came_of(
     Came::of(alloc, line, outcome_writes(outcome), sound, replies)
 }
 
+/// How many bytes a source gives in so many reads. A read that fails gives none.
+fn left_of(source: &mut MemorySource) -> u64 {
+    let mut count: u64 = 0;
+    let mut into = [0u8; 64];
+    for _ in 0..READS {
+        count = count.saturating_add(source.read(&mut into).unwrap_or(0) as u64);
+    }
+    count
+}
+
 /// Renders the stream of a case in memory, whose jobs pass a gate.
 fn rendered_through<H: AllocGlobal + Threads + Sync, G: Gate>(
     rt: &H,
@@ -134,7 +152,11 @@ fn rendered_through<H: AllocGlobal + Threads + Sync, G: Gate>(
         &mut ports.replies,
         gate,
     );
-    came_of(alloc, outcome, ports.sound.taken(), ports.replies.taken())
+    let mut came = came_of(alloc, outcome, ports.sound.taken(), ports.replies.taken())?;
+    if case.left.is_some() {
+        came.left = Some(left_of(&mut ports.source));
+    }
+    Ok(came)
 }
 
 /// Renders the stream of a case, of which two jobs are held.
@@ -260,6 +282,9 @@ fn judged(
     if came.line.as_str() != line {
         let ours = String::from_str(alloc, came.line.as_str())?;
         return Ok(Verdict::Ending(ours));
+    }
+    if case.left.is_some() && case.left != came.left {
+        return Ok(Verdict::Left);
     }
     if !came.is_held {
         return Ok(Verdict::Meeting);

@@ -42,7 +42,7 @@ fn sort_out(alloc: Global, tag: u64, elements: Elements) -> Result<Parts, NoMemo
     ensures enclosed { IfOk result (λ p. entries_ahead p.enclosed.items ≡ enclosed_entries tag (shapes elements.items)) }
     ensures fewer { IfOk result (λ p. bundles_left p.enclosed.items ≡ bundles_in (shapes elements.items)) }
 {
-    let mut messages = Vec::new(alloc);
+    let mut messages = Vec::with_capacity(alloc, elements.len())?;
     let mut enclosed = Vec::new(alloc);
     for packet in elements {
         match packet {

@@ -1,6 +1,5 @@
 -- A run that a later one covers is as if it were not there.
-use Rattle.std.proofs.Common.{◌≡◌, ◌≤◌, ◌<◌, ◌+◌, ℕ, zero, suc, ℤ, Bool, true, false, List, [], ◌∷◌, ◌++◌, map, length, drop, set, get_or, Option, Some, None, ◌⊎◌, inl, inr, Ok, Result, refl, ap, sym, subst, ◌∙◌, arith, true≢false, append_assoc}
-use Rattle.std.specs.Prelude.{if◌then◌else◌}
+use Rattle.std.proofs.Common.{◌≡◌, ◌≤◌, ◌<◌, ◌+◌, ℕ, zero, suc, ℤ, List, [], ◌∷◌, map, length, set, Option, Some, None, inl, inr, Ok, refl, ap, sym, subst, ◌∙◌, arith}
 use Rattle.sn_def.specs.declared.control.Control.{Control}
 use Rattle.sn_def.specs.Definition.{Definition}
 use Rattle.sn_world.specs.World.{Turn}

@@ -1,5 +1,5 @@
 -- Requests that are judged, and what is left of them.
-use Rattle.std.proofs.Common.{◌≡◌, ◌<◌, ◌+◌, ℕ, zero, suc, Bool, true, false, List, [], ◌∷◌, ◌++◌, map, length, drop, set, get_or, ◌⊎◌, inl, inr, refl, ap, sym, subst, ◌∙◌, arith, true≢false, append_assoc}
+use Rattle.std.proofs.Common.{◌≡◌, ◌<◌, ◌+◌, ℕ, zero, suc, Bool, true, false, List, [], ◌∷◌, ◌++◌, length, drop, set, get_or, inl, inr, refl, ap, sym, subst, ◌∙◌, arith, true≢false, append_assoc}
 use Rattle.std.specs.Prelude.{if◌then◌else◌}
 use Rattle.std.proofs.lemmas.List.{length-map, map-append, drop_more}
 use Rattle.sn_nodecmd.specs.declared.latest.Judged.{Judged}

@@ -40,6 +40,19 @@ fn element(end: u32, bytes: &[u8]) -> Result<(&[u8], &[u8]), Undecoded>
     Ok(rest.split_at(size))
 }
 
+/// How many elements the bytes have, up to the first that is at fault.
+fn count_elements(end: u32, bytes: &[u8]) -> usize
+    requires { length bytes.now ≤ end }
+{
+    let mut count = 0;
+    let mut rest = bytes;
+    while let Ok((_, after)) = element(end, rest) {
+        count += 1;
+        rest = after;
+    }
+    count
+}
+
 fn tag(bytes: &[u8]) -> u64
     requires { 16 ≤ length bytes.now }
     ensures { result ≡ tag_in bytes.now }
@@ -88,7 +101,7 @@ fn elements(
     requires { length bytes.now ≤ end }
     ensures { Gives (λ v. map shape v.items) result (elements_in (packet_in deep around) end (length bytes.now) bytes.now) }
 {
-    let mut elements = Vec::new(alloc);
+    let mut elements = Vec::with_capacity(alloc, count_elements(end, bytes))?;
     let mut rest = bytes;
     while !rest.is_empty() {
         let (front, after) = element(end, rest)?;

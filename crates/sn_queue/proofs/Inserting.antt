@@ -4,6 +4,7 @@ use Rattle.std.proofs.lemmas.Bool.{leb-true, leb-false, cases_order}
 use Rattle.std.specs.List.{AllByRecursion}
 use Rattle.std.specs.Ordering.{nat_cmp, ordering_then}
 use Rattle.std.specs.BTreeMap.{BTreeMap, insert_entry}
+use Rattle.sn_queue.specs.declared.clock.Clock.{Clock}
 use Rattle.sn_queue.specs.declared.entry.Place.{Place}
 use Rattle.sn_queue.specs.declared.entry.Held.{Held}
 use Rattle.sn_osc.specs.Shape.{MessageShape, message_of}
@@ -71,9 +72,9 @@ IsInOrder-put q tag boundary from messages o few room reach =
       keys = All-insert (λ v. IsInReach v.key q.base q.rate) w reach q.waiting o.keys;
     }
 
-pub meaning-put : (q : Inside) (m : BTreeMap Place Held) (h : Held) (key tag boundary : ℕ) → IsInOrder (meaning q) → key ≡ key_of tag boundary q.base q.rate
+pub meaning-put : (q : Inside) (k : Clock) (m : BTreeMap Place Held) (h : Held) (key tag boundary : ℕ) → IsInOrder (meaning q) → k.base ≡ q.clock.base → k.rate ≡ q.clock.rate → key ≡ key_of tag boundary q.clock.base q.clock.rate
     → m.entries ≡ insert_entry place_cmp q.waiting.entries (record { key = key; number = q.puts }) h
-    → meaning (record q { puts = q.puts + 1; waiting = m }) ≡ put (meaning q) tag boundary h.from (map message_of h.messages)
-meaning-put q m h key tag boundary o value entries =
+    → meaning (record q { clock = k; puts = q.puts + 1; waiting = m }) ≡ put (meaning q) tag boundary h.from (map message_of h.messages)
+meaning-put q k m h key tag boundary o base rate value entries =
     let list = ap (map waiting_at) entries ∙ waiting-insert_entry (record { key = key; number = q.puts }) h q.waiting.entries o.numbers in
-    cc (list, value)
+    cc (list, value, base, rate)

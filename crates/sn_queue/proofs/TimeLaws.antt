@@ -1,10 +1,10 @@
 -- Which tag is the first that is due at a block.
-use Rattle.std.proofs.Common.{◌≡◌, ◌≤◌, ◌<◌, ◌^◌, ◌+◌, ◌-◌, ◌*◌, ◌/◌, ℕ, cond, eqb, max, true, false, arith, ap, subst, ◌∙◌, ⊎_elim}
+use Rattle.std.proofs.Common.{◌≡◌, ◌≤◌, ◌<◌, ◌^◌, ◌+◌, ◌-◌, ◌*◌, ◌/◌, ℕ, cond, eqb, max, true, false, arith, ap, subst, ◌∙◌, inr, ⊎_elim}
 use Rattle.std.proofs.lemmas.Grind.{div_ceil_times}
 use Rattle.std.proofs.lemmas.Bool.{cases_lt, lt-leb, le-leb}
 use Rattle.std.proofs.Math.Nat.{mul-le-mul_right, le-div_iff_mul-le, div-lt_iff_lt-mul}
 use Rattle.std.specs.Int.{div_ceil}
-use Rattle.sn_queue.specs.Time.{due, at, key_of, acts_at, IsLeastDue}
+use Rattle.sn_queue.specs.Time.{due, at, key_of, acts_at, IsInReach, IsLeastDue}
 
 -- at every tag, since `-` stops at 0
 pub due-is : (tag base rate : ℕ) → due tag base rate ≡ (tag - base) * rate / 2 ^ 38
@@ -73,3 +73,23 @@ due-key tag boundary base rate positive small =
       | true ↦ due-max (at boundary base rate) (at boundary base rate) base rate ∙ omega (arith, arrival)
       | false ↦ due-max tag (at boundary base rate) base rate ∙ ap (max (due tag base rate)) arrival
     ]
+
+-- ---- due numbers that 64 bits hold
+
+pub reach-at : (block base rate : ℕ) → 0 < rate → rate < 2 ^ 32 → block < 2 ^ 62 → IsInReach (at block base rate) base rate
+reach-at block base rate positive small early =
+    let bounds = div_ceil_times (block * 2 ^ 38) rate positive in
+    let from_base : at block base rate - base ≡ div_ceil (block * 2 ^ 38) rate = omega arith in
+    let product : (at block base rate - base) * rate ≡ div_ceil (block * 2 ^ 38) rate * rate = ap (λ n. n * rate) from_base in
+    inr (omega (arith, bounds, product, small, early))
+
+pub reach-tag : (tag base rate : ℕ) → tag < 2 ^ 64 → rate < 2 ^ 32 → IsInReach tag base rate
+reach-tag tag base rate fits small =
+    let most : (tag - base) * rate ≤ 2 ^ 64 * rate = mul-le-mul_right rate (omega (arith, fits)) in
+    inr (omega (arith, most, small))
+
+pub reach-max : (a b base rate : ℕ) → IsInReach a base rate → IsInReach b base rate → IsInReach (max a b) base rate
+reach-max a b base rate p q = ⊎_elim
+    (λ (h : a < b). let e : b ≡ max a b = omega arith in subst (λ n. IsInReach n base rate) e q)
+    (λ (h : b ≤ a). let e : a ≡ max a b = omega arith in subst (λ n. IsInReach n base rate) e p)
+    (cases_lt a b)

@@ -14,7 +14,7 @@ abbrev pub waiting_at : Place × Held → Waiting
 waiting_at e = record { key = e.0.key; number = e.0.number; from = e.1.from; messages = map message_of e.1.messages }
 
 abbrev pub meaning : Inside → WaitingList
-meaning q = record { base = q.base; rate = q.rate; limit = q.limit; puts = q.puts; waiting = map waiting_at q.waiting.entries }
+meaning q = record { base = q.clock.base; rate = q.clock.rate; limit = q.limit; puts = q.puts; waiting = map waiting_at q.waiting.entries }
 
 abbrev pub IsKept : Inside → Type 0
 IsKept q = IsInOrder (meaning q)

@@ -2,6 +2,7 @@
 //! it keeps an ordered map, so that putting and taking an entry costs the logarithm of the entries that wait.
 #![tactic(auto)]
 
+mod clock;
 mod entry;
 mod messages;
 mod queue;

@@ -7,9 +7,10 @@ ghost use Rattle.sn_queue.specs.Waiting.{WaitingList, IsInOrder};
 ghost use Rattle.sn_queue.specs.Meaning.{waiting_of};
 ghost use Rattle.sn_queue.specs.Steps.{put, due_of, first_due, without_first_due, is_due, last_due, clear_after, count_after};
 
+use crate::clock::Clock;
 use crate::entry::{Entry, Held, Place, Unput};
 use crate::messages::Messages;
-use crate::time::{due, key};
+use crate::time::due;
 use std::alloc::Global;
 use std::collections::BTreeMap;
 use std::marker::Model;
@@ -17,8 +18,7 @@ use std::marker::Model;
 /// Entries that wait for their time.
 #[derive(Debug, Drop)]
 pub struct Queue {
-    base: u64,
-    rate: u32,
+    clock: Clock,
     limit: Option<u32>,
     puts: u64,
     waiting: BTreeMap<Place, Held>,
@@ -44,8 +44,7 @@ impl Queue {
         ensures { result ≡ record { base = base; rate = rate; limit = limit; puts = 0; waiting = [] } }
     {
         Queue {
-            base,
-            rate,
+            clock: Clock::new(base, rate),
             limit,
             puts: 0,
             waiting: BTreeMap::new(alloc),
@@ -101,7 +100,7 @@ impl Queue {
             return Err(Unput::QueueFull);
         }
         let place = Place {
-            key: key(tag, boundary, self.base, self.rate),
+            key: self.clock.key(tag, boundary),
             number: self.puts,
         };
         self.waiting.insert(place, Held { from, messages })?;
@@ -114,7 +113,7 @@ impl Queue {
         ensures { result ≡ list_any (is_due self.now now) self.now.waiting }
     {
         match self.waiting.first_key_value() {
-            Some((place, _)) => due(place.key, self.base, self.rate) <= now,
+            Some((place, _)) => due(place.key, self.clock.base, self.clock.rate) <= now,
             None => false,
         }
     }
@@ -140,7 +139,7 @@ impl Queue {
         ensures none { (result ≡ None) ↔ (self.now.waiting ≡ []) }
     {
         let (place, _) = self.waiting.last_key_value()?;
-        Some(due(place.key, self.base, self.rate))
+        Some(due(place.key, self.clock.base, self.clock.rate))
     }
 
     /// Drops the last entry, where it is due after `now`, and tells so.

@@ -1,5 +1,5 @@
 ghost use Rattle.std.specs.Prelude.{◌≡◌, ◌≤◌, ◌<◌, ◌^◌, ℕ};
-ghost use Rattle.sn_queue.specs.Time.{due, at, key_of, acts_at, IsInReach, IsLeastDue};
+ghost use Rattle.sn_queue.specs.Time.{due, at, IsInReach, IsLeastDue};
 
 /// The number of the boundary at which `tag` is due: the last block that begins no later than it. A
 /// tag and the `base`, which is the time of block 0, count in units of 2^-32 seconds (OSC 1.0, time
@@ -24,19 +24,4 @@ pub fn at(block: u64, base: u64, rate: u32) -> u128
     ensures least { 1 ≤ block → IsLeastDue result block base rate }
 {
     u128::from(base) + (u128::from(block) << 38).div_ceil(u128::from(rate))
-}
-
-/// The time at which an entry acts that has this tag and arrives at this boundary.
-pub(crate) fn key(tag: u64, boundary: u64, base: u64, rate: u32) -> u128
-    requires boundary { boundary < 2 ^ 62 }
-    requires rate { 0 < rate }
-    ensures value { result ≡ key_of tag boundary base rate }
-    ensures in_reach { IsInReach result base rate }
-    ensures acts_at { due result base rate ≡ acts_at tag boundary base rate }
-{
-    let arrival = at(boundary, base, rate);
-    match tag {
-        1 => arrival,
-        _ => u128::from(tag).max(arrival),
-    }
 }

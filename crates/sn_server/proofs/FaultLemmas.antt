@@ -1,21 +1,41 @@
--- Facts of ends and answers at which nothing failed.
-use Rattle.std.proofs.Common.{◌≡◌, Result, Ok, Err, subst, sym}
+-- Facts of steps that hold unless one end came.
+use Rattle.std.proofs.Common.{◌≡◌, ◌∙◌, Result, Ok, Err, ap, ◌⊎◌, inl, inr}
+use Rattle.std.specs.Prelude.{IfErr, OnOk}
 use Rattle.std.specs.Result.{IsErrAnd}
 use Rattle.sn_server.specs.declared.ended.Ended.{Ended}
-use Rattle.sn_server.specs.Faults.{UnlessFault}
-use Rattle.sn_server.specs.Served.{WhereGiven}
-use Rattle.sn_server.proofs.ServingLemmas.{by_end_so}
+use Rattle.sn_server.proofs.ServingLemmas.{failed}
 
--- a fact at an end gives another
-pub given_so : (how : Ended) (P Q : Type 0) → (P → Q) → WhereGiven how P → WhereGiven how Q
-given_so how P Q so p = by_end_so how P Q (Unit {0}) (Unit {0}) so (λ x. x) p
+abbrev done : Unit {0} → Result (Unit {0}) Ended
+done x = Ok x
 
--- a fact of an answer gives another
-pub unless_so : (r : Result (Unit {0}) Ended) (P Q : Type 0) → (P → Q) → UnlessFault r P → UnlessFault r Q
-unless_so (Ok x) P Q so p = so p
-unless_so (Err how) P Q so p = given_so how P Q so p
+not_failed : (x : Unit {0}) (end : Ended) → done x ≡ failed end → ⊥
+not_failed x end e = cc
 
--- a fact at the end that a step answers
-pub unless_err : (r : Result (Unit {0}) Ended) (how : Ended) (P : Type 0) → IsErrAnd r (λ k. k ≡ how) → WhereGiven how P → UnlessFault r P
-unless_err (Ok x) how P is p = absurd is
-unless_err (Err k) how P is p = subst (λ (e : Ended). WhereGiven e P) (sym is) p
+same_end : (how end : Ended) → failed how ≡ failed end → how ≡ end
+same_end how end e = cc
+
+-- a fact gives another
+pub either_so : (A P Q : Type 0) → (P → Q) → A ⊎ P → A ⊎ Q
+either_so A P Q so (inl a) = inl a
+either_so A P Q so (inr p) = inr (so p)
+
+-- a step that ends in one way alone
+pub either_of : (r : Result (Unit {0}) Ended) (end : Ended) (P : Type 0) → IfErr r (λ how. how ≡ end) → OnOk r P → (r ≡ failed end) ⊎ P
+either_of (Ok x) end P only p = inr p
+either_of (Err how) end P only p = inl (ap failed only)
+
+-- what is said where a step ended is said of the answer that hands this on
+pub either_err : (r : Result (Unit {0}) Ended) (how end : Ended) (P : Type 0) → IsErrAnd r (λ k. k ≡ how) → (failed how ≡ failed end) ⊎ P → (r ≡ failed end) ⊎ P
+either_err (Ok x) how end P is said = absurd is
+either_err (Err k) how end P is (inl e) = inl (ap failed is ∙ e)
+either_err (Err k) how end P is (inr p) = inr p
+
+-- and of the end alone
+pub either_end : (how end : Ended) (P Q : Type 0) → (P → Q) → (failed how ≡ failed end) ⊎ P → (how ≡ end) ⊎ Q
+either_end how end P Q so (inl e) = inl (same_end how end e)
+either_end how end P Q so (inr p) = inr (so p)
+
+-- a step that goes on did not end
+pub goes_on : (x : Unit {0}) (end : Ended) (P : Type 0) → (done x ≡ failed end) ⊎ P → P
+goes_on x end P (inl e) = absurd (not_failed x end e)
+goes_on x end P (inr p) = p

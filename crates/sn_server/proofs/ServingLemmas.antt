@@ -21,7 +21,7 @@ use Rattle.sn_render.proofs.WritingLemmas.{takes_none}
 use Rattle.sn_server.specs.declared.ended.Ended.{Ended}
 use Rattle.sn_server.specs.declared.ended.Ended.TheVariants.{Quit, NoMemory, Closed, Cut, BadFrame, LinkFault, SoundFault, Worn}
 use Rattle.sn_server.specs.PlayEvents.{Live, Course, ended, ends, with_packets, keep, receive, is_worn, worn, unless_quit, after_tick, tick, at_end}
-use Rattle.sn_server.specs.Served.{TakesBetween, ByEnd, WhereGiven}
+use Rattle.sn_server.specs.Served.{TakesBetween, ByEnd}
 use Rattle.sn_server.specs.Serving.{IsBad, IsLive, IsReady, HasEnded, GoesOn, IsCut, Follows, GoesThrough, IsAhead, IsRowOn, IsTickEnd, IsTicked, IsTickPart, HasQuit, IsWornOut, HasLeft}
 use Rattle.sn_server.proofs.PacketLemmas.{packets_stay}
 use Rattle.sn_server.proofs.GrowingLemmas.{packets_step, tick_grows, receive_end}
@@ -259,9 +259,6 @@ by_end_so SoundFault P R Q S f g h = g h
 -- a fact about the ends that the events give, where it is worn out
 pub worn_out : (how : Ended) (bytes blocks : ℕ) (P Q : Type 0) → how ≡ Worn bytes blocks → P → ByEnd how P Q
 worn_out how bytes blocks P Q is p = subst (λ (k : Ended). ByEnd k P Q) (sym is) p
-
-pub given : (how : Ended) (P : Type 0) → P → WhereGiven how P
-given how P p = by_end how P (Unit {0}) p tt
 
 -- it is worn out
 pub worn_is : (sound_old sound_new sent_old sent_new : Option (List ℕ)) (v : Live) (e : Running) (f : Framing) (how : Ended) → IsLive sound_old sound_new sent_old sent_new v e f → IsWornOut e f how → (is_worn v ≡ true) × ((worn v).ending ≡ how)

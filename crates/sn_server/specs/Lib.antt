@@ -1,5 +1,4 @@
 pub mod PlayEvents
 pub mod Served
-pub mod Faults
 pub mod Serving
 pub mod Statuses

@@ -34,10 +34,6 @@ ByEnd NoMemory P Q = Q
 ByEnd LinkFault P Q = Q
 ByEnd SoundFault P Q = Q
 
--- a fact about the ends that the events give
-abbrev pub WhereGiven : Ended → Type 0 → Type 0
-WhereGiven how P = ByEnd how P (Unit {0})
-
 -- The events that were taken give this end, and none was taken after it; the sink took the sound that they give, and what they answer was
 -- sent. Each is said where it is told.
 pub record IsServed (s : Settings) (base : ℕ) (left_old left_new : Option (List LinkEvent)) (sound_old sound_new sent_old sent_new : Option (List ℕ)) (how : Ended) : Type 0 where

@@ -1,5 +1,5 @@
 //! Bytes that come over a connection: whole frames are taken out of them, and what these make is sent.
-ghost use Rattle.std.specs.Prelude.{◌≡◌, ◌≤◌, ◌<◌, ◌+◌, ◌^◌, ◌∷◌, [], List, ℕ, Option, IfOk, IfErr, OnOk, Err, length};
+ghost use Rattle.std.specs.Prelude.{◌≡◌, ◌⊎◌, ◌≤◌, ◌<◌, ◌+◌, ◌^◌, ◌∷◌, [], List, ℕ, Option, IfOk, IfErr, OnOk, Err, length};
 ghost use Rattle.std.specs.Io.KnownBytes.{Appends};
 ghost use Rattle.sn_ports.specs.Causes.{Rose};
 ghost use Rattle.sn_ports.specs.Links.{KeepsEvents};
@@ -7,7 +7,6 @@ ghost use Rattle.sn_osc.specs.Frames.{first_frame};
 ghost use Rattle.sn_osc.specs.Reading.{read};
 ghost use Rattle.sn_osc.specs.Unpacking.{unpacked};
 ghost use Rattle.sn_engine.specs.declared.standing.Standing.TheVariants.{Settled};
-ghost use Rattle.sn_server.specs.Faults.{UnlessFault};
 ghost use Rattle.sn_render.specs.Fronts.{TakesFront};
 ghost use Rattle.sn_render.specs.Play.{to_first};
 ghost use Rattle.sn_server.specs.PlayEvents.{Live, receive, with_packet, with_packets};
@@ -72,7 +71,7 @@ pub fn send_replies<L: Link>(engine: &mut Engine, link: &mut L) -> Result<(), En
     ensures only { IfErr result (λ how. how ≡ Ended.LinkFault) }
     ensures cause { result ≡ Err Ended.LinkFault → Rose (L.faults link.old) (L.faults link.new) }
     ensures later { L.faults link.old ≤ L.faults link.new }
-    ensures unfailed { UnlessFault result (L.faults link.new ≡ L.faults link.old) }
+    ensures unfailed { OnOk result (L.faults link.new ≡ L.faults link.old) }
     ensures events { KeepsEvents (L.left link.old) (L.left link.new) }
 {
     match engine.send_replies(0, link) {
@@ -104,7 +103,7 @@ pub fn receive<L: Link>(
     ensures sound { result ≡ Err Ended.SoundFault → ⊥ }
     ensures cause { result ≡ Err Ended.LinkFault → Rose (L.faults link.old) (L.faults link.new) }
     ensures later { L.faults link.old ≤ L.faults link.new }
-    ensures unfailed { UnlessFault result (L.faults link.new ≡ L.faults link.old) }
+    ensures unfailed { (result ≡ Err Ended.LinkFault) ⊎ (L.faults link.new ≡ L.faults link.old) }
 {
     framer.feed(piece)?;
     let bad = take_packets(alloc, engine, framer)?;

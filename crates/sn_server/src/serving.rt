@@ -2,10 +2,8 @@
 ghost use Rattle.std.specs.Prelude.{◌≡◌, ◌⊎◌, ◌≤◌, ◌<◌, ◌+◌, ◌^◌, ℕ, List, Option, Some, IfErr, OnOk, Err, length};
 ghost use Rattle.sn_ports.specs.Causes.{Rose};
 ghost use Rattle.sn_ports.specs.Links.{LinkEvent};
-ghost use Rattle.sn_render.specs.Faults.{NothingFailed};
-ghost use Rattle.sn_server.specs.Faults.{UnlessFault};
 ghost use Rattle.sn_server.specs.PlayEvents.{Live, bytes_in, closing, play_events};
-ghost use Rattle.sn_server.specs.Served.{Served, AtClose, WhereGiven};
+ghost use Rattle.sn_server.specs.Served.{Served, AtClose};
 ghost use Rattle.sn_server.specs.Serving.{IsLive, IsReady, HasLeft, Took};
 ghost use Rattle.sn_server.specs.declared.ended.Ended.{Ended};
 
@@ -62,7 +60,8 @@ fn take_event<H: Threads + Sync, L: Link, O: Sink, G: Gate>(
     ensures sound { result ≡ Err Ended.SoundFault → Rose (O.faults sound.old) (O.faults sound.new) }
     ensures link_later { L.faults link.old ≤ L.faults link.new }
     ensures sound_later { O.faults sound.old ≤ O.faults sound.new }
-    ensures unfailed { UnlessFault result (NothingFailed (L.faults link.old) (L.faults link.new) (O.faults sound.old) (O.faults sound.new)) }
+    ensures link_unfailed { (result ≡ Err Ended.LinkFault) ⊎ (L.faults link.new ≡ L.faults link.old) }
+    ensures sound_unfailed { (result ≡ Err Ended.SoundFault) ⊎ (O.faults sound.new ≡ O.faults sound.old) }
 {
     let most = (room.len() as u64).min(MOST - framer.fed()) as usize;
     let into = &mut room[..most];
@@ -100,7 +99,8 @@ fn serve_event<H: Threads + Sync, L: Link, O: Sink, G: Gate>(
     ensures sound { result ≡ Err Ended.SoundFault → Rose (O.faults sound.old) (O.faults sound.new) }
     ensures link_later { L.faults link.old ≤ L.faults link.new }
     ensures sound_later { O.faults sound.old ≤ O.faults sound.new }
-    ensures unfailed { UnlessFault result (NothingFailed (L.faults link.old) (L.faults link.new) (O.faults sound.old) (O.faults sound.new)) }
+    ensures link_unfailed { (result ≡ Err Ended.LinkFault) ⊎ (L.faults link.new ≡ L.faults link.old) }
+    ensures sound_unfailed { (result ≡ Err Ended.SoundFault) ⊎ (O.faults sound.new ≡ O.faults sound.old) }
 {
     check_worn(engine, framer)?;
     take_event(rt, alloc, engine, framer, room, link, sound, gate)
@@ -120,7 +120,8 @@ fn serve<H: Threads + Sync, L: Link, O: Sink, G: Gate>(
     ensures close { AtClose result (L.left link.old) (L.left link.new) }
     ensures link { result ≡ Ended.LinkFault → Rose (L.faults link.old) (L.faults link.new) }
     ensures sound { result ≡ Ended.SoundFault → Rose (O.faults sound.old) (O.faults sound.new) }
-    ensures unfailed { WhereGiven result (NothingFailed (L.faults link.old) (L.faults link.new) (O.faults sound.old) (O.faults sound.new)) }
+    ensures link_unfailed { (result ≡ Ended.LinkFault) ⊎ (L.faults link.new ≡ L.faults link.old) }
+    ensures sound_unfailed { (result ≡ Ended.SoundFault) ⊎ (O.faults sound.new ≡ O.faults sound.old) }
 {
     let Ok(mut engine) = Engine::open(alloc, settings, base, Some(MOST_ENTRIES), 1) else {
         return Ended::NoMemory;
@@ -168,8 +169,9 @@ pub fn serve_one<H: Threads + Sync, L: Link, O: Sink, G: Gate>(
     // A fault has its cause.
     ensures link { result ≡ Ended.LinkFault → Rose (L.faults link.old) (L.faults link.new) }
     ensures sound { result ≡ Ended.SoundFault → Rose (O.faults sound.old) (O.faults sound.new) }
-    // At an end that the events give nothing failed.
-    ensures unfailed { WhereGiven result (NothingFailed (L.faults link.old) (L.faults link.new) (O.faults sound.old) (O.faults sound.new)) }
+    // Neither failed but where its fault is the answer.
+    ensures link_unfailed { (result ≡ Ended.LinkFault) ⊎ (L.faults link.new ≡ L.faults link.old) }
+    ensures sound_unfailed { (result ≡ Ended.SoundFault) ⊎ (O.faults sound.new ≡ O.faults sound.old) }
     // Where no count rises, the answer is the end that all events give, or want of memory.
     ensures complete { (events : List LinkEvent) → L.left link.old ≡ Some events → bytes_in events < 2 ^ 62 → (Rose (L.faults link.old) (L.faults link.new) → ⊥)
         → (Rose (O.faults sound.old) (O.faults sound.new) → ⊥) → (result ≡ (play_events settings.now base events).ending) ⊎ (result ≡ Ended.NoMemory) }

@@ -6,8 +6,6 @@ ghost use Rattle.sn_ports.specs.Links.{KeepsEvents};
 ghost use Rattle.sn_engine.specs.Running.{Running, at_boundary, flow_at};
 ghost use Rattle.sn_engine.specs.declared.standing.Flow.TheVariants.{On};
 ghost use Rattle.sn_engine.specs.declared.standing.Standing.TheVariants.{Settled, Bounded};
-ghost use Rattle.sn_render.specs.Faults.{NothingFailed};
-ghost use Rattle.sn_server.specs.Faults.{UnlessFault};
 ghost use Rattle.sn_render.specs.Fronts.{TakesFront};
 ghost use Rattle.sn_server.specs.PlayEvents.{Live, tick};
 ghost use Rattle.sn_server.specs.Serving.{IsLive, Follows, IsReady, IsRowOn, StaysOpen, IsTickEnd, IsTicked, IsTickPart, HasQuit, IsWornOut, HasLeft};
@@ -32,7 +30,7 @@ fn write_sound<O: Sink>(engine: &mut Engine, sound: &mut O) -> Result<(), Ended>
     ensures only { IfErr result (λ how. how ≡ Ended.SoundFault) }
     ensures cause { result ≡ Err Ended.SoundFault → Rose (O.faults sound.old) (O.faults sound.new) }
     ensures later { O.faults sound.old ≤ O.faults sound.new }
-    ensures unfailed { UnlessFault result (O.faults sound.new ≡ O.faults sound.old) }
+    ensures unfailed { OnOk result (O.faults sound.new ≡ O.faults sound.old) }
 {
     match engine.drain_sound(sound) {
         Ok(()) => Ok(()),
@@ -78,7 +76,8 @@ fn tick<H: Threads + Sync, L: Link, O: Sink, G: Gate>(
     ensures sound { result ≡ Err Ended.SoundFault → Rose (O.faults sound.old) (O.faults sound.new) }
     ensures link_later { L.faults link.old ≤ L.faults link.new }
     ensures sound_later { O.faults sound.old ≤ O.faults sound.new }
-    ensures unfailed { UnlessFault result (NothingFailed (L.faults link.old) (L.faults link.new) (O.faults sound.old) (O.faults sound.new)) }
+    ensures link_unfailed { (result ≡ Err Ended.LinkFault) ⊎ (L.faults link.new ≡ L.faults link.old) }
+    ensures sound_unfailed { (result ≡ Err Ended.SoundFault) ⊎ (O.faults sound.new ≡ O.faults sound.old) }
 {
     engine.want(most);
     match engine.boundary(alloc)? {
@@ -129,7 +128,8 @@ pub fn ticks<H: Threads + Sync, L: Link, O: Sink, G: Gate>(
     ensures sound { result ≡ Err Ended.SoundFault → Rose (O.faults sound.old) (O.faults sound.new) }
     ensures link_later { L.faults link.old ≤ L.faults link.new }
     ensures sound_later { O.faults sound.old ≤ O.faults sound.new }
-    ensures unfailed { UnlessFault result (NothingFailed (L.faults link.old) (L.faults link.new) (O.faults sound.old) (O.faults sound.new)) }
+    ensures link_unfailed { (result ≡ Err Ended.LinkFault) ⊎ (L.faults link.new ≡ L.faults link.old) }
+    ensures sound_unfailed { (result ≡ Err Ended.SoundFault) ⊎ (O.faults sound.new ≡ O.faults sound.old) }
 {
     let first = engine.block();
     let mut done = 0;

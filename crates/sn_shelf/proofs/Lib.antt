@@ -4,5 +4,6 @@ pub mod FormLemmas
 pub mod PartLemmas
 pub mod RequestLemmas
 pub mod ExpandedLemmas
+pub mod AskingLemmas
 pub mod GrowthLemmas
 pub mod StreamLemmas

@@ -8,6 +8,7 @@ ghost use Rattle.sn_shelf.specs.ExpandedViews.{asked};
 ghost use Rattle.sn_shelf.specs.Growth.{MessageGrows, Grows, AllGrow, IsSpelledWithin, AllSpelledWithin};
 ghost use Rattle.sn_shelf.specs.WaveViews.{heard, IsWhole};
 
+use crate::asking::asks;
 use crate::fault::Unexpanded;
 use crate::files::read_file;
 use crate::parts::{blob_of, part_in};
@@ -178,6 +179,10 @@ pub fn expand<H: Shelf>(
     ensures failed { result ≡ Err Unexpanded.Failed → Rose (H.faults shelf.old) (H.faults shelf.new) }
     ensures unfailed { (result ≡ Err Unexpanded.Failed) ⊎ (H.faults shelf.new ≡ H.faults shelf.old) }
 {
+    // Most packets ask for nothing, and needn't be taken apart.
+    if !asks(&packet) {
+        return Ok(packet);
+    }
     fill(alloc, shelf, packet, room)
 }
 

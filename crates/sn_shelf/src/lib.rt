@@ -1,6 +1,7 @@
 //! Sound files that commands name: a shelf of files, what a WAV file is, and `/b_allocRead` with the samples in place of the name.
 #![tactic(auto)]
 
+mod asking;
 mod expanding;
 mod fault;
 mod files;

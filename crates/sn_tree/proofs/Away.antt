@@ -1,5 +1,5 @@
 -- Nodes that a change doesn't name, and the last tree of a level.
-use Rattle.std.proofs.Common.{◌≡◌, ℕ, ◌+◌, ◌≤◌, Option, Some, None, sym, refl, subst, arith}
+use Rattle.std.proofs.Common.{◌≡◌, ℕ, ◌≤◌, Option, Some, sym, refl, subst, arith}
 use Rattle.sn_forest.specs.Trees.{Trees, none, tree, one_at, count, uses, last_key, without, put_first, put_last, put_before, put_after}
 use Rattle.sn_forest.proofs.Keys.{one_same}
 use Rattle.sn_forest.proofs.Passing.{untouched, without_step, first_step, last_step, before_step, after_step}

@@ -1,13 +1,11 @@
 -- Going up from a node reaches a top, or the node isn't in the tree of the top.
-use Rattle.std.proofs.Common.{◌≡◌, ◌≢◌, ℕ, ◌+◌, ◌-◌, ◌<◌, ◌≤◌, Bool, true, false, ◌||◌, List, [], ◌∷◌, Option, Some, None, sym, refl, ap, ◌∙◌, subst, ⊎_elim, arith}
+use Rattle.std.proofs.Common.{◌≡◌, ◌≢◌, ℕ, ◌+◌, ◌-◌, ◌<◌, ◌≤◌, Bool, true, false, List, [], ◌∷◌, Option, Some, None, sym, refl, ap, ◌∙◌, subst, ⊎_elim, arith}
 use Rattle.std.specs.Prelude.{if◌then◌else◌, ◌==◌}
-use Rattle.std.proofs.lemmas.Bool.{cases_Bool, cases_eq}
+use Rattle.std.proofs.lemmas.Bool.{cases_eq}
 use Rattle.sn_forest.specs.Trees.{Trees, none, tree, one_at, uses, count, has_key, subtree, links_of}
-use Rattle.sn_forest.specs.declared.links.Links.{Links}
-use Rattle.sn_forest.proofs.Keys.{one_same, same_key, other_key, missing, present, some_or_none}
+use Rattle.sn_forest.proofs.Keys.{one_same, same_key, other_key, missing, present}
 use Rattle.sn_forest.proofs.Paths.{Path, top, under, beside, plug, parent_of, path_uses, uses-plug, count-plug, Found, found}
 use Rattle.sn_forest.proofs.Passing.{subtree_found, links_found}
-use Rattle.sn_forest.proofs.Holes.{alone_on}
 use Rattle.sn_tree.specs.declared.item.Item.{Item}
 use Rattle.sn_tree.specs.Keyed.{parent_in}
 

@@ -1,12 +1,12 @@
 -- Loops over what is left of a walk.
-use Rattle.std.proofs.Common.{◌≡◌, ℕ, ◌+◌, ◌<◌, ◌≤◌, ℤ, Bool, true, false, List, [], ◌∷◌, ◌++◌, Option, Some, None, sym, refl, ap, ◌∙◌, subst, append_assoc, arith}
+use Rattle.std.proofs.Common.{◌≡◌, ℕ, ◌+◌, ◌<◌, ◌≤◌, ℤ, true, false, List, [], ◌∷◌, ◌++◌, Some, None, sym, refl, ap, ◌∙◌, subst, append_assoc, arith}
 use Rattle.std.specs.Prelude.{if◌then◌else◌}
 use Rattle.std.proofs.lemmas.List.{append-nil}
-use Rattle.sn_forest.specs.Trees.{Trees, none, tree, count}
+use Rattle.sn_forest.specs.Trees.{Trees, count}
 use Rattle.sn_forest.specs.Walking.{behind_tree}
 use Rattle.sn_tree.specs.Trees.{first_of, running_labels}
 use Rattle.sn_tree.specs.Order.{Key}
-use Rattle.sn_tree.specs.Kept.{same_key, uses as key_uses}
+use Rattle.sn_tree.specs.Kept.{uses as key_uses}
 use Rattle.sn_tree.specs.Members.{tops}
 use Rattle.sn_tree.specs.Below.{top_ids}
 use Rattle.sn_tree.specs.declared.item.Item.{Item}

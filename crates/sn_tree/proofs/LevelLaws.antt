@@ -1,19 +1,18 @@
 -- The first detached node ends, and those just below it stand by themselves.
 use Rattle.std.proofs.Common.{◌≡◌, ◌≢◌, ℕ, ◌+◌, ◌<◌, ◌≤◌, ℤ, Option, Some, None, sym, refl, ap, ◌∙◌, subst, arith}
-use Rattle.std.specs.Prelude.{if◌then◌else◌, ◌==◌}
 use Rattle.sn_forest.specs.Trees.{Trees, none, tree, one_at, uses, count, first_key, last_key, joined, subtree, without, below_of, value_of, links_of, put_after}
-use Rattle.sn_forest.specs.Places.{shifted, IsPlaceIn}
+use Rattle.sn_forest.specs.Places.{shifted}
 use Rattle.sn_forest.specs.Walking.{behind_node, behind_tree}
 use Rattle.sn_forest.specs.declared.links.Links.{Links}
 use Rattle.sn_forest.specs.declared.place.Place.TheVariants.{After}
-use Rattle.sn_forest.proofs.Keys.{one_same, apart, same_key, joined-none, joined-joined, count-joined, uses-joined}
+use Rattle.sn_forest.proofs.Keys.{one_same, joined-none, joined-joined, count-joined, uses-joined}
 use Rattle.sn_forest.proofs.Paths.{Path, top, under, beside, plug, path_uses, uses-plug}
 use Rattle.sn_forest.proofs.Passing.{without_at, after_at, subtree_found, below_found, value_found, links_found}
 use Rattle.sn_forest.proofs.Walking.{none_first, some_first}
 use Rattle.sn_ids.specs.Pairs.{Table}
 use Rattle.sn_tree.specs.declared.item.Item.{Item}
-use Rattle.sn_tree.specs.Keyed.{front, names, last_in, raised, with_behind, first_value}
-use Rattle.sn_tree.specs.Stored.{EachOnce, IsSound, IsStored}
+use Rattle.sn_tree.specs.Keyed.{names, last_in, raised, with_behind, first_value}
+use Rattle.sn_tree.specs.Stored.{EachOnce, IsStored}
 use Rattle.sn_tree.proofs.StoredLaws.{rooted, each-joined}
 
 -- the way to what stands after some trees

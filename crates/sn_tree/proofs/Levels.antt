@@ -1,11 +1,10 @@
 -- Detached subtrees, which stand beside each other.
-use Rattle.std.proofs.Common.{◌≡◌, ◌≢◌, ℕ, ◌+◌, ◌≤◌, ℤ, Bool, true, false, ◌||◌, Option, Some, None, sym, refl, ap, ◌∙◌, arith}
+use Rattle.std.proofs.Common.{◌≡◌, ℕ, ℤ, Bool, true, false, ◌||◌, sym, refl, ap, ◌∙◌}
 use Rattle.std.specs.Prelude.{if◌then◌else◌}
 use Rattle.std.specs.Ordering.{int_eq}
 use Rattle.sn_forest.specs.Trees.{Trees, none, tree}
 use Rattle.sn_forest.proofs.Paths.{Path, top, under, beside, plug}
-use Rattle.sn_tree.specs.Trees.{Label, Nodes, none as no_nodes, node, has_top, last_top, without_last}
-use Rattle.sn_tree.specs.Order.{Key}
+use Rattle.sn_tree.specs.Trees.{none as no_nodes, node, has_top, last_top, without_last}
 use Rattle.sn_tree.specs.declared.item.Item.{Item}
 use Rattle.sn_tree.specs.Keyed.{label_by, labels}
 use Rattle.sn_tree.proofs.KeyedPaths.{plug_labels, labels-plug}

@@ -10,10 +10,10 @@ use Rattle.sn_tree.specs.Arranged.{Arranged}
 use Rattle.sn_tree.specs.Saving.{SavedNodes}
 use Rattle.sn_tree.specs.Model.{NodeTree}
 use Rattle.sn_tree.specs.Kept.{uses, payload_of, IsFilled, shown}
-use Rattle.sn_tree.specs.Keyed.{label_by, labels, first_row, below_first}
+use Rattle.sn_tree.specs.Keyed.{labels, first_row, below_first}
 use Rattle.sn_tree.specs.Walking.{payload_at, left_of, IsLeft}
 use Rattle.sn_tree.specs.Members.{tops, members, members_of}
-use Rattle.sn_tree.proofs.PayloadLaws.{relabelled, joined-payloads, subtree-payloads}
+use Rattle.sn_tree.proofs.PayloadLaws.{joined-payloads, subtree-payloads}
 use Rattle.sn_tree.proofs.Keeping.{uses-parts}
 use Rattle.sn_tree.proofs.KeyedLaws.{labels-joined}
 use Rattle.sn_tree.proofs.RowLaws.{Begins, begins, no_first}

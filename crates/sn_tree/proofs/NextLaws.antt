@@ -1,9 +1,9 @@
 -- The node after another in the order of the walk, and the nodes below one.
-use Rattle.std.proofs.Common.{◌≡◌, ℕ, ◌+◌, ◌≤◌, ℤ, Bool, true, false, ◌||◌, List, [], ◌∷◌, ◌++◌, Option, Some, None, sym, refl, ap, ◌∙◌, append_assoc, arith}
+use Rattle.std.proofs.Common.{◌≡◌, ℕ, ℤ, Bool, true, false, ◌||◌, List, [], ◌∷◌, ◌++◌, Option, Some, None, sym, refl, ap, ◌∙◌, append_assoc, arith}
 use Rattle.std.specs.Prelude.{if◌then◌else◌}
 use Rattle.std.specs.Ordering.{int_eq}
 use Rattle.std.proofs.lemmas.List.{append-nil}
-use Rattle.sn_forest.specs.Trees.{Trees, none, tree, uses, joined}
+use Rattle.sn_forest.specs.Trees.{Trees, none, tree, joined}
 use Rattle.sn_forest.specs.Walking.{from, behind_node}
 use Rattle.sn_forest.proofs.Keys.{joined-none}
 use Rattle.sn_forest.proofs.Paths.{Path, top, under, beside, plug}

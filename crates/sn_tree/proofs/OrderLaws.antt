@@ -1,14 +1,14 @@
 -- What the calls by keys make of the attached and the detached nodes.
-use Rattle.std.proofs.Common.{◌≡◌, ◌≢◌, ℕ, ◌+◌, ◌≤◌, ℤ, pos, Bool, true, false, not, ◌&&◌, Option, Some, None, sym, refl, ap, ◌∙◌, subst, ⊎_elim, arith}
+use Rattle.std.proofs.Common.{◌≡◌, ◌≢◌, ℕ, ◌+◌, ◌≤◌, ℤ, pos, Bool, true, false, ◌&&◌, Option, Some, None, sym, refl, ap, ◌∙◌, subst, ⊎_elim, arith}
 use Rattle.std.specs.Prelude.{if◌then◌else◌, ◌==◌}
 use Rattle.std.specs.Option.{option_map}
 use Rattle.std.specs.Ordering.{int_eq}
 use Rattle.std.proofs.lemmas.Bool.{cases_Bool}
 use Rattle.std.proofs.lemmas.Bool.Decides.{Decides-int_eq}
-use Rattle.sn_forest.specs.Trees.{Trees, none, tree, one_at, uses, count, has_key, first_key, last_key, joined as joined_trees, subtree as subtree_of, without as without_key}
-use Rattle.sn_forest.specs.Places.{put as put_at, shifted, IsPlaceIn}
+use Rattle.sn_forest.specs.Trees.{Trees, none, tree, one_at, uses, count, has_key, last_key, subtree as subtree_of, without as without_key}
+use Rattle.sn_forest.specs.Places.{put as put_at, shifted}
 use Rattle.sn_forest.specs.Walking.{behind_node, behind_tree}
-use Rattle.sn_forest.specs.declared.place.Place.TheVariants.{First, Last, Before as PlaceBefore, After as PlaceAfter}
+use Rattle.sn_forest.specs.declared.place.Place.TheVariants.{After as PlaceAfter}
 use Rattle.sn_forest.proofs.Keys.{one_same, other_key, apart, missing, present}
 use Rattle.sn_forest.proofs.Walking.{some_first}
 use Rattle.sn_forest.proofs.Paths.{top, path_uses, uses-plug, Found, found}
@@ -17,12 +17,12 @@ use Rattle.sn_tree.specs.declared.item.Item.{Item}
 use Rattle.sn_tree.specs.declared.node.NodeKind.{NodeKind}
 use Rattle.sn_tree.specs.declared.node.Action.{Action}
 use Rattle.sn_tree.specs.declared.node.Action.TheVariants.{Head, Tail, Before, After}
-use Rattle.sn_tree.specs.Trees.{Label, Nodes, none as no_nodes, node, holds, subtree, count as count_nodes, joined, put, has_top, last_top, without_last, first_label, without_first, changed, with_running}
+use Rattle.sn_tree.specs.Trees.{Label, Nodes, none as no_nodes, node, holds, subtree, count as count_nodes, put, first_label, without_first, changed, with_running}
 use Rattle.sn_tree.specs.Faults.{is_beside_root}
 use Rattle.sn_tree.specs.Order.{Key}
 use Rattle.sn_tree.specs.Arranged.{Arranged}
 use Rattle.sn_tree.specs.Steps.{inserting, detaching, attaching, setting}
-use Rattle.sn_tree.specs.Keyed.{label_by, labels, front, sides, counted, named, names, placed, flagged, with_behind, first_value}
+use Rattle.sn_tree.specs.Keyed.{labels, front, sides, counted, named, names, placed, flagged, with_behind, first_value}
 use Rattle.sn_tree.specs.Stored.{EachOnce, IsBelowRoot, IsAmong, IsSound, IsLastTop, tops}
 use Rattle.sn_tree.proofs.KeyedPaths.{labels-plug, id_changed}
 use Rattle.sn_tree.proofs.KeyedLaws.{both_true, named-uses, labels-joined, put_sides, detach_sides}

@@ -1,10 +1,10 @@
 -- What a step of an attached or a detached node asks of the nodes, and what it makes of both sides.
-use Rattle.std.proofs.Common.{◌≡◌, ◌≢◌, ℕ, ◌+◌, ◌≤◌, ℤ, pos, Bool, true, false, ◌||◌, nat_lt, Option, Some, None, sym, refl, ap, ◌∙◌, subst, ⊎_elim, arith}
-use Rattle.std.specs.Prelude.{if◌then◌else◌, ◌==◌}
+use Rattle.std.proofs.Common.{◌≡◌, ◌≢◌, ℕ, ◌+◌, ◌≤◌, ℤ, pos, Bool, true, false, ◌||◌, Option, Some, None, sym, refl, ap, ◌∙◌, subst, ⊎_elim, arith}
+use Rattle.std.specs.Prelude.{if◌then◌else◌}
 use Rattle.std.specs.Ordering.{int_eq}
 use Rattle.std.proofs.lemmas.Bool.{cases_eq}
 use Rattle.std.proofs.lemmas.Bool.Decides.{Decides-int_eq}
-use Rattle.sn_forest.specs.Trees.{Trees, none, tree, one_at, uses, count, has_key, first_key, last_key, subtree as subtree_of, without as without_key}
+use Rattle.sn_forest.specs.Trees.{Trees, none, tree, one_at, uses, count, has_key, last_key, subtree as subtree_of, without as without_key}
 use Rattle.sn_forest.specs.Places.{put as put_at, shifted, IsPlaceIn}
 use Rattle.sn_forest.specs.declared.place.Place.{Place}
 use Rattle.sn_forest.specs.declared.place.Place.TheVariants.{Before as PlaceBefore, After as PlaceAfter}
@@ -14,12 +14,12 @@ use Rattle.sn_tree.specs.declared.item.Item.{Item}
 use Rattle.sn_tree.specs.declared.node.Action.{Action}
 use Rattle.sn_tree.specs.declared.node.Action.TheVariants.{Before}
 use Rattle.sn_tree.specs.declared.node.NodeKind.{NodeKind}
-use Rattle.sn_tree.specs.Trees.{Nodes, holds, shares}
+use Rattle.sn_tree.specs.Trees.{holds, shares}
 use Rattle.sn_tree.specs.Faults.{is_beside_root}
 use Rattle.sn_tree.specs.Arranged.{Arranged}
 use Rattle.sn_tree.specs.Steps.{detaching, attaching, moving, replacing}
 use Rattle.sn_tree.specs.Keyed.{labels, front, sides, counted, named, names, placed}
-use Rattle.sn_tree.specs.Stored.{IsAmong, IsSound, IsLastTop, IsMovable, IsAttachable}
+use Rattle.sn_tree.specs.Stored.{IsAmong, IsSound, IsMovable, IsAttachable}
 use Rattle.sn_tree.specs.Undoing.{IsInner}
 use Rattle.sn_tree.proofs.KeyedPaths.{is_held}
 use Rattle.sn_tree.proofs.KeyedLaws.{named-uses, move_sides}
@@ -27,7 +27,7 @@ use Rattle.sn_tree.proofs.StoredLaws.{end_stored}
 use Rattle.sn_tree.proofs.Sums.{named_sum, count_sum, uses_sum, has_not, out_all, out_front, in_all, in_front}
 use Rattle.sn_tree.proofs.SoundLaws.{put_sound, out_sound, move_sound, attach_sound, detach_sound, move_number, attach_number, detach_number}
 use Rattle.sn_tree.proofs.LabelLaws.{at, subtree_at}
-use Rattle.sn_tree.proofs.OrderLaws.{not_root, is_below, spot_below, spot_among, inserted_sides, detached_sides, attached_sides, top_there, top_out, tops-uses, top_once}
+use Rattle.sn_tree.proofs.OrderLaws.{not_root, is_below, spot_below, spot_among, inserted_sides, detached_sides, attached_sides, top_there, top_out, top_once}
 
 -- a node may go to a place, and then both sides are these
 pub record Shifts (t : Trees Item) (key : ℕ) (place : Place) (new : Arranged) : Type 0 where

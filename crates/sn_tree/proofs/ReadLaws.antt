@@ -1,5 +1,5 @@
 -- What the rows of a walk tell is what the nodes tell.
-use Rattle.std.proofs.Common.{◌≡◌, ◌≢◌, ℕ, ◌+◌, ◌≤◌, ℤ, negsuc, Bool, true, false, suc, List, [], ◌∷◌, ◌++◌, Option, Some, None, sym, refl, ap, ◌∙◌, subst, ⊎_elim, append_assoc, arith}
+use Rattle.std.proofs.Common.{◌≡◌, ◌≢◌, ℕ, ◌≤◌, ℤ, negsuc, Bool, true, false, suc, List, [], ◌∷◌, ◌++◌, Option, Some, None, sym, refl, ap, ◌∙◌, subst, ⊎_elim, append_assoc, arith}
 use Rattle.std.proofs.lemmas.Bool.{cases_Bool}
 use Rattle.std.proofs.lemmas.List.{append-nil}
 use Rattle.std.specs.Prelude.{if◌then◌else◌, ◌==◌}
@@ -12,7 +12,7 @@ use Rattle.sn_forest.proofs.Paths.{Path, top, under, beside, plug, parent_of, pr
 use Rattle.sn_forest.proofs.Passing.{value_found, links_found, subtree_found}
 use Rattle.sn_forest.proofs.Climbing.{over, plug-over}
 use Rattle.sn_tree.specs.declared.node.NodeView.{NodeView}
-use Rattle.sn_tree.specs.Trees.{Label, Nodes, node, holds, payloads, with_payloads, view_of}
+use Rattle.sn_tree.specs.Trees.{holds, payloads, with_payloads, view_of}
 use Rattle.sn_tree.specs.Faults.{is_synth}
 use Rattle.sn_tree.specs.Order.{Key}
 use Rattle.sn_tree.specs.Kept.{same_key, uses as key_uses, payload_of, filled}

@@ -1,5 +1,5 @@
 -- The first of the nodes that are left of a walk.
-use Rattle.std.proofs.Common.{◌≡◌, ℕ, List, [], ◌∷◌, ◌++◌, Option, Some, None, sym, refl, ap, ◌∙◌, append_assoc}
+use Rattle.std.proofs.Common.{◌≡◌, ℕ, [], ◌∷◌, ◌++◌, Option, Some, None, sym, refl, ap, ◌∙◌, append_assoc}
 use Rattle.sn_forest.specs.Trees.{Trees, none, tree, joined}
 use Rattle.sn_forest.specs.Walking.{behind_node}
 use Rattle.sn_tree.specs.declared.item.Item.{Item}

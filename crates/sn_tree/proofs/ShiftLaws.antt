@@ -1,20 +1,19 @@
 -- What keeps the index true where a node moves with all below it, on its side or to the other one.
-use Rattle.std.proofs.Common.{◌≡◌, ◌≢◌, ℕ, ◌+◌, ◌<◌, ◌≤◌, ℤ, Bool, true, false, length, Option, Some, None, sym, refl, ap, ◌∙◌, subst, ⊎_elim, arith}
-use Rattle.std.specs.Prelude.{if◌then◌else◌, ◌==◌, nat_lt}
+use Rattle.std.proofs.Common.{◌≡◌, ◌≢◌, ℕ, ◌+◌, ◌≤◌, ℤ, Bool, true, false, length, Some, None, sym, ap, ◌∙◌, subst, arith}
+use Rattle.std.specs.Prelude.{if◌then◌else◌, nat_lt}
 use Rattle.sn_forest.specs.Trees.{Trees, none, tree, one_at, uses, count, has_key, first_key, subtree, without}
 use Rattle.sn_forest.specs.Places.{key_of, put, shifted, IsPlaceIn}
-use Rattle.sn_forest.specs.Walking.{behind_tree}
 use Rattle.sn_forest.specs.declared.place.Place.{Place}
 use Rattle.sn_forest.specs.declared.place.Place.TheVariants.{First, Last, Before, After}
-use Rattle.sn_forest.proofs.Keys.{one_same, other_key}
-use Rattle.sn_forest.proofs.Paths.{top, plug, path_uses, uses-plug, Found, found}
+use Rattle.sn_forest.proofs.Keys.{other_key}
+use Rattle.sn_forest.proofs.Paths.{top, Found, found}
 use Rattle.sn_forest.proofs.Passing.{subtree_found}
 use Rattle.sn_forest.proofs.Holes.{place_used, alone_on}
 use Rattle.sn_forest.proofs.Returning.{Shift, shift}
 use Rattle.sn_ids.specs.Pairs.{Table, key_for}
 use Rattle.sn_tree.specs.declared.item.Item.{Item}
 use Rattle.sn_tree.specs.Keyed.{front, only, named, names, noted}
-use Rattle.sn_tree.specs.Stored.{below_root, is_within, IsRoot, IsSound, IsStored}
+use Rattle.sn_tree.specs.Stored.{is_within, IsSound, IsStored}
 use Rattle.sn_tree.proofs.KeyedLaws.{named-names}
 use Rattle.sn_tree.proofs.Indexing.{unnoted}
 use Rattle.sn_tree.proofs.Sums.{IsSum, named_sum, names_sum, count_sum, uses_sum, out_all, out_front, in_all, in_front}

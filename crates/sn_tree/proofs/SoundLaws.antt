@@ -1,5 +1,5 @@
 -- What stays true of the nodes where some are put in, moved or taken out.
-use Rattle.std.proofs.Common.{◌≡◌, ◌≢◌, ℕ, ◌+◌, ◌<◌, ◌≤◌, ℤ, pos, Bool, true, false, ◌&&◌, [], length, Option, Some, None, sym, refl, ap, ◌∙◌, subst, ⊎_elim, arith}
+use Rattle.std.proofs.Common.{◌≡◌, ◌≢◌, ℕ, ◌+◌, ◌≤◌, ℤ, pos, Bool, true, false, ◌&&◌, [], length, Some, None, sym, refl, ap, ◌∙◌, subst, ⊎_elim, arith}
 use Rattle.std.specs.Prelude.{if◌then◌else◌, ◌==◌}
 use Rattle.std.specs.Ordering.{int_eq}
 use Rattle.std.proofs.lemmas.Bool.{cases_Bool}
@@ -17,7 +17,7 @@ use Rattle.sn_forest.proofs.Walking.{some_first}
 use Rattle.sn_ids.specs.Pairs.{Pairs, Table, key_for}
 use Rattle.sn_tree.specs.declared.item.Item.{Item}
 use Rattle.sn_tree.specs.Keyed.{front, only, counted, named, names, noted}
-use Rattle.sn_tree.specs.Stored.{EachOnce, IsRoot, IsSound, IsStored, IsAmong, is_within}
+use Rattle.sn_tree.specs.Stored.{EachOnce, IsRoot, IsSound, IsStored, IsAmong}
 use Rattle.sn_tree.specs.declared.node.NodeKind.TheVariants.{Group}
 use Rattle.sn_tree.proofs.KeyedLaws.{Fronted, fronted, branch_is, detach_now, left_names, left_count, named-names}
 use Rattle.sn_tree.proofs.Indexing.{given, unnoted}

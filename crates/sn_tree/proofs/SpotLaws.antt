@@ -1,5 +1,5 @@
 -- A target inside a node, by keys and by ids, and the places of spots.
-use Rattle.std.proofs.Common.{◌≡◌, ℕ, ◌+◌, ◌≤◌, ℤ, pos, Bool, true, false, not, ◌&&◌, nat_lt, [], ◌∷◌, Option, Some, None, is_some, sym, refl, ap, ◌∙◌, ⊎_elim, arith}
+use Rattle.std.proofs.Common.{◌≡◌, ℕ, ◌+◌, ◌≤◌, ℤ, pos, Bool, true, false, not, ◌&&◌, nat_lt, [], ◌∷◌, Option, Some, None, is_some, sym, ap, ◌∙◌, ⊎_elim, arith}
 use Rattle.std.specs.Prelude.{◌==◌, Result, Ok, Err, MatchOption, MatchResult}
 use Rattle.std.specs.Ordering.{int_eq}
 use Rattle.sn_forest.specs.Trees.{Trees, none, tree, uses, has_key, subtree as subtree_of}

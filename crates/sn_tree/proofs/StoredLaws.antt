@@ -5,6 +5,7 @@ use Rattle.std.specs.Ordering.{int_eq}
 use Rattle.std.proofs.lemmas.Bool.{cases_Bool}
 use Rattle.std.proofs.lemmas.Bool.Decides.{Decides-int_eq}
 use Rattle.sn_forest.specs.Trees.{Trees, none, tree, one_at, uses, has_key, first_key, last_key, joined, without, value_of}
+use Rattle.sn_forest.specs.Walking.{behind_tree}
 use Rattle.sn_forest.proofs.Keys.{some_or_none, same_key, other_key, one_same, missing, present}
 use Rattle.sn_forest.proofs.Walking.{none_first, some_first}
 use Rattle.sn_forest.proofs.Paths.{top, plug, path_uses, Found, found}
@@ -111,6 +112,17 @@ module _ (r : ℕ) (root : Item) (below after : Trees Item) (once : (j : ℕ) �
 pub attached_is : (trees : Trees Item) (ids : Table) (key : ℕ) (item : Item) → ((j : ℕ) → uses j trees ≤ 1) → IsStored trees ids → value_of key trees ≡ Some item → is_key key (key_for item.id ids.pairs) ≡ has_key key (front trees)
 attached_is none ids key item once h held = absurd (let c : None ≡ Some item = held in cc)
 attached_is (tree r root below after) ids key item once h held = attached_by r root below after once ids key item h held
+
+-- where no node is detached, each is attached
+pub nothing_first : (trees : Trees Item) → None ≡ first_key trees → trees ≡ none
+nothing_first none e = refl
+nothing_first (tree key item below after) e = absurd (none_first key e)
+
+pub whole_front : (trees : Trees Item) (key : ℕ) → behind_tree trees ≡ none → 1 ≤ uses key trees → true ≡ has_key key (front trees)
+whole_front none key e u = absurd (omega (arith, u))
+whole_front (tree r root below after) key e u =
+    let gone : uses key after ≡ 0 = ap (uses key) e in
+    sym (present key (tree r root below none) (omega (arith, u, gone)))
 
 -- a node that is used holds something
 pub holds_value : (trees : Trees Item) (key : ℕ) → ((j : ℕ) → uses j trees ≤ 1) → 1 ≤ uses key trees → None ≡ value_of key trees → ⊥

@@ -1,8 +1,8 @@
 -- The last detached tree with an id, sought from the last one on.
-use Rattle.std.proofs.Common.{◌≡◌, ◌≢◌, ℕ, ◌+◌, ◌<◌, ◌≤◌, ℤ, Bool, true, false, ◌||◌, Option, Some, None, sym, refl, ap, ◌∙◌, subst, ⊎_elim, arith}
+use Rattle.std.proofs.Common.{◌≡◌, ◌≢◌, ℕ, ◌+◌, ◌<◌, ◌≤◌, ℤ, Bool, true, false, ◌||◌, Option, Some, None, sym, refl, ap, ◌∙◌, subst, arith}
 use Rattle.std.specs.Prelude.{if◌then◌else◌, ◌==◌}
 use Rattle.std.specs.Ordering.{int_eq}
-use Rattle.sn_forest.specs.Trees.{Trees, none, tree, one_at, uses, first_key, last_key, joined, subtree, without, value_of, links_of}
+use Rattle.sn_forest.specs.Trees.{Trees, none, tree, one_at, uses, first_key, last_key, subtree, without, value_of, links_of}
 use Rattle.sn_forest.specs.Walking.{behind_tree}
 use Rattle.sn_forest.proofs.Keys.{one_same, same_key, other_key, apart, joined-none}
 use Rattle.sn_forest.proofs.Paths.{Path, top, under, beside, plug, previous_of, path_uses, uses-plug}

@@ -1,7 +1,7 @@
 -- Each step is undone by what was kept of it.
-use Rattle.std.proofs.Common.{◌≡◌, ◌≢◌, ℕ, ◌+◌, ◌≤◌, Bool, List, ◌∷◌, Option, Some, None, sym, refl, ap, ◌∙◌, subst, arith}
-use Rattle.std.specs.Prelude.{if◌then◌else◌, ◌==◌}
-use Rattle.sn_forest.specs.Trees.{Trees, none, tree, one_at, uses, first_key, subtree, without, below_of, value_of}
+use Rattle.std.proofs.Common.{◌≡◌, ◌≢◌, ℕ, ◌+◌, ◌≤◌, Bool, List, ◌∷◌, Some, sym, refl, ap, ◌∙◌, subst, arith}
+use Rattle.std.specs.Prelude.{if◌then◌else◌}
+use Rattle.sn_forest.specs.Trees.{Trees, none, tree, uses, first_key, subtree, without, below_of, value_of}
 use Rattle.sn_forest.specs.Places.{put, shifted, place_by, place_of, IsPlaceIn}
 use Rattle.sn_forest.specs.declared.place.Place.{Place}
 use Rattle.sn_forest.proofs.Keys.{one_same, other_key}
@@ -10,15 +10,14 @@ use Rattle.sn_forest.proofs.Passing.{without_at, below_found, value_found, subtr
 use Rattle.sn_forest.proofs.Loose.{IsInner as IsInnerPath, inner_first}
 use Rattle.sn_forest.proofs.Holes.{Gap, gap, alone_on}
 use Rattle.sn_forest.proofs.Returning.{Shift, shift, links_place, moves_back, insert_back}
-use Rattle.sn_forest.proofs.Walking.{some_first}
 use Rattle.sn_tree.specs.declared.item.Item.{Item}
 use Rattle.sn_tree.specs.declared.undo.Undo.{Undo}
 use Rattle.sn_tree.specs.declared.undo.Undo.TheVariants.{Inserted, Moved, Ran}
 use Rattle.sn_tree.specs.Keyed.{flagged}
 use Rattle.sn_tree.specs.Stored.{IsSound}
-use Rattle.sn_tree.specs.Undoing.{IsInner, CanUndo, undone, restored, IsUndoable}
+use Rattle.sn_tree.specs.Undoing.{CanUndo, undone, restored, IsUndoable}
 use Rattle.sn_tree.proofs.Stopping.{first_used}
-use Rattle.sn_tree.proofs.Sums.{IsSum, uses_sum, in_all}
+use Rattle.sn_tree.proofs.Sums.{uses_sum}
 use Rattle.sn_tree.proofs.FlagLaws.{with_flag, flag_at, flag_sum}
 
 -- a step can be undone, and then the nodes are as they were before

@@ -1,9 +1,9 @@
 -- How an attached node is seen: its neighbours by their keys have the ids that the nodes tell.
-use Rattle.std.proofs.Common.{◌≡◌, ◌≢◌, ℕ, ◌+◌, ◌≤◌, ℤ, negsuc, Bool, true, false, ◌||◌, Option, Some, None, sym, refl, ap, ◌∙◌, subst, ⊎_elim, arith}
+use Rattle.std.proofs.Common.{◌≡◌, ◌≢◌, ℕ, ◌≤◌, ℤ, negsuc, true, false, Option, Some, None, sym, refl, ap, ◌∙◌, subst, ⊎_elim, arith}
 use Rattle.std.specs.Prelude.{if◌then◌else◌, ◌==◌}
 use Rattle.std.specs.Ordering.{int_eq}
 use Rattle.std.proofs.lemmas.Bool.Decides.{eqb_tells}
-use Rattle.sn_forest.specs.Trees.{Trees, none, tree, one_at, uses, first_key, last_key, joined, value_of, links_of}
+use Rattle.sn_forest.specs.Trees.{Trees, none, tree, uses, first_key, last_key, value_of, links_of}
 use Rattle.sn_forest.specs.declared.links.Links.{Links}
 use Rattle.sn_forest.proofs.Keys.{some_or_none, one_same, same_key, other_key, apart}
 use Rattle.sn_forest.proofs.Paths.{Path, top, under, beside, plug, parent_of, previous_of, path_uses, uses-plug}
@@ -11,11 +11,10 @@ use Rattle.sn_forest.proofs.Passing.{value_found, links_found}
 use Rattle.sn_forest.proofs.Walking.{none_first, some_first}
 use Rattle.sn_forest.proofs.Climbing.{over, plug-over}
 use Rattle.sn_tree.specs.declared.node.NodeView.{NodeView}
-use Rattle.sn_tree.specs.Trees.{Label, Nodes, none as no_nodes, node, holds, first_id, last_id, view_from, view_of}
-use Rattle.sn_tree.specs.Order.{Key}
+use Rattle.sn_tree.specs.Trees.{holds, first_id, last_id, view_from, view_of}
 use Rattle.sn_tree.specs.Views.{seen}
 use Rattle.sn_tree.specs.declared.item.Item.{Item}
-use Rattle.sn_tree.specs.Keyed.{label_by, labels, front, counted, named, names, id_of, id_in, is_first, view_by, view_in_row, view_of_key}
+use Rattle.sn_tree.specs.Keyed.{label_by, labels, front, named, names, id_of, id_in, is_first, view_by, view_in_row, view_of_key}
 use Rattle.sn_tree.proofs.KeyedPaths.{plug_labels, labels-plug, path_names, names-plug, counted_none, counted_one, is_held, not_held}
 use Rattle.sn_tree.proofs.KeyedLaws.{Named, found_named, both_true}
 

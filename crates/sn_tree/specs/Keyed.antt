@@ -1,12 +1,12 @@
 -- Nodes by their keys in a forest, and what they stand for.
-use Rattle.std.specs.Prelude.{◌≡◌, ℕ, ◌+◌, ◌≤◌, ◌==◌, ℤ, negsuc, Bool, true, false, ◌&&◌, ◌||◌, if◌then◌else◌, List, [], ◌∷◌, ◌++◌, length, Option, Some, None, is_some}
+use Rattle.std.specs.Prelude.{ℕ, ◌+◌, ◌==◌, ℤ, negsuc, Bool, true, false, ◌&&◌, ◌||◌, if◌then◌else◌, List, [], ◌∷◌, ◌++◌, Option, Some, None, is_some}
 use Rattle.std.specs.Ordering.{int_eq}
 use Rattle.sn_forest.specs.declared.links.Links.{Links}
 use Rattle.sn_forest.specs.Trees.{Trees, none, tree, joined, value_of, links_of}
 use Rattle.sn_forest.specs.Walking.{from, behind_tree}
 use Rattle.sn_forest.specs.declared.place.Place.{Place}
 use Rattle.sn_forest.specs.declared.place.Place.TheVariants.{First, Last, Before as PlaceBefore, After as PlaceAfter}
-use Rattle.sn_ids.specs.Pairs.{Pairs, Table, key_for}
+use Rattle.sn_ids.specs.Pairs.{Pairs, key_for}
 use Rattle.sn_tree.specs.declared.item.Item.{Item}
 use Rattle.sn_tree.specs.declared.node.Action.{Action}
 use Rattle.sn_tree.specs.declared.node.NodeView.{NodeView}

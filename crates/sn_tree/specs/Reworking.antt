@@ -1,5 +1,5 @@
 -- Payloads changed in a node and in all nodes below it.
-use Rattle.std.specs.Prelude.{◌≡◌, ℕ, zero, suc, ◌+◌, ◌≤◌, ℤ, false, if◌then◌else◌, List, Option}
+use Rattle.std.specs.Prelude.{◌≡◌, ℕ, zero, suc, ◌≤◌, ℤ, false, if◌then◌else◌, List, Option}
 use Rattle.std.specs.Ordering.{int_eq}
 use Rattle.sn_tree.specs.Trees.{Nodes, none, node, holds, with_payload, with_payloads}
 use Rattle.sn_tree.specs.Order.{Key}

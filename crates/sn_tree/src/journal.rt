@@ -30,17 +30,18 @@ impl Model for Journal {
 }
 
 impl Journal {
-    /// No steps, and room for so many.
-    pub fn new(alloc: Global, room: u32) -> Result<Journal, NoMemory>
+    /// No steps, and room for so many, in the memory of an earlier journal, where there is one.
+    pub fn new(alloc: Global, earlier: Option<Journal>, room: u32) -> Result<Journal, NoMemory>
         ensures { IfOk result (λ j. j ≡ record { steps = []; room = room; made = [] }) }
     {
-        let mut steps = Vec::new(alloc);
+        let (mut steps, mut made) = match earlier {
+            Some(journal) => journal.into_parts(),
+            None => (Vec::new(alloc), Vec::new(alloc)),
+        };
+        steps.clear();
+        made.clear();
         steps.reserve(room as usize)?;
-        Ok(Journal {
-            steps,
-            room,
-            made: Vec::new(alloc),
-        })
+        Ok(Journal { steps, room, made })
     }
 
     /// The steps, and the keys of the payloads that were put in.

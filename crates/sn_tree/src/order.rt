@@ -27,6 +27,8 @@ use std::marker::Model;
 pub struct Order {
     store: Store,
     journal: Option<Journal>,
+    // The last journal, whose memory the next one takes.
+    last: Option<Journal>,
     alloc: Global,
 }
 
@@ -59,6 +61,7 @@ impl Order {
         Ok(Order {
             store: Store::new(alloc)?,
             journal: None,
+            last: None,
             alloc,
         })
     }
@@ -69,7 +72,8 @@ impl Order {
         ensures ok { OnOk result (self.new ≡ record { now = self.old.now; saved = Some (record { nodes = self.old.now; room = steps; made = [] }) }) }
         ensures err { OnErr result (self.new ≡ self.old) }
     {
-        self.journal = Some(Journal::new(self.alloc, steps)?);
+        let last = self.last.take();
+        self.journal = Some(Journal::new(self.alloc, last, steps)?);
         Ok(())
     }
 
@@ -77,7 +81,8 @@ impl Order {
     pub fn commit(&mut self)
         ensures { self.new ≡ record { now = self.old.now; saved = None } }
     {
-        self.journal = None;
+        let journal = self.journal.take();
+        self.last = journal;
     }
 
     /// Restores the nodes as they were when the open journal was opened, and gives the keys of the payloads that were put

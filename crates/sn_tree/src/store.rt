@@ -80,12 +80,25 @@ impl Store {
         }
     }
 
-    /// Whether a node is attached.
+    /// Whether no node is detached.
+    fn is_whole(&self) -> bool
+        ensures { result ≡ true → behind_tree self.now ≡ none }
+    {
+        match self.first_detached() {
+            Some(_) => false,
+            None => true,
+        }
+    }
+
+    /// Whether a node is attached. Where none is detached it isn't looked for.
     pub fn is_attached(&self, key: usize) -> bool
         requires { 1 ≤ uses key self.now }
         ensures { result ≡ has_key key (front self.now) }
     {
         self.forest.keys_differ();
+        if self.is_whole() {
+            return true;
+        }
         match self.forest.get(key) {
             Some(item) => is_under(&self.ids, item, key),
             None => false,

@@ -21,6 +21,10 @@ chosen_end words P s port ran how chosen holds e = (s, (port, chosen), of_end (P
 pub by_chosen : (words : List Octets) (P : Settings → Type 0) (s : Settings) (port : ℕ) → serve_words_of words ≡ Ok (record { settings = numbers s; port = port }) → P s → ByServeWords words P
 by_chosen words P s port chosen holds = subst (λ r. ForServed words r P) (sym chosen) (s, (port, chosen), holds)
 
+pub or_end : (ran end : Ended) (P : Type 0) → (ran ≡ end) ⊎ P → (Ran ran ≡ Ran end) ⊎ P
+or_end ran end P (inl e) = inl (ap Ran e)
+or_end ran end P (inr p) = inr p
+
 pub either_end : (ran a b : Ended) → (ran ≡ a) ⊎ (ran ≡ b) → (Ran ran ≡ Ran a) ⊎ (Ran ran ≡ Ran b)
 either_end ran a b (inl e) = inl (ap Ran e)
 either_end ran a b (inr e) = inr (ap Ran e)

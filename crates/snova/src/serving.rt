@@ -5,7 +5,7 @@ ghost use Rattle.sn_ports.specs.Links.{LinkEvent, KeepsEvents};
 ghost use Rattle.sn_pcm.specs.declared.settings.Settings.{Settings};
 ghost use Rattle.sn_render.specs.Faults.{NothingFailed};
 ghost use Rattle.sn_server.specs.PlayEvents.{bytes_in, play_events};
-ghost use Rattle.sn_server.specs.Served.{AtClose, Served as GivesEnd, WhereGiven};
+ghost use Rattle.sn_server.specs.Served.{AtClose, Served as GivesEnd};
 ghost use Rattle.sn_server.specs.declared.ended.Ended.{Ended};
 ghost use Rattle.sn_words.specs.Serving.{serve_words_of};
 ghost use Rattle.snova.specs.Connection.{AreServed, ByServeWords, served_status};
@@ -61,8 +61,9 @@ pub fn serve<H: Threads + Sync, L: Link, O: Sink, G: Gate>(
     ensures link { result ≡ Served.Ran Ended.LinkFault → Rose (L.faults link.old) (L.faults link.new) }
     ensures sound { result ≡ Served.Ran Ended.SoundFault → Rose (O.faults sound.old) (O.faults sound.new) }
 
-    // At an end that the events give nothing failed.
-    ensures unfailed { (how : Ended) → result ≡ Served.Ran how → WhereGiven how (NothingFailed (L.faults link.old) (L.faults link.new) (O.faults sound.old) (O.faults sound.new)) }
+    // Neither failed but where its fault is the answer.
+    ensures link_unfailed { (result ≡ Served.Ran Ended.LinkFault) ⊎ (L.faults link.new ≡ L.faults link.old) }
+    ensures sound_unfailed { (result ≡ Served.Ran Ended.SoundFault) ⊎ (O.faults sound.new ≡ O.faults sound.old) }
 
     // Where the words choose settings and no count rises, the end is the one that all events give, or want of memory.
     ensures complete { ByServeWords words.now (λ s. (events : List LinkEvent) → L.left link.old ≡ Some events → bytes_in events < 2 ^ 62

@@ -1,11 +1,8 @@
-use Rattle.std.proofs.Common.{◌∙◌, ap, sym, List, ℤ}
-use Rattle.sn_tree.specs.declared.node.NodeView.{NodeView}
+use Rattle.std.proofs.Common.{ap}
 use Rattle.sn_tree.specs.Model.{NodeTree}
 use Rattle.sn_tree.specs.Steps.{detached}
 use Rattle.sn_world.specs.declared.stage.Held.{Held}
 use Rattle.sn_world.specs.declared.stage.Stage.{Stage}
-use Rattle.sn_world.specs.Freeing.{told_ends}
-use Rattle.sn_world.specs.World.{Turn}
 use Rattle.sn_nodecmd.proofs.Stepping.{freed_is, keeps_with, keeps_detached}
 use Rattle.sn_nodecmd.proofs.EmptyingLemmas.{spares_detached, spares_tree}
 use Rattle.sn_nodecmd.proofs.freeing.free_node.Goals as goal

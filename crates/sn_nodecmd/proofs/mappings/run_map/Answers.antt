@@ -1,4 +1,4 @@
-use Rattle.std.proofs.Common.{◌≡◌, ap, sym, subst, ◌∙◌, ℤ, map, Option, Some, Ok, Result, w32, rules}
+use Rattle.std.proofs.Common.{ap, sym, subst, ◌∙◌, ℤ, map, Option, Some, Ok, Result, w32, rules}
 use Rattle.std.specs.Prelude.{FitsSigned}
 use Rattle.std.specs.Option.{option_map}
 use Rattle.std.proofs.lemmas.Int.{to_z-of_z}

@@ -1,7 +1,6 @@
-use Rattle.std.proofs.Common.{◌≡◌, ◌∙◌, ap, sym, map, None, Some}
+use Rattle.std.proofs.Common.{◌∙◌, ap, sym, map}
 use Rattle.std.proofs.lemmas.Result.{IfOk-weaker}
 use Rattle.std.specs.List.{position}
-use Rattle.sn_nodecmd.specs.declared.mappings.Mapping.{Mapping}
 use Rattle.sn_nodecmd.specs.Covering.{AreLeft}
 use Rattle.sn_nodecmd.specs.Mapped.{mapping_of, AreNeeded}
 use Rattle.sn_nodecmd.proofs.NeededLemmas.{is_bad, same_control, needed_all}

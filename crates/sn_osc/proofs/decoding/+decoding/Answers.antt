@@ -10,7 +10,7 @@ use Rattle.sn_osc.proofs.decoding.+decoding.Goals as goal
 
 pub elements-returns-in_err-front : goal.elements-returns-in_err-front
 elements-returns-in_err-front t c =
-    let p = err_from_is_err_and c.from_residual.result c.from_residual.ensures.1 in
+    let p = err_from_is_err_and c.from_residual-in_err-front.result c.from_residual-in_err-front.ensures.1 in
     let i = c.loop-rest.invariant in
     let some : 0 < length c.loop-rest.rest.now = search rules in
     rw (p.1, p.2) (ends_at_element c.in_err-front.field-0.0 (packet_in c.args.deep c.args.around) c.args.end (map shape c.loop-rest.elements.items) i.fuel (i.fuel - 1) c.loop-rest.rest.now _ some (omega (arith, i.enough)) c.in_err-front.ensures.value i.read)

@@ -1,12 +1,12 @@
-use Rattle.std.proofs.Common.{◌≡◌, subst, inl, inr, refl}
+use Rattle.std.proofs.Common.{◌≡◌, ap, subst, inl, inr, refl}
 use Rattle.sn_osc.specs.Frames.{first_frame}
 use Rattle.sn_osc.specs.Unpacking.{unpacked}
 use Rattle.sn_server.specs.PlayEvents.{receive}
 use Rattle.sn_server.specs.Serving.{Stops}
 use Rattle.sn_server.specs.declared.ended.Ended.TheVariants as ends
 use Rattle.sn_server.proofs.PacketLemmas.{received_ready, received_block, received_alone}
-use Rattle.sn_server.proofs.ServingLemmas.{received, received_cut, received_whole, received_bad, cut_here, follows_cut, given}
-use Rattle.sn_server.proofs.FaultLemmas.{unless_err}
+use Rattle.sn_server.proofs.ServingLemmas.{received, received_cut, received_whole, received_bad, cut_here, follows_cut, failed}
+use Rattle.sn_server.proofs.FaultLemmas.{either_err}
 use Rattle.sn_server.proofs.GrowingLemmas.{receive_grows}
 use Rattle.sn_server.proofs.receiving.receive.Goals as goal
 
@@ -66,7 +66,10 @@ returns-in-None-clause-block g c = received_block c.args.engine.now.running c.ta
 pub returns-in_err-send_replies-clause-unfailed : goal.returns-in_err-send_replies-clause-unfailed
 returns-in_err-send_replies-clause-unfailed g c =
     let r = c.from_residual-in_err-send_replies in
-    unless_err r.result c.in_err-send_replies.field-0.0 (g.L.Link.faults c.send_replies.new.link ≡ g.L.Link.faults c.args.link.now) r.ensures.1 c.in_err-send_replies.ensures.unfailed
+    either_err r.result c.in_err-send_replies.field-0.0 ends.LinkFault (g.L.Link.faults c.send_replies.new.link ≡ g.L.Link.faults c.args.link.now) r.ensures.1 (inl (ap failed c.in_err-send_replies.ensures.only))
 
 pub returns-in-Some-clause-unfailed : goal.returns-in-Some-clause-unfailed
-returns-in-Some-clause-unfailed g c = given c.in-Some.how (g.L.Link.faults c.send_replies.new.link ≡ g.L.Link.faults c.args.link.now) c.in_ok-send_replies.ensures.unfailed
+returns-in-Some-clause-unfailed g c = inr c.in_ok-send_replies.ensures.unfailed
+
+pub returns-in-None-clause-unfailed : goal.returns-in-None-clause-unfailed
+returns-in-None-clause-unfailed g c = inr c.in_ok-send_replies.ensures.unfailed

@@ -1,8 +1,8 @@
-use Rattle.std.proofs.Common.{◌∙◌, length, ap, le_refl, arith, refl}
+use Rattle.std.proofs.Common.{◌≡◌, ◌∙◌, length, ap, le_refl, arith, refl}
 use Rattle.sn_server.proofs.EventLemmas.{close_on, begins_serving, begins_ready, serves_on, serves_to, serves_nothing, as_long}
-use Rattle.sn_render.specs.Faults.{NothingFailed}
 use Rattle.sn_render.proofs.FaultLemmas.{none_failed}
-use Rattle.sn_server.proofs.FaultLemmas.{given_so}
+use Rattle.sn_server.specs.declared.ended.Ended.TheVariants.{LinkFault, SoundFault}
+use Rattle.sn_server.proofs.FaultLemmas.{either_end, goes_on}
 use Rattle.sn_server.proofs.serving.serve.Goals as goal
 
 pub returns-in_default-clause-served : goal.returns-in_default-clause-served
@@ -38,7 +38,7 @@ loop-how-preserved g c =
       room = as_long l.room.len l.room.items n.room l.room.ok.0 (c.serve_event.auto.room ∙ ap length c.deref_mut.ensures.value) ∙ i.room;
       link_later = omega (arith, i.link_later, c.serve_event.ensures.link_later);
       sound_later = omega (arith, i.sound_later, c.serve_event.ensures.sound_later);
-      still = none_failed _ _ _ _ _ _ i.still r.unfailed;
+      still = none_failed _ _ _ _ _ _ i.still (goes_on _ LinkFault _ r.link_unfailed, goes_on _ SoundFault _ r.sound_unfailed);
     }
 
 pub returns-in-Err-clause-served : goal.returns-in-Err-clause-served
@@ -56,10 +56,14 @@ returns-in-Err-clause-close g c =
     let i = c.loop-how.invariant.serving in
     close_on c.in-Err.how (g.L.Link.left c.args.link.now) (g.L.Link.left c.loop-how.link) (g.L.Link.left c.serve_event.new.link) i.events i.taken c.in-Err.ensures.close
 
-pub returns-in-Err-clause-unfailed : goal.returns-in-Err-clause-unfailed
-returns-in-Err-clause-unfailed g c =
+pub returns-in-Err-clause-link_unfailed : goal.returns-in-Err-clause-link_unfailed
+returns-in-Err-clause-link_unfailed g c =
     let l = c.loop-how in
-    let n = c.serve_event.new in
-    let step = NothingFailed (g.L.Link.faults l.link) (g.L.Link.faults n.link) (g.O.Sink.faults l.sound) (g.O.Sink.faults n.sound) in
-    let all = NothingFailed (g.L.Link.faults c.args.link.now) (g.L.Link.faults n.link) (g.O.Sink.faults c.args.sound.now) (g.O.Sink.faults n.sound) in
-    given_so c.in-Err.how step all (none_failed _ _ _ _ _ _ l.invariant.still) c.in-Err.ensures.unfailed
+    let new = g.L.Link.faults c.serve_event.new.link in
+    either_end c.in-Err.how LinkFault (new ≡ g.L.Link.faults l.link) (new ≡ g.L.Link.faults c.args.link.now) (λ still. still ∙ l.invariant.still.0) c.in-Err.ensures.link_unfailed
+
+pub returns-in-Err-clause-sound_unfailed : goal.returns-in-Err-clause-sound_unfailed
+returns-in-Err-clause-sound_unfailed g c =
+    let l = c.loop-how in
+    let new = g.O.Sink.faults c.serve_event.new.sound in
+    either_end c.in-Err.how SoundFault (new ≡ g.O.Sink.faults l.sound) (new ≡ g.O.Sink.faults c.args.sound.now) (λ still. still ∙ l.invariant.still.1) c.in-Err.ensures.sound_unfailed

@@ -1,10 +1,9 @@
-use Rattle.std.proofs.Common.{take, ◌≡◌, ◌∙◌, refl}
+use Rattle.std.proofs.Common.{take, ◌≡◌, ◌∙◌, inr, refl}
 use Rattle.sn_ports.specs.Links.{bytes, ticks, Takes}
 use Rattle.sn_server.proofs.EventLemmas.{known_kept, live_kept, took_event, took_none, none_taken, none_at_close, fed_bytes, fed_ticks, fed_end}
-use Rattle.sn_render.specs.Faults.{NothingFailed}
-use Rattle.sn_render.proofs.FaultLemmas.{none_failed}
-use Rattle.sn_server.proofs.FaultLemmas.{unless_so}
-use Rattle.sn_server.proofs.ServingLemmas.{given}
+use Rattle.sn_server.specs.declared.ended.Ended.TheVariants.{LinkFault}
+use Rattle.sn_server.proofs.FaultLemmas.{either_so}
+use Rattle.sn_server.proofs.ServingLemmas.{failed}
 use Rattle.sn_server.proofs.serving.take_event.Goals as goal
 
 pub returns-in-Ok-Bytes-clause-took : goal.returns-in-Ok-Bytes-clause-took
@@ -53,25 +52,28 @@ pub returns-in-Ok-End-clause-close : goal.returns-in-Ok-End-clause-close
 returns-in-Ok-End-clause-close g c = none_at_close c.closing.result (g.L.Link.left c.args.link.now) (g.L.Link.left c.next.new.self)
     (fed_end (g.L.Link.left c.args.link.now) (g.L.Link.left c.next.new.self) c.next.new.into c.in-Ok-End.field-0 c.in-Ok-End.field-0-is c.in-Ok-End.ensures.events)
 
-pub returns-in-Ok-Bytes-clause-unfailed : goal.returns-in-Ok-Bytes-clause-unfailed
-returns-in-Ok-Bytes-clause-unfailed g c =
+pub returns-in-Ok-Bytes-clause-link_unfailed : goal.returns-in-Ok-Bytes-clause-link_unfailed
+returns-in-Ok-Bytes-clause-link_unfailed g c =
     let link_old = g.L.Link.faults c.args.link.now in
     let link_mid = g.L.Link.faults c.next.new.self in
     let link_new = g.L.Link.faults c.receive.new.link in
-    let sound = g.O.Sink.faults c.args.sound.now in
-    unless_so c.receive.result (link_new ≡ link_mid) (NothingFailed link_old link_new sound sound) (λ still. (still ∙ c.in-Ok-Bytes.ensures.unfailed, refl)) c.receive.ensures.unfailed
+    either_so (c.receive.result ≡ failed LinkFault) (link_new ≡ link_mid) (link_new ≡ link_old) (λ still. still ∙ c.in-Ok-Bytes.ensures.unfailed) c.receive.ensures.unfailed
 
-pub returns-in-Ok-Ticks-clause-unfailed : goal.returns-in-Ok-Ticks-clause-unfailed
-returns-in-Ok-Ticks-clause-unfailed g c =
+pub returns-in-Ok-Bytes-clause-sound_unfailed : goal.returns-in-Ok-Bytes-clause-sound_unfailed
+returns-in-Ok-Bytes-clause-sound_unfailed g c = inr refl
+
+pub returns-in-Ok-Ticks-clause-link_unfailed : goal.returns-in-Ok-Ticks-clause-link_unfailed
+returns-in-Ok-Ticks-clause-link_unfailed g c =
     let link_old = g.L.Link.faults c.args.link.now in
     let link_mid = g.L.Link.faults c.next.new.self in
     let link_new = g.L.Link.faults c.ticks.new.link in
-    let sound_old = g.O.Sink.faults c.args.sound.now in
-    let sound_new = g.O.Sink.faults c.ticks.new.sound in
-    unless_so c.ticks.result (NothingFailed link_mid link_new sound_old sound_new) (NothingFailed link_old link_new sound_old sound_new)
-    (none_failed link_old link_mid link_new sound_old sound_old sound_new (c.in-Ok-Ticks.ensures.unfailed, refl)) c.ticks.ensures.unfailed
+    either_so (c.ticks.result ≡ failed LinkFault) (link_new ≡ link_mid) (link_new ≡ link_old) (λ still. still ∙ c.in-Ok-Ticks.ensures.unfailed) c.ticks.ensures.link_unfailed
 
-pub returns-in-Ok-End-clause-unfailed : goal.returns-in-Ok-End-clause-unfailed
-returns-in-Ok-End-clause-unfailed g c =
-    let sound = g.O.Sink.faults c.args.sound.now in
-    given c.closing.result (NothingFailed (g.L.Link.faults c.args.link.now) (g.L.Link.faults c.next.new.self) sound sound) (c.in-Ok-End.ensures.unfailed, refl)
+pub returns-in-Ok-Ticks-clause-sound_unfailed : goal.returns-in-Ok-Ticks-clause-sound_unfailed
+returns-in-Ok-Ticks-clause-sound_unfailed g c = c.ticks.ensures.sound_unfailed
+
+pub returns-in-Ok-End-clause-link_unfailed : goal.returns-in-Ok-End-clause-link_unfailed
+returns-in-Ok-End-clause-link_unfailed g c = inr c.in-Ok-End.ensures.unfailed
+
+pub returns-in-Ok-End-clause-sound_unfailed : goal.returns-in-Ok-End-clause-sound_unfailed
+returns-in-Ok-End-clause-sound_unfailed g c = inr refl

@@ -1,14 +1,14 @@
-use Rattle.std.proofs.Common.{◌≡◌, ℕ, List, length, ap, sym, subst, ◌∙◌, refl}
+use Rattle.std.proofs.Common.{◌≡◌, ℕ, List, length, ap, inl, inr, sym, subst, ◌∙◌, refl}
 use Rattle.std.specs.Io.KnownBytes.{Appends}
 use Rattle.std.proofs.KnownBytes.{Keeps-refl}
 use Rattle.sn_engine.specs.Running.{Running, at_boundary, flow_at}
 use Rattle.sn_engine.proofs.Pasts.{running_is}
 use Rattle.sn_render.proofs.WritingLemmas.{on_ok, takes_none}
-use Rattle.sn_render.specs.Faults.{NothingFailed}
+use Rattle.sn_server.specs.declared.ended.Ended.TheVariants.{LinkFault, SoundFault}
 use Rattle.sn_render.specs.Play.{to_first}
 use Rattle.sn_server.specs.Serving.{IsRowOn}
-use Rattle.sn_server.proofs.FaultLemmas.{given_so, unless_so, unless_err}
-use Rattle.sn_server.proofs.ServingLemmas.{none_part, quit_part, row_alone, row_part, row_ticked}
+use Rattle.sn_server.proofs.FaultLemmas.{either_err, either_of}
+use Rattle.sn_server.proofs.ServingLemmas.{failed, none_part, quit_part, row_alone, row_part, row_ticked}
 use Rattle.sn_server.proofs.ticking.tick.Goals as goal
 
 pub returns-in_err-boundary-clause-part : goal.returns-in_err-boundary-clause-part
@@ -50,35 +50,36 @@ returns-in_err-write_sound-in-On-clause-part g c =
     row_part c.args.most (g.O.Sink.taken c.args.sound.now) (g.O.Sink.taken c.write_sound.new.sound) (g.L.Link.sent c.args.link.now) (g.L.Link.sent c.args.link.now) old c.play_row.new.engine.running c.write_sound.new.engine.running
     (c.play_row.ensures old bounded on) c.write_sound.ensures.front c.write_sound.ensures.kept (takes_none (g.L.Link.sent c.args.link.now) (to_first c.write_sound.new.engine.running.replies))
 
-pub returns-in_err-write_sound-in-On-clause-unfailed : goal.returns-in_err-write_sound-in-On-clause-unfailed
-returns-in_err-write_sound-in-On-clause-unfailed g c =
-    let r = c.from_residual-in_err-write_sound-in-On in
-    let how = c.in_err-write_sound-in-On.field-0.0 in
-    let link = g.L.Link.faults c.args.link.now in
-    let sound_old = g.O.Sink.faults c.args.sound.now in
-    let sound_new = g.O.Sink.faults c.write_sound.new.sound in
-    unless_err r.result how (NothingFailed link link sound_old sound_new) r.ensures.1
-    (given_so how (sound_new ≡ sound_old) (NothingFailed link link sound_old sound_new) (λ still. (refl, still)) c.in_err-write_sound-in-On.ensures.unfailed)
+pub returns-in_err-write_sound-in-On-clause-link_unfailed : goal.returns-in_err-write_sound-in-On-clause-link_unfailed
+returns-in_err-write_sound-in-On-clause-link_unfailed g c = inr refl
 
-pub returns-in_ok-write_sound-in-On-clause-unfailed : goal.returns-in_ok-write_sound-in-On-clause-unfailed
-returns-in_ok-write_sound-in-On-clause-unfailed g c =
-    let link_old = g.L.Link.faults c.args.link.now in
-    let link_new = g.L.Link.faults c.send_replies.new.link in
-    let sound_old = g.O.Sink.faults c.args.sound.now in
-    let sound_new = g.O.Sink.faults c.write_sound.new.sound in
-    unless_so c.send_replies.result (link_new ≡ link_old) (NothingFailed link_old link_new sound_old sound_new) (λ still. (still, c.in_ok-write_sound-in-On.ensures.unfailed)) c.send_replies.ensures.unfailed
+pub returns-in_err-write_sound-in-On-clause-sound_unfailed : goal.returns-in_err-write_sound-in-On-clause-sound_unfailed
+returns-in_err-write_sound-in-On-clause-sound_unfailed g c =
+    let r = c.from_residual-in_err-write_sound-in-On in
+    either_err r.result c.in_err-write_sound-in-On.field-0.0 SoundFault (g.O.Sink.faults c.write_sound.new.sound ≡ g.O.Sink.faults c.args.sound.now) r.ensures.1 (inl (ap failed c.in_err-write_sound-in-On.ensures.only))
+
+pub returns-in_ok-write_sound-in-On-clause-link_unfailed : goal.returns-in_ok-write_sound-in-On-clause-link_unfailed
+returns-in_ok-write_sound-in-On-clause-link_unfailed g c =
+    either_of c.send_replies.result LinkFault (g.L.Link.faults c.send_replies.new.link ≡ g.L.Link.faults c.args.link.now) c.send_replies.ensures.only c.send_replies.ensures.unfailed
+
+pub returns-in_ok-write_sound-in-On-clause-sound_unfailed : goal.returns-in_ok-write_sound-in-On-clause-sound_unfailed
+returns-in_ok-write_sound-in-On-clause-sound_unfailed g c = inr c.in_ok-write_sound-in-On.ensures.unfailed
 
 -- ---- an end
 
-pub returns-in_err-send_replies-in-Quit-clause-unfailed : goal.returns-in_err-send_replies-in-Quit-clause-unfailed
-returns-in_err-send_replies-in-Quit-clause-unfailed g c =
+pub returns-in_err-send_replies-in-Quit-clause-link_unfailed : goal.returns-in_err-send_replies-in-Quit-clause-link_unfailed
+returns-in_err-send_replies-in-Quit-clause-link_unfailed g c =
     let r = c.from_residual-in_err-send_replies-in-Quit in
-    let how = c.in_err-send_replies-in-Quit.field-0.0 in
-    let link_old = g.L.Link.faults c.args.link.now in
-    let link_new = g.L.Link.faults c.send_replies-in-Quit.new.link in
-    let sound = g.O.Sink.faults c.args.sound.now in
-    unless_err r.result how (NothingFailed link_old link_new sound sound) r.ensures.1
-    (given_so how (link_new ≡ link_old) (NothingFailed link_old link_new sound sound) (λ still. (still, refl)) c.in_err-send_replies-in-Quit.ensures.unfailed)
+    either_err r.result c.in_err-send_replies-in-Quit.field-0.0 LinkFault (g.L.Link.faults c.send_replies-in-Quit.new.link ≡ g.L.Link.faults c.args.link.now) r.ensures.1 (inl (ap failed c.in_err-send_replies-in-Quit.ensures.only))
+
+pub returns-in_err-send_replies-in-Quit-clause-sound_unfailed : goal.returns-in_err-send_replies-in-Quit-clause-sound_unfailed
+returns-in_err-send_replies-in-Quit-clause-sound_unfailed g c = inr refl
+
+pub returns-in_ok-send_replies-in-Quit-clause-link_unfailed : goal.returns-in_ok-send_replies-in-Quit-clause-link_unfailed
+returns-in_ok-send_replies-in-Quit-clause-link_unfailed g c = inr c.in_ok-send_replies-in-Quit.ensures.unfailed
+
+pub returns-in_ok-send_replies-in-Quit-clause-sound_unfailed : goal.returns-in_ok-send_replies-in-Quit-clause-sound_unfailed
+returns-in_ok-send_replies-in-Quit-clause-sound_unfailed g c = inr refl
 
 pub returns-in_err-send_replies-in-Quit-clause-part : goal.returns-in_err-send_replies-in-Quit-clause-part
 returns-in_err-send_replies-in-Quit-clause-part g c =

@@ -1,12 +1,12 @@
-use Rattle.std.proofs.Common.{◌≡◌, ◌+◌, ◌-◌, ℕ, suc, ap, refl, le_refl, arith}
+use Rattle.std.proofs.Common.{◌≡◌, ◌∙◌, ◌+◌, ◌-◌, ℕ, suc, ap, inr, refl, le_refl, arith}
 use Rattle.sn_ports.proofs.LinkLemmas.{keeps_events-trans}
 use Rattle.sn_server.specs.PlayEvents.{tick}
 use Rattle.sn_server.proofs.EventLemmas.{known_same}
-use Rattle.sn_server.proofs.ServingLemmas.{ticks_on, ticked_ready, ticked_block, all_ticked, worn_tick, ended_tick, follows_err, given}
+use Rattle.sn_server.proofs.ServingLemmas.{ticks_on, ticked_ready, ticked_block, all_ticked, worn_tick, ended_tick, follows_err, failed}
 use Rattle.sn_render.proofs.StepLemmas.{grows_not}
-use Rattle.sn_render.specs.Faults.{NothingFailed}
 use Rattle.sn_render.proofs.FaultLemmas.{none_failed}
-use Rattle.sn_server.proofs.FaultLemmas.{given_so, unless_err}
+use Rattle.sn_server.specs.declared.ended.Ended.TheVariants.{LinkFault, SoundFault}
+use Rattle.sn_server.proofs.FaultLemmas.{either_so, either_err, goes_on}
 use Rattle.sn_server.proofs.ticking.ticks.Goals as goal
 
 pub returns-in_err-check_worn-clause-follows : goal.returns-in_err-check_worn-clause-follows
@@ -68,7 +68,7 @@ loop-done-preserved g c =
       events = keeps_events-trans (g.L.Link.left c.args.link.now) (g.L.Link.left l.link) (g.L.Link.left c.tick.new.link) i.events c.tick.ensures.events;
       link_later = omega (arith, i.link_later, c.tick.ensures.link_later);
       sound_later = omega (arith, i.sound_later, c.tick.ensures.sound_later);
-      still = none_failed _ _ _ _ _ _ i.still c.in_ok-tick.ensures.unfailed;
+      still = none_failed _ _ _ _ _ _ i.still (goes_on _ LinkFault _ c.in_ok-tick.ensures.link_unfailed, goes_on _ SoundFault _ c.in_ok-tick.ensures.sound_unfailed);
     }
 
 pub returns-clause-follows : goal.returns-clause-follows
@@ -77,22 +77,37 @@ returns-clause-follows g c = λ v sound_old sent_old live.
     let none : c.args.count - l.done ≡ 0 = omega (arith, c.loop-done-test.false) in
     all_ticked sound_old (g.O.Sink.taken l.sound) sent_old (g.L.Link.sent l.link) v (tick c.args.count v) (c.args.count - l.done) l.engine.running c.args.framer.now (l.invariant.follows v sound_old sent_old live) none
 
-pub returns-in_err-check_worn-clause-unfailed : goal.returns-in_err-check_worn-clause-unfailed
-returns-in_err-check_worn-clause-unfailed g c =
-    let l = c.loop-done in
-    let how = c.in_err-check_worn.field-0.0 in
-    let still = NothingFailed (g.L.Link.faults c.args.link.now) (g.L.Link.faults l.link) (g.O.Sink.faults c.args.sound.now) (g.O.Sink.faults l.sound) in
-    unless_err c.from_residual.result how still c.from_residual.ensures.1 (given how still l.invariant.still)
+pub returns-in_err-check_worn-clause-link_unfailed : goal.returns-in_err-check_worn-clause-link_unfailed
+returns-in_err-check_worn-clause-link_unfailed g c = inr c.loop-done.invariant.still.0
 
-pub returns-in_err-tick-clause-unfailed : goal.returns-in_err-tick-clause-unfailed
-returns-in_err-tick-clause-unfailed g c =
-    let l = c.loop-done in
-    let n = c.tick.new in
+pub returns-in_err-check_worn-clause-sound_unfailed : goal.returns-in_err-check_worn-clause-sound_unfailed
+returns-in_err-check_worn-clause-sound_unfailed g c = inr c.loop-done.invariant.still.1
+
+pub returns-in_err-tick-clause-link_unfailed : goal.returns-in_err-tick-clause-link_unfailed
+returns-in_err-tick-clause-link_unfailed g c =
     let r = c.from_residual-in_err-tick in
     let how = c.in_err-tick.field-0.0 in
-    let step = NothingFailed (g.L.Link.faults l.link) (g.L.Link.faults n.link) (g.O.Sink.faults l.sound) (g.O.Sink.faults n.sound) in
-    let all = NothingFailed (g.L.Link.faults c.args.link.now) (g.L.Link.faults n.link) (g.O.Sink.faults c.args.sound.now) (g.O.Sink.faults n.sound) in
-    unless_err r.result how all r.ensures.1 (given_so how step all (none_failed _ _ _ _ _ _ l.invariant.still) c.in_err-tick.ensures.unfailed)
+    let old = g.L.Link.faults c.args.link.now in
+    let mid = g.L.Link.faults c.loop-done.link in
+    let new = g.L.Link.faults c.tick.new.link in
+    either_err r.result how LinkFault (new ≡ old) r.ensures.1
+    (either_so (failed how ≡ failed LinkFault) (new ≡ mid) (new ≡ old) (λ still. still ∙ c.loop-done.invariant.still.0) c.in_err-tick.ensures.link_unfailed)
+
+pub returns-in_err-tick-clause-sound_unfailed : goal.returns-in_err-tick-clause-sound_unfailed
+returns-in_err-tick-clause-sound_unfailed g c =
+    let r = c.from_residual-in_err-tick in
+    let how = c.in_err-tick.field-0.0 in
+    let old = g.O.Sink.faults c.args.sound.now in
+    let mid = g.O.Sink.faults c.loop-done.sound in
+    let new = g.O.Sink.faults c.tick.new.sound in
+    either_err r.result how SoundFault (new ≡ old) r.ensures.1
+    (either_so (failed how ≡ failed SoundFault) (new ≡ mid) (new ≡ old) (λ still. still ∙ c.loop-done.invariant.still.1) c.in_err-tick.ensures.sound_unfailed)
+
+pub returns-clause-link_unfailed : goal.returns-clause-link_unfailed
+returns-clause-link_unfailed g c = inr c.loop-done.invariant.still.0
+
+pub returns-clause-sound_unfailed : goal.returns-clause-sound_unfailed
+returns-clause-sound_unfailed g c = inr c.loop-done.invariant.still.1
 
 pub overflow_sub-done : goal.overflow_sub-done
 overflow_sub-done g c =

@@ -1,6 +1,6 @@
-use Rattle.std.proofs.Common.{◌<◌, Some, None, ap, sym, subst, arith}
-use Rattle.sn_forest.specs.Trees.{Trees, count, subtree}
-use Rattle.sn_tree.specs.Keyed.{left_at, named}
+use Rattle.std.proofs.Common.{◌<◌, sym, subst}
+use Rattle.sn_forest.specs.Trees.{count, subtree}
+use Rattle.sn_tree.specs.Keyed.{left_at}
 use Rattle.sn_tree.proofs.Indexing.{IsForgetting, forget_start, forget_next}
 use Rattle.sn_tree.proofs.index.forget_all.Goals as goal
 

@@ -1,7 +1,7 @@
-use Rattle.std.proofs.Common.{◌<◌, Some, None, ap, sym, subst, arith}
-use Rattle.sn_forest.specs.Trees.{Trees, count, subtree}
-use Rattle.sn_tree.specs.Keyed.{left_at, named}
-use Rattle.sn_tree.proofs.Indexing.{IsNoting, note_start, note_next, not_yet, room_for_one}
+use Rattle.std.proofs.Common.{◌<◌, sym, subst}
+use Rattle.sn_forest.specs.Trees.{count, subtree}
+use Rattle.sn_tree.specs.Keyed.{left_at}
+use Rattle.sn_tree.proofs.Indexing.{IsNoting, note_start, note_next, not_yet}
 use Rattle.sn_tree.proofs.Stopping.{used_within}
 use Rattle.sn_tree.proofs.index.note_all.Goals as goal
 

@@ -1,4 +1,3 @@
-use Rattle.std.proofs.Common.{◌∙◌, ap}
 use Rattle.sn_tree.specs.Reading.{synths_by}
 use Rattle.sn_tree.proofs.ReadLaws.{synths_step}
 use Rattle.sn_tree.proofs.reading.synths_in.Goals as goal

@@ -1,4 +1,3 @@
-use Rattle.std.proofs.Common.{◌∙◌, ap}
 use Rattle.sn_tree.specs.Reading.{views_by}
 use Rattle.sn_tree.proofs.ReadLaws.{views_step}
 use Rattle.sn_tree.proofs.reading.views_in.Goals as goal

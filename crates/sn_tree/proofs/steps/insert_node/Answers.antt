@@ -1,6 +1,6 @@
-use Rattle.std.proofs.Common.{◌≡◌, ◌∙◌, sym, subst}
+use Rattle.std.proofs.Common.{◌∙◌, sym, subst}
 use Rattle.sn_tree.specs.Ordered.{IsReady}
-use Rattle.sn_tree.proofs.StepLaws.{FollowedNew, insert_followed, insert_undone}
+use Rattle.sn_tree.proofs.StepLaws.{insert_followed, insert_undone}
 use Rattle.sn_tree.proofs.steps.insert_node.Goals as goal
 
 pub remove-requires-clause-node : goal.remove-requires-clause-node

@@ -1,4 +1,4 @@
-use Rattle.sn_tree.proofs.StepLaws.{Followed, run_followed}
+use Rattle.sn_tree.proofs.StepLaws.{run_followed}
 use Rattle.sn_tree.proofs.steps.run_node.Goals as goal
 
 pub returns-clause-ready : goal.returns-clause-ready

@@ -1,4 +1,4 @@
-use Rattle.sn_tree.proofs.StepLaws.{Followed, shift_followed}
+use Rattle.sn_tree.proofs.StepLaws.{shift_followed}
 use Rattle.sn_tree.proofs.steps.shift_node.Goals as goal
 
 pub returns-clause-ready : goal.returns-clause-ready

@@ -1,6 +1,5 @@
 use Rattle.std.proofs.Common.{reverse, sym, subst, arith}
 use Rattle.std.proofs.lemmas.List.{nil_from_length}
-use Rattle.sn_tree.specs.Undoing.{undone}
 use Rattle.sn_tree.proofs.StepLaws.{IsUndoing, undoing_start, undoing_can, undoing_next, undoing_end}
 use Rattle.sn_tree.proofs.steps.undo_all.Goals as goal
 

@@ -1,9 +1,9 @@
-use Rattle.std.proofs.Common.{◌≡◌}
+use Rattle.std.proofs.Common.{◌≡◌, inr, refl}
 use Rattle.sn_pcm.specs.declared.settings.Settings.{Settings}
-use Rattle.sn_render.specs.Faults.{NothingFailed}
-use Rattle.sn_server.specs.Served.{AtClose, Served, WhereGiven}
+use Rattle.sn_server.specs.Served.{AtClose, Served}
 use Rattle.sn_server.specs.declared.ended.Ended.{Ended}
-use Rattle.snova.proofs.ServeLemmas.{of_end, chosen_end, by_chosen, either_end}
+use Rattle.sn_server.specs.declared.ended.Ended.TheVariants.{LinkFault, SoundFault}
+use Rattle.snova.proofs.ServeLemmas.{of_end, chosen_end, by_chosen, either_end, or_end}
 use Rattle.snova.proofs.serving.serve.Goals as goal
 
 pub returns-in-Ok-clause-served : goal.returns-in-Ok-clause-served
@@ -20,7 +20,14 @@ returns-in-Ok-clause-complete g c =
     by_chosen c.args.words.now _ c.in-Ok.chosen.settings c.in-Ok.chosen.port c.in-Ok.ensures.ok
     (λ events told few link sound. either_end c.serve_one-how.result _ _ (c.serve_one-how.ensures.complete events told few link sound))
 
-pub returns-in-Ok-clause-unfailed : goal.returns-in-Ok-clause-unfailed
-returns-in-Ok-clause-unfailed g c = λ how e.
-    of_end (λ (h : Ended). WhereGiven h (NothingFailed (g.L.Link.faults c.args.link.now) (g.L.Link.faults c.serve_one-how.new.link) (g.O.Sink.faults c.args.sound.now) (g.O.Sink.faults c.serve_one-how.new.sound)))
-    c.serve_one-how.result how c.serve_one-how.ensures.unfailed e
+pub returns-in-Ok-clause-link_unfailed : goal.returns-in-Ok-clause-link_unfailed
+returns-in-Ok-clause-link_unfailed g c = or_end c.serve_one-how.result LinkFault (g.L.Link.faults c.serve_one-how.new.link ≡ g.L.Link.faults c.args.link.now) c.serve_one-how.ensures.link_unfailed
+
+pub returns-in-Ok-clause-sound_unfailed : goal.returns-in-Ok-clause-sound_unfailed
+returns-in-Ok-clause-sound_unfailed g c = or_end c.serve_one-how.result SoundFault (g.O.Sink.faults c.serve_one-how.new.sound ≡ g.O.Sink.faults c.args.sound.now) c.serve_one-how.ensures.sound_unfailed
+
+pub returns-in-Err-clause-link_unfailed : goal.returns-in-Err-clause-link_unfailed
+returns-in-Err-clause-link_unfailed g c = inr refl
+
+pub returns-in-Err-clause-sound_unfailed : goal.returns-in-Err-clause-sound_unfailed
+returns-in-Err-clause-sound_unfailed g c = inr refl

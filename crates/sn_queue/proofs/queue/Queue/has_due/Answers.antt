@@ -8,7 +8,7 @@ use Rattle.sn_queue.proofs.queue.Queue.has_due.Goals as goal
 
 pub due-requires : goal.due-requires
 due-requires c =
-    All-entry (λ w. IsInReach w.key c.self.inside.base c.self.inside.rate) c.self.inside.waiting.entries 0 (c.in-Some.place.now, c.in-Some.field-0-1.now) c.self.invariant.keys c.in-Some.ensures.first
+    All-entry (λ w. IsInReach w.key c.self.inside.clock.base c.self.inside.clock.rate) c.self.inside.waiting.entries 0 (c.in-Some.place.now, c.in-Some.field-0-1.now) c.self.invariant.keys c.in-Some.ensures.first
 
 pub returns-in-Some : goal.returns-in-Some
 returns-in-Some c =

@@ -8,7 +8,7 @@ use Rattle.sn_queue.proofs.queue.Queue.last.Goals as goal
 
 pub due-requires : goal.due-requires
 due-requires c =
-    All-entry (λ w. IsInReach w.key c.self.inside.base c.self.inside.rate) c.self.inside.waiting.entries (length c.self.inside.waiting.entries - 1) (c.in_ok-place.place.now, c.in_ok-place.field-0-1.now) c.self.invariant.keys c.in_ok-place.ensures.last
+    All-entry (λ w. IsInReach w.key c.self.inside.clock.base c.self.inside.clock.rate) c.self.inside.waiting.entries (length c.self.inside.waiting.entries - 1) (c.in_ok-place.place.now, c.in_ok-place.field-0-1.now) c.self.invariant.keys c.in_ok-place.ensures.last
 
 pub returns-clause-value : goal.returns-clause-value
 returns-clause-value c =

@@ -1,5 +1,5 @@
 use Rattle.std.proofs.Common.{◌∙◌, ap, subst, sym}
-use Rattle.sn_forest.specs.Trees.{none, subtree}
+use Rattle.sn_forest.specs.Trees.{subtree}
 use Rattle.sn_forest.specs.Walking.{behind_tree}
 use Rattle.sn_tree.specs.Keyed.{left_at}
 use Rattle.sn_tree.specs.Stored.{IsCursor}

@@ -1,8 +1,7 @@
-use Rattle.std.proofs.Common.{◌≡◌, ◌∙◌, ap, sym, subst, None, Some, Option}
+use Rattle.std.proofs.Common.{◌≡◌, ◌∙◌, ap, None}
 use Rattle.std.specs.Option.{option_map}
 use Rattle.sn_forest.specs.Walking.{behind_tree}
 use Rattle.sn_tree.specs.Trees.{Label, first_label, without_first}
-use Rattle.sn_tree.specs.Arranged.{Arranged}
 use Rattle.sn_tree.specs.Order.{Key}
 use Rattle.sn_tree.specs.Keyed.{sides}
 use Rattle.sn_tree.specs.Ordered.{Ordered}

@@ -1,4 +1,4 @@
-use Rattle.std.proofs.Common.{◌∷◌, ◌∙◌, ap, sym}
+use Rattle.std.proofs.Common.{◌∙◌, sym}
 use Rattle.sn_tree.proofs.RowLaws.{rows_end, rows_next}
 use Rattle.sn_tree.proofs.Walking.{fewer}
 use Rattle.sn_tree.proofs.rows.RowsIterator.next.Goals as goal

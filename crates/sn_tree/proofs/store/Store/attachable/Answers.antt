@@ -1,9 +1,9 @@
-use Rattle.std.proofs.Common.{◌≡◌, ◌∙◌, ◌+◌, ◌≤◌, true, false, arith, sym, ap, w32}
+use Rattle.std.proofs.Common.{◌∙◌, arith, ap, w32}
 use mir.Val.{SFits}
 use Rattle.std.proofs.lemmas.Int.{to_z-of_z}
-use Rattle.sn_forest.specs.Trees.{count, subtree}
+use Rattle.sn_forest.specs.Trees.{subtree}
 use Rattle.sn_forest.specs.Walking.{behind_tree}
-use Rattle.sn_tree.specs.Trees.{Nodes, last_top, shares, count as count_nodes}
+use Rattle.sn_tree.specs.Trees.{Nodes, shares, count as count_nodes}
 use Rattle.sn_tree.specs.Order.{Key}
 use Rattle.sn_tree.proofs.Attaching.{no_top, in_use, spot_refused, too_many, can_attach}
 use Rattle.sn_tree.specs.Keyed.{labels, front}

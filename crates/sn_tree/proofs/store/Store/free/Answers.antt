@@ -1,4 +1,4 @@
-use Rattle.std.proofs.Common.{◌≡◌, ◌≢◌, ◌≤◌, ◌∙◌, Some, None, ap, sym, subst}
+use Rattle.std.proofs.Common.{◌≡◌, ◌≢◌, ◌≤◌, ◌∙◌, Some, ap, sym, subst}
 use Rattle.std.specs.Option.{option_map}
 use Rattle.sn_forest.specs.Trees.{none, uses, first_key, below_of, value_of, without}
 use Rattle.sn_forest.specs.Walking.{behind_node, behind_tree}

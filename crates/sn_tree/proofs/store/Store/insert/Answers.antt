@@ -1,7 +1,7 @@
-use Rattle.std.proofs.Common.{w32, rules, ◌≡◌, ◌∙◌, ◌<◌, ◌≤◌, ◌+◌, arith, ap, sym, subst, length}
+use Rattle.std.proofs.Common.{w32, rules, ◌≡◌, ◌∙◌, ◌≤◌, arith, ap, sym, subst, length}
 use mir.Val.{SFits}
 use Rattle.std.proofs.lemmas.Int.{ints, to_z-of_z}
-use Rattle.sn_forest.specs.Trees.{none, tree, uses, count}
+use Rattle.sn_forest.specs.Trees.{none, tree, uses}
 use Rattle.sn_forest.specs.Places.{put}
 use Rattle.sn_ids.specs.Pairs.{Pairs, key_for}
 use Rattle.sn_tree.specs.Keyed.{front, names}

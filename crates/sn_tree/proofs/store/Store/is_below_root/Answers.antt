@@ -1,4 +1,4 @@
-use Rattle.std.proofs.Common.{◌≤◌, ◌∙◌, ℕ, ap, sym, subst}
+use Rattle.std.proofs.Common.{◌≤◌, ◌∙◌, ℕ, ap, subst}
 use Rattle.sn_forest.specs.Trees.{uses, first_key}
 use Rattle.sn_tree.proofs.StoredLaws.{root_not_below, below_is_front}
 use Rattle.sn_tree.proofs.store.Store.is_below_root.Goals as goal

@@ -1,6 +1,5 @@
-use Rattle.std.proofs.Common.{◌≡◌, ◌<◌, ◌≤◌, ◌∙◌, pos, None, refl, ap, sym, subst, arith}
+use Rattle.std.proofs.Common.{◌∙◌, pos, refl, ap, sym, arith}
 use Rattle.std.proofs.lemmas.Int.{ints}
-use Rattle.sn_forest.specs.Trees.{none, tree, uses, first_key}
 use Rattle.sn_ids.specs.Pairs.{key_for}
 use Rattle.sn_tree.specs.Keyed.{sides}
 use Rattle.sn_tree.proofs.Stopping.{first_used}

@@ -1,4 +1,4 @@
-use Rattle.std.proofs.Common.{◌≡◌, ◌≤◌, ◌∙◌, true, false, sym, subst, ap}
+use Rattle.std.proofs.Common.{◌≡◌, ◌≤◌, true, false, sym, subst}
 use Rattle.std.specs.Prelude.{MatchOption}
 use Rattle.sn_forest.specs.Trees.{uses, count, subtree}
 use Rattle.sn_tree.specs.Trees.{shares}

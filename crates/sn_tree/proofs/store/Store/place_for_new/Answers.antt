@@ -1,4 +1,4 @@
-use Rattle.std.proofs.Common.{◌≡◌, ◌∙◌, ◌+◌, ◌≤◌, true, false, is_some, arith, sym, w32}
+use Rattle.std.proofs.Common.{◌≡◌, ◌∙◌, is_some, arith, sym, w32}
 use mir.Val.{SFits}
 use Rattle.std.proofs.lemmas.Int.{to_z-of_z}
 use Rattle.sn_tree.specs.Trees.{holds}

@@ -1,7 +1,7 @@
-use Rattle.std.proofs.Common.{◌≡◌, ◌∙◌, ◌≤◌, sym, subst, ap}
-use Rattle.sn_forest.specs.Trees.{none, uses, first_key, below_of}
+use Rattle.std.proofs.Common.{◌∙◌, ◌≤◌, sym, subst, ap}
+use Rattle.sn_forest.specs.Trees.{uses, first_key, below_of}
 use Rattle.sn_tree.specs.Stored.{IsStored}
-use Rattle.sn_tree.proofs.SoundLaws.{Removing, removing_seen}
+use Rattle.sn_tree.proofs.SoundLaws.{removing_seen}
 use Rattle.sn_tree.proofs.store.Store.remove.Goals as goal
 
 pub forget_leaving-requires-clause-top : goal.forget_leaving-requires-clause-top

@@ -7,7 +7,7 @@ use Rattle.sn_tree.specs.declared.item.Item.{Item}
 use Rattle.sn_tree.specs.Keyed.{only, named, names, noted}
 use Rattle.sn_tree.specs.Stored.{IsSound, IsStored}
 use Rattle.sn_tree.proofs.Sums.{uses_sum, out_all}
-use Rattle.sn_tree.proofs.ShiftLaws.{Shifting, IsForgotten, shifting_seen}
+use Rattle.sn_tree.proofs.ShiftLaws.{shifting_seen}
 use Rattle.sn_tree.proofs.store.Store.shift.Goals as goal
 
 pub is_among-to-requires : goal.is_among-to-requires

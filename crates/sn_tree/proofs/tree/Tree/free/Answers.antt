@@ -1,5 +1,4 @@
-use Rattle.std.proofs.Common.{◌∙◌, ap, sym}
-use Rattle.std.specs.Option.{option_map}
+use Rattle.std.proofs.Common.{◌∙◌}
 use Rattle.sn_tree.proofs.Journaling.{closed, free_payload, not_detached_root}
 use Rattle.sn_tree.proofs.OrderedLaws.{free_stands, now_is, none_freed}
 use Rattle.sn_tree.proofs.tree.Tree.free.Goals as goal

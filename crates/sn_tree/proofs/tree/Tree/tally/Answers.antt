@@ -1,4 +1,4 @@
-use Rattle.std.proofs.Common.{◌∙◌, ap, arith, pos}
+use Rattle.std.proofs.Common.{◌∙◌, ap, pos}
 use Rattle.sn_tree.specs.Model.{NodeTree}
 use Rattle.sn_tree.specs.Trees.{payloads, with_payloads}
 use Rattle.sn_tree.specs.Kept.{payload_of}

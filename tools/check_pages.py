@@ -234,7 +234,7 @@ class Code:
 
     def command(self, address):
         """The row of a command, and how it is applied."""
-        for finder, row in (("node_command_of", "node_row"), ("bus_command_of", "whole_row")):
+        for finder, row in (("node_command_of", "node_row"), ("server_command_of", "whole_row")):
             found = apply(self.called.value(finder), thunk(address))
             if found.name == "Some":
                 return forced(found.args[0]), row
@@ -255,7 +255,7 @@ class Code:
         """The texts of the reasons against a command, in their order, but for those that are judged before all."""
         command, row = self.command(address)
         names, seen = [], set()
-        for clause in self.module.clauses["node_row" if row == "node_row" else "bus_row"]:
+        for clause in self.module.clauses["node_row" if row == "node_row" else "server_row"]:
             if re.match(rf"\w+ \(?\w+\.{command.name}[ )=]", clause):
                 words = reading.tokens(clause.partition(" = ")[2])
                 follows = words[2] if len(words) > 2 and words[1] == "." else None

@@ -237,7 +237,8 @@ class Specs:
         if "declared" in path:
             return Con(name) if path[-1] == "TheVariants" else None
         found = self.module(path[0], ".".join(path[2:])).resolve(name)
-        return found if path[0] == "sn_world" or isinstance(found, Con) else World()
+        known = path[0] == "sn_world" or path[-1] == "Limits" or isinstance(found, Con)
+        return found if known else World()
 
     def value(self, crate, module, name):
         return self.module(crate, module).value(name)

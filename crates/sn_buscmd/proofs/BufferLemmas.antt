@@ -15,8 +15,8 @@ use Rattle.sn_mem.specs.Buffers.{Buffer, buffer_of, buffers_of, place_extents}
 use Rattle.sn_world.specs.Buffers.{MayBeBuffer, IsBuffer}
 use Rattle.sn_pool.proofs.Counts.{same_itself}
 use Rattle.sn_buscmd.proofs.PlacingLemmas.{times_one, times_none}
-use Rattle.sn_world.specs.BufferNumbers.{at_number, put_at, buffer_refusal, done_with}
-use Rattle.sn_world.specs.BufferCommands.{one_number, without_buffer, free_outcome, free_row}
+use Rattle.sn_world.specs.BufferNumbers.{at_number, put_at, buffer_refusal, done_message}
+use Rattle.sn_world.specs.BufferCommands.{one_number, without_buffer, free_outcome, free_buffer_row}
 use Rattle.sn_world.specs.Pictures.{Pictures}
 use Rattle.sn_world.specs.Rows.{first_of, unless}
 use Rattle.sn_world.specs.World.{World, Turn, world_of, turn_of}
@@ -113,16 +113,16 @@ module _ (old new : Stage) (n : ℤ) (p : BufferPlace) (found : Some p ≡ at_nu
   freed_world = set_world (nat_abs n) None old words new words is_set before
       ∙ ap (λ (bs : List (Option Buffer)). let w : World = record (world_of old words) { buffers = bs } in w) (sym (put_there n None (buffers_of words old.buffers) (there old.buffers n p found).is))
 
-  pub freed_row : (from : ℕ) (xs : List Argument) (replies after : List ReplyShape) → Some n ≡ one_number xs → after ≡ replies ++ (record { to = Client from; message = done_with (codes "/b_free") n }) ∷ []
-      → free_row from xs (turn_of old words replies) ≡ Ok (turn_of new words after)
+  pub freed_row : (from : ℕ) (xs : List Argument) (replies after : List ReplyShape) → Some n ≡ one_number xs → after ≡ replies ++ (record { to = Client from; message = done_message (codes "/b_free") n }) ∷ []
+      → free_buffer_row from xs (turn_of old words replies) ≡ Ok (turn_of new words after)
   freed_row from xs replies after asked told =
       let t : Turn = turn_of old words replies in
       ap (λ (o : Option ℤ). free_outcome from o t) (sym asked)
-      ∙ ap (λ (o : Option Reason). unless o (Ok (record { world = without_buffer n (world_of old words); replies = replies ++ (record { to = Client from; message = done_with (codes "/b_free") n }) ∷ [] }))) (is_there words old n p found)
+      ∙ ap (λ (o : Option Reason). unless o (Ok (record { world = without_buffer n (world_of old words); replies = replies ++ (record { to = Client from; message = done_message (codes "/b_free") n }) ∷ [] }))) (is_there words old n p found)
       ∙ (λ i. Ok (let u : Turn = record { world = sym freed_world i; replies = sym told i } in u))
 
-pub free_missing : (from : ℕ) (xs : List Argument) (stage : Stage) (words : List ℕ) (replies : List ReplyShape) (n : ℤ) → Some n ≡ one_number xs → None ≡ at_number stage.buffers n → free_row from xs (turn_of stage words replies) ≡ Err Reasons.Buffer
+pub free_missing : (from : ℕ) (xs : List Argument) (stage : Stage) (words : List ℕ) (replies : List ReplyShape) (n : ℤ) → Some n ≡ one_number xs → None ≡ at_number stage.buffers n → free_buffer_row from xs (turn_of stage words replies) ≡ Err Reasons.Buffer
 free_missing from xs stage words replies n asked none =
     let t : Turn = turn_of stage words replies in
-    let done : Result Turn Reason = Ok (record { world = without_buffer n (world_of stage words); replies = replies ++ (record { to = Client from; message = done_with (codes "/b_free") n }) ∷ [] }) in
+    let done : Result Turn Reason = Ok (record { world = without_buffer n (world_of stage words); replies = replies ++ (record { to = Client from; message = done_message (codes "/b_free") n }) ∷ [] }) in
     ap (λ (o : Option ℤ). free_outcome from o t) (sym asked) ∙ ap (λ (o : Option Reason). unless o done) (not_there words stage n none)

@@ -14,7 +14,7 @@ use Rattle.sn_world.specs.Definitions.{Definitions}
 use Rattle.sn_world.specs.Names.{NameSet}
 use Rattle.sn_world.specs.World.{Turn}
 use Rattle.sn_world.specs.Rows.{first_of, unless, steps, row, another, singles, some_of}
-use Rattle.sn_world.specs.Free.{name_of, judge_free, act_free, free_row, are_known, without_names}
+use Rattle.sn_world.specs.Forgetting.{name_of, judge_forget, act_forget, forget_row, are_known, without_names}
 
 -- ---- definitions without a set of names
 
@@ -87,11 +87,11 @@ stepped : (known others : Bool) (t : Turn) → unless (first_of ((not known, NoS
 stepped true others t = refl
 stepped false others t = refl
 
-all-freed : (names : List (List ℕ)) (t : Turn) → steps judge_free act_free names t ≡ freed (are_known names t.world.definitions) (with_definitions (without_names names t.world.definitions) t)
+all-freed : (names : List (List ℕ)) (t : Turn) → steps judge_forget act_forget names t ≡ freed (are_known names t.world.definitions) (with_definitions (without_names names t.world.definitions) t)
 all-freed [] t = refl
 all-freed (name ∷ names) t =
     let ds = t.world.definitions in
-    ap (unless (judge_free t.world name)) (all-freed names (act_free name t))
+    ap (unless (judge_forget t.world name)) (all-freed names (act_forget name t))
     ∙ stepped (is_some (get ds name)) (are_known names (remove ds name)) (with_definitions (without_names names (remove ds name)) t)
 
 not_empty : (x : Argument) (xs : List Argument) (o : Option (List (List ℕ))) → some_of (another (name_of x) o) ≡ another (name_of x) o
@@ -105,11 +105,11 @@ some-names [] some = absurd (omega arith)
 some-names (x ∷ xs) some = not_empty x xs (singles name_of xs)
 
 module _ (from : ℕ) (xs : List Argument) (t : Turn) where
-  pub names_row : 1 ≤ length xs → (names : List (List ℕ)) → Some names ≡ singles name_of xs → free_row from xs t ≡ freed (are_known names t.world.definitions) (with_definitions (without_names names t.world.definitions) t)
-  names_row some names read = ap (λ (o : Option (List (List ℕ))). row judge_free act_free o t) (some-names xs some ∙ sym read) ∙ all-freed names t
+  pub names_row : 1 ≤ length xs → (names : List (List ℕ)) → Some names ≡ singles name_of xs → forget_row from xs t ≡ freed (are_known names t.world.definitions) (with_definitions (without_names names t.world.definitions) t)
+  names_row some names read = ap (λ (o : Option (List (List ℕ))). row judge_forget act_forget o t) (some-names xs some ∙ sym read) ∙ all-freed names t
 
-  pub names_unknown : 1 ≤ length xs → (names : List (List ℕ)) → Some names ≡ singles name_of xs → are_known names t.world.definitions ≡ false → free_row from xs t ≡ Err NoSuchDefinition
+  pub names_unknown : 1 ≤ length xs → (names : List (List ℕ)) → Some names ≡ singles name_of xs → are_known names t.world.definitions ≡ false → forget_row from xs t ≡ Err NoSuchDefinition
   names_unknown some names read unknown = names_row some names read ∙ ap (λ b. freed b (with_definitions (without_names names t.world.definitions) t)) unknown
 
-  pub names_known : 1 ≤ length xs → (names : List (List ℕ)) → Some names ≡ singles name_of xs → are_known names t.world.definitions ≡ true → free_row from xs t ≡ Ok (with_definitions (without_names names t.world.definitions) t)
+  pub names_known : 1 ≤ length xs → (names : List (List ℕ)) → Some names ≡ singles name_of xs → are_known names t.world.definitions ≡ true → forget_row from xs t ≡ Ok (with_definitions (without_names names t.world.definitions) t)
   names_known some names read known = names_row some names read ∙ ap (λ b. freed b (with_definitions (without_names names t.world.definitions) t)) known

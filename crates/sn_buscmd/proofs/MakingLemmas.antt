@@ -15,7 +15,7 @@ use Rattle.sn_world.specs.declared.buffer_repetition.NewBuffer.{NewBuffer}
 use Rattle.sn_world.specs.declared.stage.Stage.{Stage}
 use Rattle.sn_mem.specs.Buffers.{Buffer, buffer_of, buffers_of, samples_of, place_extents, live_places, overlaps}
 use Rattle.sn_world.specs.Buffers.{live_buffers}
-use Rattle.sn_world.specs.BufferNumbers.{is_number, at_number, put_at, number_refusal, done_with}
+use Rattle.sn_world.specs.BufferNumbers.{is_number, at_number, put_at, number_refusal, done_message}
 use Rattle.sn_world.specs.BufferCommands.{without_buffer, place_for, holding, hold_at, hold}
 use Rattle.sn_world.specs.Pictures.{Pictures, live_held}
 use Rattle.sn_world.specs.Rows.{first_of, unless}
@@ -150,8 +150,8 @@ module _ (stage : Stage) (words : List ℕ) (r : NewBuffer) (free : number_refus
       buffer_is : buffer_of us p ≡ holding samples r p.extent.at
       buffer_is = λ i. record { frames = placed.frames i; channels = placed.channels i; samples = held i; extent = record { at = p.extent.at; len = placed.size i } }
 
-      made_turn : (from : ℕ) (replies after : List ReplyShape) → after ≡ replies ++ (record { to = Client from; message = done_with command r.number }) ∷ []
-          → turn_of new us after ≡ (let t : Turn = record { world = record (world_of stage words) { buffers = put_at r.number (Some (holding samples r p.extent.at)) (buffers_of words stage.buffers) }; replies = replies ++ (record { to = Client from; message = done_with command r.number }) ∷ [] } in t)
+      made_turn : (from : ℕ) (replies after : List ReplyShape) → after ≡ replies ++ (record { to = Client from; message = done_message command r.number }) ∷ []
+          → turn_of new us after ≡ (let t : Turn = record { world = record (world_of stage words) { buffers = put_at r.number (Some (holding samples r p.extent.at)) (buffers_of words stage.buffers) }; replies = replies ++ (record { to = Client from; message = done_message command r.number }) ∷ [] } in t)
       made_turn from replies after told =
           let w : World = world_of stage words in
           let world_is = set_world (nat_abs r.number) (Some p) stage words new us is_set before
@@ -159,7 +159,7 @@ module _ (stage : Stage) (words : List ℕ) (r : NewBuffer) (free : number_refus
           ∙ ap (λ (bs : List (Option Buffer)). let v : World = record w { buffers = bs } in v) (sym (put_there r.number (Some (holding samples r p.extent.at)) (buffers_of words stage.buffers) here.is)) in
           λ i. record { world = world_is i; replies = told i }
 
-      pub made_row : (from : ℕ) (replies after : List ReplyShape) → after ≡ replies ++ (record { to = Client from; message = done_with command r.number }) ∷ []
+      pub made_row : (from : ℕ) (replies after : List ReplyShape) → after ≡ replies ++ (record { to = Client from; message = done_message command r.number }) ∷ []
           → hold command samples from r (turn_of stage words replies) ≡ Ok (turn_of new us after)
       made_row from replies after told =
           judged command samples from replies placed.left (Some p.extent.at) placed.are_left placed.least

@@ -1,16 +1,13 @@
 -- `/b_query`: what is told, and that it can be sent.
-use Rattle.std.proofs.Common.{◌≡◌, ◌<◌, ◌+◌, ◌*◌, ◌^◌, ℕ, ℤ, pos, List, [], ◌∷◌, ◌++◌, length, map, Option, Some, None, Ok, refl, ap, sym, subst, ◌∙◌, arith, length-append}
+use Rattle.std.proofs.Common.{◌≡◌, ◌<◌, ◌+◌, ◌*◌, ◌^◌, ℕ, ℤ, pos, List, [], ◌∷◌, ◌++◌, length, Option, Some, None, Ok, refl, ap, sym, ◌∙◌, arith, length-append}
 use Rattle.std.specs.Option.{option_map}
 use Rattle.std.specs.Prelude.{IfSome, codes}
-use Rattle.std.proofs.lemmas.List.{length-map}
-use Rattle.sn_osc.specs.Shape.{Argument, int, BodyShape, arguments, MessageShape}
-use Rattle.sn_osc.specs.Bytes.{arguments_bytes, int_bytes, string_bytes, tag_of}
+use Rattle.sn_osc.specs.Shape.{Argument, int, arguments}
+use Rattle.sn_osc.specs.Bytes.{arguments_bytes, int_bytes}
 use Rattle.sn_mem.specs.declared.buffers.BufferPlace.{BufferPlace}
 use Rattle.sn_reply.specs.declared.reason.Reason.{Reason}
 use Rattle.sn_reply.specs.declared.replies.To.TheVariants.{Client}
 use Rattle.sn_reply.specs.Replies.{ReplyShape}
-use Rattle.sn_reply.specs.Sending.{IsAnswerable}
-use Rattle.sn_reply.proofs.Sending.{length-arguments_bytes-least, length-string_bytes}
 use Rattle.sn_world.specs.declared.buffer_repetition.BufferNumber.{BufferNumber}
 use Rattle.sn_world.specs.declared.stage.Stage.{Stage}
 use Rattle.sn_mem.specs.Buffers.{buffer_of}
@@ -68,18 +65,3 @@ all_bytes rate ps (r ∷ rs) = omega (arith, length-append (int_bytes r.number) 
 
 pub few_infos : (xs : List Argument) (rate : ℕ) (ps : List (Option BufferPlace)) (rs : List BufferNumber) → xs ≡ place_infos rate ps rs → 20 * length rs + 2 ^ 20 < 2 ^ 31 → length (arguments_bytes xs) + length xs + 256 < 2 ^ 31
 few_infos xs rate ps rs is few = omega (arith, ap length is, ap (λ ys. length (arguments_bytes ys)) is, all_long rate ps rs, all_bytes rate ps rs, few)
-
--- each argument has a tag and at least four bytes
-many-arguments : (address : List ℕ) (xs : List Argument) → IsAnswerable (record { address = address; body = arguments xs }) → 20 * length xs + 2 ^ 20 < 2 ^ 31
-many-arguments address xs a =
-    let tags = 44 ∷ map tag_of xs in
-    let whole = length-append (string_bytes address) (string_bytes tags ++ arguments_bytes xs) in
-    let body = length-append (string_bytes tags) (arguments_bytes xs) in
-    let padded = length-string_bytes tags in
-    let names : length (map tag_of xs) ≡ length xs = length-map xs tag_of in
-    let least = length-arguments_bytes-least xs in
-    let short = a.short in
-    omega arith
-
-pub many-arguments_of : (m : MessageShape) (xs : List Argument) → m.body ≡ arguments xs → IsAnswerable m → 20 * length xs + 2 ^ 20 < 2 ^ 31
-many-arguments_of m xs is a = many-arguments m.address xs (subst (λ (b : BodyShape). IsAnswerable (record { address = m.address; body = b })) is a)

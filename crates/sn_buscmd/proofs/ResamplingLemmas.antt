@@ -15,7 +15,7 @@ use Rattle.sn_reply.specs.Replies.{ReplyShape}
 use Rattle.sn_world.specs.declared.stage.Stage.{Stage}
 use Rattle.sn_mem.specs.Buffers.{Buffer, buffer_of, buffers_of, samples_of, place_extents, overlaps}
 use Rattle.sn_world.specs.Buffers.{MayBeBuffer, IsBuffer}
-use Rattle.sn_world.specs.BufferNumbers.{at_number, resampled, with_samples, done_with}
+use Rattle.sn_world.specs.BufferNumbers.{at_number, resampled, with_samples, done_message}
 use Rattle.sn_world.specs.BufferCommands.{one_number, zeros, zero_outcome, zero_row}
 use Rattle.sn_world.specs.BufferSamples.{size_of, samples_in}
 use Rattle.sn_world.specs.Pictures.{Pictures, WritesWorld, KeepsOutside}
@@ -101,15 +101,15 @@ module _ (stage : Stage) (ws : List ℕ) (n : ℤ) (p : BufferPlace) (found : So
     kept_outside = λ k low out. around.around k (after p.extent k (omega (arith, out, is_buffer.within.1)))
 
   pub zeroed_row : (us : List ℕ) → KeepsAround p.extent ws us → samples_of us p.extent ≡ zeros (samples_of ws p.extent) → (from : ℕ) (xs : List Argument) (replies after : List ReplyShape) → Some n ≡ one_number xs
-      → after ≡ replies ++ (record { to = Client from; message = done_with (codes "/b_zero") n }) ∷ [] → zero_row from xs (turn_of stage ws replies) ≡ Ok (turn_of stage us after)
+      → after ≡ replies ++ (record { to = Client from; message = done_message (codes "/b_zero") n }) ∷ [] → zero_row from xs (turn_of stage ws replies) ≡ Ok (turn_of stage us after)
   zeroed_row us around samples from xs replies after asked told =
       let t : Turn = turn_of stage ws replies in
       ap (λ (o : Option ℤ). zero_outcome from o t) (sym asked)
-      ∙ ap (λ (o : Option Reason). unless o (Ok (record { world = with_samples n zeros (world_of stage ws); replies = replies ++ (record { to = Client from; message = done_with (codes "/b_zero") n }) ∷ [] }))) (is_there ws stage n p found)
+      ∙ ap (λ (o : Option Reason). unless o (Ok (record { world = with_samples n zeros (world_of stage ws); replies = replies ++ (record { to = Client from; message = done_message (codes "/b_zero") n }) ∷ [] }))) (is_there ws stage n p found)
       ∙ (λ i. Ok (let u : Turn = record { world = sym (resampled_world us zeros around samples) i; replies = sym told i } in u))
 
 pub zero_missing : (from : ℕ) (xs : List Argument) (stage : Stage) (words : List ℕ) (replies : List ReplyShape) (n : ℤ) → Some n ≡ one_number xs → None ≡ at_number stage.buffers n → zero_row from xs (turn_of stage words replies) ≡ Err Reasons.Buffer
 zero_missing from xs stage words replies n asked none =
     let t : Turn = turn_of stage words replies in
-    let done : Result Turn Reason = Ok (record { world = with_samples n zeros (world_of stage words); replies = replies ++ (record { to = Client from; message = done_with (codes "/b_zero") n }) ∷ [] }) in
+    let done : Result Turn Reason = Ok (record { world = with_samples n zeros (world_of stage words); replies = replies ++ (record { to = Client from; message = done_message (codes "/b_zero") n }) ∷ [] }) in
     ap (λ (o : Option ℤ). zero_outcome from o t) (sym asked) ∙ ap (λ (o : Option Reason). unless o done) (not_there words stage n none)

@@ -5,6 +5,7 @@ use Rattle.std.specs.List.{list_all}
 use Rattle.std.proofs.lemmas.Bool.{lt-ltb}
 use Rattle.std.proofs.lemmas.List.Folds.{list_all-append}
 use Rattle.std.proofs.lemmas.List.{length-map}
+use Rattle.sn_ports.specs.Limits.{most_values}
 use Rattle.sn_osc.specs.declared.packet.Arg.{Arg}
 use Rattle.sn_osc.specs.declared.packet.Arg.TheVariants.{Int}
 use Rattle.sn_osc.specs.Shape.{Argument, int, argument_of}
@@ -15,7 +16,7 @@ use Rattle.sn_world.specs.declared.repetition.Run.{Run}
 use Rattle.sn_mem.specs.Buses.{ControlBus, control_buses}
 use Rattle.sn_world.specs.Rows.{first_refusal}
 use Rattle.sn_world.specs.Buses.{run_refusal, value_at}
-use Rattle.sn_world.specs.Runs.{total_count, most_values, values_from, runs_and_values, answer_getn}
+use Rattle.sn_world.specs.Runs.{total_count, values_from, runs_and_values, answer_getn}
 use Rattle.sn_buscmd.specs.Setting.{place_refusal}
 use Rattle.sn_buscmd.proofs.AskingLemmas.{no-first}
 use Rattle.sn_buscmd.proofs.BusLemmas.{value_of-fits}

@@ -7,7 +7,7 @@ use Rattle.sn_osc.specs.Bytes.{int_bytes, arguments_bytes}
 use Rattle.sn_world.specs.declared.buffer_repetition.SampleIndex.{SampleIndex}
 use Rattle.sn_world.specs.declared.buffer_repetition.SampleRun.{SampleRun}
 use Rattle.sn_world.specs.BufferSamples.{answers, index_and_value, run_and_values, values_from, samples_asked, few_asked, sample_index, sample_run}
-use Rattle.sn_world.specs.Runs.{most_values}
+use Rattle.sn_ports.specs.Limits.{most_values}
 use Rattle.sn_world.specs.Rows.{singles, pairs, some_of}
 use Rattle.sn_world.proofs.Parsing.{some_of-few, singles-length, pairs-length}
 use Rattle.sn_buscmd.specs.SampleCommands.{numbered, AreFew}

@@ -1,5 +1,6 @@
 -- Samples of a buffer, and places for one.
 use Rattle.std.specs.Prelude.{◌≡◌, ◌≤◌, ◌<◌, ◌+◌, ◌*◌, ℕ, false, List, length, slice_index, ◌++◌, pos, codes, Option, Some, None, Result, Ok, Err, [], ◌∷◌}
+use Rattle.sn_ports.specs.Limits.{most_channels}
 use Rattle.sn_ports.specs.declared.failed.NoMemory.{NoMemory}
 use Rattle.sn_mem.specs.declared.extents.Extent.{Extent}
 use Rattle.sn_mem.specs.Words.{covers}
@@ -36,14 +37,14 @@ place_answer rate places rs = record { address = codes "/b_info"; body = argumen
 -- a buffer that can be told of
 pub record CanBeSaid (p : BufferPlace) : Type 0 where
   pub short : p.frames < 2147483648
-  pub few : p.channels ≤ 8
+  pub few : p.channels ≤ most_channels
 
 -- a buffer that is made can be told of
 pub record IsNew (r : NewBuffer) : Type 0 where
   pub frames : 1 ≤ r.frames
   pub short : r.frames < 2147483648
   pub channels : 1 ≤ r.channels
-  pub few : r.channels ≤ 8
+  pub few : r.channels ≤ most_channels
 
 -- the words of a buffer, where there is one, are live
 abbrev pub IsLive : Option BufferPlace → PoolState → Type 0

@@ -1,5 +1,6 @@
 -- Control buses that are set one after the other.
 use Rattle.std.specs.Prelude.{◌≡◌, ◌≤◌, ◌<◌, ℕ, List, [], ◌∷◌, length, replicate, slice_index, Option}
+use Rattle.sn_mem.specs.Layout.{audio_words, bus_words}
 use Rattle.sn_mem.specs.Buses.{ControlBus}
 use Rattle.sn_reply.specs.declared.reason.Reason.{Reason}
 use Rattle.sn_world.specs.declared.repetition.BusNumber.{BusNumber}
@@ -41,5 +42,5 @@ change_all change (r ∷ rs) buses = change_all change rs (change r buses)
 -- all words but those of the control buses stay as they were
 pub record KeepsOtherWords (old new : List ℕ) : Type 0 where
   pub len : length new ≡ length old
-  pub below : (k : ℕ) → k < 8320 → slice_index new k ≡ slice_index old k
-  pub above : (k : ℕ) → 10368 ≤ k → slice_index new k ≡ slice_index old k
+  pub below : (k : ℕ) → k < audio_words → slice_index new k ≡ slice_index old k
+  pub above : (k : ℕ) → bus_words ≤ k → slice_index new k ≡ slice_index old k

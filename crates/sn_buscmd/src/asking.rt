@@ -1,5 +1,6 @@
 //! Questions for values.
 ghost use Rattle.std.specs.Prelude.{◌≡◌, ◌+◌, ◌*◌, ◌^◌, ◌<◌, length, map, None, IfOk};
+ghost use Rattle.sn_ports.specs.Limits.{control_bus_count};
 ghost use Rattle.sn_osc.specs.Shape.{argument_of, message_of};
 ghost use Rattle.sn_reply.specs.Sending.{IsSendable};
 ghost use Rattle.sn_mem.specs.Buses.{control_buses};
@@ -33,7 +34,7 @@ fn value_of<P: Port>(port: &mut P, number: &BusNumber) -> i32
 
 /// The value of the control bus with a number.
 pub fn value_at<P: Port>(port: &mut P, number: u32) -> i32
-    requires bus { number < 1024 }
+    requires bus { number < control_bus_count }
     requires foot { WritesBuses (P.foot port.old) }
     ensures value { result ≡ value_at (control_buses (P.words port.old)) number }
     ensures words { P.words port.new ≡ P.words port.old }

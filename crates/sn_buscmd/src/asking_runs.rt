@@ -1,5 +1,6 @@
 //! Questions for the values of runs of buses.
 ghost use Rattle.std.specs.Prelude.{◌≡◌, ◌+◌, ◌*◌, ◌^◌, ◌<◌, ◌≤◌, ◌++◌, nat_abs, length, map, None, IfOk, OnOk};
+ghost use Rattle.sn_ports.specs.Limits.{most_values};
 ghost use Rattle.sn_osc.specs.Shape.{argument_of, message_of};
 ghost use Rattle.sn_reply.specs.Sending.{IsSendable};
 ghost use Rattle.sn_mem.specs.Buses.{control_buses};
@@ -8,7 +9,7 @@ ghost use Rattle.sn_world.specs.World.{turn_of};
 ghost use Rattle.sn_world.specs.Pictures.{WritesBuses};
 ghost use Rattle.sn_world.specs.Rows.{first_refusal};
 ghost use Rattle.sn_world.specs.Buses.{run_refusal};
-ghost use Rattle.sn_world.specs.Runs.{total_count, most_values, values_from, runs_and_values, answer_getn, getn_row};
+ghost use Rattle.sn_world.specs.Runs.{total_count, values_from, runs_and_values, answer_getn, getn_row};
 ghost use Rattle.sn_world.specs.Answers.{Follows, UnlessFollowed};
 ghost use Rattle.sn_buscmd.specs.Setting.{place_refusal};
 

@@ -5,7 +5,7 @@ ghost use Rattle.sn_osc.specs.Shape.{argument_of};
 ghost use Rattle.sn_pool.specs.Pools.{times, same_extent, without_extent};
 ghost use Rattle.sn_world.specs.World.{turn_of};
 ghost use Rattle.sn_world.specs.Pictures.{Pictures};
-ghost use Rattle.sn_world.specs.BufferCommands.{free_row};
+ghost use Rattle.sn_world.specs.BufferCommands.{free_buffer_row};
 ghost use Rattle.sn_world.specs.Answers.{Follows, UnlessFollowed};
 
 use crate::buffers::{find, one_number, tell_done};
@@ -40,7 +40,7 @@ pub fn run_buffer_free(
     replies: &mut Replies,
 ) -> Result<Option<Reason>, NoMemory>
     requires pictures { (words : List ℕ) × Pictures stage.old words }
-    ensures row { (words : List ℕ) → Pictures stage.old words → Follows result (free_row from (map argument_of arguments.now) (turn_of stage.old words replies.old)) (turn_of stage.new words replies.new) }
+    ensures row { (words : List ℕ) → Pictures stage.old words → Follows result (free_buffer_row from (map argument_of arguments.now) (turn_of stage.old words replies.old)) (turn_of stage.new words replies.new) }
     ensures unchanged { UnlessFollowed result (stage.new ≡ stage.old) }
     ensures untold { UnlessFollowed result (replies.new ≡ replies.old) }
     ensures pictures { (words : List ℕ) → Pictures stage.old words → Pictures stage.new words }

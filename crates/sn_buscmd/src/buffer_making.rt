@@ -1,5 +1,6 @@
 //! `/b_alloc`.
 ghost use Rattle.std.specs.Prelude.{◌≡◌, ◌≤◌, ◌<◌, ◌*◌, ◌^◌, None, length, map, Some, IfOk, IfErr, IfSome};
+ghost use Rattle.sn_ports.specs.Limits.{most_channels};
 ghost use Rattle.sn_osc.specs.Shape.{argument_of};
 ghost use Rattle.sn_pool.specs.Pools.{GivesPlace, with_extent};
 ghost use Rattle.sn_pool.specs.Regions.{IsFree, least_place};
@@ -17,6 +18,7 @@ use sn_mem::{BufferPlace, Extent, Port};
 use sn_osc::Arg;
 use sn_pool::{Pool, Untaken};
 use sn_ports::NoMemory;
+use sn_ports::limits::MOST_CHANNELS;
 use sn_reply::{Reason, Replies};
 use sn_world::{NewBuffer, Single, Stage};
 use std::alloc::Global;
@@ -32,13 +34,16 @@ pub fn frame_count(argument: &Arg) -> Option<u32>
     }
 }
 
-/// A number of channels, 1 to 8.
+/// The channels of a buffer, at most.
+const CHANNELS: i32 = MOST_CHANNELS as i32;
+
+/// A number of channels that a buffer may have.
 pub fn channel_count(argument: &Arg) -> Option<u32>
     ensures count { result ≡ channel_count (argument_of argument.now) }
-    ensures bound { IfSome result (λ n. (1 ≤ n) × (n ≤ 8)) }
+    ensures bound { IfSome result (λ n. (1 ≤ n) × (n ≤ most_channels)) }
 {
     match argument {
-        Arg::Int(channels) if 1 <= *channels && *channels <= 8 => Some(*channels as u32),
+        Arg::Int(channels) if 1 <= *channels && *channels <= CHANNELS => Some(*channels as u32),
         _ => None,
     }
 }
@@ -50,7 +55,7 @@ pub fn asked_with(
     channels: Option<u32>,
 ) -> Option<NewBuffer>
     requires frames { IfSome frames (λ n. (1 ≤ n) × (n < 2 ^ 31)) }
-    requires channels { IfSome channels (λ n. (1 ≤ n) × (n ≤ 8)) }
+    requires channels { IfSome channels (λ n. (1 ≤ n) × (n ≤ most_channels)) }
     ensures asked { result ≡ asked_with number frames channels }
     ensures fits { IfSome result IsNew }
 {

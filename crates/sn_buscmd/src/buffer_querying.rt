@@ -1,5 +1,6 @@
 //! `/b_query`.
 ghost use Rattle.std.specs.Prelude.{◌≡◌, ◌≤◌, ◌<◌, ◌+◌, ◌*◌, ◌^◌, ◌++◌, ℕ, List, length, map, IfSome, IfOk, OnOk};
+ghost use Rattle.sn_ports.specs.Limits.{high_rate};
 ghost use Rattle.sn_osc.specs.Shape.{argument_of, message_of};
 ghost use Rattle.sn_reply.specs.Sending.{IsSendable};
 ghost use Rattle.sn_world.specs.World.{turn_of};
@@ -38,7 +39,7 @@ impl Judged<()> for BufferNumber {
 /// The frames, the channels and the rate of a buffer, zeros where none is allocated.
 fn push_info(answer: &mut Answer, place: Option<BufferPlace>, rate: u32) -> Result<(), NoMemory>
     requires place { IfSome place CanBeSaid }
-    requires rate { rate ≤ 96000 }
+    requires rate { rate ≤ high_rate }
     ensures { OnOk result (answer.new ≡ answer.old ++ place_info rate place) }
 {
     let (frames, channels, rate) = match place {

@@ -3,7 +3,7 @@ ghost use Rattle.std.specs.Prelude.{◌≡◌, ◌<◌, ◌∷◌, ◌++◌, [],
 ghost use Rattle.sn_osc.specs.Bytes.{has_no_null};
 ghost use Rattle.sn_osc.specs.Shape.{argument_of};
 ghost use Rattle.sn_reply.specs.declared.replies.To.TheVariants.{Client};
-ghost use Rattle.sn_world.specs.BufferNumbers.{at_number, done_with};
+ghost use Rattle.sn_world.specs.BufferNumbers.{at_number, done_message};
 ghost use Rattle.sn_world.specs.BufferCommands.{one_number};
 
 use sn_mem::{BufferPlace, Buffers};
@@ -42,7 +42,7 @@ pub fn tell_done(
 ) -> Result<(), NoMemory>
     requires clean { has_no_null command.now ≡ true }
     requires short { length command.now < 60 }
-    ensures ok { OnOk result (replies.new ≡ replies.old ++ (record { to = Client from; message = done_with command.now number }) ∷ []) }
+    ensures ok { OnOk result (replies.new ≡ replies.old ++ (record { to = Client from; message = done_message command.now number }) ∷ []) }
     ensures err { OnErr result (replies.new ≡ replies.old) }
 {
     let mut answer = Answer::new(alloc);

@@ -8,10 +8,10 @@ ghost use Rattle.sn_reply.specs.Sending.{IsAnswerable};
 ghost use Rattle.sn_world.specs.Completing.{behind_frames, behind_samples, behind_number, behind_text, carried, own, one_message};
 ghost use Rattle.sn_world.specs.Commands.{completion_of, depth_within, acceptable};
 
-use crate::running::bus_command_of;
+use crate::dispatch::server_command_of;
 use sn_osc::{Arg, Body, Message, Packet, Undecoded, decode};
 use sn_ports::NoMemory;
-use sn_world::{BusCommand, MOST_COMPLETIONS};
+use sn_world::{MOST_COMPLETIONS, ServerCommand};
 use std::alloc::Global;
 
 /// The blob behind a number, frames and channels, if they are given.
@@ -62,14 +62,14 @@ fn behind_text(arguments: &[Arg]) -> Option<&[u8]>
 }
 
 /// The blob that a command carries behind its own arguments.
-pub fn carried(command: BusCommand, arguments: &[Arg]) -> Option<&[u8]>
+pub fn carried(command: ServerCommand, arguments: &[Arg]) -> Option<&[u8]>
     ensures { option_map (λ (blob : Bor (List ℕ)). blob.now) result ≡ carried command (map argument_of arguments.now) }
 {
     match command {
-        BusCommand::AllocBuffer => behind_frames(arguments),
-        BusCommand::ReadBuffer => behind_samples(arguments),
-        BusCommand::FreeBuffer | BusCommand::ZeroBuffer => behind_number(arguments),
-        BusCommand::Receive => behind_text(arguments),
+        ServerCommand::AllocBuffer => behind_frames(arguments),
+        ServerCommand::ReadBuffer => behind_samples(arguments),
+        ServerCommand::FreeBuffer | ServerCommand::ZeroBuffer => behind_number(arguments),
+        ServerCommand::Receive => behind_text(arguments),
         _ => None,
     }
 }
@@ -107,7 +107,7 @@ fn one_message(alloc: Global, bytes: &[u8]) -> Result<Option<Message>, NoMemory>
 fn completion_of(alloc: Global, message: &Message) -> Result<Option<Message>, NoMemory>
     ensures { IfOk result (λ m. option_map message_of m ≡ completion_of (message_of message.now)) }
 {
-    let Some(command) = bus_command_of(message.address.as_slice()) else {
+    let Some(command) = server_command_of(message.address.as_slice()) else {
         return Ok(None);
     };
     let Body::Args(arguments) = &message.body else {

@@ -1,11 +1,10 @@
 //! How many values a message asks for.
 ghost use Rattle.std.specs.Prelude.{◌≡◌, nat_le};
-ghost use Rattle.sn_world.specs.Runs.{total_of, most_values};
+ghost use Rattle.sn_ports.specs.Limits.{most_values};
+ghost use Rattle.sn_world.specs.Runs.{total_of};
 
+use sn_ports::limits::MOST_VALUES;
 use sn_world::{Run, SampleRun};
-
-/// The most values that a message asks for.
-const MOST_VALUES: u32 = 8192;
 
 /// Places in a row.
 pub trait Counted {

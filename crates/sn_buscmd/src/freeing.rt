@@ -7,7 +7,7 @@ ghost use Rattle.sn_reply.specs.Replies.{ReplyShape};
 ghost use Rattle.sn_world.specs.Definitions.{definitions_of};
 ghost use Rattle.sn_world.specs.World.{turn_of};
 ghost use Rattle.sn_world.specs.Rows.{singles};
-ghost use Rattle.sn_world.specs.Free.{name_of, are_known, without_names, free_row};
+ghost use Rattle.sn_world.specs.Forgetting.{name_of, are_known, without_names, forget_row};
 ghost use Rattle.sn_world.specs.Answers.{Follows, UnlessFollowed};
 
 use sn_osc::Arg;
@@ -71,7 +71,7 @@ pub fn run_free(
     stage: &mut Stage,
     arguments: &[Arg],
 ) -> Result<Option<Reason>, NoMemory>
-    ensures row { (from : ℕ) (words : List ℕ) (replies : List ReplyShape) → Follows result (free_row from (map argument_of arguments.now) (turn_of stage.old words replies)) (turn_of stage.new words replies) }
+    ensures row { (from : ℕ) (words : List ℕ) (replies : List ReplyShape) → Follows result (forget_row from (map argument_of arguments.now) (turn_of stage.old words replies)) (turn_of stage.new words replies) }
     ensures unchanged { UnlessFollowed result (stage.new ≡ stage.old) }
     ensures others { stage.new ≡ record stage.old { defs = stage.new.defs } }
 {

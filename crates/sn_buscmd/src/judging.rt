@@ -1,10 +1,12 @@
 //! Repetitions that are judged before any of them acts.
 ghost use Rattle.std.specs.Prelude.{◌≡◌, ◌+◌, ◌*◌, ◌<◌, nat_abs, None};
+ghost use Rattle.sn_mem.specs.Layout.{audio_words, bus_words, control_bus_words};
 ghost use Rattle.sn_world.specs.Rows.{first_refusal};
 ghost use Rattle.sn_world.specs.Buses.{is_bus, is_run, bus_refusal, run_refusal};
 ghost use Rattle.sn_world.specs.BufferNumbers.{is_number};
 
 use sn_mem::Places;
+use sn_ports::limits::CONTROL_BUS_COUNT;
 use sn_reply::Reason;
 use sn_world::{BusFill, BusNumber, BusValue, Run, ValueRun};
 
@@ -21,12 +23,18 @@ pub trait Judged<By> {
         ensures { result ≡ judge by self.now };
 }
 
-/// Whether a control bus has the number, and a buffer may have it: there are 1,024 of each.
+/// How many control buses there are.
+const BUSES: u64 = CONTROL_BUS_COUNT as u64;
+
+/// No control bus and no buffer has this number or a higher one: there are as many of each.
+const END: i32 = CONTROL_BUS_COUNT as i32;
+
+/// Whether a control bus has the number, and a buffer may have it.
 pub fn is_number(number: i32) -> bool
     ensures bus { result ≡ is_bus number }
     ensures buffer { result ≡ is_number number }
 {
-    0 <= number && number < 1024
+    0 <= number && number < END
 }
 
 fn bus_refusal(bus: i32) -> Option<Reason>
@@ -41,8 +49,8 @@ fn bus_refusal(bus: i32) -> Option<Reason>
 /// The word that holds the value of a control bus.
 pub fn value_place(bus: i32) -> u32
     requires { bus_refusal bus ≡ None }
-    ensures place { result ≡ 8320 + 2 * nat_abs bus + 1 }
-    ensures below { result < 10368 }
+    ensures place { result ≡ audio_words + control_bus_words * nat_abs bus + 1 }
+    ensures below { result < bus_words }
 {
     Places::control(bus as u32).at + 1
 }
@@ -54,7 +62,7 @@ fn is_run(bus: i32, count: u64) -> bool
         return false;
     }
     let first = bus as u64;
-    first < 1024 && count <= 1024 - first
+    first < BUSES && count <= BUSES - first
 }
 
 fn run_refusal(bus: i32, count: u64) -> Option<Reason>

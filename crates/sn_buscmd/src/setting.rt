@@ -1,5 +1,6 @@
 //! Values that are set.
 ghost use Rattle.std.specs.Prelude.{◌≡◌, ◌<◌, ℕ, List, map, None};
+ghost use Rattle.sn_ports.specs.Limits.{control_bus_count};
 ghost use Rattle.sn_osc.specs.Shape.{argument_of};
 ghost use Rattle.sn_mem.specs.Buses.{control_buses};
 ghost use Rattle.sn_reply.specs.Replies.{ReplyShape};
@@ -21,7 +22,7 @@ use std::alloc::Global;
 
 /// Sets the control bus with a number.
 pub fn set_value<P: Port>(port: &mut P, number: u32, value: i32)
-    requires bus { number < 1024 }
+    requires bus { number < control_bus_count }
     requires foot { WritesBuses (P.foot port.old) }
     ensures buses { control_buses (P.words port.new) ≡ with_value (control_buses (P.words port.old)) number value }
     ensures others { KeepsOtherWords (P.words port.old) (P.words port.new) }

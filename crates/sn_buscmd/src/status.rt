@@ -16,7 +16,7 @@ use sn_world::{Held, Stage};
 use std::alloc::Global;
 
 /// The greatest count that a reply says.
-const MOST: u32 = 2147483647;
+const MOST_SAID: u32 = 2147483647;
 
 /// How many units, synths and groups there are, each up to the greatest count.
 #[derive(Drop)]
@@ -30,10 +30,10 @@ struct Census {
 fn more(count: u32, by: usize) -> u32
     ensures { result ≡ capped (count + by) }
 {
-    if count <= MOST && by <= (MOST - count) as usize {
+    if count <= MOST_SAID && by <= (MOST_SAID - count) as usize {
         count + by as u32
     } else {
-        MOST
+        MOST_SAID
     }
 }
 
@@ -41,7 +41,7 @@ fn more(count: u32, by: usize) -> u32
 fn said(count: usize) -> i32
     ensures { result ≡ pos (capped count) }
 {
-    if count <= MOST as usize {
+    if count <= MOST_SAID as usize {
         count as i32
     } else {
         i32::MAX

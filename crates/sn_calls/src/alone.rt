@@ -2,7 +2,7 @@
 use crate::line::Unanswered;
 use crate::trees::{attached, attached_and_undone, walked, written_and_undone};
 use sn_def::{DefKind, Unread, print, read};
-use sn_mem::{Extent, Extents, Foot, Framed, PlainPort, clash, load_words, store_words};
+use sn_mem::{Extent, Extents, Foot, FootPort, PlainPort, clash, load_words, store_words};
 use sn_osc::{Body, Bundle, Frame, Message, Packet, frames_of, spellable};
 use sn_ports::{FileSink, FileSource, NoMemory, Text, fill, show, write_all};
 use sn_queue::Messages;
@@ -172,12 +172,12 @@ fn clashing(alloc: Global) -> Result<bool, Unanswered> {
 
 /// Words that are stored through a foot are loaded through it.
 #[tactic(auto, using(crate::proofs::Plain::plain_may_write, crate::proofs::Plain::plain_may_read))]
-fn framed_words(alloc: Global) -> Result<bool, Unanswered> {
+fn footed_words(alloc: Global) -> Result<bool, Unanswered> {
     let mut port = PlainPort::new(alloc, 80)?;
-    let mut framed = Framed::new(&mut port);
-    store_words(&mut framed, 70, &[4, 5]);
+    let mut footed = FootPort::new(&mut port);
+    store_words(&mut footed, 70, &[4, 5]);
     let mut words = [0u64; 3];
-    load_words(&mut framed, 69, &mut words);
+    load_words(&mut footed, 69, &mut words);
     Ok(words == [0, 4, 5])
 }
 
@@ -208,7 +208,7 @@ pub fn calls<H: Files>(rt: &H, alloc: Global) -> [(&'static str, Result<bool, Un
         ("spellable", spelled(alloc)),
         ("frames_of", framed_stream(alloc)),
         ("clash", clashing(alloc)),
-        ("Framed", framed_words(alloc)),
+        ("FootPort", footed_words(alloc)),
         ("into_vec of messages", listed(alloc)),
         ("next_in_walk", walked(alloc)),
         ("attach", attached(alloc)),

@@ -8,17 +8,18 @@ use crate::line::{Answer, Line, Rows, Unanswered, natural_if_any, number, said};
 use sn_mem::Extent;
 use sn_pool::{POOL_BASE, Places, Pool, Untaken};
 use sn_ports::NoMemory;
+use sn_ports::limits::{AUDIO_BUS_COUNT, CONTROL_BUS_COUNT};
 use std::alloc::Global;
 
 /// The extents that a pool gave.
-type Held = Vec<Extent>;
+type TakenExtents = Vec<Extent>;
 
 /// A pool with no open journal, and the extents that it gave.
 #[derive(Drop)]
 pub struct PoolRows {
     alloc: Global,
     pool: Pool,
-    held: Held,
+    held: TakenExtents,
 }
 
 impl PoolRows {
@@ -43,7 +44,7 @@ fn place_of(held: &[Extent], at: u32) -> Option<usize>
 
 /// Puts an extent behind those that are held.
 #[tactic(auto, using(crate::proofs::Counts::counted_in))]
-fn hold(held: &mut Held, extent: Extent) -> Result<(), NoMemory>
+fn hold(held: &mut TakenExtents, extent: Extent) -> Result<(), NoMemory>
     ensures ok { OnOk result ((e : Extent) → times e held.new.items ≡ (if same_extent e extent then 1 else 0) + times e held.old.items) }
     ensures err { OnErr result (held.new.items ≡ held.old.items) }
 {
@@ -53,7 +54,7 @@ fn hold(held: &mut Held, extent: Extent) -> Result<(), NoMemory>
 
 /// Takes so many words, and answers where, if there is a place for them.
 #[tactic(auto, using(crate::proofs::Counts::taken_live, crate::proofs::Counts::still_live))]
-fn take(pool: &mut Pool, held: &mut Held, n: u32) -> Result<Option<u32>, Unanswered>
+fn take(pool: &mut Pool, held: &mut TakenExtents, n: u32) -> Result<Option<u32>, Unanswered>
     requires closed { pool.old.journal ≡ None }
     requires live { AreLive held.old.items pool.old.live }
     ensures closed { pool.new.journal ≡ None }
@@ -82,7 +83,7 @@ fn place_or_full(alloc: Global, place: Option<u32>) -> Answer {
 
 /// Takes an extent out of those that are held.
 #[tactic(auto, using(crate::proofs::Counts::times_at, crate::proofs::Counts::counted_out))]
-fn let_go(held: &mut Held, index: usize) -> Extent
+fn let_go(held: &mut TakenExtents, index: usize) -> Extent
     requires { index < length held.old.items }
     ensures counted { (e : Extent) → times e held.old.items ≡ (if same_extent e result then 1 else 0) + times e held.new.items }
     ensures some { 0 < times result held.old.items }
@@ -92,7 +93,7 @@ fn let_go(held: &mut Held, index: usize) -> Extent
 
 /// Gives back the extent that begins at a word.
 #[tactic(auto, using(crate::proofs::Counts::live_too, crate::proofs::Counts::given_live))]
-fn give(pool: &mut Pool, held: &mut Held, at: u32) -> Option<u32>
+fn give(pool: &mut Pool, held: &mut TakenExtents, at: u32) -> Option<u32>
     requires closed { pool.old.journal ≡ None }
     requires live { AreLive held.old.items pool.old.live }
     ensures closed { pool.new.journal ≡ None }
@@ -195,7 +196,7 @@ fn is_at(taken: Option<u32>, place: Option<usize>) -> bool {
 /// Takes words where the search finds them, or gives back the first extent that is held.
 fn turn(
     pool: &mut Pool,
-    held: &mut Held,
+    held: &mut TakenExtents,
     used: &mut [bool],
     number: u32,
 ) -> Result<bool, Unanswered>
@@ -224,7 +225,7 @@ fn turn(
 /// over every place agree.
 fn compared(alloc: Global, words: u32, turns: u32) -> Result<u32, Unanswered> {
     let mut pool = Pool::new(alloc, 0, words)?;
-    let mut held: Held = Vec::new(alloc);
+    let mut held: TakenExtents = Vec::new(alloc);
     let mut used = vec![in alloc; false; words as usize]?;
     let mut number = 1u32;
     let mut count: u32 = 0;
@@ -249,8 +250,8 @@ fn bus(alloc: Global, verb: &str, line: &mut Line<'_>) -> Answer {
     }
     let place = line.natural()?;
     match verb {
-        "audio" if place < 128 => place_said(alloc, Places::audio(place)),
-        "control" if place < 1024 => place_said(alloc, Places::control(place)),
+        "audio" if place < AUDIO_BUS_COUNT => place_said(alloc, Places::audio(place)),
+        "control" if place < CONTROL_BUS_COUNT => place_said(alloc, Places::control(place)),
         _ => Err(Unanswered::NoRow),
     }
 }

@@ -6,8 +6,9 @@ ghost use Rattle.sn_round.specs.Jobs.{AreJobs, times};
 use crate::line::{Answer, Line, Rows, Unanswered, number, said};
 use sn_mem::{Extent, Extents, Foot};
 use sn_ports::NoMemory;
+use sn_ports::limits::MOST_SPAN;
 use sn_round::{Ids, Job, Jobs, Plan, SharedFoot};
-use sn_span::unroll;
+use sn_span::{COPY_WORDS, unroll};
 use std::alloc::Global;
 use std::mem;
 
@@ -115,14 +116,14 @@ fn unrolled(alloc: Global, plan: &Plan, line: &mut Line<'_>) -> Result<Plan, Una
     let blocks = line.natural()?;
     let bus = line.natural()?;
     let copies = line.natural()?;
-    if plan.jobs() > 1000 || blocks > 32 || copies > 1_000_000 {
+    if plan.jobs() > 1000 || blocks > MOST_SPAN || copies > 1_000_000 {
         return Err(Unanswered::NoRow);
     }
     let mut outputs = Extents::new(alloc);
     outputs.push(Extent { at: bus, len: 65 })?;
     let copies = Extent {
         at: copies,
-        len: 512 * blocks,
+        len: COPY_WORDS * blocks,
     };
     Ok(unroll(alloc, plan, blocks, &outputs, copies)?)
 }

@@ -6,13 +6,11 @@ use crate::case::{Case, Connection, Step};
 use crate::ending::{ended_line, ended_writes};
 use crate::trial::{CAPACITY, Came, sink};
 use sn_pcm::Settings;
+use sn_ports::limits::MOST_TICKS;
 use sn_ports::{Event, Events, NoMemory, Open, PlayedLink, Text};
 use sn_server::serve_one;
 use std::alloc::Global;
 use std::thread::Threads;
-
-/// The most blocks that are due at once.
-const MOST_TICKS: u32 = 1024;
 
 /// The event of a step, where it says something.
 fn event_of(alloc: Global, step: &Step) -> Result<Option<Event>, NoMemory>

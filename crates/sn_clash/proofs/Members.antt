@@ -7,7 +7,7 @@ use Rattle.std.proofs.lemmas.List.{take_more, map-append, reverse-append}
 use Rattle.sn_foot.specs.declared.resource.Resource.{Resource}
 use Rattle.sn_foot.specs.Footprints.{Footprint, clash_on}
 use Rattle.sn_clash.specs.declared.clash.Clash.{Clash}
-use Rattle.sn_clash.specs.declared.entry.Entry.{Entry}
+use Rattle.sn_clash.specs.declared.subtree.Subtree.{Subtree}
 use Rattle.sn_clash.specs.declared.marks.Mark.{Mark}
 use Rattle.sn_clash.specs.Clashing.{Member, clashes_among, clashes_with, resources}
 use Rattle.sn_foot.specs.Uses.{footprint_in}
@@ -40,14 +40,14 @@ any_first p xs (Some x) e = some_any p xs x e
 
 -- ---- the members of more nodes
 
-pub one_more : (there : Resource → Bool) (es : List Entry) (n : ℕ) (d : Entry) → n < length es → members_of there (take (n + 1) es) ≡ member_of there (slice_index_or es n d) ∷ members_of there (take n es)
+pub one_more : (there : Resource → Bool) (es : List Subtree) (n : ℕ) (d : Subtree) → n < length es → members_of there (take (n + 1) es) ≡ member_of there (slice_index_or es n d) ∷ members_of there (take n es)
 one_more there es n d lt =
-    let x : Entry = slice_index_or es n d in
+    let x : Subtree = slice_index_or es n d in
     ap (λ xs. members_of there xs) (take_more es n d lt)
     ∙ ap (λ xs. reverse xs) (map-append (member_of there) (take n es) (x ∷ []))
     ∙ reverse-append (map (member_of there) (take n es)) (member_of there x ∷ [])
 
-pub one_at : (there : Resource → Bool) (es : List Entry) (n : ℕ) (x : Entry) → n < length es → x ≡ slice_index_or es n x → members_of there (take (n + 1) es) ≡ member_of there x ∷ members_of there (take n es)
+pub one_at : (there : Resource → Bool) (es : List Subtree) (n : ℕ) (x : Subtree) → n < length es → x ≡ slice_index_or es n x → members_of there (take (n + 1) es) ≡ member_of there x ∷ members_of there (take n es)
 one_at there es n x lt is = one_more there es n x lt ∙ ap (λ e. member_of there e ∷ members_of there (take n es)) (sym is)
 
 choose : (b : Bool) (m n : ℕ) (f : ℕ → List Member) (xs ys : List Member) → f m ≡ xs → f n ≡ ys → f (if b then m else n) ≡ (if b then xs else ys)
@@ -58,7 +58,7 @@ clash_swapped : (a b : Footprint) → clash_on a b ≡ clash_on b a
 clash_swapped a b = λ i r. or_comm (a.writes r && (b.reads r || b.writes r)) (b.writes r && (a.reads r || a.writes r)) i
 
 -- the first that clashes is sought
-pub next_first : (there : Resource → Bool) (es : List Entry) (n : ℕ) (x : Entry) (first : ℕ) (clashes : Bool) (later : List Mark) → n < length es → x ≡ slice_index_or es n x →
+pub next_first : (there : Resource → Bool) (es : List Subtree) (n : ℕ) (x : Subtree) (first : ℕ) (clashes : Bool) (later : List Mark) → n < length es → x ≡ slice_index_or es n x →
     members_of there (take first es) ≡ from_first (members_of there (take n es)) →
     marked_in there later ≡ gathered no_use (members_of there (take n es)) →
     clashes ≡ list_any (clash_on (marked_in there later) (footprint_in there x.uses.items)) resources →
@@ -78,7 +78,7 @@ within_next true n first le = omega arith
 within_next false n first le = omega arith
 
 -- what one more member uses, beside what others use
-pub next_gathered : (there : Resource → Bool) (es : List Entry) (n : ℕ) (x : Entry) (old new f : Footprint) → n < length es → x ≡ slice_index_or es n x →
+pub next_gathered : (there : Resource → Bool) (es : List Subtree) (n : ℕ) (x : Subtree) (old new f : Footprint) → n < length es → x ≡ slice_index_or es n x →
     new ≡ either old (footprint_in there x.uses.items) →
     old ≡ gathered f (members_of there (take n es)) →
     new ≡ gathered f (members_of there (take (n + 1) es))
@@ -104,7 +104,7 @@ abbrev shared_by : Member → Member → List Resource
 shared_by a b = filter (clash_on a.uses b.uses) resources
 
 -- with this member there is none
-pub past_member : (there : Resource → Bool) (id : ℤ) (a : Member) (es : List Entry) (n m : ℕ) (x : Entry) → n ≡ m + 1 → m < length es → x ≡ slice_index_or es m x →
+pub past_member : (there : Resource → Bool) (id : ℤ) (a : Member) (es : List Subtree) (n m : ℕ) (x : Subtree) → n ≡ m + 1 → m < length es → x ≡ slice_index_or es m x →
     [] ≡ take 1 (shared_by a (member_of there x)) →
     take 1 (clashes_with id a (members_of there (take m es))) ≡ take 1 (clashes_with id a (members_of there (take n es)))
 past_member there id a es n m x is lt at none =
@@ -114,7 +114,7 @@ past_member there id a es n m x is lt at none =
     ∙ sym (ap (λ ms. take 1 (clashes_with id a ms)) (ap (λ k. members_of there (take k es)) is ∙ one_at there es m x lt at))
 
 -- with this member there is one
-pub with_member : (there : Resource → Bool) (id : ℤ) (a : Member) (es : List Entry) (n m : ℕ) (x : Entry) (r : Resource) → n ≡ m + 1 → m < length es → x ≡ slice_index_or es m x →
+pub with_member : (there : Resource → Bool) (id : ℤ) (a : Member) (es : List Subtree) (n m : ℕ) (x : Subtree) (r : Resource) → n ≡ m + 1 → m < length es → x ≡ slice_index_or es m x →
     r ∷ [] ≡ take 1 (shared_by a (member_of there x)) →
     clash_at id a (member_of there x) r ∷ [] ≡ take 1 (clashes_with id a (members_of there (take n es)))
 with_member there id a es n m x r is lt at one =
@@ -218,16 +218,16 @@ pair_first id (a ∷ bs) =
     ∙ pick id (clashes_later a bs) a bs (from_first bs)
 
 -- one member clashes with none
-pub few_members : (there : Resource → Bool) (id : ℤ) (es : List Entry) → length es < 2 → [] ≡ take 1 (clashes_among id (members_of there es))
+pub few_members : (there : Resource → Bool) (id : ℤ) (es : List Subtree) → length es < 2 → [] ≡ take 1 (clashes_among id (members_of there es))
 few_members there id [] h = refl
 few_members there id (e ∷ []) h = refl
 few_members there id (e ∷ (f ∷ es)) h = absurd (omega (arith, h))
 
-pub no_pair : (there : Resource → Bool) (id : ℤ) (es : List Entry) (n : ℕ) → n ≡ 0 → members_of there (take n es) ≡ from_first (members_of there es) → [] ≡ take 1 (clashes_among id (members_of there es))
+pub no_pair : (there : Resource → Bool) (id : ℤ) (es : List Subtree) (n : ℕ) → n ≡ 0 → members_of there (take n es) ≡ from_first (members_of there es) → [] ≡ take 1 (clashes_among id (members_of there es))
 no_pair there id es n nothing first =
     sym (pair_first id (members_of there es) ∙ ap (λ ms. first_pair id ms) (sym first ∙ ap (λ k. members_of there (take k es)) nothing))
 
-pub some_pair : (there : Resource → Bool) (id : ℤ) (es : List Entry) (n m : ℕ) (x : Entry) → n ≡ m + 1 → m < length es → x ≡ slice_index_or es m x → members_of there (take n es) ≡ from_first (members_of there es) →
+pub some_pair : (there : Resource → Bool) (id : ℤ) (es : List Subtree) (n m : ℕ) (x : Subtree) → n ≡ m + 1 → m < length es → x ≡ slice_index_or es m x → members_of there (take n es) ≡ from_first (members_of there es) →
     take 1 (clashes_with id (member_of there x) (members_of there (take m es))) ≡ take 1 (clashes_among id (members_of there es))
 some_pair there id es n m x is lt at first =
     sym (pair_first id (members_of there es) ∙ ap (λ ms. first_pair id ms) (sym first ∙ ap (λ k. members_of there (take k es)) is ∙ one_at there es m x lt at))

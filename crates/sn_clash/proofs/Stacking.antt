@@ -17,7 +17,7 @@ use Rattle.sn_foot.specs.declared.resource.Resource.{Resource}
 use Rattle.sn_def.specs.declared.table.Bank.TheVariants as banks
 use Rattle.sn_foot.specs.Footprints.{Footprint, held_reads, held_writes}
 use Rattle.sn_clash.specs.declared.clash.Clash.{Clash}
-use Rattle.sn_clash.specs.declared.entry.Entry.{Entry}
+use Rattle.sn_clash.specs.declared.subtree.Subtree.{Subtree}
 use Rattle.std.specs.Global.{Vec}
 use Rattle.sn_foot.specs.declared.uses.Use.{Use}
 use Rattle.sn_clash.specs.Clashing.{Member, clashes, clashes_among, footprint, is_parallel, members}
@@ -69,14 +69,14 @@ map_twice : {A B C : Type 0} (f : A → B) (g : B → C) (xs : List A) → map g
 map_twice f g [] = refl
 map_twice f g (x ∷ xs) = ap (λ ys. g (f x) ∷ ys) (map_twice f g xs)
 
-pub one_passed : (there : Resource → Bool) (label : Label Held) (k : ℕ) (old es new : List Entry) (found more : List Clash) (kept base size : ℕ) (uses : Vec Use) →
+pub one_passed : (there : Resource → Bool) (label : Label Held) (k : ℕ) (old es new : List Subtree) (found more : List Clash) (kept base size : ℕ) (uses : Vec Use) →
     es ≡ drop kept old → kept ≡ length old - k → size ≡ length found → base ≡ base_of (map (slot_of there) es) size →
     footprint_in there uses.items ≡ uses_at there label (members_of there es) →
     more ≡ found_at there label (members_of there es) base found →
     new ≡ take kept old ++ (record { id = label.id; uses = uses; base = base }) ∷ [] →
     passed_of there new more ≡ pass_one there (label, k) (passed_of there old found)
 one_passed there label k old es new found more kept base size uses same kept_is size_is base_is uses_is more_is new_is =
-    let e : Entry = record { id = label.id; uses = uses; base = base } in
+    let e : Subtree = record { id = label.id; uses = uses; base = base } in
     let ss : List Slot = map (slot_of there) old in
     let left : List Slot = map (slot_of there) (take kept old) in
     let kids : List Slot = map (slot_of there) (drop kept old) in

@@ -1,6 +1,7 @@
 -- Which members of parallel groups clash.
 use Rattle.std.specs.Prelude.{ℤ, Bool, true, false, ◌&&◌, if◌then◌else◌, List, [], ◌∷◌, ◌++◌, map, take}
 use Rattle.std.specs.List.{filter, list_any}
+use Rattle.sn_ports.specs.Limits.{audio_bus_count, control_bus_count, buffer_count}
 use Rattle.sn_mem.specs.Blocks.{table}
 use Rattle.sn_tree.specs.declared.node.NodeKind.{NodeKind}
 use Rattle.sn_tree.specs.declared.node.NodeKind.TheVariants as kinds
@@ -17,7 +18,7 @@ use Rattle.sn_clash.specs.declared.clash.Clash.{Clash}
 
 -- audio buses, control buses, and buffers, each by their numbers
 unfoldable pub resources : List Resource
-resources = table Audio 128 ++ (table Control 1024 ++ table Buffer 1024)
+resources = table Audio audio_bus_count ++ (table Control control_bus_count ++ table Buffer buffer_count)
 
 -- ---- members of a group
 

@@ -6,7 +6,7 @@ use Rattle.sn_world.specs.declared.stage.Held.{Held}
 use Rattle.sn_foot.specs.declared.resource.Resource.{Resource}
 use Rattle.sn_foot.specs.Footprints.{Footprint, held_reads, held_writes, clash_on}
 use Rattle.sn_clash.specs.declared.clash.Clash.{Clash}
-use Rattle.sn_clash.specs.declared.entry.Entry.{Entry}
+use Rattle.sn_clash.specs.declared.subtree.Subtree.{Subtree}
 use Rattle.sn_clash.specs.Clashing.{Member, clashes_among, is_parallel, resources}
 use Rattle.sn_foot.specs.Uses.{footprint_in}
 
@@ -35,18 +35,18 @@ from_first (a ∷ bs) = if clashes_later a bs then a ∷ bs else from_first bs
 -- ---- nodes that were passed
 
 -- a node with all below it: what they use, and how many clashes there were before them
-abbrev pub member_of : (Resource → Bool) → Entry → Member
+abbrev pub member_of : (Resource → Bool) → Subtree → Member
 member_of there e = record { id = e.id; uses = footprint_in there e.uses.items }
 
 -- nodes are kept from the last to the first
-abbrev pub members_of : (Resource → Bool) → List Entry → List Member
+abbrev pub members_of : (Resource → Bool) → List Subtree → List Member
 members_of there es = reverse (map (member_of there) es)
 
 pub record Slot : Type 0 where
   pub member : Member
   pub base : ℕ
 
-abbrev pub slot_of : (Resource → Bool) → Entry → Slot
+abbrev pub slot_of : (Resource → Bool) → Subtree → Slot
 slot_of there e = record { member = member_of there e; base = e.base }
 
 -- the nodes beside each other that were passed, and the clashes that were found, from the last to the first
@@ -54,7 +54,7 @@ pub record Passed : Type 0 where
   pub slots : List Slot
   pub found : List Clash
 
-abbrev pub passed_of : (Resource → Bool) → List Entry → List Clash → Passed
+abbrev pub passed_of : (Resource → Bool) → List Subtree → List Clash → Passed
 passed_of there es found = record { slots = map (slot_of there) es; found = found }
 
 -- how many clashes there were before these nodes, or so many where there are none

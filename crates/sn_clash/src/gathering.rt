@@ -4,7 +4,7 @@ ghost use Rattle.sn_foot.specs.declared.resource.Resource as resource;
 ghost use Rattle.sn_foot.specs.Uses.{footprint_in};
 ghost use Rattle.sn_clash.specs.Passing.{either, gathered, members_of};
 
-use crate::entry::Entry;
+use crate::subtree::Subtree;
 use crate::thinning::thinned;
 use sn_foot::Use;
 use sn_ports::NoMemory;
@@ -33,7 +33,7 @@ fn together(first: Vec<Use>, second: Vec<Use>) -> Result<Vec<Use>, NoMemory>
 pub fn gather(
     alloc: Global,
     uses: Vec<Use>,
-    passed: &mut Vec<Entry>,
+    passed: &mut Vec<Subtree>,
     kept: usize,
 ) -> Result<Vec<Use>, NoMemory>
     ensures uses { IfOk result (λ u. (there : resource.Resource → Bool) → footprint_in there u.items ≡ gathered (footprint_in there uses.items) (members_of there (drop kept passed.old.items))) }
@@ -42,7 +42,7 @@ pub fn gather(
     let mut uses = uses;
     while passed.len() > kept {
         match passed.pop() {
-            Some(entry) => uses = together(uses, entry.uses)?,
+            Some(subtree) => uses = together(uses, subtree.uses)?,
             None => return Ok(uses),
         }
     }

@@ -2,13 +2,13 @@
 #![tactic(auto)]
 
 mod clash;
-mod entry;
 mod gathering;
 mod laws;
 mod marks;
 mod pairs;
 mod passing;
 mod sharing;
+mod subtree;
 mod thinning;
 mod walking;
 

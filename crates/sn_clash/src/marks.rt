@@ -8,6 +8,7 @@ ghost use Rattle.sn_clash.specs.Marking.{is_marked, mark_of, mark_use, mark_uses
 use sn_def::Access;
 use sn_foot::{Resource, Use};
 use sn_ports::NoMemory;
+use sn_ports::limits::CONTROL_BUS_COUNT;
 use std::alloc::Global;
 use std::marker::Model;
 
@@ -20,8 +21,8 @@ pub struct Mark {
     pub written: bool,
 }
 
-/// How many resources there are at most: 1,024 of each sort.
-const PLACES: usize = 3072;
+/// How many places there are: of each of the three sorts as many as there are control buses.
+const PLACES: usize = 3 * CONTROL_BUS_COUNT as usize;
 
 /// The place of a resource among the marks.
 fn place(resource: Resource) -> usize

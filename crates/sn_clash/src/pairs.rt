@@ -8,9 +8,9 @@ ghost use Rattle.sn_clash.specs.Marking.{listed, marked_in};
 ghost use Rattle.sn_clash.specs.Passing.{from_first, member_of, members_of};
 
 use crate::clash::Clash;
-use crate::entry::Entry;
 use crate::marks::Marks;
 use crate::sharing::first_shared;
+use crate::subtree::Subtree;
 use sn_foot::{Resource, Use};
 use sn_mem::Buffers;
 use sn_ports::NoMemory;
@@ -33,7 +33,7 @@ fn chosen(clash: bool, index: usize, before: usize) -> usize
 }
 
 /// The first member that clashes with a later one: how many there are up to it, from the last on, or 0 if there is none.
-fn first_member(alloc: Global, buffers: &Buffers, members: &[Entry]) -> Result<usize, NoMemory>
+fn first_member(alloc: Global, buffers: &Buffers, members: &[Subtree]) -> Result<usize, NoMemory>
     ensures within { IfOk result (λ n. n ≤ length members.now) }
     ensures first { IfOk result (λ n. members_of (is_there buffers.now) (take n members.now) ≡ from_first (members_of (is_there buffers.now) members.now)) }
 {
@@ -49,7 +49,7 @@ fn first_member(alloc: Global, buffers: &Buffers, members: &[Entry]) -> Result<u
 }
 
 /// A clash of two members.
-fn clash_between(group: i32, first: &Entry, second: &Entry, resource: Resource) -> Clash
+fn clash_between(group: i32, first: &Subtree, second: &Subtree, resource: Resource) -> Clash
     ensures { result ≡ record { group = group; first = first.now.id; second = second.now.id; resource = resource } }
 {
     Clash {
@@ -65,8 +65,8 @@ fn first_with(
     alloc: Global,
     buffers: &Buffers,
     group: i32,
-    first: &Entry,
-    later: &[Entry],
+    first: &Subtree,
+    later: &[Subtree],
 ) -> Result<Option<Clash>, NoMemory>
     ensures { IfOk result (λ found. listed found ≡ take 1 (clashes_with group (member_of (is_there buffers.now) first.now) (members_of (is_there buffers.now) later.now))) }
 {
@@ -87,7 +87,7 @@ pub fn first_clash(
     alloc: Global,
     buffers: &Buffers,
     group: i32,
-    members: &[Entry],
+    members: &[Subtree],
 ) -> Result<Option<Clash>, NoMemory>
     ensures { IfOk result (λ found. listed found ≡ take 1 (clashes_among group (members_of (is_there buffers.now) members.now))) }
 {

@@ -9,9 +9,9 @@ ghost use Rattle.sn_clash.specs.Passing.{base_of, found_at, gathered, members_of
 ghost use Rattle.sn_clash.specs.Rows.{label_in, row_of};
 
 use crate::clash::Clash;
-use crate::entry::Entry;
 use crate::gathering::gather;
 use crate::pairs::first_clash;
+use crate::subtree::Subtree;
 use sn_foot::{Use, push_held};
 use sn_mem::Buffers;
 use sn_ports::NoMemory;
@@ -30,7 +30,7 @@ pub fn is_parallel(kind: NodeKind) -> bool
 }
 
 /// How many clashes there were before these nodes, or so many where there are none.
-fn base_of(nodes: &[Entry], found: usize) -> usize
+fn base_of(nodes: &[Subtree], found: usize) -> usize
     ensures { (there : resource.Resource → Bool) → result ≡ base_of (map (slot_of there) nodes.now) found }
 {
     match nodes.first() {
@@ -53,7 +53,7 @@ fn uses_at(
     alloc: Global,
     running: bool,
     held: &Held,
-    passed: &mut Vec<Entry>,
+    passed: &mut Vec<Subtree>,
     kept: usize,
 ) -> Result<Vec<Use>, NoMemory>
     ensures uses { IfOk result (λ u. (buffers : List (Option buffer.BufferPlace)) → footprint_in (is_there buffers) u.items ≡ (if running then gathered (used_by (is_there buffers) held.now) (members_of (is_there buffers) (drop kept passed.old.items)) else no_use)) }
@@ -72,7 +72,7 @@ fn push_first(
     alloc: Global,
     buffers: &Buffers,
     group: i32,
-    members: &[Entry],
+    members: &[Subtree],
     found: &mut Vec<Clash>,
 ) -> Result<(), NoMemory>
     ensures { OnOk result (found.new.items ≡ found.old.items ++ take 1 (clashes_among group (members_of (is_there buffers.now) members.now))) }
@@ -89,7 +89,7 @@ fn report(
     alloc: Global,
     buffers: &Buffers,
     node: &Member<'_, Held>,
-    below: &[Entry],
+    below: &[Subtree],
     base: usize,
     found: &mut Vec<Clash>,
 ) -> Result<(), NoMemory>
@@ -105,10 +105,10 @@ fn report(
     Ok(())
 }
 
-fn entry(node: &Member<'_, Held>, uses: Vec<Use>, base: usize) -> Entry
+fn subtree(node: &Member<'_, Held>, uses: Vec<Use>, base: usize) -> Subtree
     ensures { result ≡ record { id = node.now.id; uses = uses; base = base } }
 {
-    Entry {
+    Subtree {
         id: node.id,
         uses,
         base,
@@ -120,7 +120,7 @@ fn pass_one(
     alloc: Global,
     buffers: &Buffers,
     node: &Member<'_, Held>,
-    passed: &mut Vec<Entry>,
+    passed: &mut Vec<Subtree>,
     found: &mut Vec<Clash>,
 ) -> Result<(), NoMemory>
     ensures { OnOk result (passed_of (is_there buffers.now) passed.new.items found.new.items ≡ pass_one (is_there buffers.now) (row_of node.now) (passed_of (is_there buffers.now) passed.old.items found.old.items)) }
@@ -130,7 +130,7 @@ fn pass_one(
     let base = base_of(below, found.len());
     report(alloc, buffers, node, below, base, found)?;
     let uses = uses_at(alloc, node.running, node.payload, passed, kept)?;
-    passed.push(entry(node, uses, base))?;
+    passed.push(subtree(node, uses, base))?;
     Ok(())
 }
 

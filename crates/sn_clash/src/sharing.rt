@@ -11,12 +11,13 @@ use crate::marks::{Mark, Marks};
 use sn_def::Access;
 use sn_foot::{Resource, Use};
 use sn_mem::Buffers;
+use sn_ports::limits::{AUDIO_BUS_COUNT, BUFFER_COUNT, CONTROL_BUS_COUNT};
 
 /// Whether there is a buffer of a number.
 fn is_allocated(buffers: &Buffers, number: u32) -> bool
     ensures { result ≡ is_there buffers.now (Buffer number) }
 {
-    number < 1024 && buffers.place(number).is_some()
+    number < BUFFER_COUNT && buffers.place(number).is_some()
 }
 
 /// Whether there is such a resource.
@@ -24,8 +25,8 @@ fn is_there(buffers: &Buffers, resource: Resource) -> bool
     ensures { result ≡ is_there buffers.now resource }
 {
     match resource {
-        Resource::Audio(number) => number < 128,
-        Resource::Control(number) => number < 1024,
+        Resource::Audio(number) => number < AUDIO_BUS_COUNT,
+        Resource::Control(number) => number < CONTROL_BUS_COUNT,
         Resource::Buffer(number) => is_allocated(buffers, number),
     }
 }

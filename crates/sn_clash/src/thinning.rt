@@ -11,7 +11,7 @@ use sn_ports::NoMemory;
 use std::alloc::Global;
 
 /// How long a list of uses may grow. There are 3,072 places, each read or written, so that a longer list has repeats.
-const MOST: usize = 8192;
+const MOST_USES: usize = 8192;
 
 /// Puts a use at the end and marks it, unless it is marked.
 fn put_new(marks: &mut Marks, kept: &mut Vec<Use>, used: &Use) -> Result<(), NoMemory>
@@ -49,7 +49,7 @@ fn without_repeats(alloc: Global, uses: &[Use]) -> Result<Vec<Use>, NoMemory>
 pub fn thinned(alloc: Global, uses: Vec<Use>) -> Result<Vec<Use>, NoMemory>
     ensures { IfOk result (λ u. (there : resource.Resource → Bool) → footprint_in there u.items ≡ footprint_in there uses.items) }
 {
-    if uses.len() <= MOST {
+    if uses.len() <= MOST_USES {
         return Ok(uses);
     }
     without_repeats(alloc, &uses)

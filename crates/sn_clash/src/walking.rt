@@ -1,6 +1,7 @@
 //! The clashes of all nodes.
 ghost use Rattle.std.specs.Prelude.{◌≡◌, ◌<◌, pos, map, ℕ, List, IfOk};
 ghost use Rattle.std.specs.List.{All, list_any};
+ghost use Rattle.sn_ports.specs.Limits.{control_bus_count};
 ghost use Rattle.sn_tree.specs.Members.{members};
 ghost use Rattle.sn_tree.specs.Trees.{running_labels, subtree};
 ghost use Rattle.sn_world.specs.World.{world_of};
@@ -58,7 +59,7 @@ fn all_clashes(alloc: Global, stage: &Stage) -> Result<Clashes, NoMemory>
 pub fn clashes(alloc: Global, stage: &Stage) -> Result<Clashes, NoMemory>
     ensures found { IfOk result (λ found. found ≡ clashes_in stage.now) }
     ensures world { IfOk result (λ found. (words : List ℕ) → found ≡ clashes_of (world_of stage.now words)) }
-    ensures small { IfOk result (All (λ c. number_of c.resource < 1024)) }
+    ensures small { IfOk result (All (λ c. number_of c.resource < control_bus_count)) }
 {
     all_clashes(alloc, stage)
 }

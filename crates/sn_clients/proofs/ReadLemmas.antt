@@ -1,18 +1,15 @@
 -- What a reader took, step by step.
-use Rattle.std.proofs.Common.{◌≡◌, ◌⊎◌, ◌≤◌, ◌<◌, ◌+◌, ◌^◌, ◌++◌, ℕ, ℤ, Bool, true, false, not, cond, ltb, List, [], ◌∷◌, length, take, drop, Option, Some, None, Ok, Err, IsErrAnd, IsTrue, Result, sym, refl, ap, ◌∙◌, subst, inl, inr, append_assoc, append-nil, arith}
+use Rattle.std.proofs.Common.{◌≡◌, ◌⊎◌, ◌<◌, ◌+◌, ◌^◌, ◌++◌, ℕ, List, [], ◌∷◌, length, Option, Some, None, Ok, Err, IsErrAnd, IsTrue, Result, sym, refl, ap, ◌∙◌, subst, inl, inr, append_assoc, append-nil}
 use Rattle.std.specs.List.{AllByRecursion}
 use Rattle.std.specs.Io.KnownBytes.{Consumes, IsAtEnd, Keeps}
 use Rattle.std.proofs.KnownBytes.{Consumes-kept, Consumes-nil, Consumes-trans}
-use Rattle.std.proofs.lemmas.Bool.{ltb-true}
-use Rattle.std.proofs.lemmas.List.{length-append, length-drop}
+use Rattle.std.proofs.lemmas.List.{length-append}
 use Rattle.sn_osc.specs.Bytes.{frame_bytes}
 use Rattle.sn_osc.specs.Framing.{Framing}
 use Rattle.sn_osc.specs.Framed.{fed_with, packet_of, Next}
-use Rattle.sn_osc.specs.Frames.{bad_size, cut, first_frame, frame, is_frame_size}
-use Rattle.sn_osc.specs.Reading.{int_in, size_in}
+use Rattle.sn_osc.specs.Frames.{cut, first_frame, is_frame_size}
 use Rattle.sn_osc.specs.Unpacking.{joined_frames}
 use Rattle.sn_osc.specs.declared.frame.Frame.{Frame}
-use Rattle.sn_osc.proofs.Streams.{no_more}
 use Rattle.sn_clients.specs.declared.clients.ClientEnd.{ClientEnd}
 use Rattle.sn_clients.specs.declared.clients.ClientEnd.TheVariants.{Closed, Cut, BadFrame, ReadFault, SendFault, Stopped, Worn, NoMemory}
 use Rattle.sn_clients.specs.Reading.{AreCut, EndsAs, HasRead, IsClosing, IsReading, ReadsOn}
@@ -96,23 +93,6 @@ loses first left next faulted stopped packets framing piece c h = record {
   cut_so = cut_fed h.bytes packets framing.kept piece h.cut_so;
   why = tt;
 }
-
--- ---- how long the front of a frame is
-
-cut_parts : (b c d : Bool) (i : ℤ) (f a : List ℕ) (P : Type 0) → cond b cut (cond c (bad_size i) (cond d cut (frame f a))) ≡ cut → (b ≡ true → P) → (c ≡ false → d ≡ true → P) → P
-cut_parts true c d i f a P e short inside = short refl
-cut_parts false true d i f a P e short inside = absurd cc
-cut_parts false false true i f a P e short inside = inside refl refl
-cut_parts false false false i f a P e short inside = absurd cc
-
-pub front_is_short : (bytes : List ℕ) → first_frame bytes ≡ cut → length bytes ≤ 65540
-front_is_short bytes e = cut_parts (ltb (length bytes) 4) (not (is_frame_size (size_in bytes))) (ltb (length (drop 4 bytes)) (size_in bytes)) (int_in bytes) (take (size_in bytes) (drop 4 bytes)) (drop (size_in bytes) (drop 4 bytes)) (length bytes ≤ 65540) e
-    (λ short. omega (arith, ltb-true _ _ short))
-    (λ good inside. omega (arith, ltb-true _ _ inside, length-drop 4 bytes, no_more (size_in bytes) (double (is_frame_size (size_in bytes)) good)))
-  where
-    double : (b : Bool) → not b ≡ false → b ≡ true
-    double true h = refl
-    double false h = absurd cc
 
 -- nothing more comes
 pub closes : (first left next : Option (List ℕ)) (faulted stopped : Type 0) (packets : List (List ℕ)) (framing : Framing) (end : ClientEnd) → Consumes left next [] → IsAtEnd next → first_frame framing.kept ≡ cut → IsReading first left packets framing → IsClosing framing.kept end

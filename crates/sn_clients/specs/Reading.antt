@@ -2,6 +2,7 @@
 use Rattle.std.specs.Prelude.{◌≡◌, ◌⊎◌, ◌≤◌, ◌<◌, ◌+◌, ◌^◌, ◌++◌, ℕ, List, length, Option, IsTrue, Result, Ok, Err}
 use Rattle.std.specs.List.{AllByRecursion}
 use Rattle.std.specs.Io.KnownBytes.{Consumes, IsAtEnd}
+use Rattle.sn_ports.specs.Limits.{most_count}
 use Rattle.sn_osc.specs.Framing.{Framing}
 use Rattle.sn_osc.specs.Frames.{bad_size, cut, first_frame, is_frame_size}
 use Rattle.sn_osc.specs.Unpacking.{joined_frames}
@@ -22,7 +23,7 @@ module _ (at_end faulted stopped : Type 0) (bytes : List ℕ) (packets : List (L
   EndsAs ReadFault = faulted
   EndsAs SendFault = ⊥
   EndsAs Stopped = stopped
-  EndsAs Worn = (2 ^ 62 ≤ length bytes) ⊎ (2 ^ 32 ≤ length packets + 1)
+  EndsAs Worn = (most_count ≤ length bytes) ⊎ (2 ^ 32 ≤ length packets + 1)
   EndsAs NoMemory = Unit {0}
 
 -- how a stream ends of which this is kept, and nothing more comes

@@ -1,5 +1,6 @@
 //! Each client's reader: it cuts its source into frames, and puts each of them.
 ghost use Rattle.std.specs.Prelude.{◌≡◌, ◌≤◌, ◌<◌, ◌+◌, ◌^◌, [], ℕ, List, Option, true, length, IfErr, IfOk, OnErr, OnOk};
+ghost use Rattle.sn_ports.specs.Limits.{most_packet};
 ghost use Rattle.sn_ports.specs.Causes.{Rose};
 ghost use Rattle.sn_osc.specs.Frames.{cut, first_frame};
 ghost use Rattle.sn_clients.specs.Ends.{with_frame};
@@ -10,16 +11,14 @@ ghost use Rattle.sn_clients.specs.declared.clients.ClientEnd.TheVariants as clie
 use crate::clients::ClientEnd;
 use crate::seats::{Inlet, Relay};
 use sn_osc::{Framer, Unframed};
+use sn_ports::limits::{MOST_COUNT, MOST_PACKET};
 use sn_ports::{Source, Text};
 use std::alloc::{AllocError, Global};
 use std::sync::Wait;
 use std::thread;
 
 /// How many bytes are asked for at once.
-const PIECE: usize = 65536;
-
-/// As many bytes come from a source as may.
-const MOST_BYTES: u64 = 1 << 62;
+const PIECE: usize = MOST_PACKET;
 
 /// As many frames are put as may.
 const MOST_FRAMES: u32 = u32::MAX;
@@ -93,20 +92,20 @@ fn closing(framer: &Framer) -> ClientEnd
 fn read_piece<S: Source>(
     framer: &mut Framer,
     source: &mut S,
-    room: &mut [u8],
+    piece: &mut [u8],
 ) -> Result<(), ClientEnd>
     requires cut { first_frame framer.old.kept ≡ cut }
-    requires room { (0 < length room.old) × (length room.old ≤ 65536) }
+    requires piece { (0 < length piece.old) × (length piece.old ≤ most_packet) }
     ensures read { (first : Option (List ℕ)) (packets : List (List ℕ)) → IsReading first (S.left source.old) packets framer.old
         → ReadsOn first (S.left source.new) (Rose (S.faults source.old) (S.faults source.new)) ⊥ packets framer.new result }
     ensures unfailed { OnOk result (S.faults source.new ≡ S.faults source.old) }
     ensures later { S.faults source.old ≤ S.faults source.new }
 {
-    if framer.fed() >= MOST_BYTES {
+    if framer.fed() >= MOST_COUNT {
         return Err(ClientEnd::Worn);
     }
-    let most = (room.len() as u64).min(MOST_BYTES - framer.fed()) as usize;
-    let into = &mut room[..most];
+    let most = (piece.len() as u64).min(MOST_COUNT - framer.fed()) as usize;
+    let into = &mut piece[..most];
     match source.read(into) {
         Ok(0) => Err(closing(framer)),
         Ok(count) => {
@@ -124,11 +123,11 @@ fn read_on<H: Wait, S: Source>(
     inlet: &mut Inlet,
     framer: &mut Framer,
     source: &mut S,
-    room: &mut [u8],
+    piece: &mut [u8],
 ) -> Result<(), ClientEnd>
     requires inlet { IsInletOf relay.now inlet.old }
     requires cut { first_frame framer.old.kept ≡ cut }
-    requires room { (0 < length room.old) × (length room.old ≤ 65536) }
+    requires piece { (0 < length piece.old) × (length piece.old ≤ most_packet) }
     ensures inlet { IsInletOf relay.now inlet.new }
     ensures client { (sender_of inlet.new).client ≡ (sender_of inlet.old).client }
     ensures read { (first : Option (List ℕ)) → IsReading first (S.left source.old) (sender_of inlet.old).frames framer.old
@@ -140,7 +139,7 @@ fn read_on<H: Wait, S: Source>(
     if relay.stopped(inlet) {
         return Err(ClientEnd::Stopped);
     }
-    read_piece(framer, source, room)?;
+    read_piece(framer, source, piece)?;
     put_frames(rt, relay, inlet, framer)
 }
 
@@ -151,19 +150,19 @@ fn read_through<H: Wait, S: Source>(
     inlet: &mut Inlet,
     framer: &mut Framer,
     source: &mut S,
-    room: &mut [u8],
+    piece: &mut [u8],
 ) -> ClientEnd
     requires inlet { IsInletOf relay.now inlet.old }
     requires nothing { (sender_of inlet.old).frames ≡ [] }
     requires unfed { framer.old ≡ record { kept = []; fed = 0 } }
-    requires room { (0 < length room.old) × (length room.old ≤ 65536) }
+    requires piece { (0 < length piece.old) × (length piece.old ≤ most_packet) }
     ensures inlet { IsInletOf relay.now inlet.new }
     ensures client { (sender_of inlet.new).client ≡ (sender_of inlet.old).client }
     ensures read { HasRead (S.left source.old) (S.left source.new) (Rose (S.faults source.old) (S.faults source.new)) (has_found inlet.new ≡ true) (sender_of inlet.new).frames result }
     ensures later { S.faults source.old ≤ S.faults source.new }
 {
     for _ in rt.forever() {
-        match read_on(rt, relay, inlet, framer, source, room) {
+        match read_on(rt, relay, inlet, framer, source, piece) {
             Ok(()) => {}
             Err(end) => return end,
         }
@@ -172,8 +171,8 @@ fn read_through<H: Wait, S: Source>(
 }
 
 /// Room for a piece of a source.
-fn room(alloc: Global) -> Result<Vec<u8>, AllocError>
-    ensures { IfOk result (λ v. length v.items ≡ 65536) }
+fn zeroed(alloc: Global) -> Result<Vec<u8>, AllocError>
+    ensures { IfOk result (λ v. length v.items ≡ most_packet) }
 {
     vec![in alloc; 0; PIECE]
 }
@@ -193,9 +192,9 @@ pub(crate) fn read_all<H: Wait, S: Source>(
     ensures read { HasRead (S.left source.old) (S.left source.new) (Rose (S.faults source.old) (S.faults source.new)) (has_found inlet.new ≡ true) (sender_of inlet.new).frames result }
     ensures later { S.faults source.old ≤ S.faults source.new }
 {
-    let Ok(mut room) = room(alloc) else {
+    let Ok(mut piece) = zeroed(alloc) else {
         return ClientEnd::NoMemory;
     };
     let mut framer = Framer::new(alloc);
-    read_through(rt, relay, inlet, &mut framer, source, &mut room)
+    read_through(rt, relay, inlet, &mut framer, source, &mut piece)
 }

@@ -1,5 +1,6 @@
 //! The calls of a relay.
 ghost use Rattle.std.specs.Prelude.{◌≡◌, ◌+◌, ◌^◌, ◌<◌, ◌≤◌, [], false, true, length, IfErr, IfNone, IfOk, IfSome, OnErr, OnOk};
+ghost use Rattle.sn_ports.specs.Limits.{most_clients, most_relayed};
 ghost use Rattle.crossbeam_queue.specs.Fifo.{Held};
 ghost use Rattle.sn_clients.specs.declared.ends.End.TheVariants.{Out};
 ghost use Rattle.sn_clients.specs.Notes.{frames_of, IsFront};
@@ -18,8 +19,8 @@ use std::sync::Wait;
 impl Relay {
     /// A relay with an inlet for each of so many clients, client 0's first. It holds `room` notes at most.
     pub fn open(alloc: Global, clients: u32, room: u32) -> Result<(Relay, Inlets, Outlet), NoMemory>
-        requires clients { (1 ≤ clients) × (clients ≤ 4) }
-        requires room { (1 ≤ room) × (room ≤ 1024) }
+        requires clients { (1 ≤ clients) × (clients ≤ most_clients) }
+        requires room { (1 ≤ room) × (room ≤ most_relayed) }
         ensures room { IfOk result (λ r. room_of r.0 ≡ room) }
         ensures inlets { IfOk result (λ r. (length r.1.items ≡ clients) × AreNewInlets r.0 r.1.items) }
         ensures outlet { IfOk result (λ r. IsNewOutlet r.0 clients r.2) }

@@ -1,5 +1,6 @@
 //! A crew of workers.
 ghost use Rattle.std.specs.Prelude.{◌≡◌, ◌<◌, ◌≤◌, IfOk, length, All};
+ghost use Rattle.sn_ports.specs.Limits.{most_workers};
 ghost use Rattle.sn_machine.specs.States.{IsIdle, memory_in};
 ghost use Rattle.sn_round.specs.Scripts.{list_at, sequential};
 ghost use Rattle.sn_table.specs.Answers.{main_view, IsMainOf};
@@ -13,16 +14,14 @@ use crate::pace::Pace;
 use crate::seating::{deal, finish, join_all, seat_all};
 use crate::widths::{processors, width};
 use crate::working::work_all;
+use sn_ports::limits::MOST_WORKERS;
 use sn_ports::{Gate, NoMemory};
 use sn_round::{Plan, Work};
 use sn_table::{MainSeat, Shared};
 use std::alloc::Global;
 use std::thread::Threads;
 
-/// No crew has more workers.
-const MOST_THREADS: usize = 16;
-
-/// From 1 to 16 workers.
+/// At least one worker, and no more than there may be.
 #[derive(Drop)]
 pub struct Crew {
     pub(crate) hands: Vec<Hand>,
@@ -31,21 +30,21 @@ pub struct Crew {
     // In how many threads a round may be, at most.
     threads: usize,
     ghost some: { 0 < length hands.items },
-    ghost few: { length hands.items ≤ 16 },
+    ghost few: { length hands.items ≤ most_workers },
     ghost deques: { All (λ hand. deques_of hand ≡ length hands.items) hands.items },
 }
 
 impl Crew {
     /// A crew of so many workers, with what their jobs need and their deques.
     pub fn open(alloc: Global, workers: u32) -> Result<Crew, NoMemory>
-        requires { (1 ≤ workers) × (workers ≤ 16) }
+        requires { (1 ≤ workers) × (workers ≤ most_workers) }
         ensures { IfOk result (λ c. length c.hands.items ≡ workers) }
     {
         let hands = open_hands(alloc, workers)?;
         Ok(Crew {
             hands,
             processors: 0,
-            threads: MOST_THREADS,
+            threads: MOST_WORKERS as usize,
         })
     }
 

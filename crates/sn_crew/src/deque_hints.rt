@@ -1,15 +1,17 @@
 //! One worker's deque, with ways to take from those of the others.
 ghost use Rattle.std.specs.Prelude.{◌≡◌, ◌+◌, ◌<◌, ◌≤◌, ◌^◌, length, IfOk};
+ghost use Rattle.sn_ports.specs.Limits.{most_workers, most_jobs};
 ghost use Rattle.sn_crew.specs.Looks.{FitsJobs};
 
 use crate::deques::{OtherDeque, OwnDeque, give, pop};
 use crate::hints::{Counts, Hints, Look};
 use crossbeam_deque::Steal;
 use sn_ports::NoMemory;
+use sn_ports::limits::MOST_JOBS;
 use std::alloc::Global;
 
 /// No deque has more hints: a round has at most so many jobs, and each becomes ready once.
-const MOST_HINTS: u32 = 65536;
+const MOST_HINTS: u32 = MOST_JOBS;
 
 /// One worker's deque, with ways to take from those of the others. `Empty` says that the deque was empty at one moment
 /// of the call, and `Again` that a steal met another one.
@@ -45,7 +47,7 @@ impl DequeHints {
         others: Vec<OtherDeque>,
     ) -> Result<DequeHints, NoMemory>
         requires place { place ≤ length others.items }
-        requires few { length others.items < 16 }
+        requires few { length others.items < most_workers }
         ensures { IfOk result (λ h. length h.counts.items ≡ length others.items + 1) }
     {
         let none = Counts {
@@ -65,7 +67,7 @@ impl DequeHints {
     /// Puts a hint at the end of its own deque. If there is no memory for it, it is dropped. It answers whether it was
     /// put.
     pub(crate) fn give(&mut self, hint: u32) -> bool
-        requires { hint < 65536 }
+        requires { hint < most_jobs }
         ensures { self.new.counts ≡ self.old.counts }
     {
         give(&mut self.own, hint)

@@ -1,5 +1,6 @@
 //! Deques of hints, one for each worker. A hint is a number below 65,536.
 ghost use Rattle.std.specs.Prelude.{◌<◌, IfSome};
+ghost use Rattle.sn_ports.specs.Limits.{most_jobs};
 ghost use Rattle.crossbeam_deque.specs.Handles.{IsPassOf, stealer_deque};
 ghost use Rattle.crossbeam_deque.specs.Steals.{MatchSteal};
 
@@ -48,14 +49,14 @@ pub fn open_deque(alloc: Global) -> Result<OwnDeque, NoMemory> {
 
 /// Puts a hint at the end. If there is no memory for it, it is dropped. It answers whether it was put.
 pub fn give(own: &mut OwnDeque, hint: u32) -> bool
-    requires { hint < 65536 }
+    requires { hint < most_jobs }
 {
     own.push_as::<HintRule>(hint).is_ok()
 }
 
 /// Takes the first hint.
 pub fn pop(own: &mut OwnDeque) -> Option<u32>
-    ensures { IfSome result (λ x. x < 65536) }
+    ensures { IfSome result (λ x. x < most_jobs) }
 {
     own.pop_as::<HintRule>()
 }
@@ -70,7 +71,7 @@ impl OtherDeque {
 
     /// Takes the first hint.
     pub fn steal(&mut self) -> Steal<u32>
-        ensures { MatchSteal result (Unit {0}) (Unit {0}) (λ x. x < 65536) }
+        ensures { MatchSteal result (Unit {0}) (Unit {0}) (λ x. x < most_jobs) }
     {
         self.stealer.steal_as::<HintRule>(&mut self.pass)
     }

@@ -17,3 +17,4 @@ pub use crew::Crew;
 pub use deque_hints::DequeHints;
 pub use hints::{Counts, Hints, Look, Member};
 pub use hold::HoldGate;
+pub use seating::finish;

@@ -1,5 +1,6 @@
 //! How a crew is made.
 ghost use Rattle.std.specs.Prelude.{◌≡◌, ◌+◌, ◌<◌, ◌≤◌, IfOk, length, All};
+ghost use Rattle.sn_ports.specs.Limits.{most_workers};
 ghost use Rattle.sn_crew.specs.Hands.{deques_of};
 
 use crate::deque_hints::DequeHints;
@@ -41,11 +42,11 @@ struct Side {
     place: u32,
     others: Vec<OtherDeque>,
     ghost placed: { place ≤ length others.items },
-    ghost few: { length others.items < 16 },
+    ghost few: { length others.items < most_workers },
 }
 
 fn sides_of(alloc: Global, deques: &[OwnDeque]) -> Result<Vec<Side>, NoMemory>
-    requires { length deques.now ≤ 16 }
+    requires { length deques.now ≤ most_workers }
     ensures len { IfOk result (λ v. length v.items ≡ length deques.now) }
     ensures others { IfOk result (λ v. All (λ side. length side.others.items + 1 ≡ length deques.now) v.items) }
 {
@@ -74,7 +75,7 @@ fn open_hand(alloc: Global, own: OwnDeque, side: Side, scratch: Scratch) -> Resu
 
 /// What each worker has. Each sees the deques of all.
 pub fn open_hands(alloc: Global, workers: u32) -> Result<Vec<Hand>, NoMemory>
-    requires { workers ≤ 16 }
+    requires { workers ≤ most_workers }
     ensures len { IfOk result (λ v. length v.items ≡ workers) }
     ensures deques { IfOk result (λ v. All (λ hand. deques_of hand ≡ workers) v.items) }
 {

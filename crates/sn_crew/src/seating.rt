@@ -1,5 +1,6 @@
 //! Main's part of a round.
 ghost use Rattle.std.specs.Prelude.{◌≡◌, ◌<◌, ◌≤◌, length, All, true, false};
+ghost use Rattle.sn_ports.specs.Limits.{most_jobs};
 ghost use Rattle.sn_machine.specs.States.{jobs_in};
 ghost use Rattle.sn_machine.specs.Steps.{last_list, split_worker};
 ghost use Rattle.sn_table.specs.Answers.{main_view, IsMainOf};
@@ -29,7 +30,7 @@ fn clear(hands: &mut [Hand])
 /// Deals hints at the jobs that have no predecessor to the hands in turn.
 pub fn deal(hands: &mut [Hand], plan: &Plan, pace: &Pace)
     requires some { 0 < length hands.old }
-    requires few { length plan.now ≤ 65536 }
+    requires few { length plan.now ≤ most_jobs }
     requires deques { All (λ hand. deques_of hand ≡ length hands.old) hands.old }
     ensures { All (λ hand. deques_of hand ≡ length hands.old) hands.new }
 {

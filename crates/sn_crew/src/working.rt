@@ -1,7 +1,7 @@
 //! What each worker does in a round.
 ghost use Rattle.std.specs.Prelude.{◌≡◌, ◌<◌, length, All};
 ghost use Rattle.std.specs.Thread.{IsSync};
-ghost use Rattle.sn_machine.specs.States.{Runs};
+ghost use Rattle.sn_machine.specs.States.{RunsJob};
 ghost use Rattle.sn_round.specs.Scripts.{list_at};
 ghost use Rattle.sn_table.specs.Answers.{view, IsSeatOf};
 ghost use Rattle.sn_table.specs.Seats.{IsReady, IsBack};
@@ -72,7 +72,7 @@ fn play<W: Work>(
     requires plan { plan.now ≡ (view seat.old).worker.jobs }
     requires work { Serves (W.jobs work.now) (W.foot_of work.now) (W.outcome work.now) (view seat.old) }
     requires job { job < length plan.now }
-    requires runs { Runs (view seat.old) job (list_at (view seat.old).worker.script job) }
+    requires runs { RunsJob (view seat.old) job (list_at (view seat.old).worker.script job) }
     ensures seat { IsSeatOf shared.now seat.new }
     ensures ran { Ran (view seat.old) job (view seat.new) }
     ensures deques { length member.new.hints.counts.items ≡ length member.old.hints.counts.items }

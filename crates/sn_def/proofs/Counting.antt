@@ -6,8 +6,8 @@ use Rattle.std.proofs.lemmas.Int.{ints}
 use Rattle.sn_fixed.specs.Fixed.{frames_of}
 use Rattle.sn_def.specs.declared.table.Mark.{Mark}
 use Rattle.sn_def.specs.declared.table.Mark.TheVariants.{Signal, Index, Constant, Longest}
-use Rattle.sn_def.specs.declared.table.Words.{Words}
-use Rattle.sn_def.specs.declared.table.Words.TheVariants.{Fixed, Delay, Comb}
+use Rattle.sn_def.specs.declared.table.StateSize.{StateSize}
+use Rattle.sn_def.specs.declared.table.StateSize.TheVariants.{Fixed, Delay, Comb}
 use Rattle.sn_def.specs.declared.unit.Input.{Input}
 use Rattle.sn_def.specs.declared.unit.Input.TheVariants.{Literal, Control, Wire}
 use Rattle.sn_def.specs.declared.unit.Unit.{Unit as UnitLine}
@@ -28,7 +28,7 @@ frames_few (pos ms) rate h r =
     omega arith
 frames_few (negsuc n) rate h r = zero-le
 
-few_words : (words : Words) (frames : ℕ) → frames ≤ 5760000 → words_of words 0 ≤ 7 → words_of words frames ≤ 5760002
+few_words : (words : StateSize) (frames : ℕ) → frames ≤ 5760000 → words_of words 0 ≤ 7 → words_of words frames ≤ 5760002
 few_words (Fixed n) frames h i = omega arith
 few_words Delay frames h i = omega arith
 few_words Comb frames h i = omega arith

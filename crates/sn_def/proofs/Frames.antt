@@ -1,7 +1,7 @@
 -- The frames of a run, block by block.
 use Rattle.std.proofs.Common.{◌≡◌, ◌<◌, ℕ, ◌+◌, ◌*◌, ◌/◌, ◌%◌, List, [], ℤ, pos, get_or, ap, ◌∙◌, arith}
 use Rattle.std.proofs.lemmas.Nat.{div-mul-add, mod-mul-add}
-use Rattle.sn_def.specs.Runs.{heard}
+use Rattle.sn_def.specs.Histories.{heard}
 
 pub block_of : (b j : ℕ) → j < 64 → (b * 64 + j) / 64 ≡ b
 block_of b j lt = div-mul-add b 64 j lt

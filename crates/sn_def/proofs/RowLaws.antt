@@ -7,8 +7,8 @@ use Rattle.sn_def.specs.declared.kind.Kind.{Kind}
 use Rattle.sn_def.specs.declared.kind.Kind.TheVariants as kinds
 use Rattle.sn_def.specs.declared.table.Mark.{Mark}
 use Rattle.sn_def.specs.declared.table.Mark.TheVariants.{Signal, Index, Constant, Longest}
-use Rattle.sn_def.specs.declared.table.Words.{Words}
-use Rattle.sn_def.specs.declared.table.Words.TheVariants.{Fixed, Delay, Comb}
+use Rattle.sn_def.specs.declared.table.StateSize.{StateSize}
+use Rattle.sn_def.specs.declared.table.StateSize.TheVariants.{Fixed, Delay, Comb}
 use Rattle.sn_def.specs.declared.table.Family.{Family}
 use Rattle.sn_def.specs.declared.table.Family.TheVariants as families
 use Rattle.sn_def.specs.declared.table.Access.{Access}
@@ -91,7 +91,7 @@ delay_second families.Filter (Constant ∷ Longest ∷ marks) xs h = record { se
 delay_second families.Filter (Longest ∷ Longest ∷ marks) xs h = absurd cc
 delay_second _ _ xs h = absurd cc
 
-fixed_or_delay : (w : Words) (f : Family) (marks : List Mark) (xs : List Input) → words_fit w f marks ≡ true → ((n : ℕ) × (w ≡ Fixed n)) ⊎ HasDelay marks xs
+fixed_or_delay : (w : StateSize) (f : Family) (marks : List Mark) (xs : List Input) → words_fit w f marks ≡ true → ((n : ℕ) × (w ≡ Fixed n)) ⊎ HasDelay marks xs
 fixed_or_delay (Fixed n) f marks xs h = inl (n, refl)
 fixed_or_delay Delay f marks xs h = inr (delay_second f marks xs h)
 fixed_or_delay Comb f marks xs h = inr (delay_second f marks xs h)
@@ -104,7 +104,7 @@ no_delay : (f : Family) (marks : List Mark) → is_family families.Filter f ≡ 
 no_delay families.Filter marks other h = cc
 no_delay _ marks other h = cc
 
-fixed : (w : Words) (f : Family) (marks : List Mark) (frames len : ℕ) → is_family families.Filter f ≡ false → words_fit w f marks ≡ true → words_of w frames ≡ len → w ≡ Fixed len
+fixed : (w : StateSize) (f : Family) (marks : List Mark) (frames len : ℕ) → is_family families.Filter f ≡ false → words_fit w f marks ≡ true → words_of w frames ≡ len → w ≡ Fixed len
 fixed (Fixed n) f marks frames len other h e = ap Fixed e
 fixed Delay f marks frames len other h e = absurd (no_delay f marks other h)
 fixed Comb f marks frames len other h e = absurd (no_delay f marks other h)
@@ -116,7 +116,7 @@ fixed_words k frames len other e = fixed (row_of k).words (row_of k).family (row
 pub few_fixed : (k : Kind) → words_of (row_of k).words 0 ≤ 7
 few_fixed k = leb-true _ 7 (row_fits k).few
 
-least : (w : Words) (frames n : ℕ) → n ≤ words_of w 0 → n ≤ words_of w frames
+least : (w : StateSize) (frames n : ℕ) → n ≤ words_of w 0 → n ≤ words_of w frames
 least (Fixed m) frames n h = h
 least Delay frames n h = omega arith
 least Comb frames n h = omega arith

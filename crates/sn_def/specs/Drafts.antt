@@ -3,6 +3,7 @@ use Rattle.std.specs.Prelude.{◌≡◌, ◌≤◌, ◌==◌, ℕ, Bool, false, 
 use Rattle.std.specs.List.{list_any}
 use Rattle.std.specs.BTreeMap.{BTreeMap}
 use Rattle.std.specs.Borrow.{Bor}
+use Rattle.sn_ports.specs.Limits.{most_wires, most_units}
 use Rattle.sn_ports.specs.Octets.{Octets}
 use Rattle.sn_def.specs.declared.arrays.Run.{Run}
 use Rattle.sn_def.specs.declared.definition.Param.{Param}
@@ -23,6 +24,6 @@ has_point name = list_any (λ b. b == 46) name
 pub record IsDraft (d : Definition) (m : BTreeMap (Bor (List ℕ)) Input) : Type 0 where
   pub plain : (q : List ℕ) → has_point q ≡ false → value_at m q ≡ named d q
   pub known : (q : List ℕ) → or_else (as_control (place_of q (control_names d))) (value_at m q) ≡ named d q
-  pub controls : length d.controls ≤ 512
-  pub units : length d.units ≤ 256
-  pub wires : length d.wires ≤ 512
+  pub controls : length d.controls ≤ most_wires
+  pub units : length d.units ≤ most_units
+  pub wires : length d.wires ≤ most_wires

@@ -2,6 +2,7 @@
 use Rattle.std.specs.Prelude.{◌≡◌, ◌<◌, ◌+◌, ◌∷◌, ◌++◌, ◌⊎◌, ◌==◌, ◌&&◌, ◌||◌, ℕ, ℤ, pos, int_le, Bool, true, false, not, List, [], length, codes, flat_map, nat_lt, nat_le, slice_get, unwrap_or, Option, Some, None, is_some, map, drop, if◌then◌else◌}
 use Rattle.std.specs.List.{list_all, list_any}
 use Rattle.std.specs.Str.{bytes_eq}
+use Rattle.sn_ports.specs.Limits.{most_elements, most_units, most_wires}
 use Rattle.sn_fixed.specs.Literal.{literal}
 use Rattle.sn_def.specs.declared.kind.Kind.{Kind}
 use Rattle.sn_def.specs.declared.table.Mark.{Mark}
@@ -90,7 +91,7 @@ literals_kinds fields = map (λ f. (not (is_literal f), wrong.Number)) fields
 abbrev pub array_kinds : Version → Definition → List (List ℕ) → Kinds
 array_kinds v d fields =
     (not (nat_le 3 (length fields) && not (list_any (λ f. length f == 0) fields) && not (bytes_eq (field_at fields 1) (codes "=")) && length d.units == 0), wrong.Line)
-    ∷ (nat_lt 64 (length (drop 2 fields)), wrong.Limit)
+    ∷ (nat_lt most_elements (length (drop 2 fields)), wrong.Limit)
     ∷ (nat_lt (most_controls v) (length d.controls + length (drop 2 fields)), wrong.Limit)
     ∷ (not (is_name v (field_at fields 1)), wrong.Name)
     ∷ (is_given d (field_at fields 1), wrong.Twice)
@@ -125,8 +126,8 @@ known_kinds v d parts (Some kind) = row_kinds v d parts (row_of kind)
 -- a unit line, by its parts
 abbrev pub unit_kinds : Version → Definition → UnitParts → Kinds
 unit_kinds v d parts =
-    (nat_le 256 (length d.units), wrong.Limit)
-    ∷ (nat_lt 512 (length d.wires + length parts.outputs), wrong.Limit)
+    (nat_le most_units (length d.units), wrong.Limit)
+    ∷ (nat_lt most_wires (length d.wires + length parts.outputs), wrong.Limit)
     ∷ known_kinds v d parts (kind_named parts.unit)
 
 abbrev pub parts_kinds : Version → Definition → Option UnitParts → Kinds

@@ -2,8 +2,8 @@
 use Rattle.std.specs.Prelude.{◌≡◌, ℕ, ◌+◌, nat_le, Bool, true, false, not, ◌||◌, List, [], ◌∷◌, length, Option, Some, None, slice_get}
 use Rattle.sn_def.specs.declared.table.Mark.{Mark}
 use Rattle.sn_def.specs.declared.table.Mark.TheVariants.{Index, Constant, Longest}
-use Rattle.sn_def.specs.declared.table.Words.{Words}
-use Rattle.sn_def.specs.declared.table.Words.TheVariants.{Fixed}
+use Rattle.sn_def.specs.declared.table.StateSize.{StateSize}
+use Rattle.sn_def.specs.declared.table.StateSize.TheVariants.{Fixed}
 use Rattle.sn_def.specs.declared.table.Family.{Family}
 use Rattle.sn_def.specs.declared.table.Family.TheVariants as families
 use Rattle.sn_def.specs.declared.table.Bank.{Bank}
@@ -38,7 +38,7 @@ abbrev pub delay_fits : Family → List Mark → Bool
 delay_fits families.Filter (m ∷ Longest ∷ marks) = not (is_longest m)
 delay_fits _ _ = false
 
-abbrev pub words_fit : Words → Family → List Mark → Bool
+abbrev pub words_fit : StateSize → Family → List Mark → Bool
 words_fit (Fixed n) family marks = true
 words_fit _ family marks = delay_fits family marks
 

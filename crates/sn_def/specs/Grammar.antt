@@ -1,6 +1,7 @@
 -- The definition texts, line by line, and what they define.
 use Rattle.std.specs.Prelude.{◌≡◌, ◌+◌, ◌≤◌, ◌==◌, ◌&&◌, ◌||◌, ◌∷◌, ◌++◌, ℕ, ℤ, Bool, true, false, List, [], length, codes, Some, None, nat_le, slice_get, slice_index, flat_map, if◌then◌else◌}
 use Rattle.std.specs.List.{list_all, join_with_byte}
+use Rattle.sn_ports.specs.Limits.{most_elements}
 use Rattle.sn_fixed.specs.Literal.{literal}
 use Rattle.sn_def.specs.declared.arrays.Run.{Run}
 use Rattle.sn_def.specs.declared.unit.Input.{Input}
@@ -72,7 +73,7 @@ Each R (x ∷ xs) (y ∷ ys) = R x y × Each R xs ys
 -- 1 to 64 literals for an array, which stands in version 2 alone
 abbrev pub ArrayMayHave : Version → ℕ → Type 0
 ArrayMayHave versions.One literals = ⊥
-ArrayMayHave versions.Two literals = (1 ≤ literals) × (literals ≤ 64)
+ArrayMayHave versions.Two literals = (1 ≤ literals) × (literals ≤ most_elements)
 
 -- and one for a control
 abbrev pub MayHave : Version → Bool → ℕ → Type 0

@@ -18,4 +18,4 @@ pub mod Fitting
 pub mod Grammar
 pub mod Printing
 pub mod Faults
-pub mod Runs
+pub mod Histories

@@ -3,6 +3,7 @@ use Rattle.std.specs.Prelude.{◌≡◌, ◌+◌, ◌==◌, ◌&&◌, ◌||◌, 
 use Rattle.std.specs.List.{list_all, list_any, slice_split}
 use Rattle.std.specs.Str.{bytes_eq}
 use Rattle.std.specs.Char.{is_ascii_digit}
+use Rattle.sn_ports.specs.Limits.{most_elements, most_wires, most_units}
 use Rattle.sn_fixed.specs.Literal.{literal}
 use Rattle.sn_def.specs.declared.kind.Kind.{Kind}
 use Rattle.sn_def.specs.declared.table.Mark.{Mark}
@@ -88,7 +89,7 @@ array_with d name literals = do
 unfoldable pub array_at : Version → Definition → List ℕ → List (List ℕ) → Result Definition DefKind
 array_at v d name literals =
     if not (length d.units == 0) then Err wrong.Line else
-    if nat_lt 64 (length literals) || nat_lt (most_controls v) (length d.controls + length literals) then Err wrong.Limit else
+    if nat_lt most_elements (length literals) || nat_lt (most_controls v) (length d.controls + length literals) then Err wrong.Limit else
     if not (is_name v name) then Err wrong.Name else
     if is_known d name then Err wrong.Twice else array_with d name literals
 
@@ -172,7 +173,7 @@ unit_if_known v d parts None = Err wrong.Unit
 
 unfoldable pub unit_at : Version → Definition → UnitParts → Result Definition DefKind
 unit_at v d parts =
-    if nat_le 256 (length d.units) || nat_lt 512 (length d.wires + length parts.outputs) then Err wrong.Limit else
+    if nat_le most_units (length d.units) || nat_lt most_wires (length d.wires + length parts.outputs) then Err wrong.Limit else
     unit_if_known v d parts (kind_named parts.unit)
 
 abbrev pub unit_line_at : Version → Definition → Option UnitParts → Result Definition DefKind

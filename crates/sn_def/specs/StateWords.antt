@@ -3,8 +3,8 @@ use Rattle.std.specs.Prelude.{◌+◌, ℕ, ℤ, pos, max, Bool, true, false, Li
 use Rattle.sn_fixed.specs.Fixed.{frames_of}
 use Rattle.sn_def.specs.declared.table.Mark.{Mark}
 use Rattle.sn_def.specs.declared.table.Mark.TheVariants.{Longest}
-use Rattle.sn_def.specs.declared.table.Words.{Words}
-use Rattle.sn_def.specs.declared.table.Words.TheVariants.{Fixed, Delay, Comb}
+use Rattle.sn_def.specs.declared.table.StateSize.{StateSize}
+use Rattle.sn_def.specs.declared.table.StateSize.TheVariants.{Fixed, Delay, Comb}
 use Rattle.sn_def.specs.declared.unit.Input.{Input}
 use Rattle.sn_def.specs.declared.unit.Input.TheVariants.{Literal}
 use Rattle.sn_def.specs.declared.unit.Unit.{Unit as UnitLine}
@@ -29,7 +29,7 @@ abbrev pub longest : List Mark → List Input → ℤ
 longest marks inputs = literal_value (input_there inputs (position is_longest marks))
 
 -- with a delay of so many frames
-abbrev pub words_of : Words → ℕ → ℕ
+abbrev pub words_of : StateSize → ℕ → ℕ
 words_of (Fixed n) frames = n
 words_of Delay frames = frames + 2
 words_of Comb frames = max 1 frames + 2

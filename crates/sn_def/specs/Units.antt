@@ -6,8 +6,8 @@ use Rattle.sn_def.specs.declared.kind.Kind.{Kind}
 use Rattle.sn_def.specs.declared.kind.Kind.TheVariants as kinds
 use Rattle.sn_def.specs.declared.table.Mark.{Mark}
 use Rattle.sn_def.specs.declared.table.Mark.TheVariants.{Signal, Index, Constant, Longest}
-use Rattle.sn_def.specs.declared.table.Words.{Words}
-use Rattle.sn_def.specs.declared.table.Words.TheVariants.{Fixed, Delay, Comb}
+use Rattle.sn_def.specs.declared.table.StateSize.{StateSize}
+use Rattle.sn_def.specs.declared.table.StateSize.TheVariants.{Fixed, Delay, Comb}
 use Rattle.sn_def.specs.declared.table.Family.{Family}
 use Rattle.sn_def.specs.declared.table.Family.TheVariants as families
 use Rattle.sn_def.specs.declared.table.Access.TheVariants as accesses
@@ -24,13 +24,13 @@ pub record UnitRow : Type 0 where
   pub signals : ℕ
   pub least : ℕ
   pub most : ℕ
-  pub words : Words
+  pub words : StateSize
   pub uses : Option Use
   pub ends : Ends
   pub sends : Bool
 
 -- a unit with so many outputs that reads and writes no bus and no buffer, does not end and sends nothing
-abbrev pub unit_row : Family → List ℕ → List Mark → ℕ → Words → UnitRow
+abbrev pub unit_row : Family → List ℕ → List Mark → ℕ → StateSize → UnitRow
 unit_row family name inputs outputs words = record {
   family = family;
   name = name;

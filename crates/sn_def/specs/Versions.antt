@@ -1,6 +1,7 @@
 -- The versions of definition texts.
 use Rattle.std.specs.Prelude.{ℕ, Bool, true, false, List, codes, Option, Some, None, if◌then◌else◌}
 use Rattle.std.specs.Str.{bytes_eq}
+use Rattle.sn_ports.specs.Limits.{most_wires}
 use Rattle.sn_def.specs.declared.version.Version.{Version}
 use Rattle.sn_def.specs.declared.version.Version.TheVariants as versions
 
@@ -17,7 +18,7 @@ version_of line =
 
 abbrev pub most_controls : Version → ℕ
 most_controls versions.One = 128
-most_controls versions.Two = 512
+most_controls versions.Two = most_wires
 
 -- whether controls may stand in arrays
 abbrev pub has_arrays : Version → Bool

@@ -1,5 +1,6 @@
 -- What holds of each definition that some text defines.
 use Rattle.std.specs.Prelude.{◌≡◌, ◌+◌, ◌<◌, ◌≤◌, ◌==◌, ℕ, ℤ, pos, negsuc, ◌≤ℤ◌, List, [], ◌∷◌, length, if◌then◌else◌}
+use Rattle.sn_ports.specs.Limits.{most_elements, most_wires, most_units}
 use Rattle.sn_def.specs.declared.table.Mark.{Mark}
 use Rattle.sn_def.specs.declared.table.Mark.TheVariants.{Signal, Index, Constant, Longest}
 use Rattle.sn_def.specs.declared.arrays.Run.{Run}
@@ -61,13 +62,13 @@ outputs_of (u ∷ us) = u.outputs + outputs_of us
 -- arrays of so many controls, from this control on: each has 1 to 64 controls, which come after those of the array before it
 abbrev pub RunsFit : ℕ → ℕ → List Run → Type 0
 RunsFit from controls [] = from ≤ controls
-RunsFit from controls (r ∷ rs) = (from ≤ r.first) × (1 ≤ r.len) × (r.len ≤ 64) × RunsFit (r.first + r.len) controls rs
+RunsFit from controls (r ∷ rs) = (from ≤ r.first) × (1 ≤ r.len) × (r.len ≤ most_elements) × RunsFit (r.first + r.len) controls rs
 
 -- the limits are kept, each array and each unit line fits, and the outputs of a unit are the next wires
 pub record IsWellFormed (d : Definition) : Type 0 where
-  pub controls : length d.controls ≤ 512
+  pub controls : length d.controls ≤ most_wires
   pub arrays : RunsFit 0 (length d.controls) d.arrays
-  pub units : length d.units ≤ 256
-  pub wires : length d.wires ≤ 512
+  pub units : length d.units ≤ most_units
+  pub wires : length d.wires ≤ most_wires
   pub outputs : outputs_of d.units ≡ length d.wires
   pub fit : UnitsFit (length d.controls) 0 d.units

@@ -1,6 +1,7 @@
 //! The lines of controls and of arrays of controls.
 ghost use Rattle.std.specs.Prelude.{◌≡◌, ◌+◌, ◌<◌, ◌≤◌, false, length, Ok, Err, None, IfOk, IfErr, OnOk, FitsSigned};
 ghost use Rattle.std.specs.Int.{w32};
+ghost use Rattle.sn_ports.specs.Limits.{most_wires, most_elements};
 ghost use Rattle.sn_fixed.specs.Literal.{literal};
 ghost use Rattle.sn_def.specs.Definition.{named, with_control};
 ghost use Rattle.sn_def.specs.Drafts.{has_point};
@@ -12,6 +13,7 @@ use crate::fault::{DefKind, Refused};
 use crate::fields::is_name;
 use crate::version::Version;
 use sn_fixed::literal;
+use sn_ports::limits::MOST_ELEMENTS;
 use std::alloc::Global;
 
 /// The value of a control of this name at first, or what is wrong with its line.
@@ -25,7 +27,7 @@ fn control_value<'a>(
     ensures right { IfOk result (λ default. control_at version draft.now name.now value.now ≡ Ok (with_control draft.now name.now default)) }
     ensures wrong { IfErr result (λ kind. control_at version draft.now name.now value.now ≡ Err kind) }
     ensures fresh { OnOk result (named draft.now name.now ≡ None) }
-    ensures room { OnOk result (length draft.now.controls < 512) }
+    ensures room { OnOk result (length draft.now.controls < most_wires) }
 {
     if draft.units() != 0 {
         return Err(DefKind::Line);
@@ -109,13 +111,15 @@ fn judge_array<'a>(
     ensures wrong { IfErr result (λ kind. array_at version draft.now name.now (texts literals.now) ≡ Err kind) }
     ensures fresh { OnOk result (named draft.now name.now ≡ None) }
     ensures plain { OnOk result (has_point name.now ≡ false) }
-    ensures few { OnOk result (length literals.now ≤ 64) }
-    ensures room { OnOk result (length draft.now.controls + length literals.now ≤ 512) }
+    ensures few { OnOk result (length literals.now ≤ most_elements) }
+    ensures room { OnOk result (length draft.now.controls + length literals.now ≤ most_wires) }
 {
     if draft.units() != 0 {
         return Err(DefKind::Line);
     }
-    if literals.len() > 64 || draft.controls() + literals.len() > version.most_controls() {
+    if literals.len() > MOST_ELEMENTS
+        || draft.controls() + literals.len() > version.most_controls()
+    {
         return Err(DefKind::Limit);
     }
     if !is_name(version, name) {

@@ -1,5 +1,6 @@
 //! Definitions, as they are kept.
 ghost use Rattle.std.specs.Prelude.{◌≡◌, ◌<◌, ◌≤◌, List, map, length, IfOk, IfSome};
+ghost use Rattle.sn_ports.specs.Limits.{most_wires, most_units, low_rate, middle_rate, high_rate};
 ghost use Rattle.sn_def.specs.Params.{parameter_of};
 ghost use Rattle.sn_def.specs.Definition.{whole};
 ghost use Rattle.sn_def.specs.Reading.{IsWritten};
@@ -9,6 +10,7 @@ ghost use Rattle.sn_def.specs.Layout.{laid_out, words_at};
 use crate::arrays::Runs;
 use crate::layout::{UnitWords, laid_out, row_at, words_at};
 use crate::unit::Units;
+use sn_ports::limits::{HIGH_RATE, LOW_RATE, MIDDLE_RATE};
 use sn_ports::{NoMemory, Text};
 use std::alloc::Global;
 use std::marker::Model;
@@ -102,13 +104,13 @@ pub struct Def {
     low: Vec<UnitWords>,
     middle: Vec<UnitWords>,
     high: Vec<UnitWords>,
-    pub ghost controls_bound: { length controls ≤ 512 },
-    pub ghost units_bound: { length units ≤ 256 },
-    pub ghost wires_bound: { length wires ≤ 512 },
+    pub ghost controls_bound: { length controls ≤ most_wires },
+    pub ghost units_bound: { length units ≤ most_units },
+    pub ghost wires_bound: { length wires ≤ most_wires },
     pub ghost written: { ∥ IsWritten (whole name.bytes controls arrays units wires) ∥₁ },
-    ghost low_is: { low.items ≡ laid_out 44100 0 units },
-    ghost middle_is: { middle.items ≡ laid_out 48000 0 units },
-    ghost high_is: { high.items ≡ laid_out 96000 0 units },
+    ghost low_is: { low.items ≡ laid_out low_rate 0 units },
+    ghost middle_is: { middle.items ≡ laid_out middle_rate 0 units },
+    ghost high_is: { high.items ≡ laid_out high_rate 0 units },
 }
 
 impl Def {
@@ -124,9 +126,9 @@ impl Def {
         requires { IsWritten (whole name.bytes controls arrays units wires) }
         ensures { IfOk result (λ d. whole d.name.bytes d.controls d.arrays d.units d.wires ≡ whole name.bytes controls arrays units wires) }
     {
-        let low = laid_out(alloc, units.as_slice(), 44100)?;
-        let middle = laid_out(alloc, units.as_slice(), 48000)?;
-        let high = laid_out(alloc, units.as_slice(), 96000)?;
+        let low = laid_out(alloc, units.as_slice(), LOW_RATE)?;
+        let middle = laid_out(alloc, units.as_slice(), MIDDLE_RATE)?;
+        let high = laid_out(alloc, units.as_slice(), HIGH_RATE)?;
         Ok(Def {
             name,
             controls,
@@ -144,9 +146,9 @@ impl Def {
         ensures { IfSome result (λ w. w ≡ words_at rate self.now.units number) }
     {
         match rate {
-            44100 => row_at(&self.low, number),
-            48000 => row_at(&self.middle, number),
-            96000 => row_at(&self.high, number),
+            LOW_RATE => row_at(&self.low, number),
+            MIDDLE_RATE => row_at(&self.middle, number),
+            HIGH_RATE => row_at(&self.high, number),
             _ => None,
         }
     }

@@ -2,6 +2,7 @@
 ghost use Rattle.std.specs.Prelude.{◌≡◌, ◌==◌, ◌+◌, ◌<◌, ◌≤◌, ◌∷◌, ◌++◌, [], false, length, map, position, None, IfOk, OnOk, if◌then◌else◌};
 ghost use Rattle.std.specs.Fmt.{decimal};
 ghost use Rattle.std.specs.Str.{bytes_eq};
+ghost use Rattle.sn_ports.specs.Limits.{most_wires, most_elements, most_units};
 ghost use Rattle.sn_def.specs.Params.{parameter_of};
 ghost use Rattle.sn_def.specs.Definition.{place_of, named, named_only, element_name, elements, with_control, with_array, with_wires, with_unit};
 ghost use Rattle.sn_def.specs.Drafts.{has_point};
@@ -128,7 +129,7 @@ impl<'a> Draft<'a> {
     /// How many controls there are.
     pub fn controls(&self) -> usize
         ensures count { result ≡ length self.now.controls }
-        ensures few { result ≤ 512 }
+        ensures few { result ≤ most_wires }
     {
         self.controls.len()
     }
@@ -143,7 +144,7 @@ impl<'a> Draft<'a> {
     /// How many wires there are.
     pub fn wires(&self) -> usize
         ensures count { result ≡ length self.now.wires }
-        ensures few { result ≤ 512 }
+        ensures few { result ≤ most_wires }
     {
         self.wires.len()
     }
@@ -163,7 +164,7 @@ impl<'a> Draft<'a> {
     /// One control more, under a name that stands for nothing yet.
     pub fn with_control(self, alloc: Global, name: &'a [u8], default: i32) -> Result<Self, NoMemory>
         requires fresh { named self name.now ≡ None }
-        requires room { length self.controls < 512 }
+        requires room { length self.controls < most_wires }
         ensures { IfOk result (λ d. d ≡ with_control self.entry name.now default) }
     {
         let mut draft = self;
@@ -186,8 +187,8 @@ impl<'a> Draft<'a> {
         requires fresh { named self name.now ≡ None }
         requires plain { has_point name.now ≡ false }
         requires some { 0 < length defaults.now }
-        requires few { length defaults.now ≤ 64 }
-        requires room { length self.controls + length defaults.now ≤ 512 }
+        requires few { length defaults.now ≤ most_elements }
+        requires room { length self.controls + length defaults.now ≤ most_wires }
         ensures { IfOk result (λ d. d ≡ with_array self.entry name.now defaults.now) }
     {
         let mut draft = self;
@@ -204,7 +205,7 @@ impl<'a> Draft<'a> {
     /// One wire more, under a name that stands for nothing yet.
     pub fn with_wire(self, alloc: Global, name: &'a [u8]) -> Result<Self, NoMemory>
         requires fresh { named self name.now ≡ None }
-        requires room { length self.wires < 512 }
+        requires room { length self.wires < most_wires }
         ensures { IfOk result (λ d. d ≡ with_wires self.entry (name.now ∷ [])) }
     {
         let mut draft = self;
@@ -216,7 +217,7 @@ impl<'a> Draft<'a> {
 
     /// One unit more.
     pub fn with_unit(self, kind: Kind, inputs: Inputs, outputs: u32) -> Result<Self, NoMemory>
-        requires { length self.units < 256 }
+        requires { length self.units < most_units }
         ensures { IfOk result (λ d. d ≡ with_unit self.entry kind inputs outputs) }
     {
         let mut draft = self;

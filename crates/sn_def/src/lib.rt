@@ -38,6 +38,6 @@ pub use laws::{
 };
 pub use layout::UnitWords;
 pub use printing::print;
-pub use table::{Access, Bank, Ends, Family, Mark, Row, Use, Words, family_of, row_of};
+pub use table::{Access, Bank, Ends, Family, Mark, Row, StateSize, Use, family_of, row_of};
 pub use text::read;
 pub use unit::{Input, Inputs, Unit, Units};

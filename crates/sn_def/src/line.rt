@@ -1,6 +1,7 @@
 //! The lines of units, and each line after the first two.
 ghost use Rattle.std.specs.Prelude.{◌≡◌, ◌==◌, ◌<◌, ◌≤◌, ◌+◌, length, Err, IfOk, IfErr, OnOk};
 ghost use Rattle.std.specs.List.{list_any};
+ghost use Rattle.sn_ports.specs.Limits.{most_units, most_wires};
 ghost use Rattle.sn_def.specs.Reading.{unit_with, unit_at, line_at, first_of};
 ghost use Rattle.sn_def.specs.Parts.{parts_seen};
 ghost use Rattle.sn_def.specs.Answers.{Gives, texts};
@@ -16,6 +17,7 @@ use crate::parts::{Parts, counts_fit, unit_parts};
 use crate::table::row_of;
 use crate::version::Version;
 use crate::wires::{are_names, give_wires};
+use sn_ports::limits::{MOST_UNITS, MOST_WIRES};
 use std::alloc::Global;
 
 /// The kind of a unit of these counts and names, or what is wrong with them.
@@ -23,10 +25,10 @@ use std::alloc::Global;
 fn unit_kind<'a>(version: Version, draft: &Draft<'a>, parts: Parts<'_, 'a>) -> Result<Kind, DefKind>
     ensures right { IfOk result (λ kind. unit_at version draft.now (parts_seen parts.entry) ≡ unit_with draft.now (parts_seen parts.entry) kind) }
     ensures wrong { IfErr result (λ kind. unit_at version draft.now (parts_seen parts.entry) ≡ Err kind) }
-    ensures units { OnOk result (length draft.now.units < 256) }
-    ensures wires { OnOk result (length draft.now.wires + length parts.entry.outputs.now ≤ 512) }
+    ensures units { OnOk result (length draft.now.units < most_units) }
+    ensures wires { OnOk result (length draft.now.wires + length parts.entry.outputs.now ≤ most_wires) }
 {
-    if draft.units() >= 256 || draft.wires() + parts.outputs.len() > 512 {
+    if draft.units() >= MOST_UNITS || draft.wires() + parts.outputs.len() > MOST_WIRES {
         return Err(DefKind::Limit);
     }
     let Some(kind) = kind_named(parts.unit) else {
@@ -51,8 +53,8 @@ fn unit_with<'a>(
     parts: Parts<'_, 'a>,
     kind: Kind,
 ) -> Result<Draft<'a>, Refused>
-    requires units { length draft.units < 256 }
-    requires wires { length draft.wires + length parts.outputs.now ≤ 512 }
+    requires units { length draft.units < most_units }
+    requires wires { length draft.wires + length parts.outputs.now ≤ most_wires }
     ensures { Gives (λ d. d) result (unit_with draft.entry (parts_seen parts.entry) kind) }
 {
     let row = row_of(kind);

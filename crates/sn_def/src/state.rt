@@ -1,10 +1,11 @@
 //! How many words of state units have.
 ghost use Rattle.std.specs.Prelude.{◌≡◌, ◌≤◌, ◌<◌, position};
+ghost use Rattle.sn_ports.specs.Limits.{high_rate};
 ghost use Rattle.sn_def.specs.Defs.{definition_of};
 ghost use Rattle.sn_def.specs.StateWords.{is_longest, literal_value, longest, words_of, unit_words, units_words, state_words};
 
 use crate::definition::Def;
-use crate::table::{Mark, Words, row_of};
+use crate::table::{Mark, StateSize, row_of};
 use crate::unit::{Input, Unit};
 use sn_fixed::frames_of;
 
@@ -40,14 +41,14 @@ fn longest(marks: &[Mark], inputs: &[Input]) -> i32
     }
 }
 
-fn words_of(words: Words, frames: u32) -> u32
+fn words_of(words: StateSize, frames: u32) -> u32
     requires { frames ≤ 2147483647 }
     ensures { result ≡ words_of words frames }
 {
     match words {
-        Words::Fixed(count) => count,
-        Words::Delay => frames + 2,
-        Words::Comb => frames.max(1) + 2,
+        StateSize::Fixed(count) => count,
+        StateSize::Delay => frames + 2,
+        StateSize::Comb => frames.max(1) + 2,
     }
 }
 
@@ -78,7 +79,7 @@ impl Def {
     /// The words of state of all units, at `rate` frames a second. They lie one unit's after the
     /// other's.
     pub fn state_words(&self, rate: u32) -> u32
-        requires { rate ≤ 96000 }
+        requires { rate ≤ high_rate }
         ensures words { result ≡ state_words rate (definition_of self.now) }
         ensures bound { result ≤ 1474560512 }
     {

@@ -20,7 +20,7 @@ pub enum Mark {
 
 /// How many words of state a unit has.
 #[derive(Clone, Copy, Debug)]
-pub enum Words {
+pub enum StateSize {
     /// So many.
     Fixed(u32),
     /// The frames of its `Longest` input, and 2 more.
@@ -103,7 +103,7 @@ pub struct Row {
     /// The most outputs.
     pub most: u32,
     /// The number of words of state.
-    pub words: Words,
+    pub words: StateSize,
     /// What the unit reads or writes, if anything.
     pub uses: Option<Use>,
     /// Whether the unit ends, and what it does then.
@@ -174,7 +174,7 @@ macro_rules! row {
             signals: 0,
             least: $outputs,
             most: $outputs,
-            words: Words::$words$(($count))?,
+            words: StateSize::$words$(($count))?,
             uses: None,
             ends: Ends::Never,
             sends: false,

@@ -1,6 +1,9 @@
 //! The versions of definition texts.
 ghost use Rattle.std.specs.Prelude.{◌≡◌, ◌≤◌};
+ghost use Rattle.sn_ports.specs.Limits.{most_wires};
 ghost use Rattle.sn_def.specs.Versions.{title, version_of, most_controls, has_arrays};
+
+use sn_ports::limits::MOST_WIRES;
 
 /// The version of a definition text.
 #[derive(Clone, Copy, Debug, PartialEq, Eq)]
@@ -38,11 +41,11 @@ impl Version {
     /// How many controls a definition may have.
     pub fn most_controls(self) -> usize
         ensures count { result ≡ most_controls self }
-        ensures few { result ≤ 512 }
+        ensures few { result ≤ most_wires }
     {
         match self {
             Version::One => 128,
-            Version::Two => 512,
+            Version::Two => MOST_WIRES,
         }
     }
 

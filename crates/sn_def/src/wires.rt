@@ -1,6 +1,7 @@
 //! The wires that a unit line names.
 ghost use Rattle.std.specs.Prelude.{◌≡◌, ◌≤◌, ◌+◌, length};
 ghost use Rattle.std.specs.List.{list_all};
+ghost use Rattle.sn_ports.specs.Limits.{most_wires};
 ghost use Rattle.sn_def.specs.Reading.{wires_at, is_name};
 ghost use Rattle.sn_def.specs.Answers.{Gives, texts};
 
@@ -16,7 +17,7 @@ pub(crate) fn give_wires<'a>(
     draft: Draft<'a>,
     names: &[&'a [u8]],
 ) -> Result<Draft<'a>, Refused>
-    requires { length draft.wires + length names.now ≤ 512 }
+    requires { length draft.wires + length names.now ≤ most_wires }
     ensures { Gives (λ d. d) result (wires_at draft.entry (texts names.now)) }
 {
     let mut given = draft;

@@ -10,7 +10,7 @@ use Rattle.sn_world.specs.World.{Turn}
 use Rattle.sn_world.proofs.ChoosingLaws.{command_chosen, walk_chosen, settled_chosen}
 use Rattle.sn_engine.specs.Boundary.{Acted, acted, completed, all_completed, act_message, act_messages, act_entries, due_at, unsaid}
 use Rattle.sn_engine.specs.Running.{Running, at_boundary, with_block, with_settled}
-use Rattle.sn_engine.specs.Runs.{Follows, AreSteps}
+use Rattle.sn_engine.specs.Histories.{Follows, AreSteps}
 
 completed_chosen : (from : ℕ) (n : Next) (t : Turn) → AreChosen t.world → AreChosen (completed from n t).turn.world
 completed_chosen from nothing t h = h

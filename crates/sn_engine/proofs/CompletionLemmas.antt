@@ -4,14 +4,14 @@ use Rattle.std.specs.Prelude.{is_none, if◌then◌else◌}
 use Rattle.sn_osc.specs.Shape.{Argument, BodyShape, bare, arguments, foreign, MessageShape}
 use Rattle.sn_osc.specs.Reading.{read}
 use Rattle.sn_reply.specs.declared.reason.Reason.{Reason}
-use Rattle.sn_world.specs.declared.command.BusCommand.{BusCommand}
+use Rattle.sn_world.specs.declared.command.ServerCommand.{ServerCommand}
 use Rattle.sn_world.specs.declared.command.Handled.{Handled}
 use Rattle.sn_world.specs.declared.command.Handled.TheVariants as answers
 use Rattle.sn_world.specs.World.{Turn}
 use Rattle.sn_world.specs.Ending.{Next, nothing, quitting, clearing, completing, is_completing}
 use Rattle.sn_world.specs.Completing.{carried, own, one_message, message_in}
-use Rattle.sn_world.specs.Addresses.{bus_command_of}
-use Rattle.sn_world.specs.Commands.{bus_row, bus_outcome, completion_in, completion_of, each_within, depth_within, acceptable, with_completion, carrying_row, done_with, ending_of, next_with, next_of, next_in, next_after, run_node}
+use Rattle.sn_world.specs.Addresses.{server_command_of}
+use Rattle.sn_world.specs.Commands.{server_row, server_outcome, completion_in, completion_of, each_within, depth_within, acceptable, with_completion, carrying_row, handled_as, ending_of, next_with, next_of, next_in, next_after, run_node}
 use Rattle.sn_engine.specs.Boundary.{Acted, acted, completed, all_completed, act_message}
 
 -- ---- one after another
@@ -65,7 +65,7 @@ accepted_next m c (Ok t) deep e =
     let same : m ≡ c = cc in
     record { is = ap Some same; deep = subst (λ (x : MessageShape). depth_within 7 x ≡ true) same deep }
 
-by_message : (command : BusCommand) (o : Option MessageShape) (r : Result Turn Reason) (c : MessageShape)
+by_message : (command : ServerCommand) (o : Option MessageShape) (r : Result Turn Reason) (c : MessageShape)
     → next_in None (Some (with_completion (acceptable o) r)) (next_with command o) ≡ completing c → IsCarried o c
 by_message command None r c e = absurd cc
 by_message command (Some m) r c e = at (depth_within 7 m) refl e
@@ -74,17 +74,17 @@ by_message command (Some m) r c e = at (depth_within 7 m) refl e
     at true deep e = accepted_next m c r deep e
     at false deep e = absurd cc
 
-by_blob : (command : BusCommand) (o : Option (List ℕ)) (from : ℕ) (xs : List Argument) (t : Turn) (c : MessageShape)
+by_blob : (command : ServerCommand) (o : Option (List ℕ)) (from : ℕ) (xs : List Argument) (t : Turn) (c : MessageShape)
     → next_in None (Some (carrying_row command o from xs t)) (next_with command (message_in o)) ≡ completing c → IsCarried (message_in o) c
-by_blob command None from xs t c e = at (bus_row command from xs t) e
+by_blob command None from xs t c e = at (server_row command from xs t) e
   where
-    at : (r : Result Turn Reason) → next_in None (Some r) (ending_of (done_with command)) ≡ completing c → IsCarried None c
-    at (Ok after) e = absurd (ends (done_with command) c e)
+    at : (r : Result Turn Reason) → next_in None (Some r) (ending_of (handled_as command)) ≡ completing c → IsCarried None c
+    at (Ok after) e = absurd (ends (handled_as command) c e)
     at (Err reason) e = absurd cc
-by_blob command (Some b) from xs t c e = by_message command (one_message (read b)) (bus_row command from (own xs) t) c e
+by_blob command (Some b) from xs t c e = by_message command (one_message (read b)) (server_row command from (own xs) t) c e
 
-by_outcome : (by_node : Option (Result Turn Reason)) (asked : Option BusCommand) (from : ℕ) (body : BodyShape) (t : Turn) (c : MessageShape)
-    → next_in by_node (bus_outcome asked from body t) (next_of asked body) ≡ completing c → IsCarried (completion_in asked body) c
+by_outcome : (by_node : Option (Result Turn Reason)) (asked : Option ServerCommand) (from : ℕ) (body : BodyShape) (t : Turn) (c : MessageShape)
+    → next_in by_node (server_outcome asked from body t) (next_of asked body) ≡ completing c → IsCarried (completion_in asked body) c
 by_outcome (Some r) asked from body t c e = absurd cc
 by_outcome None None from body t c e = absurd cc
 by_outcome None (Some command) from bare t c e = by_blob command (carried command []) from [] t c e
@@ -92,7 +92,7 @@ by_outcome None (Some command) from (arguments xs) t c e = by_blob command (carr
 by_outcome None (Some command) from (foreign tags rest) t c e = absurd cc
 
 carried_next : (from : ℕ) (m : MessageShape) (t : Turn) (c : MessageShape) → next_after from m t ≡ completing c → IsCarried (completion_of m) c
-carried_next from m t c e = by_outcome (run_node from m t) (bus_command_of m.address) from m.body t c e
+carried_next from m t c e = by_outcome (run_node from m t) (server_command_of m.address) from m.body t c e
 
 -- In what is done next completion messages nest at most so deep.
 abbrev FitsNext : ℕ → Next → Type 0

@@ -11,7 +11,7 @@ use Rattle.sn_world.specs.declared.stage.Stage.{Stage}
 use Rattle.sn_world.specs.World.{World, Turn, world_of}
 use Rattle.sn_clash.specs.declared.clash.Clash.{Clash}
 use Rattle.sn_clash.specs.Clashing.{clashes_of}
-use Rattle.sn_graph.specs.Voices.{Running}
+use Rattle.sn_graph.specs.Voices.{HeardNodes}
 use Rattle.sn_graph.specs.Plans.{IsPlanned, plan_of}
 use Rattle.sn_layout.specs.Layout.{layout_of}
 use Rattle.sn_layout.specs.Leaving.{LeavesLayout}
@@ -75,7 +75,7 @@ module _ (old new : Stage) (us vs : List ℕ) (same : layout_of (world_of new vs
       let nodes = nodes_alike old new us vs (sym same) in
       record {
         jobs_are = h.jobs_are ∙ ap plan_of nodes;
-        planned = subst (λ (n : Running). IsPlanned n jobs) nodes h.planned;
+        planned = subst (λ (n : HeardNodes). IsPlanned n jobs) nodes h.planned;
         order = h.order;
         free = h.free;
         few = h.few;

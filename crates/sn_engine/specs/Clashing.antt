@@ -2,6 +2,7 @@
 use Rattle.std.specs.Prelude.{ℕ, pos, ◌==◌, ◌<◌, Bool, ◌&&◌, if◌then◌else◌, List, [], ◌∷◌, ◌++◌, codes}
 use Rattle.std.specs.List.{list_any}
 use Rattle.std.specs.Ordering.{int_eq}
+use Rattle.sn_ports.specs.Limits.{control_bus_count}
 use Rattle.sn_osc.specs.Shape.{Argument, int, string, arguments, MessageShape}
 use Rattle.sn_reply.specs.declared.replies.To.TheVariants.{All}
 use Rattle.sn_reply.specs.Replies.{ReplyShape}
@@ -18,7 +19,7 @@ resource_arguments (Buffer n) = string (codes "buffer") ∷ int (pos n) ∷ []
 
 -- its number can be sent
 abbrev pub IsSmall : Clash → Type 0
-IsSmall c = number_of c.resource < 1024
+IsSmall c = number_of c.resource < control_bus_count
 
 -- the group, the two members in order, and the resource
 abbrev pub clash_message : Clash → MessageShape

@@ -1,5 +1,6 @@
 -- What an engine has reserved.
 use Rattle.std.specs.Prelude.{◌≡◌, ◌≤◌, ◌*◌, ℕ, List}
+use Rattle.sn_ports.specs.Limits.{most_span, block_samples}
 use Rattle.sn_ports.specs.Octets.{Octets}
 use Rattle.sn_reply.specs.Frames.{EachHasRoom}
 use Rattle.sn_engine.specs.declared.standing.Standing.{Standing}
@@ -10,10 +11,10 @@ pub record CanSettle (most room : ℕ) (out : List Octets) : Type 0 where
   pub endings : most ≤ room
   pub replies : EachHasRoom (48 * most) out
 
--- Behind a boundary there is room for the bytes of 32 blocks, for the samples of one, and to settle them.
+-- Behind a boundary there is room for the bytes of a span, for the samples of one, and to settle them.
 abbrev pub HasRoom : Standing → ℕ → ℕ → ℕ → ℕ → List Octets → Type 0
 HasRoom Settled bytes samples most endings replies = Unit {0}
-HasRoom Bounded bytes samples most endings replies = (49152 ≤ bytes) × (512 ≤ samples) × CanSettle most endings replies
+HasRoom Bounded bytes samples most endings replies = (3 * (most_span * block_samples) ≤ bytes) × (block_samples ≤ samples) × CanSettle most endings replies
 HasRoom Rendered bytes samples most endings replies = CanSettle most endings replies
 HasRoom Spent bytes samples most endings replies = Unit {0}
 

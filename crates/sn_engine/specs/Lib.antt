@@ -5,7 +5,7 @@ pub mod Boundary
 pub mod Outputs
 pub mod Hearing
 pub mod Running
-pub mod Runs
+pub mod Histories
 pub mod Keeping
 pub mod Arriving
 pub mod Refusing

@@ -1,5 +1,6 @@
--- The sound of a block: 64 frames of the first audio buses.
+-- The sound of a block: its frames, of the first audio buses.
 use Rattle.std.specs.Prelude.{ℕ, zero, suc, ◌+◌, ◌*◌, ℤ, List, [], ◌++◌, slice_index, slice_index_or}
+use Rattle.sn_ports.specs.Limits.{block_frames}
 use Rattle.sn_mem.specs.Blocks.{sample_in, table}
 use Rattle.sn_mem.specs.Buses.{heard, silent}
 use Rattle.sn_pcm.specs.declared.settings.Settings.{Settings}
@@ -16,13 +17,13 @@ unfoldable pub frames_of : ℕ → ℕ → World → ℕ → List ℤ
 frames_of channels b w zero = []
 frames_of channels b w (suc k) = frames_of channels b w k ++ frame_of channels b w k
 
--- the 64 frames of block b
+-- the frames of block b
 abbrev pub outputs : Settings → ℕ → World → List ℤ
-outputs s b w = frames_of s.channels b w 64
+outputs s b w = frames_of s.channels b w block_frames
 
--- a frame of the sound of a block out of its copy in the words from a place on: 64 samples of each of the first audio buses, one bus after the other
+-- a frame of the sound of a block out of its copy in the words from a place on: the samples of each of the first audio buses, one bus after the other
 abbrev pub copied_frame : ℕ → ℕ → List ℕ → ℕ → List ℤ
-copied_frame channels at ws k = table (λ c. sample_in (slice_index ws (at + 64 * c + k))) channels
+copied_frame channels at ws k = table (λ c. sample_in (slice_index ws (at + block_frames * c + k))) channels
 
 unfoldable pub copied_frames : ℕ → ℕ → List ℕ → ℕ → List ℤ
 copied_frames channels at ws zero = []

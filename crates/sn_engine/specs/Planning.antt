@@ -1,10 +1,11 @@
 -- Planning
 -- Plans of a stage, kept from one boundary to the next.
-use Rattle.std.specs.Prelude.{◌≡◌, ◌≤◌, ◌<◌, ◌+◌, ◌-◌, ℕ, Bool, true, false, List, length}
+use Rattle.std.specs.Prelude.{◌≡◌, ◌≤◌, ◌<◌, ◌+◌, ◌-◌, ℕ, Bool, true, false, List, length, ◌*◌}
 use Rattle.std.specs.List.{list_any}
+use Rattle.sn_ports.specs.Limits.{most_jobs, most_span, most_channels, block_samples}
 use Rattle.sn_mem.specs.declared.extents.Extent.{Extent}
 use Rattle.sn_mem.specs.Blocks.{table}
-use Rattle.sn_mem.specs.Layout.{audio_place}
+use Rattle.sn_mem.specs.Layout.{audio_place, bus_words}
 use Rattle.sn_queue.specs.Waiting.{WaitingList}
 use Rattle.sn_queue.specs.Steps.{is_due}
 use Rattle.sn_round.specs.declared.jobs.Job.{Job}
@@ -30,7 +31,7 @@ pub record IsPlanOf (stage : Stage) (jobs : List Job) : Type 0 where
   pub planned : IsPlanned (nodes_in stage) jobs
   pub order : AreJobs jobs
   pub free : IsRaceFree jobs
-  pub few : length jobs ≤ 65536
+  pub few : length jobs ≤ most_jobs
 
 -- jobs are the plan of a stage, and it is told whether its nodes are quiet: no synth that runs sends a trigger, or pauses or frees itself
 pub record IsPlannedFor (stage : Stage) (jobs : List Job) (quiet : Bool) : Type 0 where
@@ -43,15 +44,15 @@ StillPlanned hold stage jobs quiet = hold ≡ true → IsPlannedFor stage jobs q
 
 -- n blocks from block b on may come in a row: a round has room for their jobs, no entry is due between them, and nothing is told or done at the settlings between them
 pub record IsSpanOf (jobs : List Job) (quiet : Bool) (waiting : WaitingList) (b n : ℕ) : Type 0 where
-  pub few : n ≤ 32
-  pub room : start (length jobs) n ≤ 65536
+  pub few : n ≤ most_span
+  pub room : start (length jobs) n ≤ most_jobs
   pub none_due : list_any (is_due waiting (b + n - 1)) waiting.waiting ≡ false
   pub quiet_is : quiet ≡ true
 
 -- if it is made for more than one block, a plan is that of the jobs in so many blocks, whose copies stand at a place
 pub record IsSpanned (jobs : List Job) (outputs : List Extent) (copies : ℕ) (all : List Job) (blocks : ℕ) : Type 0 where
-  pub few : 2 ≤ blocks → blocks ≤ 32
-  pub room : 2 ≤ blocks → start (length jobs) blocks ≤ 65536
+  pub few : 2 ≤ blocks → blocks ≤ most_span
+  pub room : 2 ≤ blocks → start (length jobs) blocks ≤ most_jobs
   pub all_are : 2 ≤ blocks → all ≡ unrolled jobs outputs copies blocks
   pub free : 2 ≤ blocks → IsRaceFree all
 
@@ -59,13 +60,13 @@ pub record IsSpanned (jobs : List Job) (outputs : List Extent) (copies : ℕ) (a
 abbrev pub StillSpanned : Bool → List Job → List Extent → ℕ → List Job → ℕ → Type 0
 StillSpanned hold jobs outputs copies all blocks = hold ≡ true → IsSpanned jobs outputs copies all blocks
 
--- The first audio buses are heard, and copies of 32 blocks of their sound have room behind the words of the pool.
+-- The first audio buses are heard, and the copies of a span of their sound have room behind the words of the pool.
 pub record HasCopies (channels : ℕ) (stage : Stage) (words : List ℕ) (outputs : List Extent) (copies : ℕ) : Type 0 where
-  pub few : channels ≤ 8
+  pub few : channels ≤ most_channels
   pub outputs_are : outputs ≡ table audio_place channels
-  pub behind : 10368 + stage.pool.region.len ≤ copies
-  pub fits : copies + 16384 ≤ length words
-  pub bounded : copies + 16384 < 4294967296
+  pub behind : bus_words + stage.pool.region.len ≤ copies
+  pub fits : copies + most_span * block_samples ≤ length words
+  pub bounded : copies + most_span * block_samples < 4294967296
 
 -- and nothing has, behind a boundary
 abbrev pub HoldsBounded : Standing → Bool → Type 0

@@ -1,6 +1,7 @@
 //! Clashes of members of parallel groups, of which every client is told.
 ghost use Rattle.std.specs.Prelude.{◌≡◌, ◌∷◌, ◌++◌, ◌<◌, ◌^◌, [], true, pos, ℕ, List, IfOk, OnOk, length};
 ghost use Rattle.std.specs.List.{All};
+ghost use Rattle.sn_ports.specs.Limits.{control_bus_count};
 ghost use Rattle.sn_osc.specs.Bytes.{has_no_null};
 ghost use Rattle.sn_osc.specs.Shape.{int, string, message_of};
 ghost use Rattle.sn_reply.specs.Sending.{IsSendable};
@@ -31,7 +32,7 @@ fn push_named(answer: &mut Answer, name: &[u8], number: u32) -> Result<(), NoMem
 
 /// The sort and the number of a resource.
 fn push_resource(answer: &mut Answer, resource: &Resource) -> Result<(), NoMemory>
-    requires small { number_of resource.now < 1024 }
+    requires small { number_of resource.now < control_bus_count }
     ensures { OnOk result (answer.new ≡ answer.old ++ resource_arguments resource.now) }
 {
     match resource {

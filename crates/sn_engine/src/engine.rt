@@ -1,4 +1,5 @@
 ghost use Rattle.std.specs.Prelude.{◌≡◌, ◌≤◌, ◌<◌, ◌+◌, ◌^◌, [], true, false, ℕ, Option, length, map, replicate, slice_index_or, slice_set, IfOk, OnOk, OnErr};
+ghost use Rattle.sn_ports.specs.Limits.{most_channels, most_count, most_clients};
 ghost use Rattle.sn_osc.specs.Shape.{shape};
 ghost use Rattle.sn_ports.specs.Causes.{HasCause};
 ghost use Rattle.sn_ports.specs.Links.{KeepsEvents};
@@ -27,32 +28,30 @@ use crate::refusing::bad_packet;
 use crate::rendering::{Part, render};
 use crate::room::reserve_settling;
 use crate::settling::settle_before;
-use crate::spans::MOST_BLOCKS;
 use crate::standing::{Flow, Standing};
 use sn_clash::Clashes;
 use sn_crew::Crew;
-use sn_mem::{Extents, Places};
+use sn_mem::{BUS_WORDS, Extents, Places};
 use sn_osc::Packet;
 use sn_pcm::Settings;
+use sn_ports::limits::{BLOCK_SAMPLES, MOST_SPAN};
 use sn_ports::{Failed, Gate, Link, NoMemory, Sink, Text, send_all, write_all};
 use sn_queue::Queue;
 use sn_reply::{Replies, send};
+use sn_span::COPY_WORDS;
 use sn_world::{Endings, Stage};
 use std::alloc::Global;
 use std::marker::Model;
 use std::thread::Threads;
 
-/// How many words the buses take.
-const BUS_WORDS: u32 = 10368;
+/// Where the words of the pool begin: behind those of the buses.
+const POOL_AT: u32 = BUS_WORDS as u32;
 
-/// How many words the copies of 32 blocks take: of each block 64 samples of 8 channels.
-const COPY_WORDS: u32 = 16384;
+/// How many words the copies of a span take: one for each sample.
+const COPIES: u32 = MOST_SPAN * COPY_WORDS;
 
-/// How many samples a block of 8 channels has.
-const BLOCK_SAMPLES: usize = 512;
-
-/// How many bytes the samples of 32 blocks take.
-const SPAN_BYTES: u32 = 49152;
+/// How many bytes the samples of a span take, with at most 3 each.
+const SPAN_BYTES: u32 = 3 * COPIES;
 
 /// What is played: the nodes, the words of the buses and of the pool with the crew that shares them, the entries that wait, and the
 /// bytes that are still to be written.
@@ -100,6 +99,7 @@ impl Model for Engine {
     ghost use Rattle.sn_engine.specs.Keeping.{HasRoom, IsRoom};
     ghost use Rattle.sn_engine.specs.Holding.{StillHold};
     ghost use Rattle.sn_engine.specs.Planning.{HasCopies, StillPlanned, StillSpanned, HoldsBounded};
+    ghost use Rattle.sn_ports.specs.Limits.{most_clients};
 
     ghost Value = { Playing };
 
@@ -111,7 +111,7 @@ impl Model for Engine {
     } };
 
     ghost invariant = { λ e. Pictures e.stage e.memory.words × AllAnswerable e.queue.waiting × HasRoom e.standing e.sound.spare (vec_capacity e.samples) (walk_room (running_labels e.stage.tree.attached)) e.endings.spare e.replies.items
-        × IsRoom e.standing e.room (walk_room (running_labels e.stage.tree.attached)) × (e.room < 2 ^ 30) × (length e.replies.items ≤ 4)
+        × IsRoom e.standing e.room (walk_room (running_labels e.stage.tree.attached)) × (e.room < 2 ^ 30) × (length e.replies.items ≤ most_clients)
         × StillHold e.holds e.stage e.clashes × StillPlanned e.holds e.stage e.planned.jobs e.planned.quiet × HoldsBounded e.standing e.holds
         × StillSpanned e.holds e.planned.jobs e.outputs e.copies e.planned.all e.planned.blocks
         × HasCopies e.settings.channels e.stage e.memory.words e.outputs e.copies };
@@ -141,7 +141,7 @@ fn silent(alloc: Global, clients: u32) -> Result<Vec<Text>, NoMemory>
 
 /// The places of the first audio buses.
 fn first_buses(alloc: Global, channels: u32) -> Result<Extents, NoMemory>
-    requires { channels ≤ 8 }
+    requires { channels ≤ most_channels }
     ensures { IfOk result (λ outputs. outputs ≡ table audio_place channels) }
 {
     let mut outputs = Extents::new(alloc);
@@ -188,14 +188,14 @@ impl Engine {
         limit: Option<u32>,
         clients: u32,
     ) -> Result<Self, NoMemory>
-        requires clients { clients ≤ 4 }
+        requires clients { clients ≤ most_clients }
         ensures running { IfOk result (λ e. e.running ≡ opened settings.now base limit clients) }
         ensures past { IfOk result (λ e. e.past ≡ no_past settings.now.workers) }
     {
         let stage = Stage::new(alloc, settings.rate, settings.memory, clients)?;
         let planned = Planned::nothing(alloc)?;
-        let copies = BUS_WORDS + settings.memory;
-        let memory = Memory::open(alloc, copies + COPY_WORDS)?;
+        let copies = POOL_AT + settings.memory;
+        let memory = Memory::open(alloc, copies + COPIES)?;
         let outputs = first_buses(alloc, settings.channels)?;
         let crew = Crew::open(alloc, settings.workers)?;
         let queue = Queue::new(alloc, base, settings.rate, limit);
@@ -268,7 +268,7 @@ impl Engine {
 
     /// The next boundary that has not been run.
     fn next_boundary(&self) -> u64
-        requires block { self.now.running.block < 2 ^ 62 }
+        requires block { self.now.running.block < most_count }
         ensures { result ≡ next_boundary self.now.running }
     {
         match self.standing {
@@ -281,8 +281,8 @@ impl Engine {
     /// and is answered by `/fail`; gives how many were refused. After `NoMemory` the entries before it stay, and what clients were to be sent
     /// stays too, with a front of what this answers.
     pub fn offer(&mut self, alloc: Global, packet: Packet, from: u32) -> Result<u32, NoMemory>
-        requires block { next_boundary self.old.running < 2 ^ 62 }
-        requires puts { self.old.running.waiting.puts + length (entries_of (shape packet)) ≤ 2 ^ 62 }
+        requires block { next_boundary self.old.running < most_count }
+        requires puts { self.old.running.waiting.puts + length (entries_of (shape packet)) ≤ most_count }
         requires spelled { IsSpelled (shape packet) }
         ensures ok { OnOk result (self.new.running ≡ with_offered from (entries_of (shape packet)) self.old.running) }
         ensures refused { IfOk result (λ k. k ≡ (offered from (entries_of (shape packet)) self.old.running).refused) }
@@ -349,7 +349,7 @@ impl Engine {
     pub fn want(&mut self, blocks: u32)
         ensures { self.new ≡ self.old }
     {
-        self.wanted = blocks.min(MOST_BLOCKS);
+        self.wanted = blocks.min(MOST_SPAN);
     }
 
     /// How many of so many blocks may be rendered before the next boundary. Behind a boundary this is the greatest such number.
@@ -357,7 +357,7 @@ impl Engine {
         requires { 1 ≤ want }
         ensures want { result ≤ want }
         ensures quiet { IsQuiet self.now result }
-        ensures most { self.now.running.standing ≡ Bounded → self.now.running.block < 2 ^ 62 → (n : ℕ) → n ≤ want → IsQuiet self.now n → n ≤ result }
+        ensures most { self.now.running.standing ≡ Bounded → self.now.running.block < most_count → (n : ℕ) → n ≤ want → IsQuiet self.now n → n ≤ result }
     {
         if !is_bounded(self.standing) {
             return 1;
@@ -371,7 +371,7 @@ impl Engine {
     pub fn blocks<H: Threads + Sync, G: Gate>(&mut self, rt: &H, n: u32, gate: &G)
         requires quiet { IsQuiet self.old n }
         requires bounded { self.old.running.standing ≡ Bounded }
-        requires block { self.old.running.block + n ≤ 2 ^ 62 }
+        requires block { self.old.running.block + n ≤ most_count }
         ensures running { self.new.running ≡ with_blocks n self.old.running }
         ensures past { HasRounds n self.old.past self.new.past }
     {

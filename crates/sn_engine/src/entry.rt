@@ -1,10 +1,9 @@
 ghost use Rattle.std.specs.Prelude.{◌≡◌, ◌++◌, ◌+◌, map, IfOk, OnOk};
 ghost use Rattle.sn_osc.specs.Shape.{shape, shapes, message_of};
-ghost use Rattle.sn_osc.specs.Bytes.{counts_as};
 ghost use Rattle.sn_engine.specs.Entries.{entries_of, messages_in, enclosed_entries, bundle_entries};
 ghost use Rattle.sn_engine.specs.Stacks.{timed_of, entries_left, entries_ahead, bundles_in, bundles_left};
 
-use sn_osc::{Bundle, Elements, Message, Packet};
+use sn_osc::{Bundle, Elements, Message, Packet, counts_as};
 use sn_ports::NoMemory;
 use std::alloc::Global;
 
@@ -29,20 +28,13 @@ struct Parts {
     enclosed: Vec<Enclosed>,
 }
 
-/// An enclosed tag of 1 counts as the tag that the enclosing bundle counts as.
-fn counts_as(around: u64, tag: u64) -> u64
-    ensures { result ≡ counts_as around tag }
-{
-    if tag == 1 { around } else { tag }
-}
-
 /// Sorts out the elements of a bundle that counts as `tag`.
 fn sort_out(alloc: Global, tag: u64, elements: Elements) -> Result<Parts, NoMemory>
     ensures messages { IfOk result (λ p. map message_of p.messages.items ≡ messages_in (shapes elements.items)) }
     ensures enclosed { IfOk result (λ p. entries_ahead p.enclosed.items ≡ enclosed_entries tag (shapes elements.items)) }
     ensures fewer { IfOk result (λ p. bundles_left p.enclosed.items ≡ bundles_in (shapes elements.items)) }
 {
-    let mut messages = Vec::with_capacity(alloc, elements.len())?;
+    let mut messages = Vec::new(alloc);
     let mut enclosed = Vec::new(alloc);
     for packet in elements {
         match packet {

@@ -8,7 +8,7 @@ ghost use Rattle.sn_world.specs.World.{Turn};
 ghost use Rattle.sn_world.specs.Ending.{is_completing};
 ghost use Rattle.sn_engine.specs.Boundary.{act_message};
 ghost use Rattle.sn_engine.specs.Running.{Running, opened, at_boundary, with_block, with_settled};
-ghost use Rattle.sn_engine.specs.Runs.{AreSteps};
+ghost use Rattle.sn_engine.specs.Histories.{AreSteps};
 
 /// Whatever a message carries, all of its completion messages act: none is left once as many acted as may nest.
 pub fn no_completion_is_left()

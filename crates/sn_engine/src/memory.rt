@@ -1,5 +1,6 @@
 //! The memory between rounds and in them.
 ghost use Rattle.std.specs.Prelude.{◌≡◌, ◌≤◌, ◌<◌, ◌+◌, ◌*◌, ◌^◌, ◌++◌, ◌∷◌, [], ℕ, IfOk, length, replicate, slice_index};
+ghost use Rattle.sn_ports.specs.Limits.{most_jobs, block_samples};
 ghost use Rattle.sn_mem.specs.Blocks.{table};
 ghost use Rattle.sn_mem.specs.Layout.{audio_place};
 ghost use Rattle.sn_world.specs.Pictures.{Pictures};
@@ -13,14 +14,12 @@ use sn_crew::Crew;
 use sn_machine::Rests;
 use sn_mem::Port;
 use sn_play::{Block, Span, block_is_the_walk, span_is_the_walks};
+use sn_ports::limits::MOST_JOBS;
 use sn_ports::{Gate, NoMemory};
 use sn_table::{MainSeat, Shared};
 use std::alloc::Global;
 use std::marker::Model;
 use std::thread::Threads;
-
-/// How many jobs a round may have.
-const JOB_WORDS: u32 = 65_536;
 
 /// The words of the buses and of the pool. The workers of a crew share them while a round runs; between rounds they are a port.
 #[derive(Drop)]
@@ -31,6 +30,7 @@ pub struct Memory {
 
 impl Model for Memory {
     ghost use Rattle.std.specs.Prelude.{◌≡◌};
+    ghost use Rattle.sn_ports.specs.Limits.{most_jobs};
     ghost use Rattle.sn_machine.specs.States.{IsIdle, memory_in};
     ghost use Rattle.sn_table.specs.Answers.{main_view, IsMainOf};
     ghost use Rattle.sn_engine.specs.Remembered.{Remembered};
@@ -39,7 +39,7 @@ impl Model for Memory {
 
     ghost view = { λ m. record { words = memory_in (main_view m.main).main.phase; rounds = (main_view m.main).main.rested; stores = (main_view m.main).main.stores } };
 
-    ghost invariant = { λ m. IsMainOf m.shared m.main × IsIdle (main_view m.main) × (m.shared.jobs ≡ 65536) };
+    ghost invariant = { λ m. IsMainOf m.shared m.main × IsIdle (main_view m.main) × (m.shared.jobs ≡ most_jobs) };
 }
 
 impl Memory {
@@ -48,13 +48,13 @@ impl Memory {
         requires { (1 ≤ words) × (words < 2 ^ 31) }
         ensures { IfOk result (λ m. m ≡ record { words = replicate words 0; rounds = []; stores = 0 }) }
     {
-        Memory::with_jobs(alloc, words, JOB_WORDS)
+        Memory::with_jobs(alloc, words, MOST_JOBS)
     }
 
     /// The same, for rounds of so many jobs.
     fn with_jobs(alloc: Global, words: u32, jobs: u32) -> Result<Memory, NoMemory>
         requires words { (1 ≤ words) × (words < 2 ^ 31) }
-        requires jobs { jobs ≡ 65536 }
+        requires jobs { jobs ≡ most_jobs }
         ensures { IfOk result (λ m. m ≡ record { words = replicate words 0; rounds = []; stores = 0 }) }
     {
         let (shared, main) = Shared::open(alloc, words, jobs)?;
@@ -104,8 +104,8 @@ impl Memory {
         requires pictures { Pictures span.now.first.stage.now self.old.words }
         requires ready { IsSpanReady span.now }
         requires free { IsRaceFree span.now.all.now }
-        requires few { length span.now.all.now ≤ 65536 }
-        requires fits { span.now.copies + 512 * span.now.blocks ≤ length self.old.words }
+        requires few { length span.now.all.now ≤ most_jobs }
+        requires fits { span.now.copies + block_samples * span.now.blocks ≤ length self.old.words }
         ensures played { (channels : ℕ) → span.now.outputs.now ≡ table audio_place channels → ArePlayed span.now.first.stage.now span.now.first.block span.now.blocks span.now.copies channels self.old.words self.new.words }
         ensures length { length self.new.words ≡ length self.old.words }
         ensures rounds { self.new.rounds ≡ self.old.rounds ++ record { jobs = span.now.all.now; crew = length crew.old.hands.items } ∷ [] }

@@ -1,6 +1,7 @@
 //! Entries that arrive: they are put, or refused where as many wait as may.
 ghost use Rattle.std.specs.Prelude.{◌≡◌, ◌≤◌, ◌<◌, ◌+◌, ◌^◌, ℕ, map, length, IfOk, OnOk, OnErr};
 ghost use Rattle.std.specs.List.{AllByRecursion};
+ghost use Rattle.sn_ports.specs.Limits.{most_count};
 ghost use Rattle.sn_osc.specs.Shape.{message_of};
 ghost use Rattle.sn_queue.specs.Steps.{put};
 ghost use Rattle.sn_reply.specs.Failing.{fail_message};
@@ -37,8 +38,8 @@ fn refusal(alloc: Global, messages: &[Message]) -> Result<Message, NoMemory>
 /// Puts an entry that arrives at a boundary from a client.
 #[tactic(auto, using(crate::proofs::PutLemmas::put_answerable))]
 fn put_entry(queue: &mut Queue, boundary: u64, from: u32, entry: Entry) -> Result<(), NoMemory>
-    requires boundary { boundary < 2 ^ 62 }
-    requires puts { queue.old.puts < 2 ^ 62 }
+    requires boundary { boundary < most_count }
+    requires puts { queue.old.puts < most_count }
     requires messages { AllByRecursion IsAnswerable (map message_of entry.messages.items) }
     requires waiting { AllAnswerable queue.old.waiting }
     ensures put { OnOk result (queue.new ≡ put queue.old (timed_of entry).tag boundary from (timed_of entry).messages) }
@@ -65,8 +66,8 @@ fn offer_entry(
     entry: Entry,
     replies: &mut Replies,
 ) -> Result<u32, NoMemory>
-    requires boundary { boundary < 2 ^ 62 }
-    requires puts { queue.old.puts < 2 ^ 62 }
+    requires boundary { boundary < most_count }
+    requires puts { queue.old.puts < most_count }
     requires messages { AllByRecursion IsAnswerable (map message_of entry.messages.items) }
     requires waiting { AllAnswerable queue.old.waiting }
     ensures offered { IfOk result (λ k. (n : ℕ) → offer_entry boundary from (timed_of entry) (record { waiting = queue.old; replies = replies.old; refused = n })
@@ -94,8 +95,8 @@ pub fn offer_entries(
     entries: Vec<Entry>,
     replies: &mut Replies,
 ) -> Result<u32, NoMemory>
-    requires boundary { boundary < 2 ^ 62 }
-    requires puts { queue.old.puts + length entries.items ≤ 2 ^ 62 }
+    requires boundary { boundary < most_count }
+    requires puts { queue.old.puts + length entries.items ≤ most_count }
     requires few { length entries.items < 2 ^ 32 }
     requires entries { AreAnswerable (map timed_of entries.items) }
     requires waiting { AllAnswerable queue.old.waiting }

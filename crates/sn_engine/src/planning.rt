@@ -1,20 +1,22 @@
 //! The plan of a stage.
-ghost use Rattle.std.specs.Prelude.{◌≡◌, ◌<◌, ◌≤◌, ◌+◌, ◌^◌, [], ℕ, length, IfOk, OnOk};
+ghost use Rattle.std.specs.Prelude.{◌*◌, ◌≡◌, ◌<◌, ◌≤◌, ◌+◌, [], ℕ, length, IfOk, OnOk};
+ghost use Rattle.sn_ports.specs.Limits.{most_jobs, most_count, most_span, block_samples};
 ghost use Rattle.sn_round.specs.Jobs.{IsRaceFree};
 ghost use Rattle.sn_span.specs.Unrolling.{start};
 ghost use Rattle.sn_engine.specs.Holding.{AreClashesOf};
 ghost use Rattle.sn_engine.specs.Planning.{IsPictured, IsPlannedFor, IsSpanned, IsSpanOf};
 
-use crate::spans::{LATEST_BLOCK, blocks_before_due, most_blocks};
+use crate::spans::{blocks_before_due, most_blocks};
 use crate::weighing::{threads_for, units_beside};
 use sn_clash::{Clashes, world_has_the_clashes};
 use sn_graph::{plan, worlds_are_disjoint};
 use sn_mem::{Extent, Extents};
 use sn_ports::NoMemory;
+use sn_ports::limits::MOST_COUNT;
 use sn_queue::Queue;
 use sn_quiet::is_quiet;
 use sn_round::Plan;
-use sn_span::unroll;
+use sn_span::{COPY_WORDS, unroll};
 use sn_world::Stage;
 use std::alloc::Global;
 
@@ -83,16 +85,16 @@ impl Planned {
 
     /// How many blocks may come in a row from a block on, as far as they are asked for: at least one.
     pub fn span(&self, queue: &Queue, block: u64, want: u32) -> u32
-        requires { length self.now.jobs ≤ 65536 }
+        requires { length self.now.jobs ≤ most_jobs }
         ensures some { 1 ≤ result }
         ensures want { 2 ≤ result → result ≤ want }
         ensures quiet { 2 ≤ result → IsSpanOf self.now.jobs self.now.quiet queue.now block result }
-        ensures most { block < 2 ^ 62 → (n : ℕ) → 2 ≤ n → n ≤ want → IsSpanOf self.now.jobs self.now.quiet queue.now block n → n ≤ result }
+        ensures most { block < most_count → (n : ℕ) → 2 ≤ n → n ≤ want → IsSpanOf self.now.jobs self.now.quiet queue.now block n → n ≤ result }
     {
         if !self.quiet {
             return 1;
         }
-        if block >= LATEST_BLOCK {
+        if block >= MOST_COUNT {
             return 1;
         }
         let most = most_blocks(self.jobs.jobs());
@@ -114,9 +116,9 @@ impl Planned {
         copies: u32,
     ) -> Result<(), NoMemory>
         requires free { IsRaceFree self.old.jobs }
-        requires few { 2 ≤ blocks → blocks ≤ 32 }
-        requires room { 2 ≤ blocks → start (length self.old.jobs) blocks ≤ 65536 }
-        requires copies { copies + 16384 < 4294967296 }
+        requires few { 2 ≤ blocks → blocks ≤ most_span }
+        requires room { 2 ≤ blocks → start (length self.old.jobs) blocks ≤ most_jobs }
+        requires copies { copies + most_span * block_samples < 4294967296 }
         requires spanned { IsSpanned self.old.jobs outputs.now copies self.old.all self.old.blocks }
         ensures jobs { self.new.jobs ≡ self.old.jobs }
         ensures quiet { self.new.quiet ≡ self.old.quiet }
@@ -131,7 +133,7 @@ impl Planned {
         self.blocks = 0;
         let extent = Extent {
             at: copies,
-            len: 512 * blocks,
+            len: COPY_WORDS * blocks,
         };
         self.all = unroll(alloc, &self.jobs, blocks, outputs, extent)?;
         self.blocks = blocks;

@@ -1,5 +1,6 @@
 //! Blocks that are rendered in a row.
 ghost use Rattle.std.specs.Prelude.{◌≡◌, ◌≤◌, ◌<◌, ◌+◌, ◌*◌, ◌^◌, ◌++◌, ◌∷◌, [], ℕ, List, length, replicate, vec_capacity};
+ghost use Rattle.sn_ports.specs.Limits.{most_channels, block_samples};
 ghost use Rattle.sn_quiet.specs.Walks.{walks};
 ghost use Rattle.sn_world.specs.Pictures.{Pictures};
 ghost use Rattle.sn_world.specs.World.{world_of};
@@ -16,11 +17,9 @@ use sn_mem::Extents;
 use sn_pcm::{Settings, frames};
 use sn_play::{Block, Span};
 use sn_ports::{Gate, Text};
+use sn_span::COPY_WORDS;
 use sn_world::Stage;
 use std::thread::Threads;
-
-/// How many words the copy of a block takes.
-const COPY_WORDS: u32 = 512;
 
 /// What stays while blocks are rendered.
 #[derive(Clone, Copy)]
@@ -70,14 +69,14 @@ fn render_each<H: Threads + Sync, G: Gate>(
     requires pictures { Pictures part.now.stage.now memory.old.words }
     requires planned { IsPlanOf part.now.stage.now part.now.planned.now.jobs }
     requires early { part.now.first + part.now.blocks < 2 ^ 63 }
-    requires channels { part.now.settings.now.channels ≤ 8 }
-    requires samples { 512 ≤ vec_capacity samples.old }
-    requires room { 1536 * part.now.blocks ≤ sound.old.spare }
+    requires channels { part.now.settings.now.channels ≤ most_channels }
+    requires samples { block_samples ≤ vec_capacity samples.old }
+    requires room { 3 * block_samples * part.now.blocks ≤ sound.old.spare }
     ensures world { world_of part.now.stage.now memory.new.words ≡ walks part.now.first part.now.blocks (world_of part.now.stage.now memory.old.words) }
     ensures pictures { Pictures part.now.stage.now memory.new.words }
     ensures length { length memory.new.words ≡ length memory.old.words }
     ensures sound { sound.new.bytes ≡ sound.old.bytes ++ sounds part.now.settings.now part.now.first part.now.blocks (world_of part.now.stage.now memory.old.words) }
-    ensures samples { 512 ≤ vec_capacity samples.new }
+    ensures samples { block_samples ≤ vec_capacity samples.new }
     ensures rounds { memory.new.rounds ≡ memory.old.rounds ++ replicate part.now.blocks (record { jobs = part.now.planned.now.jobs; crew = length crew.old.hands.items }) }
     ensures stores { memory.new.stores ≡ memory.old.stores }
     ensures crew { length crew.new.hands.items ≡ length crew.old.hands.items }
@@ -98,13 +97,13 @@ fn render_each<H: Threads + Sync, G: Gate>(
 
 /// The sound of the blocks out of their copies.
 fn hear_copies(part: &Part<'_>, memory: &mut Memory, samples: &mut Vec<i32>, sound: &mut Text)
-    requires inside { part.now.copies + 512 * part.now.blocks ≤ length memory.old.words }
-    requires bounded { part.now.copies + 512 * part.now.blocks < 4294967296 }
-    requires channels { part.now.settings.now.channels ≤ 8 }
-    requires samples { 512 ≤ vec_capacity samples.old }
-    requires room { 1536 * part.now.blocks ≤ sound.old.spare }
+    requires inside { part.now.copies + block_samples * part.now.blocks ≤ length memory.old.words }
+    requires bounded { part.now.copies + block_samples * part.now.blocks < 4294967296 }
+    requires channels { part.now.settings.now.channels ≤ most_channels }
+    requires samples { block_samples ≤ vec_capacity samples.old }
+    requires room { 3 * block_samples * part.now.blocks ≤ sound.old.spare }
     ensures sound { (words : List ℕ) → ArePlayed part.now.stage.now part.now.first part.now.blocks part.now.copies part.now.settings.now.channels words memory.old.words → sound.new.bytes ≡ sound.old.bytes ++ sounds part.now.settings.now part.now.first part.now.blocks (world_of part.now.stage.now words) }
-    ensures samples { 512 ≤ vec_capacity samples.new }
+    ensures samples { block_samples ≤ vec_capacity samples.new }
     ensures same { memory.new ≡ memory.old }
 {
     for number in 0..part.blocks {
@@ -131,13 +130,13 @@ fn render_span<H: Threads + Sync, G: Gate>(
     requires some { 2 ≤ part.now.blocks }
     requires blocks { part.now.planned.now.blocks ≡ part.now.blocks }
     requires early { part.now.first + part.now.blocks < 2 ^ 63 }
-    requires samples { 512 ≤ vec_capacity samples.old }
-    requires room { 1536 * part.now.blocks ≤ sound.old.spare }
+    requires samples { block_samples ≤ vec_capacity samples.old }
+    requires room { 3 * block_samples * part.now.blocks ≤ sound.old.spare }
     ensures world { world_of part.now.stage.now memory.new.words ≡ walks part.now.first part.now.blocks (world_of part.now.stage.now memory.old.words) }
     ensures pictures { Pictures part.now.stage.now memory.new.words }
     ensures length { length memory.new.words ≡ length memory.old.words }
     ensures sound { sound.new.bytes ≡ sound.old.bytes ++ sounds part.now.settings.now part.now.first part.now.blocks (world_of part.now.stage.now memory.old.words) }
-    ensures samples { 512 ≤ vec_capacity samples.new }
+    ensures samples { block_samples ≤ vec_capacity samples.new }
     ensures rounds { memory.new.rounds ≡ memory.old.rounds ++ record { jobs = part.now.planned.now.all; crew = length crew.old.hands.items } ∷ [] }
     ensures stores { memory.new.stores ≡ memory.old.stores }
     ensures crew { length crew.new.hands.items ≡ length crew.old.hands.items }
@@ -171,13 +170,13 @@ pub fn render<H: Threads + Sync, G: Gate>(
     requires copies { HasCopies part.now.settings.now.channels part.now.stage.now memory.old.words part.now.outputs.now part.now.copies }
     requires some { 1 ≤ part.now.blocks }
     requires early { part.now.first + part.now.blocks < 2 ^ 63 }
-    requires samples { 512 ≤ vec_capacity samples.old }
-    requires room { 1536 * part.now.blocks ≤ sound.old.spare }
+    requires samples { block_samples ≤ vec_capacity samples.old }
+    requires room { 3 * block_samples * part.now.blocks ≤ sound.old.spare }
     ensures world { world_of part.now.stage.now memory.new.words ≡ walks part.now.first part.now.blocks (world_of part.now.stage.now memory.old.words) }
     ensures pictures { Pictures part.now.stage.now memory.new.words }
     ensures length { length memory.new.words ≡ length memory.old.words }
     ensures sound { sound.new.bytes ≡ sound.old.bytes ++ sounds part.now.settings.now part.now.first part.now.blocks (world_of part.now.stage.now memory.old.words) }
-    ensures samples { 512 ≤ vec_capacity samples.new }
+    ensures samples { block_samples ≤ vec_capacity samples.new }
     ensures rounds { AreRounds part.now.blocks part.now.planned.now.jobs (length crew.old.hands.items) memory.old.rounds memory.new.rounds }
     ensures stores { memory.new.stores ≡ memory.old.stores }
     ensures crew { length crew.new.hands.items ≡ length crew.old.hands.items }

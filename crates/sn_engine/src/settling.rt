@@ -1,5 +1,6 @@
 //! The settling of a block, and what each client is sent of it.
 ghost use Rattle.std.specs.Prelude.{◌≡◌, ◌≤◌, ◌<◌, ◌-◌, ◌^◌, [], false, map, length};
+ghost use Rattle.sn_ports.specs.Limits.{most_clients};
 ghost use Rattle.sn_ports.specs.Octets.{bytes_of};
 ghost use Rattle.sn_reply.specs.Frames.{with_frames};
 ghost use Rattle.sn_tree.specs.Trees.{running_labels};
@@ -26,7 +27,7 @@ pub fn settle_before<P: Port>(
     requires pictures { Pictures stage.old (P.words port.old) }
     requires foot { WritesWorld (P.foot port.old) stage.old.pool.region }
     requires next { next < 2 ^ 63 }
-    requires clients { length replies.old ≤ 4 }
+    requires clients { length replies.old ≤ most_clients }
     requires room { CanSettle (walk_room (running_labels stage.old.tree.attached)) endings.old.spare replies.old }
     ensures world { world_of stage.new (P.words port.new) ≡ (settled (next - 1) (turn_of stage.old (P.words port.old) [])).world }
     ensures same { result ≡ false → stage.new ≡ stage.old }

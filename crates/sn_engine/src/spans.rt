@@ -1,28 +1,21 @@
 //! How many blocks come in a row.
 ghost use Rattle.std.specs.Prelude.{◌≡◌, ◌<◌, ◌≤◌, ◌+◌, ◌-◌, ◌^◌, ℕ, false};
 ghost use Rattle.std.specs.List.{list_any};
+ghost use Rattle.sn_ports.specs.Limits.{most_span, most_jobs};
 ghost use Rattle.sn_queue.specs.Steps.{is_due};
 ghost use Rattle.sn_span.specs.Unrolling.{start};
 
+use sn_ports::limits::{MOST_JOBS, MOST_SPAN};
 use sn_queue::Queue;
-
-/// The most blocks in a row.
-pub const MOST_BLOCKS: u32 = 32;
-
-/// From this block on none comes in a row with others.
-pub const LATEST_BLOCK: u64 = 1 << 62;
-
-/// The most jobs of a round.
-const MOST_JOBS: u32 = 65_536;
 
 /// The most blocks of a plan of so many jobs that a round has room for, with a capture in each.
 pub fn most_blocks(jobs: u32) -> u32
     requires { jobs < 4294967295 }
-    ensures few { result ≤ 32 }
-    ensures room { start jobs result ≤ 65536 }
-    ensures most { (n : ℕ) → n ≤ 32 → start jobs n ≤ 65536 → n ≤ result }
+    ensures few { result ≤ most_span }
+    ensures room { start jobs result ≤ most_jobs }
+    ensures most { (n : ℕ) → n ≤ most_span → start jobs n ≤ most_jobs → n ≤ result }
 {
-    MOST_BLOCKS.min(MOST_JOBS / (jobs + 1))
+    MOST_SPAN.min(MOST_JOBS / (jobs + 1))
 }
 
 /// The most blocks, up to a number and at least one, between which no entry is due. Block `block` is the first.

@@ -15,8 +15,8 @@ use Rattle.sn_filt.specs.Rings.{before, after, ring_step, ringed}
 
 -- ---- places
 
-pub before_low : (room place n : ℕ) → place < room → n < room → before room place n < room
-before_low room place n low few = grind (arith, nat_tests)
+pub before_low : (places place n : ℕ) → place < places → n < places → before places place n < places
+before_low places place n low few = grind (arith, nat_tests)
 
 -- ---- one frame
 
@@ -72,33 +72,33 @@ put_there at len ws us inside a =
 
 -- ---- a block
 
-pub ring_more : (reach : List (List ℤ) → ℕ → ℕ) (step : ℤ → List (List ℤ) → ℕ → ℤ × ℤ) (at len k place place' room : ℕ) (s : ℕ × List ℕ) (ws us : List ℕ) (ins : List (List ℤ)) (y : ℤ) (ys : List ℤ)
-    → k < length ys → room ≡ len - 1 → place < room → reach ins k < room → at + len ≤ length ws
-    → ◌≡◌ {A = (ℕ × List ℕ) × List ℤ} ((place, window ws at len), take k ys) (scan (ring_step reach step room) s ins k)
+pub ring_more : (reach : List (List ℤ) → ℕ → ℕ) (step : ℤ → List (List ℤ) → ℕ → ℤ × ℤ) (at len k place place' places : ℕ) (s : ℕ × List ℕ) (ws us : List ℕ) (ins : List (List ℤ)) (y : ℤ) (ys : List ℤ)
+    → k < length ys → places ≡ len - 1 → place < places → reach ins k < places → at + len ≤ length ws
+    → ◌≡◌ {A = (ℕ × List ℕ) × List ℤ} ((place, window ws at len), take k ys) (scan (ring_step reach step places) s ins k)
     → us ≡ set ws (at + 1 + place) (word_for (step (sample_in (get_or ws (at + 1 + before (len - 1) place (reach ins k)) 0)) ins k).0)
     → y ≡ (step (sample_in (get_or ws (at + 1 + before (len - 1) place (reach ins k)) 0)) ins k).1
-    → place' ≡ after room place
-    → ◌≡◌ {A = (ℕ × List ℕ) × List ℤ} ((place', window us at len), take (k + 1) (set ys k y)) (scan (ring_step reach step room) s ins (k + 1))
-ring_more reach step at len k place place' room s ws us ins y ys lt size low few inside i u v p =
-    let F : ℕ → Type 0 = λ room. ◌≡◌ {A = (ℕ × List ℕ) × ℤ} ((after room place, window us at len), y) (ring_step reach step room (place, window ws at len) ins k) in
-    let now : F room = subst F (sym size) (one reach step at len place k ws us ins y (omega arith) (omega arith) inside u v) in
-    scan_step (ring_step reach step room) s (place, window ws at len) (place', window us at len) y ins k ys lt i (ap (λ n. ((n, window us at len), y)) p ∙ now)
+    → place' ≡ after places place
+    → ◌≡◌ {A = (ℕ × List ℕ) × List ℤ} ((place', window us at len), take (k + 1) (set ys k y)) (scan (ring_step reach step places) s ins (k + 1))
+ring_more reach step at len k place place' places s ws us ins y ys lt size low few inside i u v p =
+    let F : ℕ → Type 0 = λ places. ◌≡◌ {A = (ℕ × List ℕ) × ℤ} ((after places place, window us at len), y) (ring_step reach step places (place, window ws at len) ins k) in
+    let now : F places = subst F (sym size) (one reach step at len place k ws us ins y (omega arith) (omega arith) inside u v) in
+    scan_step (ring_step reach step places) s (place, window ws at len) (place', window us at len) y ins k ys lt i (ap (λ n. ((n, window us at len), y)) p ∙ now)
 
 -- after the last frame the next place is stored
-pub ring_done : (reach : List (List ℤ) → ℕ → ℕ) (step : ℤ → List (List ℤ) → ℕ → ℤ × ℤ) (at len k place first room : ℕ) (ws us vs : List ℕ) (ins : List (List ℤ)) (ys : List ℤ)
-    → k ≡ 64 → length ys ≡ 64 → room ≡ len - 1 → 0 < len → at + len ≤ length ws → first ≡ get_or ws at 0 % room
-    → ◌≡◌ {A = (ℕ × List ℕ) × List ℤ} ((place, window us at len), take k ys) (scan (ring_step reach step room) (first, window ws at len) ins k)
+pub ring_done : (reach : List (List ℤ) → ℕ → ℕ) (step : ℤ → List (List ℤ) → ℕ → ℤ × ℤ) (at len k place first places : ℕ) (ws us vs : List ℕ) (ins : List (List ℤ)) (ys : List ℤ)
+    → k ≡ 64 → length ys ≡ 64 → places ≡ len - 1 → 0 < len → at + len ≤ length ws → first ≡ get_or ws at 0 % places
+    → ◌≡◌ {A = (ℕ × List ℕ) × List ℤ} ((place, window us at len), take k ys) (scan (ring_step reach step places) (first, window ws at len) ins k)
     → Apart at len ws us → vs ≡ set us at place
     → (vs ≡ put ws at (ringed reach step (window ws at len) ins).0) × (ys ≡ (ringed reach step (window ws at len) ins).1)
-ring_done reach step at len k place first room ws us vs ins ys last long size some inside begin i a e =
+ring_done reach step at len k place first places ws us vs ins ys last long size some inside begin i a e =
     let wide : length (window ws at len) ≡ len = length-window ws at len in
-    let as_size : room ≡ length (window ws at len) - 1 = omega (arith, size, wide) in
+    let as_size : places ≡ length (window ws at len) - 1 = omega (arith, size, wide) in
     let S : Type 0 = (ℕ × List ℕ) × List ℤ in
-    let R : ℕ → ℕ → S = λ room w. scan (ring_step reach step room) (w % room, window ws at len) ins 64 in
+    let R : ℕ → ℕ → S = λ places w. scan (ring_step reach step places) (w % places, window ws at len) ins 64 in
     let first_word : get_or ws at 0 ≡ get_or (window ws at len) 0 0 = ap (λ n. get_or ws n 0) (omega arith) ∙ sym (window_at ws at len 0 some) in
     let whole : take k ys ≡ ys = ap (λ n. take n ys) (last ∙ sym long) ∙ take-length ys in
     let b : ◌≡◌ {A = S} ((place, window us at len), ys) ((place, window us at len), take k ys) = ap (λ (ys : List ℤ). ((place, window us at len), ys)) (sym whole) in
-    let d : ◌≡◌ {A = S} (scan (ring_step reach step room) (first, window ws at len) ins k) (R room (get_or ws at 0)) = ap (λ n. scan (ring_step reach step room) (first, window ws at len) ins n) last ∙ ap (λ n. scan (ring_step reach step room) (n, window ws at len) ins 64) begin in
+    let d : ◌≡◌ {A = S} (scan (ring_step reach step places) (first, window ws at len) ins k) (R places (get_or ws at 0)) = ap (λ n. scan (ring_step reach step places) (first, window ws at len) ins n) last ∙ ap (λ n. scan (ring_step reach step places) (n, window ws at len) ins 64) begin in
     let h : ◌≡◌ {A = S} ((place, window us at len), ys) (R (length (window ws at len) - 1) (get_or (window ws at len) 0 0)) =
     b ∙ (i ∙ (d ∙ (ap (λ n. R n (get_or ws at 0)) as_size ∙ ap (R (length (window ws at len) - 1)) first_word))) in
     let state : window vs at len ≡ set (window us at len) 0 place = ap (λ (vs : List ℕ). window vs at len) (e ∙ ap (λ n. set us n place) (omega arith)) ∙ window_set us at len 0 place some (omega (arith, a.long, inside)) in
@@ -112,16 +112,16 @@ pub there_are : (f : Foot) (at len words : ℕ) → MayWrite f at len → 0 < le
 there_are f at len words may some inside = let last : at + (len - 1) < words = inside (at + (len - 1)) (may_touch f f at len (at + (len - 1)) may refl (omega arith) (omega arith)) in omega (arith, last)
 
 -- the words of a state stay as many
-length-scanned : (reach : List (List ℤ) → ℕ → ℕ) (step : ℤ → List (List ℤ) → ℕ → ℤ × ℤ) (room : ℕ) (s : ℕ × List ℕ) (ins : List (List ℤ)) (k : ℕ) → length (scan (ring_step reach step room) s ins k).0.1 ≡ length s.1
+length-scanned : (reach : List (List ℤ) → ℕ → ℕ) (step : ℤ → List (List ℤ) → ℕ → ℤ × ℤ) (places : ℕ) (s : ℕ × List ℕ) (ins : List (List ℤ)) (k : ℕ) → length (scan (ring_step reach step places) s ins k).0.1 ≡ length s.1
 unfolding scan ring_step
-length-scanned reach step room s ins zero = refl
-length-scanned reach step room s ins (suc k) =
-    let r : (ℕ × List ℕ) × List ℤ = scan (ring_step reach step room) s ins k in
-    let q : ℤ × ℤ = step (sample_in (get_or r.0.1 (1 + before room r.0.0 (reach ins k)) 0)) ins k in
-    length-set r.0.1 (1 + r.0.0) (word_for q.0) ∙ length-scanned reach step room s ins k
+length-scanned reach step places s ins zero = refl
+length-scanned reach step places s ins (suc k) =
+    let r : (ℕ × List ℕ) × List ℤ = scan (ring_step reach step places) s ins k in
+    let q : ℤ × ℤ = step (sample_in (get_or r.0.1 (1 + before places r.0.0 (reach ins k)) 0)) ins k in
+    length-set r.0.1 (1 + r.0.0) (word_for q.0) ∙ length-scanned reach step places s ins k
 
 pub length-ringed : (reach : List (List ℤ) → ℕ → ℕ) (step : ℤ → List (List ℤ) → ℕ → ℤ × ℤ) (state : List ℕ) (ins : List (List ℤ)) → length (ringed reach step state ins).0 ≡ length state
 length-ringed reach step state ins =
-    let room : ℕ = length state - 1 in
-    let r : (ℕ × List ℕ) × List ℤ = scan (ring_step reach step room) (get_or state 0 0 % room, state) ins 64 in
-    length-set r.0.1 0 r.0.0 ∙ length-scanned reach step room (get_or state 0 0 % room, state) ins 64
+    let places : ℕ = length state - 1 in
+    let r : (ℕ × List ℕ) × List ℤ = scan (ring_step reach step places) (get_or state 0 0 % places, state) ins 64 in
+    length-set r.0.1 0 r.0.0 ∙ length-scanned reach step places (get_or state 0 0 % places, state) ins 64

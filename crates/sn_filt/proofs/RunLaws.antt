@@ -7,9 +7,9 @@ use Rattle.std.proofs.lemmas.Bool.{cases_eq, eq-eqb, ne_eqb}
 use Rattle.sn_fixed.specs.Fixed.{floor, sat}
 use Rattle.sn_mem.specs.Blocks.{sample}
 use Rattle.sn_filt.specs.Rings.{ringed, delay_reach, delay_step, delay_n, comb_reach, comb_step, comb_n}
-use Rattle.sn_def.specs.Runs.{heard, words_before, given}
+use Rattle.sn_def.specs.Histories.{heard, words_before, given}
 use Rattle.sn_def.proofs.Frames.{block_of, frame_of, at_frame, heard_at}
-use Rattle.sn_filt.specs.Runs.{ago, HasMost, HasSamples, IsInputAgo, fed_back, IsKeptAgo}
+use Rattle.sn_filt.specs.Histories.{ago, HasMost, HasSamples, IsInputAgo, fed_back, IsKeptAgo}
 use Rattle.sn_filt.proofs.Remembering.{Holds, holds_at_first, old_at, begun, state_on, reads_ago, output_at, ago_none}
 
 -- ---- DelayN

@@ -1,6 +1,7 @@
 -- Units without a state: the sample of a frame. 1.0 is 16777216.
 use Rattle.std.specs.Prelude.{ℕ, List, [], ◌∷◌, ℤ, pos, negsuc, neg_ℤ, ◌+ℤ◌, ◌-ℤ◌, ◌*ℤ◌, int_lt, unsigned_abs, cond, Bool}
 use Rattle.std.specs.Int.{int_max, int_min}
+use Rattle.sn_ports.specs.Limits.{block_frames}
 use Rattle.sn_fixed.specs.Fixed.{floor, sat, mul as product}
 use Rattle.sn_mem.specs.Blocks.{sample, table}
 use Rattle.sn_def.specs.declared.kind.Kind.{Kind}
@@ -67,16 +68,16 @@ is_arithmetic kind = is_of families.Arithmetic kind
 
 -- the output blocks
 unfoldable pub arithmetic : Kind → List (List ℤ) → List (List ℤ)
-arithmetic kinds.Add inputs = table (add inputs) 64 ∷ []
-arithmetic kinds.Sub inputs = table (sub inputs) 64 ∷ []
-arithmetic kinds.Mul inputs = table (mul inputs) 64 ∷ []
-arithmetic kinds.MulAdd inputs = table (mul_add inputs) 64 ∷ []
-arithmetic kinds.Neg inputs = table (neg inputs) 64 ∷ []
-arithmetic kinds.Abs inputs = table (abs inputs) 64 ∷ []
-arithmetic kinds.Min inputs = table (min inputs) 64 ∷ []
-arithmetic kinds.Max inputs = table (max inputs) 64 ∷ []
-arithmetic kinds.Clip inputs = table (clip inputs) 64 ∷ []
-arithmetic kinds.Gt inputs = table (gt inputs) 64 ∷ []
-arithmetic kinds.Lt inputs = table (lt inputs) 64 ∷ []
-arithmetic kinds.Pan2 inputs = table (pan_left inputs) 64 ∷ table (pan_right inputs) 64 ∷ []
+arithmetic kinds.Add inputs = table (add inputs) block_frames ∷ []
+arithmetic kinds.Sub inputs = table (sub inputs) block_frames ∷ []
+arithmetic kinds.Mul inputs = table (mul inputs) block_frames ∷ []
+arithmetic kinds.MulAdd inputs = table (mul_add inputs) block_frames ∷ []
+arithmetic kinds.Neg inputs = table (neg inputs) block_frames ∷ []
+arithmetic kinds.Abs inputs = table (abs inputs) block_frames ∷ []
+arithmetic kinds.Min inputs = table (min inputs) block_frames ∷ []
+arithmetic kinds.Max inputs = table (max inputs) block_frames ∷ []
+arithmetic kinds.Clip inputs = table (clip inputs) block_frames ∷ []
+arithmetic kinds.Gt inputs = table (gt inputs) block_frames ∷ []
+arithmetic kinds.Lt inputs = table (lt inputs) block_frames ∷ []
+arithmetic kinds.Pan2 inputs = table (pan_left inputs) block_frames ∷ table (pan_right inputs) block_frames ∷ []
 arithmetic _ inputs = []

@@ -4,5 +4,5 @@ pub mod Poles
 pub mod Sections
 pub mod Held
 pub mod Rings
-pub mod Runs
+pub mod Histories
 pub mod Filters

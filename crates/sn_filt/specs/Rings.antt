@@ -1,5 +1,6 @@
 -- Delay lines: rings of samples in words.
 use Rattle.std.specs.Prelude.{ℕ, ◌+◌, ◌-◌, ◌%◌, ◌==◌, nat_lt, max, min, List, length, slice_index, slice_set, ℤ, ◌+ℤ◌, ◌*ℤ◌, cond}
+use Rattle.sn_ports.specs.Limits.{block_frames}
 use Rattle.sn_fixed.specs.Fixed.{floor, sat, frames_of}
 use Rattle.sn_mem.specs.Blocks.{sample, sample_in, word_for, scan}
 
@@ -7,23 +8,23 @@ use Rattle.sn_mem.specs.Blocks.{sample, sample_in, word_for, scan}
 
 -- the place n before a place, of so many in a ring
 abbrev pub before : ℕ → ℕ → ℕ → ℕ
-before room place n = cond (nat_lt place n) (place + room - n) (place - n)
+before places place n = cond (nat_lt place n) (place + places - n) (place - n)
 
 abbrev pub after : ℕ → ℕ → ℕ
-after room place = cond (nat_lt (place + 1) room) (place + 1) 0
+after places place = cond (nat_lt (place + 1) places) (place + 1) 0
 
 -- One frame, from the next place of the ring and the words. In the words after the first stand the samples of the ring.
 -- What was kept `reach` frames ago gives what is kept now, and the output.
 unfoldable pub ring_step : (List (List ℤ) → ℕ → ℕ) → (ℤ → List (List ℤ) → ℕ → ℤ × ℤ) → ℕ → ℕ × List ℕ → List (List ℤ) → ℕ → (ℕ × List ℕ) × ℤ
-ring_step reach step room s inputs k =
-    let r = step (sample_in (slice_index s.1 (1 + before room s.0 (reach inputs k)))) inputs k in
-    ((after room s.0, slice_set s.1 (1 + s.0) (word_for r.0)), r.1)
+ring_step reach step places s inputs k =
+    let r = step (sample_in (slice_index s.1 (1 + before places s.0 (reach inputs k)))) inputs k in
+    ((after places s.0, slice_set s.1 (1 + s.0) (word_for r.0)), r.1)
 
 -- a block: the words after it, and the output; the first word holds the next place
 abbrev pub ringed : (List (List ℤ) → ℕ → ℕ) → (ℤ → List (List ℤ) → ℕ → ℤ × ℤ) → List ℕ → List (List ℤ) → List ℕ × List ℤ
 ringed reach step state inputs =
-    let room = length state - 1 in
-    let r = scan (ring_step reach step room) (slice_index state 0 % room, state) inputs 64 in
+    let places = length state - 1 in
+    let r = scan (ring_step reach step places) (slice_index state 0 % places, state) inputs block_frames in
     (slice_set r.0.1 0 r.0.0, r.1)
 
 -- ---- units

@@ -2,11 +2,13 @@
 ghost use Rattle.std.specs.Prelude.{◌≡◌, ◌<◌, ◌≤◌, ◌+◌, ◌++◌, ◌+ℤ◌, ◌-ℤ◌, ◌*ℤ◌, pos, cond, int_lt, ℕ, ℤ, List, ◌∷◌, [], length, take, FitsSigned};
 ghost use Rattle.std.specs.Int.{w32, int_min, int_max};
 ghost use Rattle.std.specs.Simd.Lanes.{zip2};
+ghost use Rattle.sn_ports.specs.Limits.{block_frames, most_wires};
 ghost use Rattle.sn_mem.specs.Blocks.{sample, table};
 ghost use Rattle.sn_filt.specs.Lanes.{eight, equal, nearest, parts, scaled_products, rightnesses, leftnesses, Samples, Small, Wide};
 
 use sn_fixed::ONE;
 use sn_mem::{Block, Blocks};
+use sn_ports::limits::BLOCK_FRAMES;
 use std::simd::prelude::*;
 
 /// Eight numbers, one a frame, with room for exact sums and products of samples.
@@ -17,7 +19,7 @@ pub(crate) struct Lanes {
 
 fn sample_at(inputs: &Blocks, number: usize, frame: usize) -> i64
     requires number { number < length inputs.now }
-    requires frame { frame < 64 }
+    requires frame { frame < block_frames }
     ensures value { result ≡ sample inputs.now number frame }
     ensures fits { FitsSigned w32 result }
 {
@@ -27,7 +29,7 @@ fn sample_at(inputs: &Blocks, number: usize, frame: usize) -> i64
 /// The samples of an input at eight frames.
 pub(crate) fn samples_at(inputs: &Blocks, number: usize, frame: usize) -> Lanes
     requires number { number < length inputs.now }
-    requires frame { frame + 8 ≤ 64 }
+    requires frame { frame + 8 ≤ block_frames }
     ensures value { result.numbers ≡ eight (sample inputs.now number) frame }
     ensures samples { Samples result.numbers }
 {
@@ -196,7 +198,7 @@ pub(crate) fn leftness(positions: Lanes) -> Lanes
 pub(crate) fn store(a: Lanes, samples: &mut Block, frame: usize)
     requires long { length a.numbers ≡ 8 }
     requires a { Samples a.numbers }
-    requires frame { frame + 8 ≤ 64 }
+    requires frame { frame + 8 ≤ block_frames }
     ensures { take (frame + 8) samples.new ≡ take frame samples.old ++ a.numbers }
 {
     let part = &mut samples[frame..frame + 8];
@@ -214,18 +216,18 @@ pub(crate) trait Lanewise {
     /// The samples of eight frames.
     fn lanes(&self, inputs: &Blocks, frame: usize) -> Lanes
         requires inputs { arity self.now ≤ length inputs.now }
-        requires frame { frame + 8 ≤ 64 }
+        requires frame { frame + 8 ≤ block_frames }
         ensures value { result.numbers ≡ eight (value self.now inputs.now) frame }
         ensures samples { Samples result.numbers };
 }
 
-/// Puts the output of 64 frames at the end of `outputs`.
+/// Puts the output of a block at the end of `outputs`.
 pub(crate) fn push_lanes<U: Lanewise>(unit: &U, inputs: &Blocks, outputs: &mut Blocks)
     requires inputs { U.arity unit.now ≤ length inputs.now }
-    requires outputs { length outputs.old < 512 }
-    ensures { outputs.new ≡ outputs.old ++ table (U.value unit.now inputs.now) 64 ∷ [] }
+    requires outputs { length outputs.old < most_wires }
+    ensures { outputs.new ≡ outputs.old ++ table (U.value unit.now inputs.now) block_frames ∷ [] }
 {
-    let mut samples = [0i32; 64];
+    let mut samples = [0i32; BLOCK_FRAMES];
     for part in 0..8 {
         let frame = 8 * part;
         store(unit.lanes(inputs, frame), &mut samples, frame);

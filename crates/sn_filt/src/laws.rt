@@ -1,6 +1,6 @@
 //! Laws about the definitions of this crate. Each function's contract is one law.
 ghost use Rattle.std.specs.Prelude.{ℕ, List, ℤ};
-ghost use Rattle.sn_filt.specs.Runs.{HasMost, HasSamples, IsInputAgo, IsKeptAgo};
+ghost use Rattle.sn_filt.specs.Histories.{HasMost, HasSamples, IsInputAgo, IsKeptAgo};
 
 /// The output of DelayN is its input some frames ago, and 0 before the first frame.
 pub fn delayed_input()

@@ -1,5 +1,6 @@
 //! Delay lines: rings of samples in words.
 ghost use Rattle.std.specs.Prelude.{◌≡◌, ◌<◌, ◌≤◌, ◌+◌, ◌-◌, ◌∷◌, [], ℕ, ℤ, List, max, length, slice_index, slice_set};
+ghost use Rattle.sn_ports.specs.Limits.{block_frames};
 ghost use Rattle.sn_mem.specs.Words.{MayWrite};
 ghost use Rattle.sn_fixed.specs.Fixed.{frames_of};
 ghost use Rattle.sn_mem.specs.Blocks.{window, put, sample, sample_in, word_for};
@@ -7,6 +8,7 @@ ghost use Rattle.sn_filt.specs.Rings.{before, after, ringed, most_frames, delay_
 
 use sn_fixed::{TimeFrames, frames_of, mul_add};
 use sn_mem::{Blocks, Extent, Port, sample_of, word_of};
+use sn_ports::limits::BLOCK_FRAMES;
 
 /// A unit that hears what it kept some frames ago.
 trait Echo {
@@ -36,32 +38,32 @@ trait Echo {
 
     fn next(&self, old: i32, reached: u32, inputs: &Blocks, frame: usize) -> (i32, i32)
         requires inputs { arity self.now ≤ length inputs.now }
-        requires frame { frame < 64 }
+        requires frame { frame < block_frames }
         requires reached { reached ≡ reach self.now inputs.now frame }
         ensures { result ≡ step self.now old inputs.now frame };
 }
 
-/// The place some frames before `place`, of `room` in a ring.
-fn before(room: u32, place: u32, frames: u32) -> u32
-    requires place { place < room }
-    requires frames { frames < room }
-    ensures value { result ≡ before room place frames }
-    ensures bound { result < room }
+/// The place some frames before `place`, of `places` in a ring.
+fn before(places: u32, place: u32, frames: u32) -> u32
+    requires place { place < places }
+    requires frames { frames < places }
+    ensures value { result ≡ before places place frames }
+    ensures bound { result < places }
 {
     if place < frames {
-        room - (frames - place)
+        places - (frames - place)
     } else {
         place - frames
     }
 }
 
-/// The place after `place`, of `room` in a ring.
-fn after(room: u32, place: u32) -> u32
-    requires { place < room }
-    ensures value { result ≡ after room place }
-    ensures bound { result < room }
+/// The place after `place`, of `places` in a ring.
+fn after(places: u32, place: u32) -> u32
+    requires { place < places }
+    ensures value { result ≡ after places place }
+    ensures bound { result < places }
 {
-    if place + 1 < room { place + 1 } else { 0 }
+    if place + 1 < places { place + 1 } else { 0 }
 }
 
 /// One frame of a unit whose ring has its next sample in the word `at + 1 + place`.
@@ -75,7 +77,7 @@ fn hear<U: Echo, P: Port>(
     frame: usize,
 ) -> i32
     requires inputs { U.arity unit.now ≤ length inputs.now }
-    requires frame { frame < 64 }
+    requires frame { frame < block_frames }
     requires time { time ≡ frames_of (sample inputs.now 2 frame) (U.rate unit.now) }
     requires size { U.most unit.now + 2 ≡ state.len }
     requires place { place < state.len - 1 }
@@ -112,14 +114,14 @@ fn run_echo<U: Echo, P: Port>(
     ensures foot { P.foot port.new ≡ P.foot port.old }
     ensures rest { P.rest port.new ≡ P.rest port.old }
 {
-    let room = state.len - 1;
-    let mut place = (port.load(state.at) % u64::from(room)) as u32;
+    let places = state.len - 1;
+    let mut place = (port.load(state.at) % u64::from(places)) as u32;
     let mut times = TimeFrames::new(unit.rate());
-    let mut samples = [0i32; 64];
-    for frame in 0..64 {
+    let mut samples = [0i32; BLOCK_FRAMES];
+    for frame in 0..BLOCK_FRAMES {
         let time = times.at(inputs.at(2, frame));
         samples[frame] = hear(unit, port, state, place, time, inputs, frame);
-        place = after(room, place);
+        place = after(places, place);
     }
     outputs.clear();
     outputs.push(&samples);

@@ -17,7 +17,7 @@ ghost use Rattle.sn_fixed.specs.Literal.{
 };
 
 /// Greater than each number of eleven digits.
-const MOST: u64 = 1_000_000_000_000;
+const MOST_LITERAL: u64 = 1_000_000_000_000;
 
 const ONE: i128 = 16_777_216;
 
@@ -42,14 +42,14 @@ pub(crate) fn is_positive(digits: &[u8]) -> bool
     are_digits(digits) && digits.len() > 0 && digits[0] >= b'1'
 }
 
-/// The number of the digits, or `MOST` where it is greater.
+/// The number of the digits, or `MOST_LITERAL` where it is greater.
 pub(crate) fn number(digits: &[u8]) -> u64
     requires { IsTrue (list_all is_ascii_digit digits.now) }
     ensures { result ≡ min (digits_value 10 digits.now) 1000000000000 }
 {
     let mut number: u64 = 0;
     for digit in digits {
-        number = (number * 10 + u64::from(*digit - b'0')).min(MOST);
+        number = (number * 10 + u64::from(*digit - b'0')).min(MOST_LITERAL);
     }
     number
 }

@@ -2,6 +2,7 @@
 use Rattle.std.specs.Prelude.{◌≡◌, ◌↔◌, ◌⊎◌, ℕ, zero, suc, ◌-◌, ◌==◌, nat_lt, ℤ, pos, negsuc, ◌+ℤ◌, Bool, true, false, ◌&&◌, ◌||◌, if◌then◌else◌, List, [], ◌∷◌, ◌++◌, length, map, slice_index_or, Option, Some, None, is_some}
 use Rattle.std.specs.List.{list_any}
 use Rattle.std.specs.Ordering.{int_eq}
+use Rattle.sn_ports.specs.Limits.{audio_bus_count, control_bus_count, buffer_count}
 use Rattle.sn_mem.specs.declared.extents.Extent.{Extent}
 use Rattle.sn_mem.specs.declared.extents.Foot.{Foot}
 use Rattle.sn_mem.specs.Words.{covers, has}
@@ -34,15 +35,15 @@ number_of (Buffer n) = n
 
 -- A resource is an audio bus 0 to 127, a control bus 0 to 1,023, or a buffer 0 to 1,023 that is allocated.
 abbrev pub is_there : {B : Type 0} → List (Option B) → Resource → Bool
-is_there buffers (Audio n) = nat_lt n 128
-is_there buffers (Control n) = nat_lt n 1024
-is_there buffers (Buffer n) = nat_lt n 1024 && is_some (slice_index_or buffers n None)
+is_there buffers (Audio n) = nat_lt n audio_bus_count
+is_there buffers (Control n) = nat_lt n control_bus_count
+is_there buffers (Buffer n) = nat_lt n buffer_count && is_some (slice_index_or buffers n None)
 
 -- It has a place in the words.
 abbrev pub place_of : List (Option BufferPlace) → Resource → Option Extent
-place_of buffers (Audio n) = if nat_lt n 128 then Some (audio_place n) else None
-place_of buffers (Control n) = if nat_lt n 1024 then Some (control_place n) else None
-place_of buffers (Buffer n) = if nat_lt n 1024 then buffer_words (slice_index_or buffers n None) else None
+place_of buffers (Audio n) = if nat_lt n audio_bus_count then Some (audio_place n) else None
+place_of buffers (Control n) = if nat_lt n control_bus_count then Some (control_place n) else None
+place_of buffers (Buffer n) = if nat_lt n buffer_count then buffer_words (slice_index_or buffers n None) else None
 
 -- ---- units
 
@@ -141,9 +142,9 @@ where_used used (Some e) = if used then e ∷ [] else []
 -- the places of the resources that a test admits: audio buses, control buses, and buffers, each by their numbers
 abbrev pub used_places : List (Option BufferPlace) → (Resource → Bool) → List Extent
 used_places buffers used =
-    listed (λ n. where_used (used (Audio n)) (place_of buffers (Audio n))) 128
-    ++ (listed (λ n. where_used (used (Control n)) (place_of buffers (Control n))) 1024
-    ++ listed (λ n. where_used (used (Buffer n)) (place_of buffers (Buffer n))) 1024)
+    listed (λ n. where_used (used (Audio n)) (place_of buffers (Audio n))) audio_bus_count
+    ++ (listed (λ n. where_used (used (Control n)) (place_of buffers (Control n))) control_bus_count
+    ++ listed (λ n. where_used (used (Buffer n)) (place_of buffers (Buffer n))) buffer_count)
 
 -- where the synths among these have their states
 abbrev pub states_of : List Held → List Extent

@@ -1,5 +1,6 @@
 -- The uses of nodes by themselves, put to others.
 use Rattle.std.specs.Prelude.{ℕ, zero, suc, ◌-◌, nat_lt, ℤ, pos, negsuc, ◌+ℤ◌, if◌then◌else◌, List, [], ◌∷◌, ◌++◌, length, Option, Some, None}
+use Rattle.sn_ports.specs.Limits.{control_bus_count}
 use Rattle.sn_def.specs.declared.control.Control.{Control as SynthControl}
 use Rattle.sn_def.specs.declared.unit.Unit.{Unit as UnitLine}
 use Rattle.sn_def.specs.declared.table.Access.{Access}
@@ -23,7 +24,7 @@ resource Buffer n = resources.Buffer n
 
 -- a number, where it is below 1,024
 abbrev pub number_at : ℤ → Option ℕ
-number_at (pos n) = if nat_lt n 1024 then Some n else None
+number_at (pos n) = if nat_lt n control_bus_count then Some n else None
 number_at (negsuc n) = None
 
 abbrev pub put_number : Access → Bank → Option ℕ → List Use → List Use

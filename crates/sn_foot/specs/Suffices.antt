@@ -1,6 +1,7 @@
 -- A foot that suffices for what nodes hold.
 use Rattle.std.specs.Prelude.{◌≡◌, ◌+◌, ◌<◌, ℕ, List, map, Option}
 use Rattle.std.specs.List.{All}
+use Rattle.sn_mem.specs.Layout.{bus_words}
 use Rattle.sn_mem.specs.declared.extents.Extent.{Extent}
 use Rattle.sn_mem.specs.declared.extents.Foot.{Foot}
 use Rattle.sn_mem.specs.declared.buffers.BufferPlace.{BufferPlace}
@@ -19,7 +20,7 @@ Suffices foot buffers (held.Synth def controls state) = MayRun foot buffers cont
 
 -- What some nodes of a world hold: the states of synths and the buffers lie in the pool's region, which begins behind the buses.
 pub record AreOfWorld (rate : ℕ) (region : Extent) (buffers : List (Option BufferPlace)) (hs : List Held) : Type 0 where
-  pub base : region.at ≡ 10368
+  pub base : region.at ≡ bus_words
   pub bounded : region.at + region.len < 4294967296
   pub each : AreEach region buffers
   pub held : All (IsHeld rate region) hs

@@ -1,6 +1,7 @@
 -- What a list of uses says of resources, and where these lie.
 use Rattle.std.specs.Prelude.{◌≡◌, ◌<◌, ◌==◌, Bool, false, ◌&&◌, ◌||◌, List, [], ◌∷◌, ◌++◌, Option}
 use Rattle.std.specs.List.{list_any}
+use Rattle.sn_ports.specs.Limits.{control_bus_count}
 use Rattle.sn_mem.specs.declared.extents.Extent.{Extent}
 use Rattle.sn_mem.specs.declared.buffers.BufferPlace.{BufferPlace}
 use Rattle.sn_def.specs.declared.control.Control.{Control as SynthControl}
@@ -49,4 +50,4 @@ nodes_use buffers access hs r = is_there buffers r && list_any (λ h. held_uses 
 
 -- after a node was put to uses, what has a number below 1,024 is used just where it was used before, or by the node itself
 abbrev pub PutsUses : Held → List Use → List Use → Type 0
-PutsUses h before after = (access : Access) (r : Resource) → number_of r < 1024 → uses_in access after r ≡ (uses_in access before r || held_uses access h r)
+PutsUses h before after = (access : Access) (r : Resource) → number_of r < control_bus_count → uses_in access after r ≡ (uses_in access before r || held_uses access h r)

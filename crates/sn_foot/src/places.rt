@@ -1,5 +1,6 @@
 //! Where the resources that are used lie in the words.
 ghost use Rattle.std.specs.Prelude.{◌≡◌, ◌++◌, nat_lt, if◌then◌else◌, Some, None, IfOk, OnOk};
+ghost use Rattle.sn_ports.specs.Limits.{audio_bus_count, control_bus_count};
 ghost use Rattle.sn_mem.specs.Layout.{audio_place, control_place};
 ghost use Rattle.sn_def.specs.Facts.{is_access};
 ghost use Rattle.sn_foot.specs.Footprints.{buffer_words, place_of, where_used};
@@ -11,12 +12,13 @@ use crate::uses::Use;
 use sn_def::Access;
 use sn_mem::{BufferPlace, Buffers, Extent, Places};
 use sn_ports::NoMemory;
+use sn_ports::limits::{AUDIO_BUS_COUNT, BUFFER_COUNT, CONTROL_BUS_COUNT};
 use std::alloc::Global;
 
 fn audio_place(number: u32) -> Option<Extent>
-    ensures { result ≡ (if nat_lt number 128 then Some (audio_place number) else None) }
+    ensures { result ≡ (if nat_lt number audio_bus_count then Some (audio_place number) else None) }
 {
-    if number < 128 {
+    if number < AUDIO_BUS_COUNT {
         Some(Places::audio(number))
     } else {
         None
@@ -24,9 +26,9 @@ fn audio_place(number: u32) -> Option<Extent>
 }
 
 fn control_place(number: u32) -> Option<Extent>
-    ensures { result ≡ (if nat_lt number 1024 then Some (control_place number) else None) }
+    ensures { result ≡ (if nat_lt number control_bus_count then Some (control_place number) else None) }
 {
-    if number < 1024 {
+    if number < CONTROL_BUS_COUNT {
         Some(Places::control(number))
     } else {
         None
@@ -45,7 +47,7 @@ fn buffer_words(place: Option<BufferPlace>) -> Option<Extent>
 fn buffer_place(buffers: &Buffers, number: u32) -> Option<Extent>
     ensures { result ≡ place_of buffers.now (resources.Buffer number) }
 {
-    if number < 1024 {
+    if number < BUFFER_COUNT {
         buffer_words(buffers.place(number))
     } else {
         None

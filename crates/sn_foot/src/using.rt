@@ -11,6 +11,7 @@ use crate::units::{index_of, span};
 use crate::uses::Use;
 use sn_def::{Access, Bank, Control as SynthControl, Unit, row_of};
 use sn_ports::NoMemory;
+use sn_ports::limits::CONTROL_BUS_COUNT;
 use sn_world::Held;
 use std::alloc::Global;
 
@@ -24,13 +25,16 @@ fn resource(bank: Bank, number: u32) -> Resource
     }
 }
 
-/// A number, where it is below 1,024.
+/// No control bus and no buffer has this number or a higher one, and no audio bus.
+const END: i64 = CONTROL_BUS_COUNT as i64;
+
+/// A number, if a bus or a buffer may have it.
 fn number_at(first: i32, more: usize) -> Option<u32>
     requires { more < 2 ^ 61 }
     ensures { result ≡ number_at (first +ℤ pos more) }
 {
     let number = first as i64 + more as i64;
-    if number >= 0 && number < 1024 {
+    if number >= 0 && number < END {
         Some(number as u32)
     } else {
         None

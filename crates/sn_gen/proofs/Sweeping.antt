@@ -6,7 +6,7 @@ use Rattle.std.proofs.lemmas.Nat.{mod_below}
 use Rattle.std.proofs.lemmas.Bool.{cases_lt, lt-ltb, le-ltb, ne_eqb}
 use Rattle.sn_fixed.specs.Fixed.{frames_of}
 use Rattle.sn_fixed.specs.Lines.{line_at}
-use Rattle.sn_def.specs.Runs.{heard, words_before}
+use Rattle.sn_def.specs.Histories.{heard, words_before}
 use Rattle.sn_def.proofs.Frames.{at_frame, heard_at}
 use Rattle.sn_mem.specs.Blocks.{sample, scan, table, sample_in, word_for}
 use Rattle.sn_mem.specs.Done.{ended}
@@ -14,7 +14,7 @@ use Rattle.sn_mem.proofs.BusLaws.{sample_in-word_for}
 use Rattle.sn_mem.proofs.Windows.{table_at}
 use Rattle.sn_gen.specs.declared.line.Sweep.{Sweep}
 use Rattle.sn_gen.specs.Line.{sweep_in, sweep_words, begun, swept, line}
-use Rattle.sn_gen.specs.LineRuns.{line_unit, span, line_sample, BeginsWithSamples, IsStraight}
+use Rattle.sn_gen.specs.LineHistories.{line_unit, span, line_sample, BeginsWithSamples, IsStraight}
 
 -- ---- recurrences
 

@@ -10,8 +10,8 @@ use Rattle.sn_done.proofs.Settling.{twice, ended_alike, ended_unless, unseen_the
 use Rattle.sn_def.specs.declared.kind.Kind.TheVariants as kinds
 use Rattle.sn_def.specs.declared.control.Now.{Now}
 use Rattle.sn_gen.specs.declared.line.Sweep.{Sweep}
-use Rattle.sn_gen.specs.declared.linen.Stage.{Stage}
-use Rattle.sn_gen.specs.declared.linen.Stage.TheVariants.{Waiting, Open, Released}
+use Rattle.sn_gen.specs.declared.linen.Segment.{Segment}
+use Rattle.sn_gen.specs.declared.linen.Segment.TheVariants.{Waiting, Open, Released}
 use Rattle.sn_gen.specs.declared.linen.Envelope.{Envelope}
 use Rattle.sn_gen.specs.Generators.{generator}
 use Rattle.sn_gen.specs.Line.{sweep_in, sweep_words, begun, swept, line}
@@ -69,25 +69,25 @@ line_unseen now inputs = unseen_then (λ ws. recurrence sweep_in sweep_words (li
 -- ---- Linen
 
 settle_envelope : Envelope → Envelope
-settle_envelope e = record { done = settled_word e.done; stage = e.stage; frame = e.frame; frames = e.frames; level = e.level; top = e.top; last = e.last }
+settle_envelope e = record { done = settled_word e.done; segment = e.segment; frame = e.frame; frames = e.frames; level = e.level; top = e.top; last = e.last }
 
-gated_alike : (stage : Stage) (rate : ℕ) (e : Envelope) (inputs : List (List ℤ)) (k : ℕ) → gated_at stage rate (settle_envelope e) inputs k ≡ settle_envelope (gated_at stage rate e inputs k)
+gated_alike : (segment : Segment) (rate : ℕ) (e : Envelope) (inputs : List (List ℤ)) (k : ℕ) → gated_at segment rate (settle_envelope e) inputs k ≡ settle_envelope (gated_at segment rate e inputs k)
 unfolding settle_envelope
 gated_alike Waiting rate e inputs k = both settle_envelope (int_lt (pos 0) (sample inputs 0 k))
-    (record { done = e.done; stage = Open; frame = 0; frames = frames_of (sample inputs 1 k) rate; level = sample inputs 2 k; top = e.top; last = e.last })
+    (record { done = e.done; segment = Open; frame = 0; frames = frames_of (sample inputs 1 k) rate; level = sample inputs 2 k; top = e.top; last = e.last })
     e
 gated_alike Open rate e inputs k = both settle_envelope (int_lt (pos 0) (sample inputs 0 k))
     e
-    (record { done = e.done; stage = Released; frame = 0; frames = frames_of (sample inputs 3 k) rate; level = e.level; top = e.last; last = e.last })
+    (record { done = e.done; segment = Released; frame = 0; frames = frames_of (sample inputs 3 k) rate; level = e.level; top = e.last; last = e.last })
 gated_alike Released rate e inputs k = refl
 
-height_alike : (stage : Stage) (e : Envelope) → height_at stage (settle_envelope e) ≡ height_at stage e
+height_alike : (segment : Segment) (e : Envelope) → height_at segment (settle_envelope e) ≡ height_at segment e
 unfolding settle_envelope
 height_alike Waiting e = refl
 height_alike Open e = refl
 height_alike Released e = refl
 
-done_alike : (stage : Stage) (e : Envelope) → settled_word (done_at stage (settle_envelope e)) ≡ settled_word (done_at stage e)
+done_alike : (segment : Segment) (e : Envelope) → settled_word (done_at segment (settle_envelope e)) ≡ settled_word (done_at segment e)
 unfolding settle_envelope
 done_alike Waiting e = twice e.done
 done_alike Open e = twice e.done
@@ -95,7 +95,7 @@ done_alike Released e = ended_unless (nat_lt e.frame e.frames) e.done
 
 passed_alike : (e : Envelope) (y : ℤ) → settle_envelope (passed (settle_envelope e) y) ≡ settle_envelope (passed e y)
 unfolding settle_envelope
-passed_alike e y = ap (λ d. record { done = d; stage = e.stage; frame = cond (nat_lt e.frame e.frames) (e.frame + 1) e.frame; frames = e.frames; level = e.level; top = e.top; last = y }) (done_alike e.stage e)
+passed_alike e y = ap (λ d. record { done = d; segment = e.segment; frame = cond (nat_lt e.frame e.frames) (e.frame + 1) e.frame; frames = e.frames; level = e.level; top = e.top; last = y }) (done_alike e.segment e)
 
 -- where the gate was looked at, the rest of a step
 after_gate : Envelope → Envelope × ℤ
@@ -103,13 +103,13 @@ after_gate e = (passed e (height e), height e)
 
 after_states : (e : Envelope) → settle_envelope (after_gate (settle_envelope e)).0 ≡ settle_envelope (after_gate e).0
 unfolding after_gate settle_envelope
-after_states e = ap (λ y. settle_envelope (passed (settle_envelope e) y)) (height_alike e.stage e) ∙ passed_alike e (height e)
+after_states e = ap (λ y. settle_envelope (passed (settle_envelope e) y)) (height_alike e.segment e) ∙ passed_alike e (height e)
 
 linen_steps : (rate : ℕ) → StepsAlike settle_envelope (linen rate)
 unfolding after_gate settle_envelope
 linen_steps rate = record {
-  states = λ e inputs k. ap (λ (g : Envelope). settle_envelope (after_gate g).0) (gated_alike e.stage rate e inputs k) ∙ after_states (gated rate e inputs k);
-  given = λ e inputs k. ap height (gated_alike e.stage rate e inputs k) ∙ (let g : Envelope = gated rate e inputs k in height_alike g.stage g);
+  states = λ e inputs k. ap (λ (g : Envelope). settle_envelope (after_gate g).0) (gated_alike e.segment rate e inputs k) ∙ after_states (gated rate e inputs k);
+  given = λ e inputs k. ap height (gated_alike e.segment rate e inputs k) ∙ (let g : Envelope = gated rate e inputs k in height_alike g.segment g);
 }
 
 envelope_holds : HoldsDone settle_envelope envelope_in envelope_words
@@ -118,7 +118,7 @@ envelope_holds = record { loads = loads; stores = λ e. refl }
   where
     loads : (ws : List ℕ) → settle_envelope (envelope_in (settled_first ws)) ≡ settle_envelope (envelope_in ws)
     loads [] = refl
-    loads (d ∷ ws) = let e : Envelope = envelope_in (d ∷ ws) in ap (λ n. record { done = n; stage = e.stage; frame = e.frame; frames = e.frames; level = e.level; top = e.top; last = e.last }) (twice d)
+    loads (d ∷ ws) = let e : Envelope = envelope_in (d ∷ ws) in ap (λ n. record { done = n; segment = e.segment; frame = e.frame; frames = e.frames; level = e.level; top = e.top; last = e.last }) (twice d)
 
 pub linen_unseen : (now : Now) (inputs : List (List ℤ)) → IsUnseen (λ ws. generator kinds.Linen now ws inputs)
 unfolding generator

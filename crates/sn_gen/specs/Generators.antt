@@ -5,7 +5,7 @@ use Rattle.sn_def.specs.declared.kind.Kind.TheVariants as kinds
 use Rattle.sn_def.specs.declared.control.Now.{Now}
 use Rattle.sn_def.specs.declared.table.Family.TheVariants as families
 use Rattle.sn_def.specs.Facts.{is_of}
-use Rattle.sn_def.specs.Runs.{one_output}
+use Rattle.sn_def.specs.Histories.{one_output}
 use Rattle.sn_mem.specs.Blocks.{recurrence}
 use Rattle.sn_gen.specs.Phases.{phase_in, phase_words}
 use Rattle.sn_gen.specs.Oscillators.{sin_osc, lf_saw, lf_pulse, lf_tri}

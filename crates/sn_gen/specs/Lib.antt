@@ -6,4 +6,4 @@ pub mod Phasor
 pub mod Line
 pub mod Linen
 pub mod Generators
-pub mod LineRuns
+pub mod LineHistories

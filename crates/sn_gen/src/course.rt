@@ -1,5 +1,6 @@
 //! 64 frames of a line that goes on behind them.
 ghost use Rattle.std.specs.Prelude.{◌≡◌, ◌<◌, ◌≤◌, ◌+◌, pos, ◌*ℤ◌, ◌-ℤ◌};
+ghost use Rattle.sn_ports.specs.Limits.{block_frames};
 ghost use Rattle.sn_fixed.specs.Divisions.{IsDivided};
 ghost use Rattle.sn_fixed.specs.Lines.{line_at};
 ghost use Rattle.sn_mem.specs.Blocks.{table};
@@ -7,6 +8,7 @@ ghost use Rattle.sn_mem.specs.Blocks.{table};
 use crate::line::Sweep;
 use sn_fixed::{Division, distance, moved};
 use sn_mem::Block;
+use sn_ports::limits::BLOCK_FRAMES;
 
 /// A line at its next frame. Unlike a `Slope` it is not told at each frame where it is, and goes from each to the one
 /// after it.
@@ -59,12 +61,12 @@ impl Course {
 
 /// The samples of 64 frames of a line. Gives the line after them.
 pub(crate) fn run_course(line: Sweep, samples: &mut Block) -> Sweep
-    requires { line.frame + 64 ≤ line.frames }
-    ensures line { result ≡ record line { frame = line.frame + 64 } }
-    ensures samples { samples.new ≡ table (λ k. line_at line.start line.end (line.frame + k) line.frames) 64 }
+    requires { line.frame + block_frames ≤ line.frames }
+    ensures line { result ≡ record line { frame = line.frame + block_frames } }
+    ensures samples { samples.new ≡ table (λ k. line_at line.start line.end (line.frame + k) line.frames) block_frames }
 {
     let mut course = Course::new(line);
-    for frame in 0..64 {
+    for frame in 0..BLOCK_FRAMES {
         samples[frame] = course.sample();
         course = course.after();
     }

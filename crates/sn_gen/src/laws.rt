@@ -4,7 +4,7 @@ ghost use Rattle.sn_def.specs.declared.control.Now.{Now};
 ghost use Rattle.sn_def.specs.declared.kind.Kind.TheVariants as kinds;
 ghost use Rattle.sn_done.specs.Done.{IsUnseen};
 ghost use Rattle.sn_gen.specs.Generators.{generator};
-ghost use Rattle.sn_gen.specs.LineRuns.{BeginsWithSamples, IsStraight};
+ghost use Rattle.sn_gen.specs.LineHistories.{BeginsWithSamples, IsStraight};
 
 /// The output of Line is the straight line between the samples that `start` and `end` have at the
 /// first frame, and then the end, at which it ends.

@@ -1,5 +1,6 @@
 //! Straight lines.
 ghost use Rattle.std.specs.Prelude.{◌≡◌, ◌<◌, ◌≤◌, ◌+◌, ◌∷◌, [], ℕ, ℤ, List, IfSome, length};
+ghost use Rattle.sn_ports.specs.Limits.{block_frames};
 ghost use Rattle.sn_mem.specs.Words.{MayWrite};
 ghost use Rattle.sn_mem.specs.Blocks.{recurred, scan};
 ghost use Rattle.sn_gen.specs.Line.{begun, swept, line, sweep_in, sweep_words};
@@ -10,6 +11,10 @@ use sn_mem::{
     Blocks, Port, Recurrence, Stored, ended, load_words, run_recurrence, sample_of, store_words,
     word_of,
 };
+use sn_ports::limits::BLOCK_FRAMES;
+
+/// The frames of a block.
+const FRAMES: u32 = BLOCK_FRAMES as u32;
 
 /// How far a line is.
 #[derive(Clone, Copy)]
@@ -63,7 +68,7 @@ impl Stored for Sweep {
 /// The inputs are read at the first frame.
 fn begun(rate: u32, sweep: Sweep, inputs: &Blocks, frame: usize) -> Sweep
     requires inputs { 3 ≤ length inputs.now }
-    requires frame { frame < 64 }
+    requires frame { frame < block_frames }
     ensures { result ≡ begun rate sweep inputs.now frame }
 {
     if sweep.frame > 0 {
@@ -127,11 +132,11 @@ impl Recurrence for Line {
 /// A block of a line that has begun and goes on behind it. Gives the line after it.
 fn along(sweep: Sweep, outputs: &mut Blocks) -> Sweep
     requires begun { 0 < sweep.frame }
-    requires within { sweep.frame + 64 ≤ sweep.frames }
-    ensures sweep { (rate : ℕ) (inputs : List (List ℤ)) → result ≡ (scan (line rate) sweep inputs 64).0 }
-    ensures outputs { (rate : ℕ) (inputs : List (List ℤ)) → outputs.new ≡ (scan (line rate) sweep inputs 64).1 ∷ [] }
+    requires within { sweep.frame + block_frames ≤ sweep.frames }
+    ensures sweep { (rate : ℕ) (inputs : List (List ℤ)) → result ≡ (scan (line rate) sweep inputs block_frames).0 }
+    ensures outputs { (rate : ℕ) (inputs : List (List ℤ)) → outputs.new ≡ (scan (line rate) sweep inputs block_frames).1 ∷ [] }
 {
-    let mut samples = [0i32; 64];
+    let mut samples = [0i32; BLOCK_FRAMES];
     let after = run_course(sweep, &mut samples);
     outputs.clear();
     outputs.push(&samples);
@@ -142,8 +147,8 @@ fn along(sweep: Sweep, outputs: &mut Blocks) -> Sweep
 fn past(sweep: Sweep, outputs: &mut Blocks) -> Sweep
     requires begun { 0 < sweep.frame }
     requires over { sweep.frames ≤ sweep.frame }
-    ensures sweep { (rate : ℕ) (inputs : List (List ℤ)) → result ≡ (scan (line rate) sweep inputs 64).0 }
-    ensures outputs { (rate : ℕ) (inputs : List (List ℤ)) → outputs.new ≡ (scan (line rate) sweep inputs 64).1 ∷ [] }
+    ensures sweep { (rate : ℕ) (inputs : List (List ℤ)) → result ≡ (scan (line rate) sweep inputs block_frames).0 }
+    ensures outputs { (rate : ℕ) (inputs : List (List ℤ)) → outputs.new ≡ (scan (line rate) sweep inputs block_frames).1 ∷ [] }
 {
     outputs.clear();
     outputs.push_equal(sweep.end);
@@ -154,14 +159,14 @@ fn past(sweep: Sweep, outputs: &mut Blocks) -> Sweep
 /// A block in which a line neither begins nor comes to its end, so that no frame asks for either. Gives the line after
 /// it. Gives `None` for any other block, and then puts nothing out.
 fn passed(sweep: Sweep, outputs: &mut Blocks) -> Option<Sweep>
-    ensures sweep { IfSome result (λ after. (rate : ℕ) (inputs : List (List ℤ)) → after ≡ (scan (line rate) sweep inputs 64).0) }
-    ensures outputs { IfSome result (λ _. (rate : ℕ) (inputs : List (List ℤ)) → outputs.new ≡ (scan (line rate) sweep inputs 64).1 ∷ []) }
+    ensures sweep { IfSome result (λ after. (rate : ℕ) (inputs : List (List ℤ)) → after ≡ (scan (line rate) sweep inputs block_frames).0) }
+    ensures outputs { IfSome result (λ _. (rate : ℕ) (inputs : List (List ℤ)) → outputs.new ≡ (scan (line rate) sweep inputs block_frames).1 ∷ []) }
 {
     if sweep.frame == 0 {
         None
     } else if sweep.frames <= sweep.frame {
         Some(past(sweep, outputs))
-    } else if sweep.frames - sweep.frame >= 64 {
+    } else if sweep.frames - sweep.frame >= FRAMES {
         Some(along(sweep, outputs))
     } else {
         None

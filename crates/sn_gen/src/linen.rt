@@ -1,13 +1,14 @@
 //! Envelopes that a gate opens and releases.
 ghost use Rattle.std.specs.Prelude.{◌≡◌, ◌<◌, ◌≤◌, length};
-ghost use Rattle.sn_gen.specs.Linen.{stage_in, stage_word, gated, height, done_at, passed};
+ghost use Rattle.sn_ports.specs.Limits.{block_frames};
+ghost use Rattle.sn_gen.specs.Linen.{segment_in, segment_word, gated, height, done_at, passed};
 
 use sn_fixed::{Slope, frames_of};
 use sn_mem::{Blocks, Recurrence, Stored, ended, sample_of, word_of};
 
 /// Where an envelope is.
 #[derive(Clone, Copy)]
-pub(crate) enum Stage {
+pub(crate) enum Segment {
     /// The gate was not open yet.
     Waiting,
     /// The gate is open: the attack, and then the level.
@@ -16,25 +17,25 @@ pub(crate) enum Stage {
     Released,
 }
 
-fn stage_in(word: u64) -> Stage
-    ensures { result ≡ stage_in word }
+fn segment_in(word: u64) -> Segment
+    ensures { result ≡ segment_in word }
 {
     if word == 0 {
-        Stage::Waiting
+        Segment::Waiting
     } else if word == 1 {
-        Stage::Open
+        Segment::Open
     } else {
-        Stage::Released
+        Segment::Released
     }
 }
 
-fn stage_word(stage: Stage) -> u64
-    ensures { result ≡ stage_word stage }
+fn segment_word(segment: Segment) -> u64
+    ensures { result ≡ segment_word segment }
 {
-    match stage {
-        Stage::Waiting => 0,
-        Stage::Open => 1,
-        Stage::Released => 2,
+    match segment {
+        Segment::Waiting => 0,
+        Segment::Open => 1,
+        Segment::Released => 2,
     }
 }
 
@@ -44,8 +45,8 @@ pub(crate) struct Envelope {
     /// The done word, 0 until the end.
     pub done: u64,
     /// Where it is.
-    pub stage: Stage,
-    /// The stage's next frame, up to the number of its frames.
+    pub segment: Segment,
+    /// The segment's next frame, up to the number of its frames.
     pub frame: u32,
     /// How many frames the attack or the release takes.
     pub frames: u32,
@@ -73,7 +74,7 @@ impl Stored for Envelope {
     fn load(words: &[u64]) -> Envelope {
         Envelope {
             done: words[0],
-            stage: stage_in(words[1]),
+            segment: segment_in(words[1]),
             frame: (words[2] % 4_294_967_296) as u32,
             frames: (words[3] % 4_294_967_296) as u32,
             level: sample_of(words[4]),
@@ -85,7 +86,7 @@ impl Stored for Envelope {
     fn store(self, words: &mut [u64]) {
         words.copy_from_slice(&[
             self.done,
-            stage_word(self.stage),
+            segment_word(self.segment),
             u64::from(self.frame),
             u64::from(self.frames),
             word_of(self.level),
@@ -98,20 +99,20 @@ impl Stored for Envelope {
 /// Begins the attack or the release where the gate says so.
 fn gated(rate: u32, envelope: Envelope, inputs: &Blocks, frame: usize) -> Envelope
     requires inputs { 4 ≤ length inputs.now }
-    requires frame { frame < 64 }
+    requires frame { frame < block_frames }
     ensures { result ≡ gated rate envelope inputs.now frame }
 {
     let is_open = inputs.at(0, frame) > 0;
-    match envelope.stage {
-        Stage::Waiting if is_open => Envelope {
-            stage: Stage::Open,
+    match envelope.segment {
+        Segment::Waiting if is_open => Envelope {
+            segment: Segment::Open,
             frame: 0,
             frames: frames_of(inputs.at(1, frame), rate),
             level: inputs.at(2, frame),
             ..envelope
         },
-        Stage::Open if !is_open => Envelope {
-            stage: Stage::Released,
+        Segment::Open if !is_open => Envelope {
+            segment: Segment::Released,
             frame: 0,
             frames: frames_of(inputs.at(3, frame), rate),
             top: envelope.last,
@@ -126,22 +127,22 @@ fn height(slope: &mut Slope, envelope: Envelope) -> i32
 {
     let frame = envelope.frame;
     let frames = envelope.frames;
-    match envelope.stage {
-        Stage::Waiting => 0,
-        Stage::Open if frame < frames => slope.forward(0, envelope.level, frame, frames),
-        Stage::Open => envelope.level,
-        Stage::Released if frame < frames => {
+    match envelope.segment {
+        Segment::Waiting => 0,
+        Segment::Open if frame < frames => slope.forward(0, envelope.level, frame, frames),
+        Segment::Open => envelope.level,
+        Segment::Released if frame < frames => {
             slope.backward(0, envelope.top, frames - frame, frames)
         }
-        Stage::Released => 0,
+        Segment::Released => 0,
     }
 }
 
 fn done_at(envelope: Envelope) -> u64
-    ensures { result ≡ done_at envelope.stage envelope }
+    ensures { result ≡ done_at envelope.segment envelope }
 {
-    match envelope.stage {
-        Stage::Released if envelope.frame >= envelope.frames => ended(envelope.done),
+    match envelope.segment {
+        Segment::Released if envelope.frame >= envelope.frames => ended(envelope.done),
         _ => envelope.done,
     }
 }

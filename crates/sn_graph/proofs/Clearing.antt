@@ -20,7 +20,7 @@ use Rattle.sn_foot.specs.declared.resource.Resource.{Resource}
 use Rattle.sn_foot.specs.Footprints.{footprint_of, foot_of, held_reads, held_writes, is_there, states_of}
 use Rattle.sn_foot.specs.Footprints.{Clash as FootprintsClash}
 use Rattle.sn_graph.specs.declared.nodes.Voice.{Voice}
-use Rattle.sn_graph.specs.Voices.{Running, none, synth, group, voices}
+use Rattle.sn_graph.specs.Voices.{HeardNodes, none, synth, group, voices}
 use Rattle.sn_graph.specs.Plans.{IsClearOf, AreClear, MembersAreClear, SplitsAreClear, is_listed}
 use Rattle.sn_graph.specs.Stages.{with_group, with_node, running_of}
 use Rattle.sn_graph.specs.Disjoint.{AreDisjoint}
@@ -173,15 +173,15 @@ live_below x id (trees.node label below after) =
 
 -- ---- a group before others
 
-voices_alone : (flag : Bool) (b : Running) → voices (with_group flag b none) ≡ voices b
+voices_alone : (flag : Bool) (b : HeardNodes) → voices (with_group flag b none) ≡ voices b
 voices_alone flag b = voices_group flag b none ∙ append-nil (voices b)
 
-members_group : (flag : Bool) (b a : Running) → AreClear (voices b) (voices a) → MembersAreClear a → MembersAreClear (with_group flag b a)
+members_group : (flag : Bool) (b a : HeardNodes) → AreClear (voices b) (voices a) → MembersAreClear a → MembersAreClear (with_group flag b a)
 members_group flag none a c m = m
 members_group flag (synth v rest) a c m = (c, m)
 members_group flag (group f inner rest) a c m = (c, m)
 
-splits_group : (flag : Bool) (b a : Running) → (flag ≡ true → MembersAreClear b) → SplitsAreClear b → SplitsAreClear a → SplitsAreClear (with_group flag b a)
+splits_group : (flag : Bool) (b a : HeardNodes) → (flag ≡ true → MembersAreClear b) → SplitsAreClear b → SplitsAreClear a → SplitsAreClear (with_group flag b a)
 splits_group flag none a c s t = t
 splits_group flag (synth v rest) a c s t = (c, (s, t))
 splits_group flag (group f inner rest) a c s t = (c, (s, t))
@@ -189,7 +189,7 @@ splits_group flag (group f inner rest) a c s t = (c, (s, t))
 -- ---- the nodes of a stage
 
 module _ (buffers : List (Option BufferPlace)) (clashing : List ℤ) where
-  of_group : (flag : Bool) (label : Label Held) (b a : Running) (below after : List (Label Held)) → AreOf buffers (voices b) (payloads below) → AreOf buffers (voices a) (payloads after) → AreOf buffers (voices (with_group flag b a)) (payloads (label ∷ (below ++ after)))
+  of_group : (flag : Bool) (label : Label Held) (b a : HeardNodes) (below after : List (Label Held)) → AreOf buffers (voices b) (payloads below) → AreOf buffers (voices a) (payloads after) → AreOf buffers (voices (with_group flag b a)) (payloads (label ∷ (below ++ after)))
   of_group flag label b a below after o p =
       let all : List Held = payloads (label ∷ (below ++ after)) in
       subst (λ vs. AreOf buffers vs all) (sym (voices_group flag b a))
@@ -197,12 +197,12 @@ module _ (buffers : List (Option BufferPlace)) (clashing : List ℤ) where
       (of_more buffers (voices b) (payloads below) all (λ h m. inr (among_left h below after m)) o)
       (of_more buffers (voices a) (payloads after) all (λ h m. inr (among_right h below after m)) p))
 
-  of_node : (kind : NodeKind) (label : Label Held) (b a : Running) (below after : List (Label Held)) → AreOf buffers (voices b) (payloads below) → AreOf buffers (voices a) (payloads after) → AreOf buffers (voices (with_node buffers clashing kind label b a)) (payloads (label ∷ (below ++ after)))
+  of_node : (kind : NodeKind) (label : Label Held) (b a : HeardNodes) (below after : List (Label Held)) → AreOf buffers (voices b) (payloads below) → AreOf buffers (voices a) (payloads after) → AreOf buffers (voices (with_node buffers clashing kind label b a)) (payloads (label ∷ (below ++ after)))
   of_node kinds.Synth label b a below after o p = ((label.payload, refl, inl refl), of_more buffers (voices a) (payloads after) (payloads (label ∷ (below ++ after))) (λ h m. inr (among_right h below after m)) p)
   of_node kinds.Group label b a below after o p = of_group false label b a below after o p
   of_node kinds.Parallel label b a below after o p = of_group (not (is_listed clashing label.id)) label b a below after o p
 
-  of_if : (run : Bool) (x y : Running) (ls ms : List (Label Held)) → AreOf buffers (voices x) (payloads ls) → AreOf buffers (voices y) (payloads ms) → AreOf buffers (voices (if run then x else y)) (payloads (if run then ls else ms))
+  of_if : (run : Bool) (x y : HeardNodes) (ls ms : List (Label Held)) → AreOf buffers (voices x) (payloads ls) → AreOf buffers (voices y) (payloads ms) → AreOf buffers (voices (if run then x else y)) (payloads (if run then ls else ms))
   of_if true x y ls ms o p = o
   of_if false x y ls ms o p = p
 
@@ -213,7 +213,7 @@ module _ (buffers : List (Option BufferPlace)) (clashing : List ℤ) where
       (of_node label.kind label (running_of buffers clashing below) (running_of buffers clashing after) (running_labels below) (running_labels after) (are_of below) (are_of after))
       (are_of after)
 
-  voices_node : (run : Bool) (kind : NodeKind) (label : Label Held) (b a : Running) → voices (if run then with_node buffers clashing kind label b none else none) ++ voices a ≡ voices (if run then with_node buffers clashing kind label b a else a)
+  voices_node : (run : Bool) (kind : NodeKind) (label : Label Held) (b a : HeardNodes) → voices (if run then with_node buffers clashing kind label b none else none) ++ voices a ≡ voices (if run then with_node buffers clashing kind label b a else a)
   voices_node true kinds.Synth label b a = refl
   voices_node true kinds.Group label b a = ap (λ vs. vs ++ voices a) (voices_alone false b) ∙ sym (voices_group false b a)
   voices_node true kinds.Parallel label b a = ap (λ vs. vs ++ voices a) (voices_alone (not (is_listed clashing label.id)) b) ∙ sym (voices_group (not (is_listed clashing label.id)) b a)
@@ -233,7 +233,7 @@ module _ (buffers : List (Option BufferPlace)) (clashing : List ℤ) where
       (clear_all buffers hs (held_of here) first n.0 vs (voices (running_of buffers clashing here)) o (are_of here))
       (clear_after vs hs after o rest n.1))
 
-  members_node : (run : Bool) (kind : NodeKind) (label : Label Held) (b a : Running) → AreClear (voices (if run then with_node buffers clashing kind label b none else none)) (voices a) → MembersAreClear a → MembersAreClear (if run then with_node buffers clashing kind label b a else a)
+  members_node : (run : Bool) (kind : NodeKind) (label : Label Held) (b a : HeardNodes) → AreClear (voices (if run then with_node buffers clashing kind label b none else none)) (voices a) → MembersAreClear a → MembersAreClear (if run then with_node buffers clashing kind label b a else a)
   members_node true kinds.Synth label b a c m = (c.0, m)
   members_node true kinds.Group label b a c m = members_group false b a (subst (λ vs. AreClear vs (voices a)) (voices_alone false b) c) m
   members_node true kinds.Parallel label b a c m = members_group (not (is_listed clashing label.id)) b a (subst (λ vs. AreClear vs (voices a)) (voices_alone (not (is_listed clashing label.id)) b) c) m
@@ -251,7 +251,7 @@ module _ (buffers : List (Option BufferPlace)) (clashing : List ℤ) where
       (clear_after (voices (running_of buffers clashing here)) (held_of here) after (are_of here) first n.0)
       (members_clear after rest n.1)
 
-  splits_node : (run : Bool) (kind : NodeKind) (label : Label Held) (b a : Running) → (run ≡ true → (kind ≡ kinds.Parallel → is_listed clashing label.id ≡ false → MembersAreClear b) × SplitsAreClear b) → SplitsAreClear a → SplitsAreClear (if run then with_node buffers clashing kind label b a else a)
+  splits_node : (run : Bool) (kind : NodeKind) (label : Label Held) (b a : HeardNodes) → (run ≡ true → (kind ≡ kinds.Parallel → is_listed clashing label.id ≡ false → MembersAreClear b) × SplitsAreClear b) → SplitsAreClear a → SplitsAreClear (if run then with_node buffers clashing kind label b a else a)
   splits_node true kinds.Synth label b a c s = s
   splits_node true kinds.Group label b a c s = splits_group false b a (λ h. absurd (true≢false (sym h))) (c refl).1 s
   splits_node true kinds.Parallel label b a c s = splits_group (not (is_listed clashing label.id)) b a (λ h. (c refl).0 refl (not-true (is_listed clashing label.id) h)) (c refl).1 s

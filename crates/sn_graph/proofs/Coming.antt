@@ -5,7 +5,7 @@ use Rattle.std.specs.Ordering.{int_eq}
 use Rattle.sn_round.specs.declared.jobs.Job.{Job}
 use Rattle.sn_round.specs.Jobs.{job_at, Ordered}
 use Rattle.sn_graph.specs.declared.nodes.Voice.{Voice}
-use Rattle.sn_graph.specs.Voices.{Running, voices, has, Once}
+use Rattle.sn_graph.specs.Voices.{HeardNodes, voices, has, Once}
 use Rattle.sn_graph.specs.Rows.{Row, Members, done, job, split, one, more, size, size_all}
 use Rattle.sn_graph.specs.Plans.{is_listed, row_of, plan_of, Plays, lowest_is_split, IsPlanned}
 use Rattle.sn_graph.proofs.Shapes.{IsPlan, Stands, StandsAll, heard, heard_all, comes}
@@ -75,7 +75,7 @@ module _ (at : ℕ → Job) where
         (cases_lt i (n + size r)))
         (cases_lt j (n + size r))
 
-module _ (nodes : Running) (once : Once (voices nodes)) where
+module _ (nodes : HeardNodes) (once : Once (voices nodes)) where
   pub comes_first : (i j : ℕ) (a b : ℤ) → i < j → Plays (plan_of nodes) i a → Plays (plan_of nodes) j b → comes (voices nodes) a b ≡ true
   comes_first i j a b l p q =
       subst (λ (ss : List Voice). comes ss a b ≡ true) (heard-row [] nodes)

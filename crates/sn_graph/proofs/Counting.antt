@@ -12,7 +12,7 @@ use Rattle.sn_tree.specs.Steps.{AllDistinct, occurrences}
 use Rattle.sn_tree.proofs.Distinct.{occurrences-append}
 use Rattle.sn_world.specs.declared.stage.Held.{Held}
 use Rattle.sn_graph.specs.declared.nodes.Voice.{Voice}
-use Rattle.sn_graph.specs.Voices.{Running, none, synth, group, voices, has, Once}
+use Rattle.sn_graph.specs.Voices.{HeardNodes, none, synth, group, voices, has, Once}
 use Rattle.sn_graph.specs.Rows.{Row, done, job, split, size, size_all}
 use Rattle.sn_graph.specs.Plans.{close, followed, is_listed, members, joined, keep, row_of, rows_of}
 use Rattle.sn_graph.specs.Stages.{with_group, with_node, running_of}
@@ -58,13 +58,13 @@ size-after : (run : List Voice) (r rest : Row) → size (close run (followed r r
 size-after run r rest = omega (arith, size-close run (followed r rest), size-followed r rest)
 
 mutual
-  few_row : (run : List Voice) (t : Running) → size (row_of run t) ≤ runs run + weight t
+  few_row : (run : List Voice) (t : HeardNodes) → size (row_of run t) ≤ runs run + weight t
   few_row run none = omega (arith, size-close run done)
   few_row run (synth v rest) = omega (arith, few_row (run ++ v ∷ []) rest, some_run run v)
   few_row run (group true inner rest) = omega (arith, size-after run (joined (rows_of inner)) (row_of [] rest), few_row [] rest, size-joined (rows_of inner), few_rows inner)
   few_row run (group false inner rest) = omega (arith, size-after run (row_of [] inner) (row_of [] rest), few_row [] rest, few_row [] inner)
 
-  few_rows : (t : Running) → sizes (rows_of t) ≤ weight t
+  few_rows : (t : HeardNodes) → sizes (rows_of t) ≤ weight t
   few_rows none = omega arith
   few_rows (synth v rest) = omega (arith, few_rows rest)
   few_rows (group true inner rest) = omega (arith, sizes-keep (joined (rows_of inner)) (rows_of rest), size-joined (rows_of inner), few_rows inner, few_rows rest)
@@ -87,7 +87,7 @@ one_from : (b : Bool) → b ≡ true → one_if b ≡ 1
 one_from true h = refl
 one_from false h = absurd (true≢false (sym h))
 
-heard_group : (a : ℤ) (flag : Bool) (below after : Running) → heard a (voices (with_group flag below after)) ≡ heard a (voices below) + heard a (voices after)
+heard_group : (a : ℤ) (flag : Bool) (below after : HeardNodes) → heard a (voices (with_group flag below after)) ≡ heard a (voices below) + heard a (voices after)
 heard_group a flag below after = ap (heard a) (voices_group flag below after) ∙ heard-append a (voices below) (voices after)
 
 has_heard : (a : ℤ) (vs : List Voice) → has vs a ≡ true → 1 ≤ heard a vs
@@ -112,19 +112,19 @@ occurrences_below a id (trees.node label below after) =
     (λ h. omega (arith, all, occurrences_below a id below))
     (λ h. omega (arith, all, occurrences_below a id after)))
 
-weight_group : (flag : Bool) (below after : Running) → weight (with_group flag below after) ≤ 1 + weight below + weight after
+weight_group : (flag : Bool) (below after : HeardNodes) → weight (with_group flag below after) ≤ 1 + weight below + weight after
 weight_group flag none after = omega arith
 weight_group flag (synth v rest) after = omega arith
 weight_group flag (group f inner rest) after = omega arith
 
 -- a plain group has no job of its own
-few_plain : (below : Running) → size (row_of [] (with_group false below none)) ≤ weight below
+few_plain : (below : HeardNodes) → size (row_of [] (with_group false below none)) ≤ weight below
 few_plain none = omega arith
 few_plain (synth v rest) = omega (arith, size-followed (row_of [] (synth v rest)) done, few_row [] (synth v rest))
 few_plain (group f inner rest) = omega (arith, size-followed (row_of [] (group f inner rest)) done, few_row [] (group f inner rest))
 
 module _ (buffers : List (Option BufferPlace)) (clashing : List ℤ) where
-  weight_node : (kind : NodeKind) (label : Label Held) (below after : Running) → weight (with_node buffers clashing kind label below after) ≤ 1 + weight below + weight after
+  weight_node : (kind : NodeKind) (label : Label Held) (below after : HeardNodes) → weight (with_node buffers clashing kind label below after) ≤ 1 + weight below + weight after
   weight_node kinds.Synth label below after = omega arith
   weight_node kinds.Group label below after = weight_group false below after
   weight_node kinds.Parallel label below after = weight_group (not (is_listed clashing label.id)) below after
@@ -132,20 +132,20 @@ module _ (buffers : List (Option BufferPlace)) (clashing : List ℤ) where
   weight_all : (t : Nodes Held) → weight (running_of buffers clashing t) ≤ count t
   weight_all trees.none = omega arith
   weight_all (trees.node label below after) =
-      let b : Running = running_of buffers clashing below in
-      let a : Running = running_of buffers clashing after in
+      let b : HeardNodes = running_of buffers clashing below in
+      let a : HeardNodes = running_of buffers clashing after in
       cond_both label.running (with_node buffers clashing label.kind label b a) a (λ r. weight r ≤ 1 + count below + count after)
       (λ h. omega (arith, weight_node label.kind label b a, weight_all below, weight_all after))
       (λ h. omega (arith, weight_all after))
 
-  few_group : (kind : NodeKind) (label : Label Held) (below : Running) → kind ≡ kinds.Group → size (row_of [] (with_node buffers clashing kind label below none)) ≤ weight below
+  few_group : (kind : NodeKind) (label : Label Held) (below : HeardNodes) → kind ≡ kinds.Group → size (row_of [] (with_node buffers clashing kind label below none)) ≤ weight below
   few_group kind label below plain =
       subst (λ (k : NodeKind). size (row_of [] (with_node buffers clashing k label below none)) ≤ weight below) (sym plain)
       (few_plain below)
 
   few_top : (label : Label Held) (below : Nodes Held) → label.kind ≡ kinds.Group → size (row_of [] (running_of buffers clashing (trees.node label below trees.none))) ≤ count below
   few_top label below plain =
-      let b : Running = running_of buffers clashing below in
+      let b : HeardNodes = running_of buffers clashing below in
       cond_both label.running (with_node buffers clashing label.kind label b none) none (λ r. size (row_of [] r) ≤ count below)
       (λ h. omega (arith, few_group label.kind label b plain, weight_all below))
       (λ h. omega arith)
@@ -168,7 +168,7 @@ module _ (buffers : List (Option BufferPlace)) (clashing : List ℤ) where
       (cases_Bool (holds id below)))
       (cases_Bool (int_eq label.id id))
 
-  heard_node : (a : ℤ) (kind : NodeKind) (label : Label Held) (below after : Running) → heard a (voices (with_node buffers clashing kind label below after)) ≤ one_if (int_eq label.id a) + (heard a (voices below) + heard a (voices after))
+  heard_node : (a : ℤ) (kind : NodeKind) (label : Label Held) (below after : HeardNodes) → heard a (voices (with_node buffers clashing kind label below after)) ≤ one_if (int_eq label.id a) + (heard a (voices below) + heard a (voices after))
   heard_node a kinds.Synth label below after = omega arith
   heard_node a kinds.Group label below after = omega (arith, heard_group a false below after)
   heard_node a kinds.Parallel label below after = omega (arith, heard_group a (not (is_listed clashing label.id)) below after)
@@ -176,8 +176,8 @@ module _ (buffers : List (Option BufferPlace)) (clashing : List ℤ) where
   heard_all : (a : ℤ) (t : Nodes Held) → heard a (voices (running_of buffers clashing t)) ≤ occurrences int_eq a (ids t)
   heard_all a trees.none = omega arith
   heard_all a (trees.node label below after) =
-      let b : Running = running_of buffers clashing below in
-      let c : Running = running_of buffers clashing after in
+      let b : HeardNodes = running_of buffers clashing below in
+      let c : HeardNodes = running_of buffers clashing after in
       let all : occurrences int_eq a (ids (trees.node label below after)) ≡ one_if (int_eq label.id a) + (occurrences int_eq a (ids below) + occurrences int_eq a (ids after)) = omega (arith, occurrences-append int_eq a (ids below) (ids after)) in
       cond_both label.running (with_node buffers clashing label.kind label b c) c (λ r. heard a (voices r) ≤ occurrences int_eq a (ids (trees.node label below after)))
       (λ h. omega (arith, all, heard_node a label.kind label b c, heard_all a below, heard_all a after))

@@ -7,7 +7,7 @@ use Rattle.sn_foot.specs.Canonical.{Ends}
 use Rattle.std.proofs.lemmas.Bool.{cases_Bool, cond-true, cond-false}
 use Rattle.sn_round.specs.declared.jobs.Job.{Job}
 use Rattle.sn_graph.specs.declared.nodes.Voice.{Voice}
-use Rattle.sn_graph.specs.Voices.{AreWithin, all_reads, all_writes, Running, none, synth, group, voices}
+use Rattle.sn_graph.specs.Voices.{AreWithin, all_reads, all_writes, HeardNodes, none, synth, group, voices}
 use Rattle.sn_graph.specs.Rows.{Row, done, job, split, job_of, size, size_all, last, lasts, jobs, jobs_all}
 use Rattle.sn_graph.specs.Plans.{close, followed, members, joined, keep, row_of, rows_of, inner_row}
 use Rattle.std.proofs.Common.{Option, Some, None}
@@ -103,11 +103,11 @@ leaves-length before now e f r w h =
     )
 
 -- at a group the open run comes first, and then the group
-group_row : (run : List Voice) (flag : Bool) (inner rest : Running) → row_of run (group flag inner rest) ≡ followed (close run done) (followed (inner_row flag inner) (row_of [] rest))
+group_row : (run : List Voice) (flag : Bool) (inner rest : HeardNodes) → row_of run (group flag inner rest) ≡ followed (close run done) (followed (inner_row flag inner) (row_of [] rest))
 group_row run flag inner rest = close-followed run (followed (inner_row flag inner) (row_of [] rest))
 
 -- a group in a row: it was put after the open run
-pub group_put : (before now mid after : List Job) (e f g k : Option ℕ) (run : List Voice) (flag : Bool) (inner rest : Running) (w : Row) → Leaves before now e f (row_of run (group flag inner rest)) w
+pub group_put : (before now mid after : List Job) (e f g k : Option ℕ) (run : List Voice) (flag : Bool) (inner rest : HeardNodes) (w : Row) → Leaves before now e f (row_of run (group flag inner rest)) w
     → Puts now mid f g (close run done) → Puts mid after g k (inner_row flag inner) → Leaves before after e k (row_of [] rest) w
 group_put before now mid after e f g k run flag inner rest w h p q =
     let r : Row = inner_row flag inner in
@@ -115,7 +115,7 @@ group_put before now mid after e f g k run flag inner rest w h p q =
     leaves_more before mid after e g k r (row_of [] rest) w (leaves_more before now mid e f g (close run done) (followed r (row_of [] rest)) w (subst (λ (x : Row). Leaves before now e f x w) q2 h) p) q
 
 -- there is room for the open run and the group
-pub room_for : (before now : List Job) (e f : Option ℕ) (run : List Voice) (flag : Bool) (inner rest : Running) (w : Row) → Leaves before now e f (row_of run (group flag inner rest)) w
+pub room_for : (before now : List Job) (e f : Option ℕ) (run : List Voice) (flag : Bool) (inner rest : HeardNodes) (w : Row) → Leaves before now e f (row_of run (group flag inner rest)) w
     → length now + size (close run done) + size (inner_row flag inner) ≤ length before + size w
 room_for before now e f run flag inner rest w h =
     let r : Row = inner_row flag inner in
@@ -228,18 +228,18 @@ module _ {before now : List Job} {e f : Option ℕ} {w : Row} where
   pub fit_row : {r : Row} → Leaves before now e f r w → length before + size w < 2 ^ 32 → length now < 2 ^ 32
   fit_row {r} h l = omega (arith, leaves-length before now e f r w h)
 
-  pub fit_group : (run : List Voice) {n inner rest : Running} {flag : Bool} {mid : List Job} {g : Option ℕ} → Leaves before now e f (row_of run n) w → n ≡ group flag inner rest → length before + size w < 2 ^ 32
+  pub fit_group : (run : List Voice) {n inner rest : HeardNodes} {flag : Bool} {mid : List Job} {g : Option ℕ} → Leaves before now e f (row_of run n) w → n ≡ group flag inner rest → length before + size w < 2 ^ 32
       → Puts now mid f g (close run done) → length mid + size (inner_row flag inner) < 2 ^ 32
   fit_group run {n} {inner} {rest} {flag} {mid} {g} h q l p =
-      omega (arith, puts-length now mid f g (close run done) p, room_for before now e f run flag inner rest w (subst (λ (m : Running). Leaves before now e f (row_of run m) w) q h))
+      omega (arith, puts-length now mid f g (close run done) p, room_for before now e f run flag inner rest w (subst (λ (m : HeardNodes). Leaves before now e f (row_of run m) w) q h))
 
-  pub next_group : (run : List Voice) {n inner rest : Running} {flag : Bool} {mid after : List Job} {g k : Option ℕ} → Leaves before now e f (row_of run n) w → n ≡ group flag inner rest
+  pub next_group : (run : List Voice) {n inner rest : HeardNodes} {flag : Bool} {mid after : List Job} {g k : Option ℕ} → Leaves before now e f (row_of run n) w → n ≡ group flag inner rest
       → Puts now mid f g (close run done) → Puts mid after g k (inner_row flag inner) → Leaves before after e k (row_of [] rest) w
   next_group run {n} {inner} {rest} {flag} {mid} {after} {g} {k} h q p r =
-      group_put before now mid after e f g k run flag inner rest w (subst (λ (m : Running). Leaves before now e f (row_of run m) w) q h) p r
+      group_put before now mid after e f g k run flag inner rest w (subst (λ (m : HeardNodes). Leaves before now e f (row_of run m) w) q h) p r
 
-  pub end_row : (run : List Voice) {n : Running} {after : List Job} {g : Option ℕ} → Leaves before now e f (row_of run n) w → n ≡ none → Puts now after f g (close run done) → Puts before after e g w
-  end_row run {n} {after} {g} h q p = leaves_none before now after e f g (close run done) w (subst (λ (m : Running). Leaves before now e f (row_of run m) w) q h) p
+  pub end_row : (run : List Voice) {n : HeardNodes} {after : List Job} {g : Option ℕ} → Leaves before now e f (row_of run n) w → n ≡ none → Puts now after f g (close run done) → Puts before after e g w
+  end_row run {n} {after} {g} h q p = leaves_none before now after e f g (close run done) w (subst (λ (m : HeardNodes). Leaves before now e f (row_of run m) w) q h) p
 
 last_of : (ls ms : List ℕ) (b : Bool) (k : Option ℕ) → b ≡ true → ms ≡ ls ++ listed (if b then k else None) → ms ≡ ls ++ listed k
 last_of ls ms b k h m = m ∙ ap (λ (o : Option ℕ). ls ++ listed o) (cond-true b k None h)
@@ -258,12 +258,12 @@ module _ {before now : List Job} {e : Option ℕ} {ls : List ℕ} {ws : List Row
   fit_kept (job ss a) rs h l = omega (arith, room_member before now ls e (job ss a) rs ws h)
   fit_kept (split ms a) rs h l = omega (arith, room_member before now ls e (split ms a) rs ws h)
 
-  pub fit_member : {n inner rest : Running} {flag : Bool} → LeavesAll before now ls e (rows_of n) ws → n ≡ group flag inner rest → length before + size (joined ws) < 2 ^ 32 → length now + size (inner_row flag inner) < 2 ^ 32
-  fit_member {n} {inner} {rest} {flag} h q l = fit_kept (inner_row flag inner) (rows_of rest) (subst (λ (x : Running). LeavesAll before now ls e (rows_of x) ws) q h) l
+  pub fit_member : {n inner rest : HeardNodes} {flag : Bool} → LeavesAll before now ls e (rows_of n) ws → n ≡ group flag inner rest → length before + size (joined ws) < 2 ^ 32 → length now + size (inner_row flag inner) < 2 ^ 32
+  fit_member {n} {inner} {rest} {flag} h q l = fit_kept (inner_row flag inner) (rows_of rest) (subst (λ (x : HeardNodes). LeavesAll before now ls e (rows_of x) ws) q h) l
 
-  pub next_synth : {n rest : Running} {s : Voice} {after : List Job} {k : Option ℕ} {ms : List ℕ} → LeavesAll before now ls e (rows_of n) ws → n ≡ synth s rest → Puts now after e k (close (s ∷ []) done) → ms ≡ ls ++ listed k → LeavesAll before after ms e (rows_of rest) ws
+  pub next_synth : {n rest : HeardNodes} {s : Voice} {after : List Job} {k : Option ℕ} {ms : List ℕ} → LeavesAll before now ls e (rows_of n) ws → n ≡ synth s rest → Puts now after e k (close (s ∷ []) done) → ms ≡ ls ++ listed k → LeavesAll before after ms e (rows_of rest) ws
   next_synth {n} {rest} {s} {after} {k} {ms} h q p m =
-      subst (λ (l : List ℕ). LeavesAll before after l e (rows_of rest) ws) (sym m) (member_put before now after ls e k (close (s ∷ []) done) (rows_of rest) ws (subst (λ (x : Running). LeavesAll before now ls e (rows_of x) ws) q h) p)
+      subst (λ (l : List ℕ). LeavesAll before after l e (rows_of rest) ws) (sym m) (member_put before now after ls e k (close (s ∷ []) done) (rows_of rest) ws (subst (λ (x : HeardNodes). LeavesAll before now ls e (rows_of x) ws) q h) p)
 
   kept_put : (r : Row) (rs : List Row) (after : List Job) (k : Option ℕ) (ms : List ℕ) (b : Bool) → LeavesAll before now ls e (keep r rs) ws → Puts now after e k r
       → ms ≡ ls ++ listed (if b then k else None) → (b ≡ true → length now < length after) → (b ≡ false → length after ≤ length now) → LeavesAll before after ms e rs ws
@@ -286,14 +286,14 @@ module _ {before now : List Job} {e : Option ℕ} {ls : List ℕ} {ws : List Row
       (λ (f : b ≡ false). absurd (omega (arith, few f, long)))
       (cases_Bool b)
 
-  pub next_member : (b : Bool) {n inner rest : Running} {flag : Bool} {after : List Job} {k : Option ℕ} {ms : List ℕ} → LeavesAll before now ls e (rows_of n) ws → n ≡ group flag inner rest → Puts now after e k (inner_row flag inner)
+  pub next_member : (b : Bool) {n inner rest : HeardNodes} {flag : Bool} {after : List Job} {k : Option ℕ} {ms : List ℕ} → LeavesAll before now ls e (rows_of n) ws → n ≡ group flag inner rest → Puts now after e k (inner_row flag inner)
       → ms ≡ ls ++ listed (if b then k else None) → (b ≡ true → length now < length after) → (b ≡ false → length after ≤ length now) → LeavesAll before after ms e (rows_of rest) ws
   next_member b {n} {inner} {rest} {flag} {after} {k} {ms} h q p m more few =
-      kept_put (inner_row flag inner) (rows_of rest) after k ms b (subst (λ (x : Running). LeavesAll before now ls e (rows_of x) ws) q h) p m more few
+      kept_put (inner_row flag inner) (rows_of rest) after k ms b (subst (λ (x : HeardNodes). LeavesAll before now ls e (rows_of x) ws) q h) p m more few
 
-  pub end_members : (inner : Running) {n : Running} {after : List Job} {k : Option ℕ} → LeavesAll before now ls e (rows_of n) ws → n ≡ none → ws ≡ rows_of inner → IsJoint now after ls e k → Puts before after e k (joined ws)
+  pub end_members : (inner : HeardNodes) {n : HeardNodes} {after : List Job} {k : Option ℕ} → LeavesAll before now ls e (rows_of n) ws → n ≡ none → ws ≡ rows_of inner → IsJoint now after ls e k → Puts before after e k (joined ws)
   end_members inner {n} {after} {k} h q u j =
-      joint_put before now after ls e k ws (subst filling.AllFull (sym u) (filling.full-rows inner)) (subst (λ (x : Running). LeavesAll before now ls e (rows_of x) ws) q h) j
+      joint_put before now after ls e k ws (subst filling.AllFull (sym u) (filling.full-rows inner)) (subst (λ (x : HeardNodes). LeavesAll before now ls e (rows_of x) ws) q h) j
 
 -- the words of some of them
 pub within_left : (xs ys : List Voice) → AreWithin (xs ++ ys) → AreWithin xs
@@ -317,15 +317,15 @@ writes_end [] w = λ k d l. absurd (omega arith)
 writes_end (v ∷ vs) w = All-append Ends v.foot.writes (all_writes vs) w.0.1 (writes_end vs w.1)
 
 -- what is left to be put touches words with numbers
-pub within_run : (run : List Voice) (n : Running) → AreWithin (run ++ voices n) → AreWithin run
+pub within_run : (run : List Voice) (n : HeardNodes) → AreWithin (run ++ voices n) → AreWithin run
 within_run run n w = within_left run (voices n) w
 
-pub within_synth : (n : Running) {rest : Running} {v : Voice} → AreWithin (voices n) → n ≡ synth v rest → AreWithin (v ∷ []) × AreWithin (voices rest)
-within_synth n {rest} {v} w e = let s : AreWithin (voices (synth v rest)) = subst (λ (m : Running). AreWithin (voices m)) e w in ((s.0, tt), s.1)
+pub within_synth : (n : HeardNodes) {rest : HeardNodes} {v : Voice} → AreWithin (voices n) → n ≡ synth v rest → AreWithin (v ∷ []) × AreWithin (voices rest)
+within_synth n {rest} {v} w e = let s : AreWithin (voices (synth v rest)) = subst (λ (m : HeardNodes). AreWithin (voices m)) e w in ((s.0, tt), s.1)
 
-module _ (run : List Voice) (n : Running) {rest inner : Running} {flag : Bool} where
+module _ (run : List Voice) (n : HeardNodes) {rest inner : HeardNodes} {flag : Bool} where
   within_group : AreWithin (run ++ voices n) → n ≡ group flag inner rest → AreWithin (voices inner ++ voices rest)
-  within_group w e = within_right run (voices (group flag inner rest)) (subst (λ (m : Running). AreWithin (run ++ voices m)) e w)
+  within_group w e = within_right run (voices (group flag inner rest)) (subst (λ (m : HeardNodes). AreWithin (run ++ voices m)) e w)
 
   pub within_inner : AreWithin (run ++ voices n) → n ≡ group flag inner rest → AreWithin (voices inner)
   within_inner w e = within_left (voices inner) (voices rest) (within_group w e)

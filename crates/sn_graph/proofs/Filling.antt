@@ -5,7 +5,7 @@ use Rattle.std.proofs.lemmas.Bool.{cases_lt, cases_Bool, ne_eqb}
 use Rattle.sn_round.specs.declared.jobs.Job.{Job}
 use Rattle.sn_round.specs.Jobs.{times}
 use Rattle.sn_graph.specs.declared.nodes.Voice.{Voice}
-use Rattle.sn_graph.specs.Voices.{Running, none, synth, group}
+use Rattle.sn_graph.specs.Voices.{HeardNodes, none, synth, group}
 use Rattle.sn_graph.specs.Rows.{Row, Members, done, job, split, one, more, job_of, size, size_all, last, lasts, jobs, jobs_all}
 use Rattle.sn_graph.specs.Plans.{close, followed, members, joined, keep, row_of, rows_of, edges}
 use Rattle.sn_graph.proofs.Shapes.{Fits, FitsAll, IsFull, AreFull}
@@ -41,13 +41,13 @@ full-after : (run : List Voice) (r rest : Row) → IsFull r → IsFull rest → 
 full-after run r rest f g = full-close run (followed r rest) (full-followed r rest f g)
 
 mutual
-  pub full-row : (run : List Voice) (nodes : Running) → IsFull (row_of run nodes)
+  pub full-row : (run : List Voice) (nodes : HeardNodes) → IsFull (row_of run nodes)
   full-row run none = full-close run done tt
   full-row run (synth s rest) = full-row (run ++ s ∷ []) rest
   full-row run (group true inner rest) = full-after run (joined (rows_of inner)) (row_of [] rest) (full-joined (rows_of inner) (full-rows inner)) (full-row [] rest)
   full-row run (group false inner rest) = full-after run (row_of [] inner) (row_of [] rest) (full-row [] inner) (full-row [] rest)
 
-  pub full-rows : (nodes : Running) → AllFull (rows_of nodes)
+  pub full-rows : (nodes : HeardNodes) → AllFull (rows_of nodes)
   full-rows none = tt
   full-rows (synth s rest) = (omega arith, tt, full-rows rest)
   full-rows (group true inner rest) = full-keep (joined (rows_of inner)) (rows_of rest) (full-joined (rows_of inner) (full-rows inner)) (full-rows rest)

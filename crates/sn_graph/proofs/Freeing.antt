@@ -4,7 +4,7 @@ use Rattle.std.proofs.lemmas.Bool.{or_cases, and_parts, or_left}
 use Rattle.std.specs.Ordering.{int_eq}
 use Rattle.sn_mem.specs.Words.{Clash}
 use Rattle.sn_graph.specs.declared.nodes.Voice.{Voice}
-use Rattle.sn_graph.specs.Voices.{Running, none, synth, group, voices, has, Once}
+use Rattle.sn_graph.specs.Voices.{HeardNodes, none, synth, group, voices, has, Once}
 use Rattle.sn_graph.specs.Plans.{IsClearOf, AreClear, MembersAreClear, SplitsAreClear}
 use Rattle.sn_graph.proofs.Shapes.{IsFree, is_parted, Among}
 use Rattle.sn_graph.proofs.Numbers.{has-left, has-right, once-left, once-right, once-both}
@@ -20,7 +20,7 @@ stands_left xs ys s o h k = ⊎_elim (λ (g : Among xs s). g) (λ (g : Among ys 
 pub stands_right : (xs ys : List Voice) (s : Voice) → Once (xs ++ ys) → Among (xs ++ ys) s → has ys s.id ≡ true → Among ys s
 stands_right xs ys s o h k = ⊎_elim (λ (g : Among xs s). absurd (once-both xs ys s.id o (among_has xs s g) k)) (λ (g : Among ys s). g) (among_cases xs ys s h)
 
-pub parted_has : (g : Bool) (nodes : Running) (a b : ℤ) → is_parted g nodes a b ≡ true → (has (voices nodes) a ≡ true) × (has (voices nodes) b ≡ true)
+pub parted_has : (g : Bool) (nodes : HeardNodes) (a b : ℤ) → is_parted g nodes a b ≡ true → (has (voices nodes) a ≡ true) × (has (voices nodes) b ≡ true)
 parted_has g none a b h = absurd (true≢false (sym h))
 parted_has g (synth s rest) a b h =
     ⊎_elim
@@ -48,7 +48,7 @@ clear_all (x ∷ xs) ts s t h a b c =
     ⊎_elim (λ (e : x ≡ s). clear_with x ts t h.0 b (subst (λ (y : Voice). Clash y.foot t.foot) (sym e) c)) (λ (g : Among xs s). clear_all xs ts s t h.1 g b c) a
 
 -- g says whether the nodes are members of a split group
-pub parted_clear : (g : Bool) (nodes : Running) (s t : Voice) → (g ≡ true → MembersAreClear nodes) → SplitsAreClear nodes → Once (voices nodes) → Among (voices nodes) s → Among (voices nodes) t
+pub parted_clear : (g : Bool) (nodes : HeardNodes) (s t : Voice) → (g ≡ true → MembersAreClear nodes) → SplitsAreClear nodes → Once (voices nodes) → Among (voices nodes) s → Among (voices nodes) t
     → is_parted g nodes s.id t.id ≡ true → Clash s.foot t.foot → ⊥
 parted_clear g none s t m u o a b h c = absurd a
 parted_clear g (synth x rest) s t m u o a b h c =
@@ -81,5 +81,5 @@ parted_clear g (group f inner rest) s t m u o a b h c =
     (or_cases (is_parted f inner s.id t.id) (is_parted g rest s.id t.id) k))
     (or_cases (g && has xs s.id && has ys t.id) (is_parted f inner s.id t.id || is_parted g rest s.id t.id) h)
 
-pub is_free : (nodes : Running) → SplitsAreClear nodes → Once (voices nodes) → IsFree nodes
+pub is_free : (nodes : HeardNodes) → SplitsAreClear nodes → Once (voices nodes) → IsFree nodes
 is_free nodes u o s t a b h c = parted_clear false nodes s t (λ e. absurd (true≢false (sym e))) u o a b h c

@@ -6,7 +6,7 @@ use Rattle.std.proofs.lemmas.List.Elements.{filter-append}
 use Rattle.sn_round.specs.declared.jobs.Job.{Job}
 use Rattle.sn_round.specs.Jobs.{foot_at, job_at}
 use Rattle.sn_graph.specs.declared.nodes.Voice.{Voice}
-use Rattle.sn_graph.specs.Voices.{Running, foot_of, has, ids_of, Once, voices}
+use Rattle.sn_graph.specs.Voices.{HeardNodes, foot_of, has, ids_of, Once, voices}
 use Rattle.sn_graph.specs.Rows.{Row}
 use Rattle.sn_graph.specs.Plans.{is_listed, plan_of, row_of, synths_with}
 use Rattle.sn_graph.proofs.Shapes.{Among, heard}
@@ -37,7 +37,7 @@ between before ss after once =
     ∙ (ap (λ (l : List Voice). l ++ synths_with ids after) (all_with ids ss (λ v a. listed-ids ss v.id ∙ among_has ss v a))
     ∙ (ap (λ (l : List Voice). ss ++ l) (none_with ids after (λ v a. not_one ss v.id (λ h. once-both ss after v.id rest h (among_has after v a)))) ∙ append-nil ss))))
 
-pub feet_are : (nodes : Running) → Once (voices nodes) → (i : ℕ) → i < length (plan_of nodes) → foot_at (plan_of nodes) i ≡ foot_of (synths_with (job_at (plan_of nodes) i).synths (voices nodes))
+pub feet_are : (nodes : HeardNodes) → Once (voices nodes) → (i : ℕ) → i < length (plan_of nodes) → foot_at (plan_of nodes) i ≡ foot_of (synths_with (job_at (plan_of nodes) i).synths (voices nodes))
 feet_are nodes once i l =
     let js : List Job = plan_of nodes in
     let row : Row = row_of [] nodes in

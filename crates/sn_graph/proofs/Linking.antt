@@ -12,14 +12,14 @@ use Rattle.sn_tree.specs.Members.{tops, members}
 use Rattle.sn_world.specs.declared.stage.Held.{Held}
 use Rattle.sn_graph.specs.declared.nodes.Voice.{Voice}
 use Rattle.sn_graph.specs.declared.parts.Part.{Part}
-use Rattle.sn_graph.specs.Voices.{Running, none, synth, group}
+use Rattle.sn_graph.specs.Voices.{HeardNodes, none, synth, group}
 use Rattle.sn_graph.specs.Plans.{is_listed}
 use Rattle.sn_graph.specs.Stages.{voice_of, with_group, with_node, running_of}
 use Rattle.sn_graph.specs.Pieces.{Piece, nothing, voice, below, group_piece, piece_of, pieces, before, linked, running_piece, piece, with_member, built}
 
 -- ---- the list of the kept ones
 
-pub linked-snoc : (ps : List Piece) (p : Piece) (rest : Running) → linked (ps ++ p ∷ []) rest ≡ linked ps (before p rest)
+pub linked-snoc : (ps : List Piece) (p : Piece) (rest : HeardNodes) → linked (ps ++ p ∷ []) rest ≡ linked ps (before p rest)
 linked-snoc [] p rest = refl
 linked-snoc (q ∷ ps) p rest = ap (before q) (linked-snoc ps p rest)
 
@@ -37,7 +37,7 @@ drop_one (suc n) (x ∷ xs) = let e : suc n + 1 ≡ suc (n + 1) = omega arith in
 
 -- ---- one node
 
-before_group : (flag : Bool) (inner after : Running) → before (group_piece flag inner) after ≡ with_group flag inner after
+before_group : (flag : Bool) (inner after : HeardNodes) → before (group_piece flag inner) after ≡ with_group flag inner after
 before_group flag none after = refl
 before_group flag (synth v rest) after = refl
 before_group flag (group f deeper rest) after = refl
@@ -46,21 +46,21 @@ module _ (buffers : List (Option BufferPlace)) (clashing : List ℤ) where
   abbrev labelled : ℤ → NodeKind → Bool → Held → Label Held
   labelled id kind running held = record { id = id; kind = kind; running = running; payload = held }
 
-  pub piece_paused : (id : ℤ) (kind : NodeKind) (running : Bool) (held : Held) (inner : Running) → running ≡ false → nothing ≡ piece buffers clashing (labelled id kind running held) inner
+  pub piece_paused : (id : ℤ) (kind : NodeKind) (running : Bool) (held : Held) (inner : HeardNodes) → running ≡ false → nothing ≡ piece buffers clashing (labelled id kind running held) inner
   piece_paused id kind running held inner h = sym (cond-false running (running_piece buffers clashing kind (labelled id kind running held) inner) nothing h)
 
-  running_is : (id : ℤ) (kind other : NodeKind) (running : Bool) (held : Held) (inner : Running) (p : Piece) → running ≡ true → kind ≡ other → p ≡ running_piece buffers clashing other (labelled id kind running held) inner → p ≡ piece buffers clashing (labelled id kind running held) inner
+  running_is : (id : ℤ) (kind other : NodeKind) (running : Bool) (held : Held) (inner : HeardNodes) (p : Piece) → running ≡ true → kind ≡ other → p ≡ running_piece buffers clashing other (labelled id kind running held) inner → p ≡ piece buffers clashing (labelled id kind running held) inner
   running_is id kind other running held inner p h e is =
       is ∙ ap (λ k. running_piece buffers clashing k (labelled id kind running held) inner) (sym e)
       ∙ sym (cond-true running (running_piece buffers clashing kind (labelled id kind running held) inner) nothing h)
 
-  pub piece_synth : (id : ℤ) (kind : NodeKind) (running : Bool) (held : Held) (inner : Running) (v : Voice) → running ≡ true → kind ≡ kinds.Synth → v ≡ voice_of buffers id held → voice v ≡ piece buffers clashing (labelled id kind running held) inner
+  pub piece_synth : (id : ℤ) (kind : NodeKind) (running : Bool) (held : Held) (inner : HeardNodes) (v : Voice) → running ≡ true → kind ≡ kinds.Synth → v ≡ voice_of buffers id held → voice v ≡ piece buffers clashing (labelled id kind running held) inner
   piece_synth id kind running held inner v h e is = running_is id kind kinds.Synth running held inner (voice v) h e (ap voice is)
 
-  pub piece_group : (id : ℤ) (kind : NodeKind) (running : Bool) (held : Held) (inner : Running) → running ≡ true → kind ≡ kinds.Group → group_piece false inner ≡ piece buffers clashing (labelled id kind running held) inner
+  pub piece_group : (id : ℤ) (kind : NodeKind) (running : Bool) (held : Held) (inner : HeardNodes) → running ≡ true → kind ≡ kinds.Group → group_piece false inner ≡ piece buffers clashing (labelled id kind running held) inner
   piece_group id kind running held inner h e = running_is id kind kinds.Group running held inner (group_piece false inner) h e refl
 
-  pub piece_parallel : (id : ℤ) (kind : NodeKind) (running : Bool) (held : Held) (inner : Running) (b : Bool) → running ≡ true → kind ≡ kinds.Parallel → b ≡ is_listed clashing id → group_piece (not b) inner ≡ piece buffers clashing (labelled id kind running held) inner
+  pub piece_parallel : (id : ℤ) (kind : NodeKind) (running : Bool) (held : Held) (inner : HeardNodes) (b : Bool) → running ≡ true → kind ≡ kinds.Parallel → b ≡ is_listed clashing id → group_piece (not b) inner ≡ piece buffers clashing (labelled id kind running held) inner
   piece_parallel id kind running held inner b h e is = running_is id kind kinds.Parallel running held inner (group_piece (not b) inner) h e (ap (λ c. group_piece (not c) inner) is)
 
   -- ---- all nodes
@@ -74,12 +74,12 @@ module _ (buffers : List (Option BufferPlace)) (clashing : List ℤ) where
   top_pieces trees.none = []
   top_pieces (trees.node label inner after) = piece buffers clashing label (running_of buffers clashing inner) ∷ top_pieces after
 
-  before_by_kind : (kind : NodeKind) (label : Label Held) (inner after : Running) → before (running_piece buffers clashing kind label inner) after ≡ with_node buffers clashing kind label inner after
+  before_by_kind : (kind : NodeKind) (label : Label Held) (inner after : HeardNodes) → before (running_piece buffers clashing kind label inner) after ≡ with_node buffers clashing kind label inner after
   before_by_kind kinds.Synth label inner after = refl
   before_by_kind kinds.Group label inner after = before_group false inner after
   before_by_kind kinds.Parallel label inner after = before_group (not (is_listed clashing label.id)) inner after
 
-  before_if : (b : Bool) (p : Piece) (r after : Running) → before p after ≡ r → before (if b then p else nothing) after ≡ (if b then r else after)
+  before_if : (b : Bool) (p : Piece) (r after : HeardNodes) → before p after ≡ r → before (if b then p else nothing) after ≡ (if b then r else after)
   before_if true p r after e = e
   before_if false p r after e = refl
 

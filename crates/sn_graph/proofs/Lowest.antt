@@ -4,7 +4,7 @@ use Rattle.std.proofs.lemmas.Bool.{or_cases, or_parts, and_parts, and_from, or_l
 use Rattle.std.specs.Ordering.{int_eq}
 use Rattle.std.proofs.Math.Bool.{and-false, and-true, or-false}
 use Rattle.sn_graph.specs.declared.nodes.Voice.{Voice}
-use Rattle.sn_graph.specs.Voices.{Running, none, synth, group, voices, has, Once}
+use Rattle.sn_graph.specs.Voices.{HeardNodes, none, synth, group, voices, has, Once}
 use Rattle.sn_graph.specs.Plans.{lowest_is_split}
 use Rattle.sn_graph.proofs.Shapes.{is_parted, comes}
 use Rattle.sn_graph.proofs.Numbers.{once-left, once-right, once-both}
@@ -43,20 +43,20 @@ apart_left xs ys a o h = false_from_ne_true (has ys a) (λ k. once-both xs ys a 
 pub apart_right : (xs ys : List Voice) (a : ℤ) → Once (xs ++ ys) → has ys a ≡ true → has xs a ≡ false
 apart_right xs ys a o h = false_from_ne_true (has xs a) (λ k. once-both xs ys a o k h)
 
-pub not_parted_a : (g : Bool) (nodes : Running) (a b : ℤ) → has (voices nodes) a ≡ false → is_parted g nodes a b ≡ false
+pub not_parted_a : (g : Bool) (nodes : HeardNodes) (a b : ℤ) → has (voices nodes) a ≡ false → is_parted g nodes a b ≡ false
 not_parted_a g nodes a b h = false_from_ne_true (is_parted g nodes a b) (λ k. true≢false (sym (parted_has g nodes a b k).0 ∙ h))
 
-pub not_parted_b : (g : Bool) (nodes : Running) (a b : ℤ) → has (voices nodes) b ≡ false → is_parted g nodes a b ≡ false
+pub not_parted_b : (g : Bool) (nodes : HeardNodes) (a b : ℤ) → has (voices nodes) b ≡ false → is_parted g nodes a b ≡ false
 not_parted_b g nodes a b h = false_from_ne_true (is_parted g nodes a b) (λ k. true≢false (sym (parted_has g nodes a b k).1 ∙ h))
 
-pub lowest_here : (g : Bool) (nodes : Running) (a b : ℤ) → has (voices nodes) a ≡ false → lowest_is_split g nodes a b ≡ g
+pub lowest_here : (g : Bool) (nodes : HeardNodes) (a b : ℤ) → has (voices nodes) a ≡ false → lowest_is_split g nodes a b ≡ g
 lowest_here g none a b h = refl
 lowest_here g (synth s rest) a b h = lowest_here g rest a b (or_parts (int_eq s.id a) (has (voices rest) a) h).1
 lowest_here g (group f inner rest) a b h =
     let d = or_parts (has (voices inner) a) (has (voices rest) a) (sym (has-append (voices inner) (voices rest) a) ∙ h) in
     rw d.0 (lowest_here g rest a b d.1)
 
-pub parted_is_lowest : (g : Bool) (nodes : Running) (a b : ℤ) → Once (voices nodes) → comes (voices nodes) a b ≡ true → is_parted g nodes a b ≡ lowest_is_split g nodes a b
+pub parted_is_lowest : (g : Bool) (nodes : HeardNodes) (a b : ℤ) → Once (voices nodes) → comes (voices nodes) a b ≡ true → is_parted g nodes a b ≡ lowest_is_split g nodes a b
 parted_is_lowest g none a b o h = absurd (true≢false (sym h))
 parted_is_lowest g (synth s rest) a b o h =
     ⊎_elim

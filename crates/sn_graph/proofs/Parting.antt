@@ -4,7 +4,7 @@ use Rattle.std.proofs.Math.Bool.{or_assoc, or-false, and-false}
 use Rattle.std.proofs.lemmas.List.{append-nil}
 use Rattle.std.specs.Ordering.{int_eq}
 use Rattle.sn_graph.specs.declared.nodes.Voice.{Voice}
-use Rattle.sn_graph.specs.Voices.{Running, none, synth, group, voices, has}
+use Rattle.sn_graph.specs.Voices.{HeardNodes, none, synth, group, voices, has}
 use Rattle.sn_graph.specs.Rows.{Row, done, job, split, more}
 use Rattle.sn_graph.specs.Plans.{close, followed, members, joined, keep, row_of, rows_of}
 use Rattle.sn_graph.proofs.Shapes.{is_parted, heard, heard_all, heard_list, parts, parts_all, parts_list}
@@ -41,7 +41,7 @@ heard-after run r rest = heard-close run (followed r rest) ∙ ap (λ (l : List 
 
 -- the joined synths of the jobs are those of the nodes
 mutual
-  pub heard-row : (run : List Voice) (nodes : Running) → heard (row_of run nodes) ≡ run ++ voices nodes
+  pub heard-row : (run : List Voice) (nodes : HeardNodes) → heard (row_of run nodes) ≡ run ++ voices nodes
   heard-row run none = heard-close run done
   heard-row run (synth s rest) = heard-row (run ++ s ∷ []) rest ∙ append_assoc run (s ∷ []) (voices rest)
   heard-row run (group true inner rest) =
@@ -51,7 +51,7 @@ mutual
       heard-after run (row_of [] inner) (row_of [] rest)
       ∙ rw (heard-row [] inner, heard-row [] rest) refl
 
-  pub heard-rows : (nodes : Running) → heard_list (rows_of nodes) ≡ voices nodes
+  pub heard-rows : (nodes : HeardNodes) → heard_list (rows_of nodes) ≡ voices nodes
   heard-rows none = refl
   heard-rows (synth s rest) = ap (λ (l : List Voice). s ∷ l) (heard-rows rest)
   heard-rows (group true inner rest) = heard-keep (joined (rows_of inner)) (rows_of rest) ∙ rw (heard-joined (rows_of inner), heard-rows inner, heard-rows rest) refl
@@ -85,7 +85,7 @@ parts-after run r rest a b = parts-close run (followed r rest) a b ∙ parts-fol
 
 -- what is parted in the row is parted in the nodes
 mutual
-  pub parts-row : (run : List Voice) (nodes : Running) (a b : ℤ) → parts (row_of run nodes) a b ≡ is_parted false nodes a b
+  pub parts-row : (run : List Voice) (nodes : HeardNodes) (a b : ℤ) → parts (row_of run nodes) a b ≡ is_parted false nodes a b
   parts-row run none a b = parts-close run done a b
   parts-row run (synth s rest) a b = parts-row (run ++ s ∷ []) rest a b
   parts-row run (group true inner rest) a b =
@@ -95,7 +95,7 @@ mutual
       parts-after run (row_of [] inner) (row_of [] rest) a b
       ∙ rw (parts-row [] inner a b, parts-row [] rest a b) refl
 
-  pub parts-rows : (nodes : Running) (a b : ℤ) → parts_list (rows_of nodes) a b ≡ is_parted true nodes a b
+  pub parts-rows : (nodes : HeardNodes) (a b : ℤ) → parts_list (rows_of nodes) a b ≡ is_parted true nodes a b
   parts-rows none a b = refl
   parts-rows (synth s rest) a b = rw (heard-rows rest, or-false (int_eq s.id a), parts-rows rest a b) refl
   parts-rows (group true inner rest) a b = parts-keep (joined (rows_of inner)) (rows_of rest) a b ∙ rw (heard-joined (rows_of inner), heard-rows inner, heard-rows rest, parts-joined (rows_of inner) a b, parts-rows inner a b, parts-rows rest a b) refl

@@ -9,7 +9,7 @@ use Rattle.sn_round.specs.Jobs.{no_job, job_at, foot_at, predecessors, AreJobs, 
 use Rattle.sn_round.proofs.Orders.{past_end, nothing_in}
 use Rattle.sn_foot.proofs.Runs.{has_append, has_canonical}
 use Rattle.sn_graph.specs.declared.nodes.Voice.{Voice}
-use Rattle.sn_graph.specs.Voices.{all_reads, all_writes, ids_of, foot_of, Running, voices, has, Once}
+use Rattle.sn_graph.specs.Voices.{all_reads, all_writes, ids_of, foot_of, HeardNodes, voices, has, Once}
 use Rattle.sn_graph.specs.Rows.{Row, Members, done, job, split, one, more, job_of, size, size_all, lasts, jobs, jobs_all}
 use Rattle.sn_graph.specs.Plans.{is_listed, row_of, joined_synths, plan_of, Plays, edges}
 use Rattle.sn_graph.proofs.Shapes.{IsPlan, Apart, is_parted, Stands, StandsAll, heard, heard_all, Among, IsFree}
@@ -107,7 +107,7 @@ mutual
       ∙ rw (synths-jobs n e r, synths-jobs-all (n + size r) e ms) (sym (ids-append (heard r) (heard_all ms)))
 
 -- two jobs with synths
-module _ (nodes : Running) (only_once : Once (voices nodes)) where
+module _ (nodes : HeardNodes) (only_once : Once (voices nodes)) where
   abbrev pub js : List Job
   js = plan_of nodes
 
@@ -230,7 +230,7 @@ mutual
       (cases_lt k (n + size r))
 
 -- the whole law of the plan
-module _ (nodes : Running) (only_once : Once (voices nodes)) where
+module _ (nodes : HeardNodes) (only_once : Once (voices nodes)) where
   pub plays_made : (k : ℕ) (ss : List Voice) (f : List ℕ) (s : Voice) → job_at (plan_of nodes) k ≡ job_of ss f → Among ss s → Plays (plan_of nodes) k s.id
   plays_made k ss f s e a = ap (λ (j : Job). is_listed j.synths s.id) e ∙ (numbers.listed-ids ss s.id ∙ among_has ss s a)
 

@@ -5,7 +5,7 @@ use Rattle.sn_mem.specs.Words.{Clash}
 use Rattle.sn_round.specs.declared.jobs.Job.{Job}
 use Rattle.sn_round.specs.Jobs.{Ordered}
 use Rattle.sn_graph.specs.declared.nodes.Voice.{Voice}
-use Rattle.sn_graph.specs.Voices.{Running, none, synth, group, voices, ids_of, has}
+use Rattle.sn_graph.specs.Voices.{HeardNodes, none, synth, group, voices, ids_of, has}
 use Rattle.sn_graph.specs.Rows.{Row, Members, done, job, split, one, more, job_of, size, size_all, lasts}
 use Rattle.sn_graph.specs.Plans.{joined_synths, edges, Plays}
 
@@ -47,13 +47,13 @@ abbrev mutual
   AreFull (more r ms) = (1 ≤ size r) × IsFull r × AreFull ms
 
 -- how much there is below
-abbrev pub weight : Running → ℕ
+abbrev pub weight : HeardNodes → ℕ
 weight none = 0
 weight (synth s rest) = 1 + weight rest
 weight (group g inner rest) = 1 + (weight inner + weight rest)
 
 -- the lowest group that holds both is split, and a comes first; the nodes are the children of a group that is split or not
-abbrev pub is_parted : Bool → Running → ℤ → ℤ → Bool
+abbrev pub is_parted : Bool → HeardNodes → ℤ → ℤ → Bool
 is_parted g none a b = false
 is_parted g (synth s rest) a b = (g && int_eq s.id a && has (voices rest) b) || is_parted g rest a b
 is_parted g (group h inner rest) a b = (g && has (voices inner) a && has (voices rest) b) || (is_parted h inner a b || is_parted g rest a b)
@@ -103,7 +103,7 @@ Among [] s = ⊥
 Among (x ∷ xs) s = (x ≡ s) ⊎ Among xs s
 
 -- synths whose lowest group is split do not clash
-abbrev pub IsFree : Running → Type 0
+abbrev pub IsFree : HeardNodes → Type 0
 IsFree nodes = (s t : Voice) → Among (voices nodes) s → Among (voices nodes) t → is_parted false nodes s.id t.id ≡ true → Clash s.foot t.foot → ⊥
 
 -- a stands before b
@@ -112,7 +112,7 @@ comes [] a b = false
 comes (s ∷ ss) a b = (int_eq s.id a && has ss b) || comes ss a b
 
 -- what is shown first of a plan
-pub record IsPlan (nodes : Running) (js : List Job) : Type 0 where
+pub record IsPlan (nodes : HeardNodes) (js : List Job) : Type 0 where
   pub synths : joined_synths js ≡ ids_of (voices nodes)
   pub ordered : (i j : ℕ) (a b : ℤ) → Plays js i a → Plays js j b → Ordered js i j ↔ ((i < j) × (is_parted false nodes a b ≡ false))
   pub few : edges js ≤ 2 * length js

@@ -18,7 +18,7 @@ use Rattle.sn_foot.specs.Canonical.{Ends, both, canonical, in_order, merged, not
 use Rattle.sn_foot.specs.Footprints.{footprint_of, states_of, used_places}
 use Rattle.sn_foot.proofs.Finding.{all_parts, all_below}
 use Rattle.sn_foot.proofs.Placing.{used_ends}
-use Rattle.sn_graph.specs.Voices.{Running, voices, AreWithin}
+use Rattle.sn_graph.specs.Voices.{HeardNodes, voices, AreWithin}
 use Rattle.sn_graph.specs.Plans.{is_listed}
 use Rattle.sn_graph.specs.Stages.{voice_of, with_group, with_node, running_of}
 use Rattle.sn_graph.proofs.Drafting.{within_both}
@@ -85,11 +85,11 @@ module _ (buffers : List (Option BufferPlace)) (clashing : List ℤ) where
         tt,
       )
 
-within_group : (flag : Bool) (below after : Running) → AreWithin (voices below) → AreWithin (voices after) → AreWithin (voices (with_group flag below after))
+within_group : (flag : Bool) (below after : HeardNodes) → AreWithin (voices below) → AreWithin (voices after) → AreWithin (voices (with_group flag below after))
 within_group flag below after b a = subst AreWithin (sym (voices_group flag below after)) (within_both (voices below) (voices after) b a)
 
 module _ (buffers : List (Option BufferPlace)) (clashing : List ℤ) where
-  within_node : (kind : NodeKind) (label : Label Held) (below after : Running) → AreWithin (voice_of buffers label.id label.payload ∷ []) → AreWithin (voices below) → AreWithin (voices after) → AreWithin (voices (with_node buffers clashing kind label below after))
+  within_node : (kind : NodeKind) (label : Label Held) (below after : HeardNodes) → AreWithin (voice_of buffers label.id label.payload ∷ []) → AreWithin (voices below) → AreWithin (voices after) → AreWithin (voices (with_node buffers clashing kind label below after))
   within_node kinds.Synth label below after v b a = (v.0, a)
   within_node kinds.Group label below after v b a = within_group false below after b a
   within_node kinds.Parallel label below after v b a = within_group (not (is_listed clashing label.id)) below after b a

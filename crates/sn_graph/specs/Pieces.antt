@@ -8,7 +8,7 @@ use Rattle.sn_world.specs.declared.stage.Held.{Held}
 use Rattle.sn_graph.specs.declared.nodes.Voice.{Voice}
 use Rattle.sn_graph.specs.declared.parts.Part.TheVariants as given
 use Rattle.sn_graph.specs.declared.parts.Part.{Part}
-use Rattle.sn_graph.specs.Voices.{Running, none, synth, group, is_none}
+use Rattle.sn_graph.specs.Voices.{HeardNodes, none, synth, group, is_none}
 use Rattle.sn_graph.specs.Inputs.{nodes_of}
 use Rattle.sn_graph.specs.Plans.{is_listed}
 use Rattle.sn_graph.specs.Stages.{voice_of}
@@ -17,7 +17,7 @@ use Rattle.sn_graph.specs.Stages.{voice_of}
 pub data Piece : Type 0 where
   nothing : Piece
   voice : Voice → Piece
-  below : Bool → Running → Piece
+  below : Bool → HeardNodes → Piece
 
 abbrev pub piece_of : Part → Piece
 piece_of given.Nothing = nothing
@@ -29,25 +29,25 @@ abbrev pub pieces : List Part → List Piece
 pieces parts = reverse (map piece_of parts)
 
 -- a node before others
-abbrev pub before : Piece → Running → Running
+abbrev pub before : Piece → HeardNodes → HeardNodes
 before nothing rest = rest
 before (voice v) rest = synth v rest
 before (below flag inner) rest = group flag inner rest
 
-abbrev pub linked : List Piece → Running → Running
+abbrev pub linked : List Piece → HeardNodes → HeardNodes
 linked [] rest = rest
 linked (p ∷ ps) rest = before p (linked ps rest)
 
-abbrev pub group_piece : Bool → Running → Piece
+abbrev pub group_piece : Bool → HeardNodes → Piece
 group_piece flag inner = if is_none inner then nothing else below flag inner
 
 module _ (buffers : List (Option BufferPlace)) (clashing : List ℤ) where
-  abbrev pub running_piece : NodeKind → Label Held → Running → Piece
+  abbrev pub running_piece : NodeKind → Label Held → HeardNodes → Piece
   running_piece kinds.Synth label inner = voice (voice_of buffers label.id label.payload)
   running_piece kinds.Group label inner = group_piece false inner
   running_piece kinds.Parallel label inner = group_piece (not (is_listed clashing label.id)) inner
 
-  abbrev pub piece : Label Held → Running → Piece
+  abbrev pub piece : Label Held → HeardNodes → Piece
   piece label inner = if label.running then running_piece label.kind label inner else nothing
 
   -- a node takes those just below it

@@ -6,7 +6,7 @@ use Rattle.sn_mem.specs.Words.{Clash}
 use Rattle.sn_round.specs.declared.jobs.Job.{Job}
 use Rattle.sn_round.specs.Jobs.{foot_at, job_at, Ordered}
 use Rattle.sn_graph.specs.declared.nodes.Voice.{Voice}
-use Rattle.sn_graph.specs.Voices.{Running, none, synth, group, voices, foot_of, ids_of, has}
+use Rattle.sn_graph.specs.Voices.{HeardNodes, none, synth, group, voices, foot_of, ids_of, has}
 use Rattle.sn_graph.specs.Rows.{Row, Members, done, job, split, one, more, jobs}
 
 -- an open run of synths is one job
@@ -38,22 +38,22 @@ keep (split ms a) rs = split ms a ∷ rs
 -- The row of nodes that are rendered in order, after an open run of synths, which a group ends; and the rows of the members
 -- of a split group.
 abbrev mutual
-  pub row_of : List Voice → Running → Row
+  pub row_of : List Voice → HeardNodes → Row
   row_of run none = close run done
   row_of run (synth v rest) = row_of (run ++ v ∷ []) rest
   row_of run (group flag inner rest) = close run (followed (if flag then joined (rows_of inner) else row_of [] inner) (row_of [] rest))
 
-  pub rows_of : Running → List Row
+  pub rows_of : HeardNodes → List Row
   rows_of none = []
   rows_of (synth v rest) = job (v ∷ []) done ∷ rows_of rest
   rows_of (group flag inner rest) = keep (if flag then joined (rows_of inner) else row_of [] inner) (rows_of rest)
 
 -- the row of a group
-abbrev pub inner_row : Bool → Running → Row
+abbrev pub inner_row : Bool → HeardNodes → Row
 inner_row flag inner = if flag then joined (rows_of inner) else row_of [] inner
 
 -- the plan of these nodes
-abbrev pub plan_of : Running → List Job
+abbrev pub plan_of : HeardNodes → List Job
 plan_of nodes = jobs 0 [] (row_of [] nodes)
 
 -- ---- what a plan promises
@@ -80,12 +80,12 @@ abbrev pub Plays : List Job → ℕ → ℤ → Type 0
 Plays js i a = is_listed ((job_at js i).synths) a ≡ true
 
 -- The lowest group that holds both synths is split. The nodes are the children of a group that is split or not.
-abbrev pub lowest_is_split : Bool → Running → ℤ → ℤ → Bool
+abbrev pub lowest_is_split : Bool → HeardNodes → ℤ → ℤ → Bool
 lowest_is_split outer none a b = outer
 lowest_is_split outer (synth v rest) a b = lowest_is_split outer rest a b
 lowest_is_split outer (group flag inner rest) a b = if has (voices inner) a && has (voices inner) b then lowest_is_split flag inner a b else lowest_is_split outer rest a b
 
-pub record IsPlanned (nodes : Running) (js : List Job) : Type 0 where
+pub record IsPlanned (nodes : HeardNodes) (js : List Job) : Type 0 where
   -- the synths of the jobs, joined, are those of the nodes in the order of the walk
   pub synths : joined_synths js ≡ ids_of (voices nodes)
   -- of jobs with synths, one is ordered before another exactly where it stands before it and the lowest group that holds the synths of both is not split
@@ -106,13 +106,13 @@ abbrev pub AreClear : List Voice → List Voice → Type 0
 AreClear [] ts = Unit {0}
 AreClear (s ∷ ss) ts = IsClearOf s ts × AreClear ss ts
 
-abbrev pub MembersAreClear : Running → Type 0
+abbrev pub MembersAreClear : HeardNodes → Type 0
 MembersAreClear none = Unit {0}
 MembersAreClear (synth s rest) = IsClearOf s (voices rest) × MembersAreClear rest
 MembersAreClear (group flag inner rest) = AreClear (voices inner) (voices rest) × MembersAreClear rest
 
 -- nor does one in any split group
-abbrev pub SplitsAreClear : Running → Type 0
+abbrev pub SplitsAreClear : HeardNodes → Type 0
 SplitsAreClear none = Unit {0}
 SplitsAreClear (synth s rest) = SplitsAreClear rest
 SplitsAreClear (group flag inner rest) = (flag ≡ true → MembersAreClear inner) × (SplitsAreClear inner × SplitsAreClear rest)

@@ -10,7 +10,7 @@ use Rattle.sn_world.specs.declared.stage.Stage.{Stage}
 use Rattle.sn_foot.specs.Footprints.{foot_of}
 use Rattle.sn_clash.specs.Clashing.{clashes_in}
 use Rattle.sn_graph.specs.declared.nodes.Voice.{Voice}
-use Rattle.sn_graph.specs.Voices.{Running, none, synth, group, is_none}
+use Rattle.sn_graph.specs.Voices.{HeardNodes, none, synth, group, is_none}
 use Rattle.sn_graph.specs.Plans.{is_listed}
 
 -- a synth that runs, and the words that it may touch
@@ -18,26 +18,26 @@ abbrev pub voice_of : List (Option BufferPlace) → ℤ → Held → Voice
 voice_of buffers id held = record { id = id; foot = foot_of buffers (held ∷ []) }
 
 -- a group with what is kept below it, before others; if nothing is, it is left out
-abbrev pub with_group : Bool → Running → Running → Running
+abbrev pub with_group : Bool → HeardNodes → HeardNodes → HeardNodes
 with_group flag below after = if is_none below then after else group flag below after
 
 -- the buffers, and the ids of the parallel groups whose members clash
 module _ (buffers : List (Option BufferPlace)) (clashing : List ℤ) where
   -- A node that runs, with those that run below it, before others. A parallel group is split unless its members clash.
-  abbrev pub with_node : NodeKind → Label Held → Running → Running → Running
+  abbrev pub with_node : NodeKind → Label Held → HeardNodes → HeardNodes → HeardNodes
   with_node kinds.Synth label below after = synth (voice_of buffers label.id label.payload) after
   with_node kinds.Group label below after = with_group false below after
   with_node kinds.Parallel label below after = with_group (not (is_listed clashing label.id)) below after
 
   -- The nodes that are heard: a paused node is left out with all below it, and so is a group in which no synth runs.
-  abbrev pub running_of : Nodes Held → Running
+  abbrev pub running_of : Nodes Held → HeardNodes
   running_of trees.none = none
   running_of (trees.node label below after) =
       if label.running then with_node label.kind label (running_of below) (running_of after)
       else running_of after
 
   -- those of the root, which has the id 0, and of all below it
-  abbrev pub running_nodes : Nodes Held → Running
+  abbrev pub running_nodes : Nodes Held → HeardNodes
   running_nodes nodes = running_of (subtree (pos 0) nodes)
 
 -- ---- a stage
@@ -47,5 +47,5 @@ abbrev pub clashing_in : Stage → List ℤ
 clashing_in stage = map (λ c. c.group) (clashes_in stage)
 
 -- its running nodes, of which a parallel group is split unless its members clash
-abbrev pub nodes_in : Stage → Running
+abbrev pub nodes_in : Stage → HeardNodes
 nodes_in stage = running_nodes stage.buffers (clashing_in stage) stage.tree.attached

@@ -8,24 +8,24 @@ use Rattle.std.specs.List.{All}
 use Rattle.sn_foot.specs.Canonical.{Ends, canonical}
 
 -- The children of a group that are kept, each group with its own. The flag of a group says whether it is split.
-pub data Running : Type 0 where
-  none : Running
-  synth : Voice → Running → Running
-  group : Bool → Running → Running → Running
+pub data HeardNodes : Type 0 where
+  none : HeardNodes
+  synth : Voice → HeardNodes → HeardNodes
+  group : Bool → HeardNodes → HeardNodes → HeardNodes
 
-abbrev pub is_none : Running → Bool
+abbrev pub is_none : HeardNodes → Bool
 is_none none = true
 is_none (synth v rest) = false
 is_none (group flag inner rest) = false
 
 -- all running synths, in the order of the walk
-abbrev pub voices : Running → List Voice
+abbrev pub voices : HeardNodes → List Voice
 voices none = []
 voices (synth v rest) = v ∷ voices rest
 voices (group flag inner rest) = voices inner ++ voices rest
 
 -- each group holds a synth
-abbrev pub AreHeard : Running → Type 0
+abbrev pub AreHeard : HeardNodes → Type 0
 AreHeard none = Unit {0}
 AreHeard (synth v rest) = AreHeard rest
 AreHeard (group flag inner rest) = (1 ≤ length (voices inner)) × (AreHeard inner × AreHeard rest)

@@ -7,7 +7,7 @@ ghost use Rattle.sn_graph.specs.Plans.{IsPlanned, SplitsAreClear, close, inner_r
 ghost use Rattle.sn_graph.specs.Inputs.{nodes_of};
 ghost use Rattle.sn_graph.specs.Drafts.{IsJoint, Puts, listed};
 
-use crate::nodes::{Running, Voice};
+use crate::nodes::{HeardNodes, Voice};
 use sn_foot::canonical;
 use sn_mem::{Extent, Foot};
 use sn_ports::NoMemory;
@@ -157,7 +157,7 @@ fn put_joint(
 fn put_row(
     alloc: Global,
     jobs: &mut Vec<Job>,
-    nodes: &Running,
+    nodes: &HeardNodes,
     entry: Option<u32>,
 ) -> Result<Option<u32>, NoMemory>
     requires room { length jobs.old.items + size (row_of [] (nodes_of nodes.now)) < 2 ^ 32 }
@@ -169,12 +169,12 @@ fn put_row(
     let mut rest = nodes;
     loop {
         match rest {
-            Running::None => break,
-            Running::Synth(voice, next) => {
+            HeardNodes::None => break,
+            HeardNodes::Synth(voice, next) => {
                 run.push(voice)?;
                 rest = next;
             }
-            Running::Group(split, inner, next) => {
+            HeardNodes::Group(split, inner, next) => {
                 rest = next;
                 let open = run.as_slice();
                 last = end_run(alloc, jobs, open, last)?;
@@ -192,7 +192,7 @@ fn put_group(
     alloc: Global,
     jobs: &mut Vec<Job>,
     split: bool,
-    inner: &Running,
+    inner: &HeardNodes,
     entry: Option<u32>,
 ) -> Result<Option<u32>, NoMemory>
     requires room { length jobs.old.items + size (inner_row split (nodes_of inner.now)) < 2 ^ 32 }
@@ -211,7 +211,7 @@ fn put_group(
 fn put_members(
     alloc: Global,
     jobs: &mut Vec<Job>,
-    inner: &Running,
+    inner: &HeardNodes,
     entry: Option<u32>,
 ) -> Result<Option<u32>, NoMemory>
     requires room { length jobs.old.items + size (joined (rows_of (nodes_of inner.now))) < 2 ^ 32 }
@@ -222,13 +222,13 @@ fn put_members(
     let mut rest = inner;
     loop {
         match rest {
-            Running::None => break,
-            Running::Synth(voice, next) => {
+            HeardNodes::None => break,
+            HeardNodes::Synth(voice, next) => {
                 rest = next;
                 let last = end_run(alloc, jobs, &[voice], entry)?;
                 put_last(&mut lasts, last)?;
             }
-            Running::Group(split, inner, next) => {
+            HeardNodes::Group(split, inner, next) => {
                 rest = next;
                 let before = jobs.len();
                 let last = put_group(alloc, jobs, *split, inner, entry)?;
@@ -240,7 +240,7 @@ fn put_members(
 }
 
 /// The plan of nodes that are heard.
-pub fn plan_of_nodes(alloc: Global, nodes: &Running) -> Result<Plan, NoMemory>
+pub fn plan_of_nodes(alloc: Global, nodes: &HeardNodes) -> Result<Plan, NoMemory>
     requires few { size (row_of [] (nodes_of nodes.now)) < 2 ^ 32 }
     requires within { AreWithin (voices (nodes_of nodes.now)) }
     requires once { Once (voices (nodes_of nodes.now)) }

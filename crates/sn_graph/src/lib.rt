@@ -13,5 +13,5 @@ pub use laws::{
     clashes_name_the_groups, feet_clash_as_footprints, nodes_clash_as_footprints,
     silent_groups_are_left_out, worlds_are_disjoint,
 };
-pub use nodes::{Running, Voice};
+pub use nodes::{HeardNodes, Voice};
 pub use stages::plan;

@@ -13,11 +13,11 @@ pub struct Voice {
 /// The children of a group that are heard, in order. The flag of a group says whether it is split, so that its members may run
 /// beside each other.
 #[derive(Drop)]
-pub enum Running {
+pub enum HeardNodes {
     /// No more of them.
     None,
     /// A synth, and those after it.
-    Synth(Voice, Box<Running>),
+    Synth(Voice, Box<HeardNodes>),
     /// A group with those below it, and those after it.
-    Group(bool, Box<Running>, Box<Running>),
+    Group(bool, Box<HeardNodes>, Box<HeardNodes>),
 }

@@ -11,7 +11,7 @@ ghost use Rattle.sn_clash.specs.Rows.{row_of};
 ghost use Rattle.sn_graph.specs.Pieces.{before, group_piece, linked, piece, piece_of, pieces, with_member};
 
 use crate::named::NamedGroups;
-use crate::nodes::{Running, Voice};
+use crate::nodes::{HeardNodes, Voice};
 use sn_foot::foot_of_nodes;
 use sn_mem::Buffers;
 use sn_ports::NoMemory;
@@ -27,17 +27,17 @@ pub enum Part {
     /// A synth.
     Synth(Voice),
     /// A group, whether it is split, and those below it.
-    Group(bool, Running),
+    Group(bool, HeardNodes),
 }
 
 /// Puts a node before others.
-fn before(alloc: Global, part: Part, rest: Running) -> Result<Running, NoMemory>
+fn before(alloc: Global, part: Part, rest: HeardNodes) -> Result<HeardNodes, NoMemory>
     ensures { IfOk result (λ nodes. nodes_of nodes ≡ before (piece_of part) (nodes_of rest)) }
 {
     match part {
         Part::Nothing => Ok(rest),
-        Part::Synth(voice) => Ok(Running::Synth(voice, Box::new(alloc, rest)?)),
-        Part::Group(split, inner) => Ok(Running::Group(
+        Part::Synth(voice) => Ok(HeardNodes::Synth(voice, Box::new(alloc, rest)?)),
+        Part::Group(split, inner) => Ok(HeardNodes::Group(
             split,
             Box::new(alloc, inner)?,
             Box::new(alloc, rest)?,
@@ -46,11 +46,11 @@ fn before(alloc: Global, part: Part, rest: Running) -> Result<Running, NoMemory>
 }
 
 /// Puts all these nodes in order.
-fn linked(alloc: Global, parts: Vec<Part>) -> Result<Running, NoMemory>
+fn linked(alloc: Global, parts: Vec<Part>) -> Result<HeardNodes, NoMemory>
     ensures { IfOk result (λ nodes. nodes_of nodes ≡ linked (map piece_of parts.items) none) }
 {
     let mut parts = parts;
-    let mut nodes = Running::None;
+    let mut nodes = HeardNodes::None;
     while let Some(part) = parts.pop() {
         nodes = before(alloc, part, nodes)?;
     }
@@ -72,7 +72,11 @@ fn move_first(parts: &mut Vec<Part>, taken: &mut Vec<Part>) -> Result<(), NoMemo
 }
 
 /// Takes the first nodes, so many, in order.
-pub fn take_nodes(alloc: Global, parts: &mut Vec<Part>, count: usize) -> Result<Running, NoMemory>
+pub fn take_nodes(
+    alloc: Global,
+    parts: &mut Vec<Part>,
+    count: usize,
+) -> Result<HeardNodes, NoMemory>
     ensures nodes { IfOk result (λ nodes. nodes_of nodes ≡ linked (take count (pieces parts.old.items)) none) }
     ensures left { OnOk result (pieces parts.new.items ≡ drop count (pieces parts.old.items)) }
 {
@@ -97,17 +101,17 @@ fn voice_of(alloc: Global, buffers: &Buffers, member: &Member<'_, Held>) -> Resu
 }
 
 /// Whether there are no nodes.
-fn is_none(nodes: &Running) -> bool
+fn is_none(nodes: &HeardNodes) -> bool
     ensures { result ≡ is_none (nodes_of nodes.now) }
 {
     match nodes {
-        Running::None => true,
-        Running::Synth(_, _) | Running::Group(_, _, _) => false,
+        HeardNodes::None => true,
+        HeardNodes::Synth(_, _) | HeardNodes::Group(_, _, _) => false,
     }
 }
 
 /// A group with these below it. Without any it is left out.
-fn group_of(split: bool, inner: Running) -> Part
+fn group_of(split: bool, inner: HeardNodes) -> Part
     ensures { piece_of result ≡ group_piece split (nodes_of inner) }
 {
     if is_none(&inner) {
@@ -122,7 +126,7 @@ fn part_of(
     buffers: &Buffers,
     clashing: &NamedGroups<'_>,
     member: &Member<'_, Held>,
-    inner: Running,
+    inner: HeardNodes,
 ) -> Result<Part, NoMemory>
     requires buffers { All Ends (live_places buffers.now) }
     requires state { All Ends (states_of (member.now.payload.now ∷ [])) }

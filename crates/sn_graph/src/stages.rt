@@ -15,7 +15,7 @@ ghost use Rattle.sn_graph.specs.Stages.{nodes_in, running_nodes};
 
 use crate::jobs::plan_of_nodes;
 use crate::named::NamedGroups;
-use crate::nodes::Running;
+use crate::nodes::HeardNodes;
 use crate::parts::{put_part, take_nodes};
 use sn_clash::{Clash, all_nodes};
 use sn_ports::NoMemory;
@@ -28,7 +28,7 @@ fn running_nodes(
     alloc: Global,
     stage: &Stage,
     clashing: &NamedGroups<'_>,
-) -> Result<Running, NoMemory>
+) -> Result<HeardNodes, NoMemory>
     requires buffers { All Ends (live_places stage.now.buffers) }
     requires states { All Ends (live_held stage.now.tree.attached) }
     ensures { IfOk result (λ nodes. nodes_of nodes ≡ running_nodes stage.now.buffers clashing.now stage.now.tree.attached) }

@@ -2,8 +2,8 @@
 use Rattle.std.proofs.Common.{◌≡◌, ◌<◌, ℕ, true, false, Option, List, ℤ, length, get_or, ap, sym, subst, ◌∙◌}
 use Rattle.sn_def.specs.declared.kind.Kind.{Kind}
 use Rattle.sn_def.specs.declared.control.Now.{Now}
-use Rattle.sn_def.specs.declared.table.Words.{Words}
-use Rattle.sn_def.specs.declared.table.Words.TheVariants.{Fixed}
+use Rattle.sn_def.specs.declared.table.StateSize.{StateSize}
+use Rattle.sn_def.specs.declared.table.StateSize.TheVariants.{Fixed}
 use Rattle.sn_def.specs.Units.{row_of}
 use Rattle.sn_def.specs.StateWords.{words_of}
 use Rattle.sn_mem.specs.declared.extents.Foot.{Foot}
@@ -20,7 +20,7 @@ use Rattle.sn_io.proofs.BufferKeeping.{buffer_unit_long, buffer_unit_keeps}
 use Rattle.sn_io.proofs.Standing.{stands}
 
 fixed : (k : Kind) (len : ℕ) → (row_of k).words ≡ Fixed len → words_of (row_of k).words 0 ≡ len
-fixed k len size = ap (λ (w : Words). words_of w 0) size
+fixed k len size = ap (λ (w : StateSize). words_of w 0) size
 
 pub run_means : (k : Kind) (now : Now) (n at len : ℕ) (f : Foot) (places : List (Option BufferPlace)) (ws us : List ℕ) (inputs outputs : List (List ℤ)) → is_buffer_unit k ≡ true → (row_of k).words ≡ Fixed len → MayWrite f at len → MayReachBuffer k f inputs places → ((x : ℕ) → touches f x ≡ true → x < length ws)
     → us ≡ (buffer_unit_over k now n places ws at len inputs).0 → outputs ≡ (buffer_unit_over k now n places ws at len inputs).1 → AreApart (record { at = at; len = len }) places → BufferMeans at len places ws us outputs (buffer_unit k now n (window ws at len) inputs (buffers_of ws places))

@@ -5,25 +5,25 @@ use Rattle.std.proofs.lemmas.List.{ext_get_or, get_or_past}
 use Rattle.sn_mem.specs.declared.extents.Foot.{Foot}
 use Rattle.sn_mem.specs.Words.{writes, touches}
 use Rattle.sn_mem.specs.Blocks.{table}
-use Rattle.sn_mem.specs.Frames.{masked, overlaid, framed}
+use Rattle.sn_mem.specs.ThroughFoot.{masked, overlaid, kept_to}
 use Rattle.sn_mem.proofs.Masks.{length-masked, length-overlaid, masked_at, touched, get_or-table}
 use Rattle.sn_mem.proofs.Windows.{table_same}
 use Rattle.sn_io.specs.ByFoot.{Agree, IsByFoot, IsPart}
 
 -- ---- kept to a foot
 
-framed_long : (f : Foot) (change : List ℕ → List ℕ) (ws : List ℕ) → length (framed f change ws) ≡ length ws
-framed_long f change ws = length-overlaid f (change (masked f ws)) ws
+kept_long : (f : Foot) (change : List ℕ → List ℕ) (ws : List ℕ) → length (kept_to f change ws) ≡ length ws
+kept_long f change ws = length-overlaid f (change (masked f ws)) ws
 
 -- what may be written is that of one list, the rest that of the other
 overlaid_at : (f : Foot) (us ws : List ℕ) (x : ℕ) (b : Bool) → x < length ws → writes f x ≡ b → get_or (overlaid f us ws) x 0 ≡ cond b (get_or us x 0) (get_or ws x 0)
 unfolding overlaid
 overlaid_at f us ws x b lt w = get_or-table (λ x. cond (writes f x) (get_or us x 0) (get_or ws x 0)) (length ws) x lt ∙ ap (λ b. cond b (get_or us x 0) (get_or ws x 0)) w
 
-framed_keeps : (f : Foot) (change : List ℕ → List ℕ) (ws : List ℕ) (x : ℕ) → writes f x ≡ false → get_or (framed f change ws) x 0 ≡ get_or ws x 0
-framed_keeps f change ws x off = ⊎_elim
+kept_keeps : (f : Foot) (change : List ℕ → List ℕ) (ws : List ℕ) (x : ℕ) → writes f x ≡ false → get_or (kept_to f change ws) x 0 ≡ get_or ws x 0
+kept_keeps f change ws x off = ⊎_elim
     (λ (l : x < length ws). overlaid_at f (change (masked f ws)) ws x false l off)
-    (λ (g : length ws ≤ x). get_or_past (framed f change ws) x 0 (omega (arith, framed_long f change ws, g)) ∙ sym (get_or_past ws x 0 g))
+    (λ (g : length ws ≤ x). get_or_past (kept_to f change ws) x 0 (omega (arith, kept_long f change ws, g)) ∙ sym (get_or_past ws x 0 g))
     (cases_lt x (length ws))
 
 masked_agree : (f : Foot) (ws : List ℕ) → Agree (touches f) (masked f ws) ws
@@ -36,15 +36,15 @@ masked_agree f ws = record {
 }
 
 -- such a change is the same where it is kept to its foot
-pub framed_same : (f : Foot) (change : List ℕ → List ℕ) (ws : List ℕ) → IsByFoot f change → framed f change ws ≡ change ws
-framed_same f change ws by =
-    let long : length (framed f change ws) ≡ length ws = framed_long f change ws in
-    ext_get_or 0 (framed f change ws) (change ws) (long ∙ sym (by.long ws))
+pub kept_same : (f : Foot) (change : List ℕ → List ℕ) (ws : List ℕ) → IsByFoot f change → kept_to f change ws ≡ change ws
+kept_same f change ws by =
+    let long : length (kept_to f change ws) ≡ length ws = kept_long f change ws in
+    ext_get_or 0 (kept_to f change ws) (change ws) (long ∙ sym (by.long ws))
     (λ i lt.
     let l : i < length ws = omega (arith, long, lt) in
     ⊎_elim
     (λ (t : writes f i ≡ true). overlaid_at f (change (masked f ws)) ws i true l t ∙ (by.agree (masked f ws) ws (masked_agree f ws)).same i (touched f i t))
-    (λ (t : writes f i ≡ false). framed_keeps f change ws i t ∙ sym (by.keeps ws i t))
+    (λ (t : writes f i ≡ false). kept_keeps f change ws i t ∙ sym (by.keeps ws i t))
     (cases_Bool (writes f i)))
 
 seen_same : (t : Bool) (u w : ℕ) → (t ≡ true → u ≡ w) → cond t u 0 ≡ cond t w 0
@@ -58,22 +58,22 @@ masked_same f us ws a =
     ap (table (λ x. cond (touches f x) (get_or us x 0) 0)) a.long
     ∙ table_same (λ x. cond (touches f x) (get_or us x 0) 0) (λ x. cond (touches f x) (get_or ws x 0) 0) (length ws) (λ x lt. seen_same (touches f x) (get_or us x 0) (get_or ws x 0) (a.same x))
 
-framed_at : (f : Foot) (change : List ℕ → List ℕ) (us ws : List ℕ) (x : ℕ) → Agree (touches f) us ws → x < length ws → touches f x ≡ true → get_or (framed f change us) x 0 ≡ get_or (framed f change ws) x 0
-framed_at f change us ws x a lt on = ⊎_elim
+kept_at : (f : Foot) (change : List ℕ → List ℕ) (us ws : List ℕ) (x : ℕ) → Agree (touches f) us ws → x < length ws → touches f x ≡ true → get_or (kept_to f change us) x 0 ≡ get_or (kept_to f change ws) x 0
+kept_at f change us ws x a lt on = ⊎_elim
     (λ (t : writes f x ≡ true). overlaid_at f (change (masked f us)) us x true (omega (arith, a.long, lt)) t ∙ (ap (λ (vs : List ℕ). get_or (change vs) x 0) (masked_same f us ws a) ∙ sym (overlaid_at f (change (masked f ws)) ws x true lt t)))
-    (λ (t : writes f x ≡ false). framed_keeps f change us x t ∙ (a.same x on ∙ sym (framed_keeps f change ws x t)))
+    (λ (t : writes f x ≡ false). kept_keeps f change us x t ∙ (a.same x on ∙ sym (kept_keeps f change ws x t)))
     (cases_Bool (writes f x))
 
 -- what is kept to a foot sees and changes it alone
-pub framed_by_foot : (f : Foot) (change : List ℕ → List ℕ) → IsByFoot f (framed f change)
-framed_by_foot f change = record {
-  long = λ ws. framed_long f change ws;
-  keeps = λ ws x off. framed_keeps f change ws x off;
+pub kept_is_by_foot : (f : Foot) (change : List ℕ → List ℕ) → IsByFoot f (kept_to f change)
+kept_is_by_foot f change = record {
+  long = λ ws. kept_long f change ws;
+  keeps = λ ws x off. kept_keeps f change ws x off;
   agree = λ us ws a. record {
-    long = framed_long f change us ∙ (a.long ∙ sym (framed_long f change ws));
+    long = kept_long f change us ∙ (a.long ∙ sym (kept_long f change ws));
     same = λ x on. ⊎_elim
-        (λ (l : x < length ws). framed_at f change us ws x a l on)
-        (λ (g : length ws ≤ x). get_or_past (framed f change us) x 0 (omega (arith, framed_long f change us, a.long, g)) ∙ sym (get_or_past (framed f change ws) x 0 (omega (arith, framed_long f change ws, g))))
+        (λ (l : x < length ws). kept_at f change us ws x a l on)
+        (λ (g : length ws ≤ x). get_or_past (kept_to f change us) x 0 (omega (arith, kept_long f change us, a.long, g)) ∙ sym (get_or_past (kept_to f change ws) x 0 (omega (arith, kept_long f change ws, g))))
         (cases_lt x (length ws));
   };
 }

@@ -4,8 +4,8 @@ use Rattle.std.proofs.lemmas.Bool.{cases_lt}
 use Rattle.sn_def.specs.declared.kind.Kind.{Kind}
 use Rattle.sn_def.specs.declared.kind.Kind.TheVariants as kinds
 use Rattle.sn_def.specs.declared.control.Now.{Now}
-use Rattle.sn_def.specs.declared.table.Words.{Words}
-use Rattle.sn_def.specs.declared.table.Words.TheVariants.{Fixed}
+use Rattle.sn_def.specs.declared.table.StateSize.{StateSize}
+use Rattle.sn_def.specs.declared.table.StateSize.TheVariants.{Fixed}
 use Rattle.sn_def.specs.Units.{row_of}
 use Rattle.sn_def.specs.StateWords.{words_of}
 use Rattle.sn_mem.specs.declared.extents.Foot.{Foot}
@@ -68,4 +68,4 @@ bus_unit_keeps k now f c ws at n frames inputs j state size may off = trigger_ke
 
 -- the words us after a unit
 pub run_keeps : (k : Kind) (now : Now) (f : Foot) (c : ℕ) (ws us : List ℕ) (at n : ℕ) (inputs : List (List ℤ)) → us ≡ (bus_unit_over k now c ws at n inputs).0 → MayWrite f at n → (row_of k).words ≡ Fixed n → MayReach k f c inputs → (j : ℕ) → writes f j ≡ false → get_or us j 0 ≡ get_or ws j 0
-run_keeps k now f c ws us at n inputs e state size may j off = ap (λ (us : List ℕ). get_or us j 0) e ∙ bus_unit_keeps k now f c ws at n 0 inputs j state (sym (ap (λ (w : Words). words_of w 0) size)) may off
+run_keeps k now f c ws us at n inputs e state size may j off = ap (λ (us : List ℕ). get_or us j 0) e ∙ bus_unit_keeps k now f c ws at n 0 inputs j state (sym (ap (λ (w : StateSize). words_of w 0) size)) may off

@@ -6,8 +6,8 @@ use Rattle.sn_def.specs.declared.kind.Kind.{Kind}
 use Rattle.sn_def.specs.declared.kind.Kind.TheVariants as kinds
 use Rattle.sn_def.specs.declared.control.Now.{Now}
 use Rattle.sn_def.specs.Units.{row_of}
-use Rattle.sn_def.specs.declared.table.Words.{Words}
-use Rattle.sn_def.specs.declared.table.Words.TheVariants.{Fixed}
+use Rattle.sn_def.specs.declared.table.StateSize.{StateSize}
+use Rattle.sn_def.specs.declared.table.StateSize.TheVariants.{Fixed}
 use Rattle.sn_def.specs.StateWords.{words_of}
 use Rattle.sn_mem.specs.declared.extents.Foot.{Foot}
 use Rattle.sn_mem.specs.Words.{MayWrite, touches}
@@ -154,4 +154,4 @@ run_means k now n at len f ws us inputs outputs size apart state may inside e o 
     let w : List ℕ × List (List ℤ) = bus_unit_over k now n ws at len inputs in
     let P : List ℕ → Type 0 = λ (us : List ℕ). UnitMeans at len ws us outputs r in
     let Q : List (List ℤ) → Type 0 = λ (outputs : List (List ℤ)). UnitMeans at len ws w.0 outputs r in
-    subst P (sym e) (subst Q (sym o) (unit_means k now n at len 0 ws inputs (sym (ap (λ (w : Words). words_of w 0) size)) (lies_in k f n at len (length ws) inputs apart state may inside)))
+    subst P (sym e) (subst Q (sym o) (unit_means k now n at len 0 ws inputs (sym (ap (λ (w : StateSize). words_of w 0) size)) (lies_in k f n at len (length ws) inputs apart state may inside)))

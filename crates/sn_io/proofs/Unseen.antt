@@ -10,7 +10,7 @@ use Rattle.sn_mem.specs.Done.{ended}
 use Rattle.sn_done.specs.Done.{settled_word, settled_first, IsUnseen}
 use Rattle.sn_done.proofs.Settling.{twice, ended_alike, ended_if, ended_unless, both_zero, unseen_then, StepsAlike, HoldsDone, recurrence_unseen}
 use Rattle.sn_io.specs.declared.triggers.Quiet.{Quiet}
-use Rattle.sn_io.specs.declared.triggers.Ending.{Ending}
+use Rattle.sn_io.specs.declared.triggers.DoneWord.{DoneWord}
 use Rattle.sn_io.specs.declared.playing.Playing.{Playing}
 use Rattle.sn_io.specs.declared.recording.Recording.{Recording}
 use Rattle.sn_io.specs.Triggers.{quiet_in, quiet_words, counted, is_quiet, is_silent, detect_silence, ending_in, ending_words, end_self, trigger_block}
@@ -47,13 +47,13 @@ silence_unseen now inputs = unseen_then (λ ws. recurrence quiet_in quiet_words 
 
 -- ---- FreeSelf and PauseSelf
 
-settle_ending : Ending → Ending
+settle_ending : DoneWord → DoneWord
 settle_ending s = record { done = settled_word s.done }
 
 ending_steps : StepsAlike settle_ending end_self
 unfolding settle_ending
 ending_steps = record {
-  states = λ s inputs k. ap {B = Ending} (λ d. record { done = d }) (ended_if (int_lt (pos 0) (sample inputs 0 k)) s.done);
+  states = λ s inputs k. ap {B = DoneWord} (λ d. record { done = d }) (ended_if (int_lt (pos 0) (sample inputs 0 k)) s.done);
   given = λ s inputs k. refl;
 }
 
@@ -63,7 +63,7 @@ ending_holds = record { loads = loads; stores = λ s. refl }
   where
     loads : (ws : List ℕ) → settle_ending (ending_in (settled_first ws)) ≡ settle_ending (ending_in ws)
     loads [] = refl
-    loads (d ∷ ws) = ap {B = Ending} (λ n. record { done = n }) (twice d)
+    loads (d ∷ ws) = ap {B = DoneWord} (λ n. record { done = n }) (twice d)
 
 ending_unseen : (inputs : List (List ℤ)) → IsUnseen (λ ws. recurrence ending_in ending_words end_self ws inputs)
 ending_unseen inputs = recurrence_unseen settle_ending ending_in ending_words end_self inputs ending_steps ending_holds

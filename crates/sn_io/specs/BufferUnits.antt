@@ -1,6 +1,7 @@
 -- What one unit on a buffer makes of a block.
 use Rattle.std.specs.Prelude.{ℕ, zero, suc, ◌+◌, ◌-◌, ◌*◌, ◌==◌, Bool, cond, List, [], ◌∷◌, length, replicate, Option, Some, None, ℤ, pos, slice_index_or, slice_set}
 use Rattle.std.specs.Option.{option_map}
+use Rattle.sn_ports.specs.Limits.{block_frames}
 use Rattle.sn_fixed.specs.Fixed.{sat}
 use Rattle.sn_def.specs.declared.kind.Kind.{Kind}
 use Rattle.sn_def.specs.declared.kind.Kind.TheVariants as kinds
@@ -64,7 +65,7 @@ sample_at (Some b) (Some frame) channel = slice_index_or b.samples (frame * b.ch
 
 -- the channels of a buffer at the frames of these numbers
 abbrev pub gathered : Option Buffer → List (Option ℕ) → ℕ → List (List ℤ)
-gathered buffer frames n = table (λ c. table (λ k. sample_at buffer (slice_index_or frames k None) c) 64) n
+gathered buffer frames n = table (λ c. table (λ k. sample_at buffer (slice_index_or frames k None) c) block_frames) n
 
 -- ---- writing
 
@@ -87,7 +88,7 @@ abbrev pub set_sample : List ℤ → ℕ → ℤ → List ℤ
 set_sample samples place x = slice_set samples place (sat x)
 
 abbrev pub written : List (List ℤ) → ℕ → List (Option ℕ) → Buffer → Buffer
-written inputs first frames b = record b { samples = scattered set_sample inputs first b.channels frames 64 b.samples }
+written inputs first frames b = record b { samples = scattered set_sample inputs first b.channels frames block_frames b.samples }
 
 -- the signals are the inputs from number `first` on
 abbrev pub signals_from : ℕ → List (List ℤ) → ℕ
@@ -130,5 +131,5 @@ buffer_unit kinds.BufRd now n state inputs buffers =
     record { state = state; outputs = gathered b (indexed (frames_in b) inputs) n; buffers = buffers }
 buffer_unit kinds.BufWr now n state inputs buffers =
     record { state = state; outputs = []; buffers = rewritten inputs 2 (indexed (frames_in (usable_buffer (signals_from 2 inputs) inputs buffers)) inputs) buffers }
-buffer_unit kinds.BufFrames now n state inputs buffers = record { state = state; outputs = replicate 64 (pos (length_in (frames_in (chosen inputs buffers)))) ∷ []; buffers = buffers }
+buffer_unit kinds.BufFrames now n state inputs buffers = record { state = state; outputs = replicate block_frames (pos (length_in (frames_in (chosen inputs buffers)))) ∷ []; buffers = buffers }
 buffer_unit _ now n state inputs buffers = record { state = state; outputs = []; buffers = buffers }

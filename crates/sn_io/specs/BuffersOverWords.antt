@@ -1,6 +1,7 @@
 -- The units on buffers, as what they do to the memory words.
 use Rattle.std.specs.Prelude.{ℕ, ◌+◌, List, [], ◌∷◌, replicate, Option, Some, None, ℤ, pos, slice_set}
 use Rattle.std.specs.Option.{option_map}
+use Rattle.sn_ports.specs.Limits.{block_frames}
 use Rattle.sn_fixed.specs.Fixed.{sat}
 use Rattle.sn_def.specs.declared.kind.Kind.{Kind}
 use Rattle.sn_def.specs.declared.kind.Kind.TheVariants as kinds
@@ -23,7 +24,7 @@ set_word at ws place x = slice_set ws (at + place) (word_for (sat x))
 
 abbrev pub onto_buffer : List (List ℤ) → ℕ → List (Option ℕ) → Option BufferPlace → List ℕ → List ℕ
 onto_buffer inputs first frames None ws = ws
-onto_buffer inputs first frames (Some p) ws = scattered (set_word p.extent.at) inputs first p.channels frames 64 ws
+onto_buffer inputs first frames (Some p) ws = scattered (set_word p.extent.at) inputs first p.channels frames block_frames ws
 
 abbrev pub gathered_from : List ℕ → Option BufferPlace → List (Option ℕ) → ℕ → List (List ℤ)
 gathered_from ws place frames n = gathered (option_map (buffer_of ws) place) frames n
@@ -45,5 +46,5 @@ buffer_unit_over kinds.BufRd now n places ws at len inputs =
 buffer_unit_over kinds.BufWr now n places ws at len inputs =
     let p = usable_place (signals_from 2 inputs) inputs places in
     (onto_buffer inputs 2 (indexed (place_frames p) inputs) p ws, [])
-buffer_unit_over kinds.BufFrames now n places ws at len inputs = (ws, replicate 64 (pos (length_in (place_frames (chosen inputs places)))) ∷ [])
+buffer_unit_over kinds.BufFrames now n places ws at len inputs = (ws, replicate block_frames (pos (length_in (place_frames (chosen inputs places)))) ∷ [])
 buffer_unit_over _ now n places ws at len inputs = (ws, [])

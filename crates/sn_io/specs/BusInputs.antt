@@ -1,5 +1,6 @@
 -- In.ar, InFeedback and In.kr: what is read from buses.
 use Rattle.std.specs.Prelude.{ℕ, ◌+◌, ◌==◌, nat_lt, Bool, ◌&&◌, ◌||◌, cond, List, Option, Some, None, ℤ, pos, replicate, slice_index_or}
+use Rattle.sn_ports.specs.Limits.{block_frames}
 use Rattle.sn_mem.specs.Blocks.{table}
 use Rattle.sn_mem.specs.Buses.{AudioBus, ControlBus, silent, resting}
 use Rattle.sn_io.specs.Channels.{audio_channel, control_channel}
@@ -11,17 +12,17 @@ hears feedback b written = written == b + 1 || (feedback && nat_lt 0 b && writte
 
 -- the samples of the bus where it is heard, else 0
 abbrev pub heard_block : Bool → ℕ → AudioBus → List ℤ
-heard_block feedback b bus = table (λ k. cond (hears feedback b bus.written) (slice_index_or bus.samples k (pos 0)) (pos 0)) 64
+heard_block feedback b bus = table (λ k. cond (hears feedback b bus.written) (slice_index_or bus.samples k (pos 0)) (pos 0)) block_frames
 
 -- from the bus of a number; 0 where there is none
 abbrev pub audio_in : Bool → ℕ → List AudioBus → Option ℕ → List ℤ
-audio_in feedback b buses None = replicate 64 (pos 0)
+audio_in feedback b buses None = replicate block_frames (pos 0)
 audio_in feedback b buses (Some n) = heard_block feedback b (slice_index_or buses n silent)
 
--- 64 times the value of a control bus
+-- the value of a control bus in each frame
 abbrev pub control_in : List ControlBus → Option ℕ → List ℤ
-control_in buses None = replicate 64 (pos 0)
-control_in buses (Some n) = replicate 64 (slice_index_or buses n resting).value
+control_in buses None = replicate block_frames (pos 0)
+control_in buses (Some n) = replicate block_frames (slice_index_or buses n resting).value
 
 -- so many channels
 abbrev pub audio_inputs : Bool → ℕ → List (List ℤ) → ℕ → List AudioBus → List (List ℤ)

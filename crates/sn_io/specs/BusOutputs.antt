@@ -1,5 +1,6 @@
 -- Out.ar, ReplaceOut and Out.kr: what is written onto buses.
 use Rattle.std.specs.Prelude.{ℕ, ◌+◌, ◌==◌, cond, List, Option, Some, None, ℤ, pos, ◌+ℤ◌, slice_index_or, slice_set}
+use Rattle.sn_ports.specs.Limits.{block_frames}
 use Rattle.sn_fixed.specs.Fixed.{sat}
 use Rattle.sn_mem.specs.Blocks.{table}
 use Rattle.sn_mem.specs.Buses.{AudioBus, ControlBus, silent, resting, heard}
@@ -7,11 +8,11 @@ use Rattle.sn_io.specs.Channels.{audio_channel, control_channel, channels, signa
 
 -- Out.ar: a signal is added to what the bus holds in block b, and the bus is marked written. A bus that was not written in this block holds 0 there: it is overwritten.
 abbrev pub mixed : ℕ → AudioBus → List ℤ → AudioBus
-mixed b bus signal = record { written = b + 1; samples = table (λ k. sat (heard b bus k +ℤ slice_index_or signal k (pos 0))) 64 }
+mixed b bus signal = record { written = b + 1; samples = table (λ k. sat (heard b bus k +ℤ slice_index_or signal k (pos 0))) block_frames }
 
 -- ReplaceOut: a signal takes the place of what the bus holds, and the bus is marked written. A sample has 32 bits, so sat leaves it as it is.
 abbrev pub replaced : ℕ → AudioBus → List ℤ → AudioBus
-replaced b bus signal = record { written = b + 1; samples = table (λ k. sat (slice_index_or signal k (pos 0))) 64 }
+replaced b bus signal = record { written = b + 1; samples = table (λ k. sat (slice_index_or signal k (pos 0))) block_frames }
 
 -- what units have written onto a control bus in block b
 abbrev pub held : ℕ → ControlBus → ℤ

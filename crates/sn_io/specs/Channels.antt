@@ -1,11 +1,12 @@
 -- The channels of bus units.
 use Rattle.std.specs.Prelude.{ℕ, zero, suc, ◌-◌, nat_lt, cond, List, length, Option, Some, None, ℤ, pos, negsuc, ◌+ℤ◌}
+use Rattle.sn_ports.specs.Limits.{control_bus_count}
 use Rattle.sn_mem.specs.Blocks.{block, sample}
 use Rattle.sn_mem.specs.Buses.{audio_number}
 
 -- the number of a control bus, where there is one
 abbrev pub control_number : ℤ → Option ℕ
-control_number (pos n) = cond (nat_lt n 1024) (Some n) None
+control_number (pos n) = cond (nat_lt n control_bus_count) (Some n) None
 control_number (negsuc n) = None
 
 -- The bus of channel i: its number is that of the first input, the index, and i more.

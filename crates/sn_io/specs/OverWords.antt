@@ -1,5 +1,6 @@
 -- The units on buses and the triggers, as what they do to the memory words.
 use Rattle.std.specs.Prelude.{ℕ, ◌+◌, ◌*◌, ◌==◌, Bool, true, false, ◌&&◌, cond, List, [], Option, Some, None, ℤ, pos, ◌+ℤ◌, slice_index, slice_index_or, slice_set}
+use Rattle.sn_mem.specs.Layout.{audio_bus_words, audio_words, control_bus_words}
 use Rattle.sn_fixed.specs.Fixed.{sat}
 use Rattle.sn_def.specs.declared.kind.Kind.{Kind}
 use Rattle.sn_def.specs.declared.kind.Kind.TheVariants as kinds
@@ -22,7 +23,7 @@ onto_block adds b ws at xs = cond (adds && slice_index ws at == b + 1) (changed 
 
 abbrev pub onto_audio : Bool → ℕ → List ℕ → Option ℕ → List ℤ → List ℕ
 onto_audio adds b ws None xs = ws
-onto_audio adds b ws (Some n) xs = onto_block adds b ws (65 * n) xs
+onto_audio adds b ws (Some n) xs = onto_block adds b ws (audio_bus_words * n) xs
 
 -- a sample onto the control bus at a place
 abbrev pub held_at : ℕ → List ℕ → ℕ → ℤ
@@ -33,7 +34,7 @@ onto_value b ws at x = slice_set (slice_set ws (at + 1) (word_for (sat (held_at 
 
 abbrev pub onto_control : ℕ → List ℕ → Option ℕ → List ℤ → List ℕ
 onto_control b ws None xs = ws
-onto_control b ws (Some n) xs = onto_value b ws (8320 + 2 * n) (slice_index_or xs 0 (pos 0))
+onto_control b ws (Some n) xs = onto_value b ws (audio_words + control_bus_words * n) (slice_index_or xs 0 (pos 0))
 
 -- one channel's signal
 abbrev pub onto_audio_channel : Bool → ℕ → List (List ℤ) → List ℕ → ℕ → List ℤ → List ℕ

@@ -1,6 +1,7 @@
 -- The frames of a buffer that units read and write, one number or none at each frame of a block.
 use Rattle.std.specs.Prelude.{ℕ, zero, suc, ◌+◌, ◌%◌, ◌==◌, nat_lt, Bool, true, not, ◌&&◌, cond, List, [], ◌∷◌, ◌++◌, Option, Some, None, is_some, slice_index, ℤ, pos, negsuc, ◌+ℤ◌, int_lt}
 use Rattle.std.specs.Int.{int_rem_euclid}
+use Rattle.sn_ports.specs.Limits.{block_frames}
 use Rattle.sn_fixed.specs.Fixed.{sat}
 use Rattle.sn_fixed.specs.Triggers.{rises}
 use Rattle.sn_mem.specs.Blocks.{sample, sample_in, word_for, table}
@@ -27,7 +28,7 @@ walk step s inputs (suc k) = let r = walk step s inputs k in let t = step r.0 in
 
 -- over a block, from the words that hold its state
 abbrev pub walked : {S : Type 0} → (List ℕ → S) → (S → List ℕ) → (S → List (List ℤ) → ℕ → S × Option ℕ) → List ℕ → List (List ℤ) → List ℕ × List (Option ℕ)
-walked loaded stored step state inputs = let r = walk step (loaded state) inputs 64 in (stored r.0, r.1)
+walked loaded stored step state inputs = let r = walk step (loaded state) inputs block_frames in (stored r.0, r.1)
 
 -- ---- PlayBuf
 
@@ -93,4 +94,4 @@ record_buf (Some frames) r inputs k = (
 
 -- buf# index
 abbrev pub indexed : Option ℕ → List (List ℤ) → List (Option ℕ)
-indexed frames inputs = table (λ k. frame_in frames (sample inputs 1 k)) 64
+indexed frames inputs = table (λ k. frame_in frames (sample inputs 1 k)) block_frames

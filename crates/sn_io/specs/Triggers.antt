@@ -7,12 +7,12 @@ use Rattle.sn_def.specs.declared.kind.Kind.TheVariants as kinds
 use Rattle.sn_def.specs.declared.control.Now.{Now}
 use Rattle.sn_def.specs.declared.table.Family.TheVariants as families
 use Rattle.sn_def.specs.Facts.{is_of}
-use Rattle.sn_def.specs.Runs.{one_output}
+use Rattle.sn_def.specs.Histories.{one_output}
 use Rattle.sn_mem.specs.Blocks.{sample, sample_in, word_for, recurrence}
 use Rattle.sn_mem.specs.Done.{ended}
 use Rattle.sn_io.specs.declared.triggers.Sent.{Sent}
 use Rattle.sn_io.specs.declared.triggers.Quiet.{Quiet}
-use Rattle.sn_io.specs.declared.triggers.Ending.{Ending}
+use Rattle.sn_io.specs.declared.triggers.DoneWord.{DoneWord}
 
 -- ---- SendTrig
 
@@ -82,14 +82,14 @@ detect_silence rate s inputs k = let q = quieter rate s inputs k in (q, cond (q.
 -- ---- FreeSelf and PauseSelf
 
 -- their word is the done word
-abbrev pub ending_in : List ℕ → Ending
+abbrev pub ending_in : List ℕ → DoneWord
 ending_in ws = record { done = slice_index ws 0 }
 
-abbrev pub ending_words : Ending → List ℕ
+abbrev pub ending_words : DoneWord → List ℕ
 ending_words s = s.done ∷ []
 
 -- FreeSelf x, PauseSelf x: the unit ends at the first frame with x above 0
-abbrev pub end_self : Ending → List (List ℤ) → ℕ → Ending × ℤ
+abbrev pub end_self : DoneWord → List (List ℤ) → ℕ → DoneWord × ℤ
 end_self s inputs k = (record { done = cond (int_lt (pos 0) (sample inputs 0 k)) (ended s.done) s.done }, pos 0)
 
 -- ---- blocks

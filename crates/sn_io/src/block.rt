@@ -1,7 +1,8 @@
 //! One unit's block.
 ghost use Rattle.std.specs.Prelude.{◌≡◌, ◌<◌, ◌≤◌, ◌⊎◌, ◌+◌, ◌^◌, ℕ, true, false, length, slice_index};
+ghost use Rattle.sn_mem.specs.Layout.{bus_words};
 ghost use Rattle.sn_def.specs.Units.{row_of};
-ghost use Rattle.sn_def.specs.declared.table.Words.TheVariants.{Fixed};
+ghost use Rattle.sn_def.specs.declared.table.StateSize.TheVariants.{Fixed};
 ghost use Rattle.sn_mem.specs.Words.{MayWrite, writes};
 ghost use Rattle.sn_mem.specs.Blocks.{window};
 ghost use Rattle.sn_mem.specs.Buses.{buses_of};
@@ -78,7 +79,7 @@ pub fn run<P: Port>(
     requires block { now.now.block < 2 ^ 63 }
     requires inputs { length (row_of kind).inputs ≤ length inputs.now }
     requires size { (row_of kind).words ≡ Fixed state.len }
-    requires apart { 0 < state.len → 10368 ≤ state.at }
+    requires apart { 0 < state.len → bus_words ≤ state.at }
     requires state { MayWrite (P.foot port.old) state.at state.len }
     requires buses { MayReach kind (P.foot port.old) (length outputs.old) inputs.now }
     ensures words { P.words port.new ≡ (bus_unit_over kind now.now (length outputs.old) (P.words port.old) state.at state.len inputs.now).0 }
@@ -86,7 +87,7 @@ pub fn run<P: Port>(
     ensures buses { buses_of (P.words port.new) ≡ (bus_unit kind now.now (length outputs.old) (window (P.words port.old) state.at state.len) inputs.now (buses_of (P.words port.old))).buses }
     ensures state { window (P.words port.new) state.at state.len ≡ (bus_unit kind now.now (length outputs.old) (window (P.words port.old) state.at state.len) inputs.now (buses_of (P.words port.old))).state }
     ensures gives { outputs.new ≡ (bus_unit kind now.now (length outputs.old) (window (P.words port.old) state.at state.len) inputs.now (buses_of (P.words port.old))).outputs }
-    ensures others { (j : ℕ) → 10368 ≤ j → (j < state.at) ⊎ (state.at + state.len ≤ j) → slice_index (P.words port.new) j ≡ slice_index (P.words port.old) j }
+    ensures others { (j : ℕ) → bus_words ≤ j → (j < state.at) ⊎ (state.at + state.len ≤ j) → slice_index (P.words port.new) j ≡ slice_index (P.words port.old) j }
     ensures kept { (j : ℕ) → writes (P.foot port.old) j ≡ false → slice_index (P.words port.new) j ≡ slice_index (P.words port.old) j }
     ensures length { length (P.words port.new) ≡ length (P.words port.old) }
     ensures foot { P.foot port.new ≡ P.foot port.old }

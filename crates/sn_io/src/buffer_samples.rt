@@ -1,6 +1,7 @@
 //! The samples of a buffer: gathered into blocks, and set to those of blocks.
 ghost use Rattle.std.specs.Prelude.{◌≡◌, ◌<◌, ◌≤◌, ◌+◌, ◌*◌, Some, None, IfSome, length, pos, replicate, slice_index_or};
 ghost use Rattle.std.specs.Option.{option_map};
+ghost use Rattle.sn_ports.specs.Limits.{block_frames};
 ghost use Rattle.sn_mem.specs.Words.{MayRead, MayWrite};
 ghost use Rattle.sn_mem.specs.Blocks.{table};
 ghost use Rattle.sn_mem.specs.Buffers.{buffer_of};
@@ -10,6 +11,7 @@ ghost use Rattle.sn_io.specs.Conditions.{IsWhole, IsWholeIfSome, MayReadBuffer, 
 
 use crate::positions::Frames;
 use sn_mem::{Block, Blocks, BufferPlace, Port, sample_of, word_of};
+use sn_ports::limits::BLOCK_FRAMES;
 
 /// The word of a sample.
 #[tactic(auto, using(crate::proofs::Words::within, crate::proofs::Words::frames_below))]
@@ -44,29 +46,29 @@ fn sample_at<P: Port>(port: &mut P, place: BufferPlace, frame: Option<u32>, chan
     }
 }
 
-/// A channel of a buffer at 64 of its frames.
+/// A channel of a buffer at a block of its frames.
 fn gather_channel<P: Port>(port: &mut P, place: BufferPlace, frames: &Frames, channel: u32) -> Block
     requires whole { IsWhole place }
     requires reads { MayRead (P.foot port.old) place.extent.at place.extent.len }
     requires channel { channel < place.channels }
     requires frames { AreWithin (Some place.frames) frames.now }
-    ensures value { result ≡ table (λ k. sample_at (Some (buffer_of (P.words port.old) place)) (slice_index_or frames.now k None) channel) 64 }
+    ensures value { result ≡ table (λ k. sample_at (Some (buffer_of (P.words port.old) place)) (slice_index_or frames.now k None) channel) block_frames }
     ensures words { P.words port.new ≡ P.words port.old }
     ensures foot { P.foot port.new ≡ P.foot port.old }
     ensures rest { P.rest port.new ≡ P.rest port.old }
 {
-    let mut samples = [0i32; 64];
-    for frame in 0..64 {
+    let mut samples = [0i32; BLOCK_FRAMES];
+    for frame in 0..BLOCK_FRAMES {
         samples[frame] = sample_at(port, place, frames[frame], channel);
     }
     samples
 }
 
-/// 64 frames of silence.
+/// A block of silence.
 fn silence() -> Block
-    ensures { result ≡ replicate 64 (pos 0) }
+    ensures { result ≡ replicate block_frames (pos 0) }
 {
-    [0; 64]
+    [0; BLOCK_FRAMES]
 }
 
 fn channel_at<P: Port>(
@@ -79,7 +81,7 @@ fn channel_at<P: Port>(
     requires reads { MayReadBuffer (P.foot port.old) place }
     requires channel { IfSome place (λ p. channel < p.channels) }
     requires frames { AreWithin (place_frames place) frames.now }
-    ensures value { result ≡ table (λ k. sample_at (option_map (buffer_of (P.words port.old)) place) (slice_index_or frames.now k None) channel) 64 }
+    ensures value { result ≡ table (λ k. sample_at (option_map (buffer_of (P.words port.old)) place) (slice_index_or frames.now k None) channel) block_frames }
     ensures words { P.words port.new ≡ P.words port.old }
     ensures foot { P.foot port.new ≡ P.foot port.old }
     ensures rest { P.rest port.new ≡ P.rest port.old }
@@ -90,7 +92,7 @@ fn channel_at<P: Port>(
     }
 }
 
-/// The channels of a buffer at 64 of its frames, as many as `outputs` has blocks, and 0 where there
+/// The channels of a buffer at a block of its frames, as many as `outputs` has blocks, and 0 where there
 /// is no buffer.
 pub(crate) fn gather<P: Port>(
     port: &mut P,
@@ -128,7 +130,7 @@ fn set_frame<P: Port>(
     requires writes { MayWrite (P.foot port.old) place.extent.at place.extent.len }
     requires first { first ≤ 4 }
     requires inputs { first + place.channels ≤ length inputs.now }
-    requires at { at < 64 }
+    requires at { at < block_frames }
     requires frame { frame < place.frames }
     ensures words { P.words port.new ≡ set_frame (set_word place.extent.at) inputs.now first at (frame * place.channels) place.channels (P.words port.old) }
     ensures foot { P.foot port.new ≡ P.foot port.old }
@@ -152,7 +154,7 @@ fn set_at<P: Port>(
     requires writes { MayWrite (P.foot port.old) place.extent.at place.extent.len }
     requires first { first ≤ 4 }
     requires inputs { first + place.channels ≤ length inputs.now }
-    requires at { at < 64 }
+    requires at { at < block_frames }
     requires frame { IfSome frame (λ i. i < place.frames) }
     ensures words { P.words port.new ≡ set_at (set_word place.extent.at) inputs.now first place.channels at frame (P.words port.old) }
     ensures foot { P.foot port.new ≡ P.foot port.old }
@@ -176,16 +178,16 @@ fn scatter_frames<P: Port>(
     requires first { first ≤ 4 }
     requires inputs { first + place.channels ≤ length inputs.now }
     requires frames { AreWithin (Some place.frames) frames.now }
-    ensures words { P.words port.new ≡ scattered (set_word place.extent.at) inputs.now first place.channels frames.now 64 (P.words port.old) }
+    ensures words { P.words port.new ≡ scattered (set_word place.extent.at) inputs.now first place.channels frames.now block_frames (P.words port.old) }
     ensures foot { P.foot port.new ≡ P.foot port.old }
     ensures rest { P.rest port.new ≡ P.rest port.old }
 {
-    for at in 0..64 {
+    for at in 0..BLOCK_FRAMES {
         set_at(port, place, inputs, first, at, frames[at]);
     }
 }
 
-/// Sets 64 frames of a buffer, one after the other, to the samples of the inputs from `first` on,
+/// Sets a block of frames of a buffer, one after the other, to the samples of the inputs from `first` on,
 /// where there is a buffer.
 pub(crate) fn scatter<P: Port>(
     port: &mut P,

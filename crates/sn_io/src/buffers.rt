@@ -1,7 +1,8 @@
 //! One block of a unit on a buffer.
 ghost use Rattle.std.specs.Prelude.{◌≡◌, ◌<◌, ◌≤◌, ◌+◌, ◌⊎◌, ◌∷◌, [], ℕ, true, false, length, pos, replicate, slice_index};
+ghost use Rattle.sn_ports.specs.Limits.{block_frames};
 ghost use Rattle.sn_def.specs.Units.{row_of};
-ghost use Rattle.sn_def.specs.declared.table.Words.TheVariants.{Fixed};
+ghost use Rattle.sn_def.specs.declared.table.StateSize.TheVariants.{Fixed};
 ghost use Rattle.sn_mem.specs.Words.{MayWrite, writes};
 ghost use Rattle.sn_mem.specs.Blocks.{put, window};
 ghost use Rattle.sn_mem.specs.Buffers.{AreApart, buffers_of, live_places, overlaps};
@@ -131,7 +132,7 @@ fn length_in(frames: Option<u32>) -> u32
 fn count(buffers: &Buffers, inputs: &Blocks, outputs: &mut Blocks)
     requires inputs { 1 ≤ length inputs.now }
     requires whole { IsWholeIfSome (chosen inputs.now buffers.now) }
-    ensures outputs { outputs.new ≡ replicate 64 (pos (length_in (place_frames (chosen inputs.now buffers.now)))) ∷ [] }
+    ensures outputs { outputs.new ≡ replicate block_frames (pos (length_in (place_frames (chosen inputs.now buffers.now)))) ∷ [] }
 {
     let frames = length_in(frames_in(chosen(buffers, inputs)));
     outputs.clear();

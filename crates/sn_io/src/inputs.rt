@@ -1,6 +1,8 @@
 //! In.ar, InFeedback and In.kr: channels read from buses.
 ghost use Rattle.std.specs.Prelude.{◌≡◌, ◌<◌, ◌≤◌, ◌+◌, ◌^◌, ℕ, IfSome, Some, cond, length, pos, replicate, slice_index, slice_index_or};
+ghost use Rattle.sn_ports.specs.Limits.{block_frames, audio_bus_count, control_bus_count};
 ghost use Rattle.sn_mem.specs.Words.{MayRead};
+ghost use Rattle.sn_mem.specs.Layout.{audio_bus_words};
 ghost use Rattle.sn_mem.specs.Blocks.{samples_at};
 ghost use Rattle.sn_mem.specs.Buses.{audio_buses, control_buses, resting};
 ghost use Rattle.sn_io.specs.Channels.{audio_channel, control_channel};
@@ -9,6 +11,7 @@ ghost use Rattle.sn_io.specs.Conditions.{MayReadAudio, MayReadControl};
 
 use crate::channels::{audio_channel, control_channel};
 use sn_mem::{Block, Blocks, Places, Port, sample_of};
+use sn_ports::limits::BLOCK_FRAMES;
 
 /// Whether a bus is heard in a block, by the number that it keeps.
 fn hears(feedback: bool, block: u64, written: u64) -> bool
@@ -21,8 +24,8 @@ fn hears(feedback: bool, block: u64, written: u64) -> bool
 /// What is heard of the audio bus at a place.
 fn heard_at<P: Port>(port: &mut P, feedback: bool, block: u64, at: u32) -> Block
     requires block { block < 2 ^ 63 }
-    requires reads { MayRead (P.foot port.old) at 65 }
-    ensures value { result ≡ cond (hears feedback block (slice_index (P.words port.old) at)) (samples_at (P.words port.old) (at + 1)) (replicate 64 (pos 0)) }
+    requires reads { MayRead (P.foot port.old) at audio_bus_words }
+    ensures value { result ≡ cond (hears feedback block (slice_index (P.words port.old) at)) (samples_at (P.words port.old) (at + 1)) (replicate block_frames (pos 0)) }
     ensures words { P.words port.new ≡ P.words port.old }
     ensures foot { P.foot port.new ≡ P.foot port.old }
     ensures rest { P.rest port.new ≡ P.rest port.old }
@@ -31,13 +34,13 @@ fn heard_at<P: Port>(port: &mut P, feedback: bool, block: u64, at: u32) -> Block
     if hears(feedback, block, written) {
         port.load_samples(at + 1)
     } else {
-        [0; 64]
+        [0; BLOCK_FRAMES]
     }
 }
 
 fn audio_in<P: Port>(port: &mut P, feedback: bool, block: u64, bus: Option<u32>) -> Block
     requires block { block < 2 ^ 63 }
-    requires number { IfSome bus (λ n. n < 128) }
+    requires number { IfSome bus (λ n. n < audio_bus_count) }
     requires reads { MayReadAudio (P.foot port.old) bus }
     ensures value { result ≡ audio_in feedback block (audio_buses (P.words port.old)) bus }
     ensures words { P.words port.new ≡ P.words port.old }
@@ -46,13 +49,13 @@ fn audio_in<P: Port>(port: &mut P, feedback: bool, block: u64, bus: Option<u32>)
 {
     match bus {
         Some(bus) => heard_at(port, feedback, block, Places::audio(bus).at),
-        None => [0; 64],
+        None => [0; BLOCK_FRAMES],
     }
 }
 
 /// The value of a control bus.
 fn control_value<P: Port>(port: &mut P, bus: u32) -> i32
-    requires number { bus < 1024 }
+    requires number { bus < control_bus_count }
     requires reads { MayReadControl (P.foot port.old) (Some bus) }
     ensures value { result ≡ (slice_index_or (control_buses (P.words port.old)) bus resting).value }
     ensures words { P.words port.new ≡ P.words port.old }
@@ -65,7 +68,7 @@ fn control_value<P: Port>(port: &mut P, bus: u32) -> i32
 }
 
 fn control_in<P: Port>(port: &mut P, bus: Option<u32>) -> Block
-    requires number { IfSome bus (λ n. n < 1024) }
+    requires number { IfSome bus (λ n. n < control_bus_count) }
     requires reads { MayReadControl (P.foot port.old) bus }
     ensures value { result ≡ control_in (control_buses (P.words port.old)) bus }
     ensures words { P.words port.new ≡ P.words port.old }
@@ -73,8 +76,8 @@ fn control_in<P: Port>(port: &mut P, bus: Option<u32>) -> Block
     ensures rest { P.rest port.new ≡ P.rest port.old }
 {
     match bus {
-        Some(bus) => [control_value(port, bus); 64],
-        None => [0; 64],
+        Some(bus) => [control_value(port, bus); BLOCK_FRAMES],
+        None => [0; BLOCK_FRAMES],
     }
 }
 

@@ -6,7 +6,7 @@ ghost use Rattle.sn_def.specs.declared.control.Now.{Now};
 ghost use Rattle.sn_mem.specs.declared.extents.Foot.{Foot};
 ghost use Rattle.sn_mem.specs.declared.buffers.BufferPlace.{BufferPlace};
 ghost use Rattle.sn_mem.specs.Words.{MayWrite, touches};
-ghost use Rattle.sn_mem.specs.Frames.{framed};
+ghost use Rattle.sn_mem.specs.ThroughFoot.{kept_to};
 ghost use Rattle.sn_mem.specs.Buffers.{Buffer};
 ghost use Rattle.sn_done.specs.Done.{IsUnseen};
 ghost use Rattle.sn_io.specs.Triggers.{trigger_block};
@@ -18,12 +18,12 @@ ghost use Rattle.sn_io.specs.Conditions.{MayReach, MayReachBuffer};
 
 /// A law: a change that sees and changes a foot alone is the same if it is kept to the foot.
 pub fn kept_to_its_foot()
-    ensures { (f : Foot) (change : List ℕ → List ℕ) (ws : List ℕ) → IsByFoot f change → framed f change ws ≡ change ws }
+    ensures { (f : Foot) (change : List ℕ → List ℕ) (ws : List ℕ) → IsByFoot f change → kept_to f change ws ≡ change ws }
 {}
 
 /// A law: any change that is kept to a foot sees and changes the foot alone.
-pub fn framed_by_foot()
-    ensures { (f : Foot) (change : List ℕ → List ℕ) → IsByFoot f (framed f change) }
+pub fn kept_is_by_foot()
+    ensures { (f : Foot) (change : List ℕ → List ℕ) → IsByFoot f (kept_to f change) }
 {}
 
 /// A law: two changes that see and change a foot alone do so one after the other, and so does no

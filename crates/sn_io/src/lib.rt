@@ -17,5 +17,5 @@ pub use block::run;
 pub use buffers::run_buffer_unit;
 pub use laws::{
     buffer_unit_by_foot, bus_unit_by_foot, by_foot_in_turn, by_wider_foot, ends_are_unseen,
-    framed_by_foot, kept_to_its_foot,
+    kept_is_by_foot, kept_to_its_foot,
 };

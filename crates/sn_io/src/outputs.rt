@@ -1,7 +1,9 @@
 //! Out.ar, ReplaceOut and Out.kr: signals onto buses.
 ghost use Rattle.std.specs.Prelude.{◌≡◌, ◌<◌, ◌≤◌, ◌+◌, ◌^◌, ◌+ℤ◌, pos, ℕ, IfSome, length, slice_index_or};
+ghost use Rattle.sn_ports.specs.Limits.{block_frames, audio_bus_count, control_bus_count};
 ghost use Rattle.sn_fixed.specs.Fixed.{sat};
 ghost use Rattle.sn_mem.specs.Words.{MayWrite};
+ghost use Rattle.sn_mem.specs.Layout.{audio_bus_words, control_bus_words};
 ghost use Rattle.sn_mem.specs.Blocks.{changed, table};
 ghost use Rattle.sn_io.specs.Channels.{audio_channel, control_channel, channels, signals};
 ghost use Rattle.sn_io.specs.OverWords.{summed, overwritten, onto_block, onto_audio, onto_audio_channel, held_at, onto_value, onto_control, onto_control_channel};
@@ -10,22 +12,23 @@ ghost use Rattle.sn_io.specs.Conditions.{MayWriteAudio, MayWriteControl};
 use crate::channels::{audio_channel, control_channel};
 use sn_fixed::add;
 use sn_mem::{Block, Blocks, Places, Port, sample_of, word_of};
+use sn_ports::limits::BLOCK_FRAMES;
 
 /// The sums of two blocks, sample by sample.
 #[inline(always)]
 fn sums(a: &Block, b: &Block) -> Block
-    ensures { result ≡ table (λ k. sat (slice_index_or a.now k (pos 0) +ℤ slice_index_or b.now k (pos 0))) 64 }
+    ensures { result ≡ table (λ k. sat (slice_index_or a.now k (pos 0) +ℤ slice_index_or b.now k (pos 0))) block_frames }
 {
-    let mut samples = [0i32; 64];
-    for frame in 0..64 {
+    let mut samples = [0i32; BLOCK_FRAMES];
+    for frame in 0..BLOCK_FRAMES {
         samples[frame] = add(a[frame], b[frame]);
     }
     samples
 }
 
-/// Adds a signal to the 64 words from `at` on.
+/// Adds a signal to a block's words from `at` on.
 fn mix_block<P: Port>(port: &mut P, at: u32, signal: &Block)
-    requires { MayWrite (P.foot port.old) at 64 }
+    requires { MayWrite (P.foot port.old) at block_frames }
     ensures words { P.words port.new ≡ changed summed (P.words port.old) at signal.now }
     ensures foot { P.foot port.new ≡ P.foot port.old }
     ensures rest { P.rest port.new ≡ P.rest port.old }
@@ -34,14 +37,14 @@ fn mix_block<P: Port>(port: &mut P, at: u32, signal: &Block)
     port.store_samples(at, &sums(&held, signal));
 }
 
-/// Puts a signal into the 64 words from `at` on, as if they held silence.
+/// Puts a signal into a block's words from `at` on, as if they held silence.
 fn set_block<P: Port>(port: &mut P, at: u32, signal: &Block)
-    requires { MayWrite (P.foot port.old) at 64 }
+    requires { MayWrite (P.foot port.old) at block_frames }
     ensures words { P.words port.new ≡ changed (λ _. overwritten) (P.words port.old) at signal.now }
     ensures foot { P.foot port.new ≡ P.foot port.old }
     ensures rest { P.rest port.new ≡ P.rest port.old }
 {
-    let silence = [0i32; 64];
+    let silence = [0i32; BLOCK_FRAMES];
     port.store_samples(at, &sums(&silence, signal));
 }
 
@@ -49,7 +52,7 @@ fn set_block<P: Port>(port: &mut P, at: u32, signal: &Block)
 /// block, and overwrites else.
 fn put_block<P: Port>(port: &mut P, adds: bool, block: u64, at: u32, signal: &Block)
     requires block { block < 2 ^ 63 }
-    requires bus { MayWrite (P.foot port.old) at 65 }
+    requires bus { MayWrite (P.foot port.old) at audio_bus_words }
     ensures words { P.words port.new ≡ onto_block adds block (P.words port.old) at signal.now }
     ensures foot { P.foot port.new ≡ P.foot port.old }
     ensures rest { P.rest port.new ≡ P.rest port.old }
@@ -65,7 +68,7 @@ fn put_block<P: Port>(port: &mut P, adds: bool, block: u64, at: u32, signal: &Bl
 
 fn put_audio<P: Port>(port: &mut P, adds: bool, block: u64, bus: Option<u32>, signal: &Block)
     requires block { block < 2 ^ 63 }
-    requires number { IfSome bus (λ n. n < 128) }
+    requires number { IfSome bus (λ n. n < audio_bus_count) }
     requires bus { MayWriteAudio (P.foot port.old) bus }
     ensures words { P.words port.new ≡ onto_audio adds block (P.words port.old) bus signal.now }
     ensures foot { P.foot port.new ≡ P.foot port.old }
@@ -101,7 +104,7 @@ pub(crate) fn write_audio<P: Port>(port: &mut P, adds: bool, block: u64, inputs:
 /// What units have written onto the control bus at a place in this block.
 fn held_at<P: Port>(port: &mut P, block: u64, at: u32) -> i32
     requires block { block < 2 ^ 63 }
-    requires bus { MayWrite (P.foot port.old) at 2 }
+    requires bus { MayWrite (P.foot port.old) at control_bus_words }
     ensures value { result ≡ held_at block (P.words port.old) at }
     ensures words { P.words port.new ≡ P.words port.old }
     ensures foot { P.foot port.new ≡ P.foot port.old }
@@ -118,7 +121,7 @@ fn held_at<P: Port>(port: &mut P, block: u64, at: u32) -> i32
 
 fn put_value<P: Port>(port: &mut P, block: u64, at: u32, x: i32)
     requires block { block < 2 ^ 63 }
-    requires bus { MayWrite (P.foot port.old) at 2 }
+    requires bus { MayWrite (P.foot port.old) at control_bus_words }
     ensures words { P.words port.new ≡ onto_value block (P.words port.old) at x }
     ensures foot { P.foot port.new ≡ P.foot port.old }
     ensures rest { P.rest port.new ≡ P.rest port.old }
@@ -130,7 +133,7 @@ fn put_value<P: Port>(port: &mut P, block: u64, at: u32, x: i32)
 
 fn put_control<P: Port>(port: &mut P, block: u64, bus: Option<u32>, signal: &Block)
     requires block { block < 2 ^ 63 }
-    requires number { IfSome bus (λ n. n < 1024) }
+    requires number { IfSome bus (λ n. n < control_bus_count) }
     requires bus { MayWriteControl (P.foot port.old) bus }
     ensures words { P.words port.new ≡ onto_control block (P.words port.old) bus signal.now }
     ensures foot { P.foot port.new ≡ P.foot port.old }

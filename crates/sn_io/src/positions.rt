@@ -1,13 +1,15 @@
 //! The frames of a buffer that units read and write, one or none at each frame of a block.
 ghost use Rattle.std.specs.Prelude.{◌≡◌, ◌<◌, ◌≤◌, ℕ, ℤ, List, Option, length};
+ghost use Rattle.sn_ports.specs.Limits.{block_frames};
 ghost use Rattle.sn_mem.specs.Words.{MayWrite};
 ghost use Rattle.sn_mem.specs.Blocks.{put, window};
 ghost use Rattle.sn_io.specs.Positions.{frame_at, frame_in, indexed, walked};
 
 use sn_mem::{Blocks, Port, Stored, load_words, store_words};
+use sn_ports::limits::BLOCK_FRAMES;
 
 /// One frame of a buffer or none, for each frame of a block.
-pub(crate) type Frames = [Option<u32>; 64];
+pub(crate) type Frames = [Option<u32>; BLOCK_FRAMES];
 
 /// The frame of a number, where it is one of so many.
 pub(crate) fn frame_at(frames: u32, number: i32) -> Option<u32>
@@ -35,8 +37,8 @@ pub(crate) fn indexed(frames: Option<u32>, inputs: &Blocks) -> Frames
     requires { 2 ≤ length inputs.now }
     ensures { result ≡ indexed frames inputs.now }
 {
-    let mut found = [None; 64];
-    for frame in 0..64 {
+    let mut found = [None; BLOCK_FRAMES];
+    for frame in 0..BLOCK_FRAMES {
         found[frame] = frame_in(frames, inputs.at(1, frame));
     }
     found
@@ -57,7 +59,7 @@ pub(crate) trait FrameStep {
     /// One frame.
     fn next(&self, state: Self::State, inputs: &Blocks, frame: usize) -> (Self::State, Option<u32>)
         requires inputs { arity self.now ≤ length inputs.now }
-        requires frame { frame < 64 }
+        requires frame { frame < block_frames }
         ensures { result ≡ step self.now state inputs.now frame };
 }
 
@@ -79,8 +81,8 @@ pub(crate) fn walk_frames<U: FrameStep, P: Port>(
     let words = &mut words[..U::State::size()];
     load_words(port, at, words);
     let mut state = U::State::load(words);
-    let mut frames = [None; 64];
-    for frame in 0..64 {
+    let mut frames = [None; BLOCK_FRAMES];
+    for frame in 0..BLOCK_FRAMES {
         let (after, found) = unit.next(state, inputs, frame);
         state = after;
         frames[frame] = found;

@@ -1,7 +1,8 @@
 //! Units whose state words tell what is to be settled after a block.
 ghost use Rattle.std.specs.Prelude.{◌≡◌, ◌<◌, ◌≤◌, ◌^◌, [], true, length};
+ghost use Rattle.sn_ports.specs.Limits.{block_frames};
 ghost use Rattle.sn_def.specs.Units.{row_of};
-ghost use Rattle.sn_def.specs.declared.table.Words.TheVariants.{Fixed};
+ghost use Rattle.sn_def.specs.declared.table.StateSize.TheVariants.{Fixed};
 ghost use Rattle.sn_mem.specs.Words.{MayWrite};
 ghost use Rattle.sn_mem.specs.Blocks.{window, put, recurred};
 ghost use Rattle.sn_io.specs.Triggers.{is_trigger, trigger_block, count_in, count_word, one_quieter, counted, is_quiet, is_silent, quieter};
@@ -142,7 +143,7 @@ impl Stored for Quiet {
 /// Whether a frame's distance from 0 is less than `amp`.
 fn is_quiet(inputs: &Blocks, frame: usize) -> bool
     requires inputs { 2 ≤ length inputs.now }
-    requires frame { frame < 64 }
+    requires frame { frame < block_frames }
     ensures { result ≡ is_quiet inputs.now frame }
 {
     i64::from(inputs.at(0, frame).unsigned_abs()) < i64::from(inputs.at(1, frame))
@@ -178,7 +179,7 @@ fn is_silent(frames: &mut TimeFrames, time: i32, count: Option<u32>) -> bool
 
 fn quieter(frames: &mut TimeFrames, state: Quiet, inputs: &Blocks, frame: usize) -> Quiet
     requires inputs { 3 ≤ length inputs.now }
-    requires frame { frame < 64 }
+    requires frame { frame < block_frames }
     ensures value { result ≡ quieter frames.old.rate state inputs.now frame }
     ensures rate { frames.new.rate ≡ frames.old.rate }
 {
@@ -215,12 +216,12 @@ impl Recurrence for DetectSilence {
 
 /// Whether a unit has ended.
 #[derive(Clone, Copy)]
-pub(crate) struct Ending {
+pub(crate) struct DoneWord {
     /// The done word, 0 until the end.
     pub done: u64,
 }
 
-impl Stored for Ending {
+impl Stored for DoneWord {
     ghost use Rattle.sn_io.specs.Triggers.{ending_in, ending_words};
 
     ghost size = { 1 };
@@ -233,8 +234,8 @@ impl Stored for Ending {
         1
     }
 
-    fn load(words: &[u64]) -> Ending {
-        Ending { done: words[0] }
+    fn load(words: &[u64]) -> DoneWord {
+        DoneWord { done: words[0] }
     }
 
     fn store(self, words: &mut [u64]) {
@@ -249,19 +250,19 @@ pub(crate) struct EndSelf;
 impl Recurrence for EndSelf {
     ghost use Rattle.sn_io.specs.Triggers.{end_self};
 
-    type State = Ending;
+    type State = DoneWord;
 
     ghost arity = { λ _. 1 };
 
     ghost step = { λ _. end_self };
 
-    fn next(&mut self, state: Ending, inputs: &Blocks, frame: usize) -> (Ending, i32) {
+    fn next(&mut self, state: DoneWord, inputs: &Blocks, frame: usize) -> (DoneWord, i32) {
         let done = if inputs.at(0, frame) > 0 {
             ended(state.done)
         } else {
             state.done
         };
-        (Ending { done }, 0)
+        (DoneWord { done }, 0)
     }
 }
 

@@ -7,8 +7,8 @@ use Rattle.sn_reply.specs.declared.reason.Reason.{Reason}
 use Rattle.sn_reply.specs.Replies.{ReplyShape}
 use Rattle.sn_tree.specs.Trees.{Nodes, none, node, subtree, with_payloads}
 use Rattle.sn_tree.proofs.PayloadLaws.{subtree-payloads}
-use Rattle.sn_world.specs.declared.command.BusCommand.{BusCommand}
-use Rattle.sn_world.specs.declared.command.BusCommand.TheVariants as servers
+use Rattle.sn_world.specs.declared.command.ServerCommand.{ServerCommand}
+use Rattle.sn_world.specs.declared.command.ServerCommand.TheVariants as servers
 use Rattle.sn_world.specs.declared.command.Command.{Command}
 use Rattle.sn_world.specs.declared.command.Command.TheVariants.{OnNodes, OnServer}
 use Rattle.sn_world.specs.declared.command.Handled.{Handled}
@@ -19,7 +19,7 @@ use Rattle.sn_world.specs.declared.stage.Held.{Held}
 use Rattle.sn_world.specs.declared.stage.Held.TheVariants as held
 use Rattle.sn_world.specs.declared.stage.Stage.{Stage}
 use Rattle.sn_world.specs.Addresses.{command_of, on_nodes_alone, on_server_alone}
-use Rattle.sn_world.specs.Commands.{answered, bus_outcome, carrying_row, done_with, either, ending_of, next_in, next_of, next_with, node_outcome, node_row, or_unknown, whole_row}
+use Rattle.sn_world.specs.Commands.{answered, server_outcome, carrying_row, handled_as, either, ending_of, next_in, next_of, next_with, node_outcome, node_row, or_unknown, whole_row}
 use Rattle.sn_world.specs.Completing.{behind_number, behind_text, carried, message_in}
 use Rattle.sn_world.specs.ControlRuns.{asked_of}
 use Rattle.sn_world.specs.Ending.{Next, is_completing}
@@ -53,7 +53,7 @@ text_alone (string s ∷ []) h = refl
 text_alone (blob b ∷ []) h = refl
 text_alone (x ∷ y ∷ xs) h = absurd (long (length xs) h)
 
-carried_none : (c : BusCommand) (xs : List Argument) → server_leaves (length xs) c ≡ true → carried c xs ≡ None
+carried_none : (c : ServerCommand) (xs : List Argument) → server_leaves (length xs) c ≡ true → carried c xs ≡ None
 carried_none servers.Set xs h = refl
 carried_none servers.SetRuns xs h = refl
 carried_none servers.Fill xs h = refl
@@ -86,8 +86,8 @@ next_in_alone : (r : Result Turn Reason) (n : Next) → is_completing n ≡ fals
 next_in_alone (Ok t) n h = h
 next_in_alone (Err reason) n h = refl
 
-none_with : (c : BusCommand) (o : Option (List ℕ)) → o ≡ None → is_completing (next_with c (message_in o)) ≡ false
-none_with c o absent = ap (λ (b : Option (List ℕ)). is_completing (next_with c (message_in b))) absent ∙ ending_alone (done_with c)
+none_with : (c : ServerCommand) (o : Option (List ℕ)) → o ≡ None → is_completing (next_with c (message_in o)) ≡ false
+none_with c o absent = ap (λ (b : Option (List ℕ)). is_completing (next_with c (message_in b))) absent ∙ ending_alone (handled_as c)
 
 -- ---- rows
 
@@ -99,11 +99,11 @@ node_row_leaves calls.QueryTree from xs t h = tree_leaves from xs t
 node_row_leaves calls.GetControls from xs t h = get_leaves from (asked_of (singles control_name) xs) t
 node_row_leaves _ from xs t h = absurd cc
 
-carrying_leaves : (c : BusCommand) (o : Option (List ℕ)) (from : ℕ) (xs : List Argument) (t : Turn) → o ≡ None → server_leaves (length xs) c ≡ true → Leaves t (carrying_row c o from xs t)
+carrying_leaves : (c : ServerCommand) (o : Option (List ℕ)) (from : ℕ) (xs : List Argument) (t : Turn) → o ≡ None → server_leaves (length xs) c ≡ true → Leaves t (carrying_row c o from xs t)
 carrying_leaves c None from xs t e h = server_row_leaves c (length xs) from xs t h
 carrying_leaves c (Some b) from xs t e h = absurd cc
 
-whole_leaves : (c : BusCommand) (from : ℕ) (xs : List Argument) (t : Turn) → server_leaves (length xs) c ≡ true → Leaves t (whole_row c from xs t)
+whole_leaves : (c : ServerCommand) (from : ℕ) (xs : List Argument) (t : Turn) → server_leaves (length xs) c ≡ true → Leaves t (whole_row c from xs t)
 whole_leaves c from xs t h = carrying_leaves c (carried c xs) from xs t (carried_none c xs h) h
 
 -- ---- messages
@@ -114,7 +114,7 @@ answer_leaves from address t (Err reason) h = refl
 
 -- what is done by a message, of the command that its address calls
 abbrev outcome : ℕ → Option Command → BodyShape → Turn → Result Turn Reason
-outcome from o body t = or_unknown (either (node_outcome (on_nodes_alone o) from body t) (bus_outcome (on_server_alone o) from body t))
+outcome from o body t = or_unknown (either (node_outcome (on_nodes_alone o) from body t) (server_outcome (on_server_alone o) from body t))
 
 outcome_leaves : (from : ℕ) (o : Option Command) (body : BodyShape) (t : Turn) → asked_leaves (sets_plain lays t.world.nodes) o body ≡ true → Leaves t (outcome from o body t)
 outcome_leaves from None body t h = tt
@@ -126,7 +126,7 @@ outcome_leaves from (Some (OnServer c)) (arguments xs) t h = whole_leaves c from
 outcome_leaves from (Some (OnServer c)) (foreign tags rest) t h = tt
 
 next_alone_after : (plain : List Argument → Bool) (from : ℕ) (o : Option Command) (body : BodyShape) (t : Turn) → asked_leaves plain o body ≡ true
-    → is_completing (next_in (node_outcome (on_nodes_alone o) from body t) (bus_outcome (on_server_alone o) from body t) (next_of (on_server_alone o) body)) ≡ false
+    → is_completing (next_in (node_outcome (on_nodes_alone o) from body t) (server_outcome (on_server_alone o) from body t) (next_of (on_server_alone o) body)) ≡ false
 next_alone_after plain from None body t h = refl
 next_alone_after plain from (Some (OnNodes c)) body t h = refl
 next_alone_after plain from (Some (OnServer c)) bare t h = next_in_alone (whole_row c from [] t) (next_with c (message_in (carried c []))) (none_with c (carried c []) (carried_none c [] h))

@@ -10,18 +10,18 @@ use Rattle.sn_mem.specs.Buffers.{Buffer}
 use Rattle.sn_reply.specs.declared.reason.Reason.{Reason}
 use Rattle.sn_tree.specs.declared.node.NodeView.{NodeView}
 use Rattle.sn_tree.specs.Trees.{view_of, with_payloads}
-use Rattle.sn_world.specs.declared.command.BusCommand.{BusCommand}
-use Rattle.sn_world.specs.declared.command.BusCommand.TheVariants as servers
+use Rattle.sn_world.specs.declared.command.ServerCommand.{ServerCommand}
+use Rattle.sn_world.specs.declared.command.ServerCommand.TheVariants as servers
 use Rattle.sn_world.specs.Nodes.{Content, group, synth}
 use Rattle.sn_world.specs.World.{World, Turn, replied}
 use Rattle.sn_world.specs.Rows.{unless, steps, row, question, first_refusal, singles, pairs, triples, some_of}
 use Rattle.sn_world.specs.Runs.{number, value_runs, place_run, asks_few, judge_setn, act_setn, judge_getn, answer_getn}
 use Rattle.sn_world.specs.Buses as bus_rows
-use Rattle.sn_world.specs.BufferNumbers.{at_number, put_at, resampled, with_samples, buffer_refusal, done_with}
+use Rattle.sn_world.specs.BufferNumbers.{at_number, put_at, resampled, with_samples, buffer_refusal, done_message}
 use Rattle.sn_world.specs.BufferCommands as buffer_rows
 use Rattle.sn_world.specs.BufferSamples as sample_rows
 use Rattle.sn_world.specs.Recv.{received_text, recv_read, recv_outcome}
-use Rattle.sn_world.specs.Free.{name_of, judge_free, act_free}
+use Rattle.sn_world.specs.Forgetting.{name_of, judge_forget, act_forget}
 use Rattle.sn_world.specs.Status.{status_row}
 use Rattle.sn_world.specs.Ending.{quit_row, clear_row}
 use Rattle.sn_world.specs.Notifying.{notify_outcome}
@@ -30,7 +30,7 @@ use Rattle.sn_world.specs.TreeQueries.{tree_query, judge_tree, act_tree}
 use Rattle.sn_world.specs.SynthQueries.{values_from, values_outcome, payload_at}
 use Rattle.sn_world.specs.NewSynth.{ControlName}
 use Rattle.sn_world.specs.ControlRuns.{ForNode}
-use Rattle.sn_world.specs.Commands.{bus_row}
+use Rattle.sn_world.specs.Commands.{server_row}
 use Rattle.sn_layout.specs.Layout.{extent_of, laid, layout_of}
 use Rattle.sn_layout.specs.Leaving.{server_leaves}
 
@@ -99,7 +99,7 @@ module _ {R : Type 0} where
 
 zero_leaves : (from : ℕ) (o : Option ℤ) (t : Turn) → Leaves t (buffer_rows.zero_outcome from o t)
 zero_leaves from None t = tt
-zero_leaves from (Some n) t = unless_leaves t (buffer_refusal n t.world) (Ok (replied from (done_with (codes "/b_zero") n) (record t { world = with_samples n buffer_rows.zeros t.world }))) (samples_leave n buffer_rows.zeros t.world)
+zero_leaves from (Some n) t = unless_leaves t (buffer_refusal n t.world) (Ok (replied from (done_message (codes "/b_zero") n) (record t { world = with_samples n buffer_rows.zeros t.world }))) (samples_leave n buffer_rows.zeros t.world)
 
 -- ---- single commands
 
@@ -152,7 +152,7 @@ get_leaves from (Some r) t = values_leave from r (payload_at r.id t.world.nodes)
 
 -- ---- commands on buses, buffers, definitions and the server itself
 
-pub server_row_leaves : (c : BusCommand) (n from : ℕ) (xs : List Argument) (t : Turn) → server_leaves n c ≡ true → Leaves t (bus_row c from xs t)
+pub server_row_leaves : (c : ServerCommand) (n from : ℕ) (xs : List Argument) (t : Turn) → server_leaves n c ≡ true → Leaves t (server_row c from xs t)
 server_row_leaves servers.Set n from xs t h = row_leaves bus_rows.judge_set bus_rows.act_set (λ r u. refl) (some_of (pairs bus_rows.bus_value xs)) t
 server_row_leaves servers.SetRuns n from xs t h = row_leaves judge_setn act_setn (λ r u. refl) (some_of (value_runs xs)) t
 server_row_leaves servers.Fill n from xs t h = row_leaves bus_rows.judge_fill bus_rows.act_fill (λ r u. refl) (some_of (triples bus_rows.bus_fill xs)) t
@@ -167,7 +167,7 @@ server_row_leaves servers.GetSamples n from xs t h = buffer_leaves (singles samp
 server_row_leaves servers.GetSampleRuns n from xs t h = buffer_leaves (λ ys. sample_rows.few_asked (pairs sample_rows.sample_run ys)) (sample_rows.asking sample_rows.place_refusal sample_rows.run_and_values (codes "/b_setn") from) (asking_leaves sample_rows.place_refusal sample_rows.run_and_values (codes "/b_setn") from) xs t
 server_row_leaves servers.Sync n from xs t h = sync_leaves from (bus_rows.sync_number xs) t
 server_row_leaves servers.Receive n from xs t h = recv_leaves from (received_text xs) t
-server_row_leaves servers.Free n from xs t h = row_leaves judge_free act_free (λ r u. refl) (some_of (singles name_of xs)) t
+server_row_leaves servers.Free n from xs t h = row_leaves judge_forget act_forget (λ r u. refl) (some_of (singles name_of xs)) t
 server_row_leaves servers.Status n from xs t h = status_leaves from xs t
 server_row_leaves servers.ClearSched n from xs t h = clear_leaves from xs t
 server_row_leaves servers.Quit n from xs t h = quit_leaves from xs t

@@ -27,7 +27,7 @@ use Rattle.sn_clash.specs.declared.clash.Clash.{Clash}
 use Rattle.sn_clash.specs.Clashing.{clashes, clashes_of, content_reads, content_writes}
 use Rattle.sn_clash.proofs.Worlds.{same_clashes}
 use Rattle.sn_graph.specs.declared.nodes.Voice.{Voice}
-use Rattle.sn_graph.specs.Voices.{Running, none, synth}
+use Rattle.sn_graph.specs.Voices.{HeardNodes, none, synth}
 use Rattle.sn_graph.specs.Plans.{is_listed}
 use Rattle.sn_graph.specs.Stages.{voice_of, with_group, with_node, running_of, clashing_in, nodes_in}
 use Rattle.sn_layout.specs.Layout.{Layout, extent_of, laid, layout_of}
@@ -79,18 +79,18 @@ voice_from buffers id c = voice_with (is_there buffers) (place_in buffers) id (c
 
 -- as in a stage
 module _ (buffers : List (Option Extent)) (clashing : List ℤ) where
-  abbrev node_from : NodeKind → ℤ → Content → Running → Running → Running
+  abbrev node_from : NodeKind → ℤ → Content → HeardNodes → HeardNodes → HeardNodes
   node_from kinds.Synth id c below after = synth (voice_from buffers id c) after
   node_from kinds.Group id c below after = with_group false below after
   node_from kinds.Parallel id c below after = with_group (not (is_listed clashing id)) below after
 
-  abbrev running_from : Nodes Content → Running
+  abbrev running_from : Nodes Content → HeardNodes
   running_from trees.none = none
   running_from (trees.node label below after) =
       if label.running then node_from label.kind label.id label.payload (running_from below) (running_from after)
       else running_from after
 
-abbrev nodes_from : Layout → Running
+abbrev nodes_from : Layout → HeardNodes
 nodes_from l = running_from l.buffers (map (λ (c : Clash). c.group) (clashes_from l)) (subtree (pos 0) l.nodes)
 
 -- ---- those of a stage
@@ -138,7 +138,7 @@ module _ (places : List (Option BufferPlace)) (words : List ℕ) where
   voice_same id h = λ i. voice_with (λ r. there_same r i) (λ r. place_same r i) id (λ r. seen_reads h r i) (λ r. seen_writes h r i) (seen_state h i)
 
   module _ (clashing : List ℤ) where
-    kind_same : (kind : NodeKind) (label : Label Held) (b b' a a' : Running) → b ≡ b' → a ≡ a' → with_node places clashing kind label b a ≡ node_from extents clashing kind label.id (seen label.payload) b' a'
+    kind_same : (kind : NodeKind) (label : Label Held) (b b' a a' : HeardNodes) → b ≡ b' → a ≡ a' → with_node places clashing kind label b a ≡ node_from extents clashing kind label.id (seen label.payload) b' a'
     kind_same kinds.Synth label b b' a a' p q = λ i. synth (voice_same label.id label.payload i) (q i)
     kind_same kinds.Group label b b' a a' p q = λ i. with_group false (p i) (q i)
     kind_same kinds.Parallel label b b' a a' p q = λ i. with_group (not (is_listed clashing label.id)) (p i) (q i)

@@ -7,8 +7,8 @@ use Rattle.sn_def.specs.Defs.{definition_of}
 use Rattle.sn_def.specs.Asked.{is_index}
 use Rattle.sn_synth.specs.Conditions.{no_control}
 use Rattle.sn_tree.specs.Trees.{Nodes, subtree}
-use Rattle.sn_world.specs.declared.command.BusCommand.{BusCommand}
-use Rattle.sn_world.specs.declared.command.BusCommand.TheVariants as buses
+use Rattle.sn_world.specs.declared.command.ServerCommand.{ServerCommand}
+use Rattle.sn_world.specs.declared.command.ServerCommand.TheVariants as server
 use Rattle.sn_world.specs.declared.command.NodeCommand.{NodeCommand}
 use Rattle.sn_world.specs.declared.command.NodeCommand.TheVariants as nodes
 use Rattle.sn_world.specs.declared.command.Command.{Command}
@@ -82,25 +82,25 @@ node_leaves plain nodes.GetControls = true
 node_leaves plain _ = false
 
 -- With so many arguments it carries no completion message.
-abbrev pub server_leaves : ℕ → BusCommand → Bool
-server_leaves n buses.Set = true
-server_leaves n buses.SetRuns = true
-server_leaves n buses.Fill = true
-server_leaves n buses.Get = true
-server_leaves n buses.GetRuns = true
-server_leaves n buses.ZeroBuffer = nat_lt n 2
-server_leaves n buses.QueryBuffers = true
-server_leaves n buses.SetSamples = true
-server_leaves n buses.SetSampleRuns = true
-server_leaves n buses.FillSamples = true
-server_leaves n buses.GetSamples = true
-server_leaves n buses.GetSampleRuns = true
-server_leaves n buses.Sync = true
-server_leaves n buses.Receive = nat_lt n 2
-server_leaves n buses.Free = true
-server_leaves n buses.Status = true
-server_leaves n buses.ClearSched = true
-server_leaves n buses.Quit = true
+abbrev pub server_leaves : ℕ → ServerCommand → Bool
+server_leaves n server.Set = true
+server_leaves n server.SetRuns = true
+server_leaves n server.Fill = true
+server_leaves n server.Get = true
+server_leaves n server.GetRuns = true
+server_leaves n server.ZeroBuffer = nat_lt n 2
+server_leaves n server.QueryBuffers = true
+server_leaves n server.SetSamples = true
+server_leaves n server.SetSampleRuns = true
+server_leaves n server.FillSamples = true
+server_leaves n server.GetSamples = true
+server_leaves n server.GetSampleRuns = true
+server_leaves n server.Sync = true
+server_leaves n server.Receive = nat_lt n 2
+server_leaves n server.Free = true
+server_leaves n server.Status = true
+server_leaves n server.ClearSched = true
+server_leaves n server.Quit = true
 server_leaves n _ = false
 
 module _ (plain : List Argument → Bool) where

@@ -7,7 +7,7 @@ ghost use Rattle.sn_layout.specs.Leaving.{asked_leaves, command_leaves, holds_la
 use crate::controls::sets_plain;
 use sn_osc::{Arg, Body, Message};
 use sn_tree::Tree;
-use sn_world::{BusCommand, Command, Held, NodeCommand, Stage, command_of};
+use sn_world::{Command, Held, NodeCommand, ServerCommand, Stage, command_of};
 
 fn node_leaves(tree: &Tree<Held>, command: NodeCommand, arguments: &[Arg], looks: &mut u32) -> bool
     ensures { result ≡ true → node_leaves (sets_plain holds_laid tree.now.attached (map argument_of arguments.now)) command ≡ true }
@@ -23,27 +23,27 @@ fn node_leaves(tree: &Tree<Held>, command: NodeCommand, arguments: &[Arg], looks
 }
 
 /// Whether a command with so many arguments leaves the layout, and carries no completion message.
-fn server_leaves(command: BusCommand, arguments: usize) -> bool
+fn server_leaves(command: ServerCommand, arguments: usize) -> bool
     ensures { result ≡ server_leaves arguments command }
 {
     match command {
-        BusCommand::Set
-        | BusCommand::SetRuns
-        | BusCommand::Fill
-        | BusCommand::Get
-        | BusCommand::GetRuns
-        | BusCommand::QueryBuffers
-        | BusCommand::SetSamples
-        | BusCommand::SetSampleRuns
-        | BusCommand::FillSamples
-        | BusCommand::GetSamples
-        | BusCommand::GetSampleRuns
-        | BusCommand::Sync
-        | BusCommand::Free
-        | BusCommand::Status
-        | BusCommand::ClearSched
-        | BusCommand::Quit => true,
-        BusCommand::ZeroBuffer | BusCommand::Receive => arguments < 2,
+        ServerCommand::Set
+        | ServerCommand::SetRuns
+        | ServerCommand::Fill
+        | ServerCommand::Get
+        | ServerCommand::GetRuns
+        | ServerCommand::QueryBuffers
+        | ServerCommand::SetSamples
+        | ServerCommand::SetSampleRuns
+        | ServerCommand::FillSamples
+        | ServerCommand::GetSamples
+        | ServerCommand::GetSampleRuns
+        | ServerCommand::Sync
+        | ServerCommand::Free
+        | ServerCommand::Status
+        | ServerCommand::ClearSched
+        | ServerCommand::Quit => true,
+        ServerCommand::ZeroBuffer | ServerCommand::Receive => arguments < 2,
         _ => false,
     }
 }

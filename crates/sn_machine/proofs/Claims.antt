@@ -8,7 +8,7 @@ use Rattle.sn_machine.specs.declared.views.View.{View}
 use Rattle.sn_machine.specs.declared.views.Main.{Main}
 use Rattle.sn_round.specs.Jobs.{foot_at, predecessors}
 use Rattle.sn_round.specs.Scripts.{list_at, word_at}
-use Rattle.sn_machine.specs.States.{State, CLAIMED, is_claimed, is_ended, has_begun, At, Runs}
+use Rattle.sn_machine.specs.States.{State, CLAIMED, is_claimed, is_ended, has_begun, At, RunsJob}
 use Rattle.sn_machine.specs.Steps.{CanClaim, got_view}
 use Rattle.sn_machine.specs.Rule.{total, owing, owing_pair, waiting, level, DebtsHold, ClaimsHold, BegunHold, PicturesHold, level_of, SettledHold, IsBlank, live_of, Knows, ViewsHold, SweepHolds, PlanHolds, HasMain, InRound, Between}
 use Rattle.sn_machine.proofs.Forms.{in_order, sound}
@@ -105,20 +105,20 @@ module _ (s : State) (r : InRound s) (id : ℕ) (v : View) (j : ℕ) (at : At s.
         subst (λ n. n < 2 ^ 32) (sym (get_or-set_other s.counts j q CLAIMED 0 d)) (r.debts.small q l (sym (begun_else s.counts j CLAIMED q d) ∙ h));
   }
 
-  got_runs : Runs w j (list_at v.worker.script j)
+  got_runs : RunsJob w j (list_at v.worker.script j)
   got_runs = refl
 
   got_claims : ClaimsHold r.jobs now views'
   got_claims = record {
     has_runner = λ k l c.
         ⊎_elim
-        (λ (e : k ≡ j). (id, w, list_at v.worker.script j, set_here s.views id w v at, subst (λ m. Runs w m (list_at v.worker.script j)) (sym e) got_runs))
+        (λ (e : k ≡ j). (id, w, list_at v.worker.script j, set_here s.views id w v at, subst (λ m. RunsJob w m (list_at v.worker.script j)) (sym e) got_runs))
         (λ (d : k ≡ j → ⊥).
         let h = r.claims.has_runner k l (sym (claimed_else s.counts j CLAIMED k d) ∙ c) in
-        let apart : h.0 ≢ id = λ e. no_run v k h.2 can.runs (subst (λ (u : View). Runs u k h.2) (same_at s.views id h.1 v (subst (λ m. At s.views m h.1) e h.3) at) h.4) in
+        let apart : h.0 ≢ id = λ e. no_run v k h.2 can.runs (subst (λ (u : View). RunsJob u k h.2) (same_at s.views id h.1 v (subst (λ m. At s.views m h.1) e h.3) at) h.4) in
         (h.0, h.1, h.2, set_else s.views id h.0 w apart ∙ h.3, h.4))
         (cases_eq k j);
-    runner = λ i u k p a runs. each_set (λ i (u : View). Runs u k p → (u.worker.live ≡ true) × (k < length r.jobs) × (is_claimed now k ≡ true) × (u.worker.debts ≡ [])) s.views id w
+    runner = λ i u k p a runs. each_set (λ i (u : View). RunsJob u k p → (u.worker.live ≡ true) × (k < length r.jobs) × (is_claimed now k ≡ true) × (u.worker.debts ≡ [])) s.views id w
         (λ runs. let e = same_job w.worker.runs j k (list_at v.worker.script j) p got_runs runs in
         (can.live, subst (λ m. m < length r.jobs) e inside, subst (λ m. is_claimed now m ≡ true) e now_claimed, can.debts))
         (λ i u n a runs. let h = r.claims.runner i u k p a runs in (h.0, h.1, claimed_else s.counts j CLAIMED k (other k h.2) ∙ h.2, h.3))
@@ -126,13 +126,13 @@ module _ (s : State) (r : InRound s) (id : ℕ) (v : View) (j : ℕ) (at : At s.
     alone = λ i k m u x p q a b ru rx. one i k m u x p q (at_set s.views id i w u a) (at_set s.views id k w x b) ru rx;
   }
     where
-      mine : (i m : ℕ) (u : View) (p q : List ℕ) → At s.views i u → Runs u m p → Runs w m q → ⊥
+      mine : (i m : ℕ) (u : View) (p q : List ℕ) → At s.views i u → RunsJob u m p → RunsJob w m q → ⊥
       mine i m u p q a ru rw' = other m (r.claims.runner i u m p a ru).2 (sym (same_job w.worker.runs j m (list_at v.worker.script j) q got_runs rw'))
 
-      one : (i k m : ℕ) (u x : View) (p q : List ℕ) → ((i ≡ id) × (w ≡ u)) ⊎ ((i ≢ id) × At s.views i u) → ((k ≡ id) × (w ≡ x)) ⊎ ((k ≢ id) × At s.views k x) → Runs u m p → Runs x m q → i ≡ k
+      one : (i k m : ℕ) (u x : View) (p q : List ℕ) → ((i ≡ id) × (w ≡ u)) ⊎ ((i ≢ id) × At s.views i u) → ((k ≡ id) × (w ≡ x)) ⊎ ((k ≢ id) × At s.views k x) → RunsJob u m p → RunsJob x m q → i ≡ k
       one i k m u x p q (inl a) (inl b) ru rx = a.0 ∙ sym b.0
-      one i k m u x p q (inl a) (inr b) ru rx = absurd (mine k m x q p b.1 rx (subst (λ (y : View). Runs y m p) (sym a.1) ru))
-      one i k m u x p q (inr a) (inl b) ru rx = absurd (mine i m u p q a.1 ru (subst (λ (y : View). Runs y m q) (sym b.1) rx))
+      one i k m u x p q (inl a) (inr b) ru rx = absurd (mine k m x q p b.1 rx (subst (λ (y : View). RunsJob y m p) (sym a.1) ru))
+      one i k m u x p q (inr a) (inl b) ru rx = absurd (mine i m u p q a.1 ru (subst (λ (y : View). RunsJob y m q) (sym b.1) rx))
       one i k m u x p q (inr a) (inr b) ru rx = r.claims.alone i k m u x p q a.1 b.1 ru rx
 
   got_begun : BegunHold r.jobs now views'
@@ -193,18 +193,18 @@ module _ (s : State) (r : InRound s) (id : ℕ) (v : View) (j : ℕ) (at : At s.
 
   got_pictures : PicturesHold r.jobs r.script s.memory views'
   got_pictures = record {
-    wide = λ i u k p a runs. each_set (λ i (u : View). Runs u k p → length p ≡ length s.memory) s.views id w
+    wide = λ i u k p a runs. each_set (λ i (u : View). RunsJob u k p → length p ≡ length s.memory) s.views id w
         (λ runs. ap length (sym (mine k p runs).1 ∙ my_list) ∙ r.plan.is_script.wide j (let m = inside in omega arith))
         (λ i u n a runs. r.pictures.wide i u k p a runs) i u a runs;
-    inside = λ i u k p x a runs t. each_set (λ i (u : View). Runs u k p → touches (foot_at r.jobs k) x ≡ true → get_or p x 0 ≡ get_or s.memory x 0) s.views id w
+    inside = λ i u k p x a runs t. each_set (λ i (u : View). RunsJob u k p → touches (foot_at r.jobs k) x ≡ true → get_or p x 0 ≡ get_or s.memory x 0) s.views id w
         (λ runs t. ap (λ (l : List ℕ). get_or l x 0) (sym (mine k p runs).1 ∙ my_list) ∙ shown x (subst (λ m. touches (foot_at r.jobs m) x ≡ true) (sym (mine k p runs).0) t))
         (λ i u n a runs t. r.pictures.inside i u k p x a runs t) i u a runs t;
-    outside = λ i u k p x a runs t. each_set (λ i (u : View). Runs u k p → writes (foot_at r.jobs k) x ≡ false → get_or p x 0 ≡ word_at r.script k x) s.views id w
+    outside = λ i u k p x a runs t. each_set (λ i (u : View). RunsJob u k p → writes (foot_at r.jobs k) x ≡ false → get_or p x 0 ≡ word_at r.script k x) s.views id w
         (λ runs t. ap (λ (l : List ℕ). get_or l x 0) (sym (mine k p runs).1 ∙ my_list) ∙ ap (λ m. word_at r.script m x) (mine k p runs).0)
         (λ i u n a runs t. r.pictures.outside i u k p x a runs t) i u a runs t;
   }
     where
-      mine : (k : ℕ) (p : List ℕ) → Runs w k p → (j ≡ k) × (list_at v.worker.script j ≡ p)
+      mine : (k : ℕ) (p : List ℕ) → RunsJob w k p → (j ≡ k) × (list_at v.worker.script j ≡ p)
       mine k p runs = (same_job w.worker.runs j k (list_at v.worker.script j) p got_runs runs, same_picture w.worker.runs j k (list_at v.worker.script j) p got_runs runs)
 
   got_settled : SettledHold r.jobs r.script s.memory now

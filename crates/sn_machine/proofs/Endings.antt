@@ -8,7 +8,7 @@ use Rattle.sn_round.specs.declared.jobs.Job.{Job}
 use Rattle.sn_machine.specs.declared.views.View.{View}
 use Rattle.sn_round.specs.Jobs.{foot_at, predecessors, successors}
 use Rattle.sn_round.specs.Scripts.{word_at}
-use Rattle.sn_machine.specs.States.{State, ENDED, is_claimed, is_ended, has_begun, At, Runs}
+use Rattle.sn_machine.specs.States.{State, ENDED, is_claimed, is_ended, has_begun, At, RunsJob}
 use Rattle.sn_machine.specs.Steps.{CanEnd, debts_of, ended_view, after_end}
 use Rattle.sn_machine.specs.Rule.{tally, total, owing, owing_pair, DebtsHold, ClaimsHold, BegunHold, PicturesHold, level_of, SettledHold, IsBlank, live_of, Knows, ViewsHold, InRound, Between, RoundHolds}
 use Rattle.sn_machine.proofs.Forms.{in_order, sound, occurs}
@@ -124,17 +124,17 @@ module _ (s : State) (r : InRound s) (id : ℕ) (v : View) (j : ℕ) (picture : 
         let h = r.claims.has_runner k l (still k c).1 in
         let apart : h.0 ≢ id = λ e. (still k c).0 (same_job v.worker.runs k j h.2 picture (ap (λ (y : View). y.worker.runs) (same_at s.views id v h.1 at (subst (λ m. At s.views m h.1) e h.3)) ∙ h.4) can.runs) in
         (h.0, h.1, h.2, set_else s.views id h.0 w apart ∙ h.3, h.4);
-    runner = λ i u k p a runs. each_set (λ i (u : View). Runs u k p → (u.worker.live ≡ true) × (k < length r.jobs) × (is_claimed now k ≡ true) × (u.worker.debts ≡ [])) s.views id w
+    runner = λ i u k p a runs. each_set (λ i (u : View). RunsJob u k p → (u.worker.live ≡ true) × (k < length r.jobs) × (is_claimed now k ≡ true) × (u.worker.debts ≡ [])) s.views id w
         (λ runs. absurd (no_run w k p refl runs))
         (λ i u n a runs.
         let h = r.claims.runner i u k p a runs in
-        let d : k ≢ j = λ e. n (r.claims.alone i id k u v p picture a at runs (subst (λ m. Runs v m picture) (sym e) can.runs)) in
+        let d : k ≢ j = λ e. n (r.claims.alone i id k u v p picture a at runs (subst (λ m. RunsJob v m picture) (sym e) can.runs)) in
         (h.0, h.1, claimed_else s.counts j ENDED k d ∙ h.2, h.3))
         i u a runs;
     alone = λ i k m u y p q a b ru ry. r.claims.alone i k m u y p q (was i u m p a ru) (was k y m q b ry) ru ry;
   }
     where
-      was : (i : ℕ) (u : View) (m : ℕ) (p : List ℕ) → At views' i u → Runs u m p → At s.views i u
+      was : (i : ℕ) (u : View) (m : ℕ) (p : List ℕ) → At views' i u → RunsJob u m p → At s.views i u
       was i u m p a ru = ⊎_elim (λ (t : (i ≡ id) × (w ≡ u)). absurd (no_run w m p refl (ap (λ (y : View). y.worker.runs) t.1 ∙ ru))) (λ (t : (i ≢ id) × At s.views i u). t.1) (at_set s.views id i w u a)
 
   end_begun : BegunHold r.jobs now views'
@@ -158,9 +158,9 @@ module _ (s : State) (r : InRound s) (id : ℕ) (v : View) (j : ℕ) (picture : 
 
   end_pictures : PicturesHold r.jobs r.script s.memory views'
   end_pictures = record {
-    wide = λ i u k p a runs. each_set (λ i (u : View). Runs u k p → length p ≡ length s.memory) s.views id w (λ runs. absurd (no_run w k p refl runs)) (λ i u n a runs. r.pictures.wide i u k p a runs) i u a runs;
-    inside = λ i u k p x a runs t. each_set (λ i (u : View). Runs u k p → get_or p x 0 ≡ get_or s.memory x 0) s.views id w (λ runs. absurd (no_run w k p refl runs)) (λ i u n a runs. r.pictures.inside i u k p x a runs t) i u a runs;
-    outside = λ i u k p x a runs t. each_set (λ i (u : View). Runs u k p → get_or p x 0 ≡ word_at r.script k x) s.views id w (λ runs. absurd (no_run w k p refl runs)) (λ i u n a runs. r.pictures.outside i u k p x a runs t) i u a runs;
+    wide = λ i u k p a runs. each_set (λ i (u : View). RunsJob u k p → length p ≡ length s.memory) s.views id w (λ runs. absurd (no_run w k p refl runs)) (λ i u n a runs. r.pictures.wide i u k p a runs) i u a runs;
+    inside = λ i u k p x a runs t. each_set (λ i (u : View). RunsJob u k p → get_or p x 0 ≡ get_or s.memory x 0) s.views id w (λ runs. absurd (no_run w k p refl runs)) (λ i u n a runs. r.pictures.inside i u k p x a runs t) i u a runs;
+    outside = λ i u k p x a runs t. each_set (λ i (u : View). RunsJob u k p → get_or p x 0 ≡ word_at r.script k x) s.views id w (λ runs. absurd (no_run w k p refl runs)) (λ i u n a runs. r.pictures.outside i u k p x a runs t) i u a runs;
   }
 
   abbrev last_of : ℕ → ℕ → Bool

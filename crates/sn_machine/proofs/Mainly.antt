@@ -10,7 +10,7 @@ use Rattle.sn_machine.specs.declared.views.Phase.{Phase}
 use Rattle.sn_machine.specs.declared.views.Phase.TheVariants.{Idle, Round}
 use Rattle.sn_round.specs.Jobs.{foot_at, predecessors, AreWithin}
 use Rattle.sn_round.specs.Scripts.{IsScript, word_at}
-use Rattle.sn_machine.specs.States.{State, is_claimed, is_ended, has_begun, At, Runs, memory_in, counts_in, IsIdle}
+use Rattle.sn_machine.specs.States.{State, is_claimed, is_ended, has_begun, At, RunsJob, memory_in, counts_in, IsIdle}
 use Rattle.sn_machine.specs.Steps.{set_memory, after_memory, set_count, after_count, CanGo, go_view, after_go}
 use Rattle.sn_machine.specs.Rule.{tally, total, owing, owing_pair, waiting, level_of, IsBlank, live_of, Knows, InRound, Between, RoundHolds}
 use Rattle.sn_machine.proofs.Forms.{occurs, in_order}
@@ -138,7 +138,7 @@ module _ (s : State) (b : Between s) (m : View) (jobs : List Job) (script : List
   blank : (i : ℕ) (u : View) → At views' i u → IsBlank u.worker
   blank i u a = each_set (λ i (u : View). IsBlank u.worker) s.views 0 w (b.blank 0 m at) (λ i u n a. b.blank i u a) i u a
 
-  idle : (i : ℕ) (u : View) (k : ℕ) (p : List ℕ) → At views' i u → Runs u k p → ⊥
+  idle : (i : ℕ) (u : View) (k : ℕ) (p : List ℕ) → At views' i u → RunsJob u k p → ⊥
   idle i u k p a runs = no_run u k p (blank i u a).runs runs
 
   none : (f : View → ℕ) → ((u : View) → u.worker.debts ≡ [] → f u ≡ 0) → total f views' ≡ 0

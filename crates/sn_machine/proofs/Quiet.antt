@@ -5,7 +5,7 @@ use Rattle.std.proofs.lemmas.Bool.{cases_Bool, cases_eq, eqb-true}
 use lib.Seq.{set-get_or}
 use Rattle.sn_machine.specs.declared.views.View.{View}
 use Rattle.sn_round.specs.Jobs.{predecessors}
-use Rattle.sn_machine.specs.States.{State, CLAIMED, is_claimed, is_ended, At, Runs}
+use Rattle.sn_machine.specs.States.{State, CLAIMED, is_claimed, is_ended, At, RunsJob}
 use Rattle.sn_machine.specs.Steps.{CanClaim, read_view, got_view, after_claim}
 use Rattle.sn_machine.specs.Rule.{owing, owing_pair, waiting, IsBlank, live_of, Knows, InRound, RoundHolds}
 use Rattle.sn_machine.proofs.Sweeps.{sweep_stays}
@@ -45,7 +45,7 @@ module _ (s : State) (r : InRound s) (id : ℕ) (v : View) (at : At s.views id v
           (λ (e : h.0 ≡ id). (id, q, h.2, set_here s.views id q v at, ap (λ (y : View). y.worker.runs) (same_at s.views id v h.1 at (subst (λ m. At s.views m h.1) e h.3)) ∙ h.4))
           (λ (d : h.0 ≡ id → ⊥). (h.0, h.1, h.2, set_else s.views id h.0 q d ∙ h.3, h.4))
           (cases_eq h.0 id);
-      runner = λ i u k p a runs. each_set (λ i (u : View). Runs u k p → (u.worker.live ≡ true) × (k < length r.jobs) × (is_claimed s.counts k ≡ true) × (u.worker.debts ≡ [])) s.views id q
+      runner = λ i u k p a runs. each_set (λ i (u : View). RunsJob u k p → (u.worker.live ≡ true) × (k < length r.jobs) × (is_claimed s.counts k ≡ true) × (u.worker.debts ≡ [])) s.views id q
           (λ runs. r.claims.runner id v k p at runs) (λ i u n a runs. r.claims.runner i u k p a runs) i u a runs;
       alone = λ i k m u x p j a b ru rx. let f = was i u a in let g = was k x b in r.claims.alone i k m f.0 g.0 p j f.1 g.1 (f.2 ∙ ru) (g.2 ∙ rx);
     };

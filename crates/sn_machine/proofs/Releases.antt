@@ -5,7 +5,7 @@ use Rattle.std.proofs.lemmas.Bool.{cases_eq, or_parts, eq-eqb, ne_eqb, false_fro
 use Rattle.sn_machine.specs.declared.views.View.{View}
 use Rattle.sn_round.specs.Jobs.{predecessors}
 use Rattle.sn_round.specs.Scripts.{word_at}
-use Rattle.sn_machine.specs.States.{State, is_claimed, is_ended, has_begun, At, Runs}
+use Rattle.sn_machine.specs.States.{State, is_claimed, is_ended, has_begun, At, RunsJob}
 use Rattle.sn_machine.specs.Steps.{Owes, paid_view, after_release}
 use Rattle.sn_machine.specs.Rule.{tally, total, owing, owing_pair, waiting, DebtsHold, ClaimsHold, level_of, IsBlank, live_of, Knows, SweepHolds, InRound, Between, RoundHolds}
 use Rattle.sn_machine.proofs.Sweeps.{sweep_stays}
@@ -74,7 +74,7 @@ module _ (s : State) (r : InRound s) (id : ℕ) (v : View) (front : List (ℕ ×
   less : (k : ℕ) → total (owing k) views' ≤ total (owing k) s.views
   less k = omega (arith, total_set (owing k) s.views id v w at, old_owing k)
 
-  idle : (k : ℕ) (x : List ℕ) → Runs v k x → ⊥
+  idle : (k : ℕ) (x : List ℕ) → RunsJob v k x → ⊥
   idle k x runs = middle_none front (p, q) back (sym owes ∙ (r.claims.runner id v k x at runs).3)
 
   was : (i : ℕ) (u : View) → At views' i u → (x : View) × At s.views i x × (x.worker.runs ≡ u.worker.runs)
@@ -108,9 +108,9 @@ module _ (s : State) (r : InRound s) (id : ℕ) (v : View) (front : List (ℕ ×
   paid_claims = record {
     has_runner = λ k l c.
         let h = r.claims.has_runner k l (sym (same_claimed k) ∙ c) in
-        let apart : h.0 ≢ id = λ e. idle k h.2 (subst (λ (u : View). Runs u k h.2) (same_at s.views id h.1 v (subst (λ m. At s.views m h.1) e h.3) at) h.4) in
+        let apart : h.0 ≢ id = λ e. idle k h.2 (subst (λ (u : View). RunsJob u k h.2) (same_at s.views id h.1 v (subst (λ m. At s.views m h.1) e h.3) at) h.4) in
         (h.0, h.1, h.2, set_else s.views id h.0 w apart ∙ h.3, h.4);
-    runner = λ i u k x a runs. each_set (λ i (u : View). Runs u k x → (u.worker.live ≡ true) × (k < length r.jobs) × (is_claimed now k ≡ true) × (u.worker.debts ≡ [])) s.views id w
+    runner = λ i u k x a runs. each_set (λ i (u : View). RunsJob u k x → (u.worker.live ≡ true) × (k < length r.jobs) × (is_claimed now k ≡ true) × (u.worker.debts ≡ [])) s.views id w
         (λ runs. absurd (idle k x runs)) (λ i u n a runs. let h = r.claims.runner i u k x a runs in (h.0, h.1, same_claimed k ∙ h.2, h.3)) i u a runs;
     alone = λ i k m u y a b g h ru ry. let f = was i u g in let z = was k y h in r.claims.alone i k m f.0 z.0 a b f.1 z.1 (f.2 ∙ ru) (z.2 ∙ ry);
   }

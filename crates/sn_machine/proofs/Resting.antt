@@ -13,7 +13,7 @@ use Rattle.sn_machine.specs.declared.views.Phase.{Phase}
 use Rattle.sn_machine.specs.declared.views.Phase.TheVariants.{Idle, Round}
 use Rattle.sn_round.specs.Jobs.{foot_at, predecessors}
 use Rattle.sn_round.specs.Scripts.{list_at, word_at}
-use Rattle.sn_machine.specs.States.{State, ENDED, is_claimed, is_ended, At, Runs, jobs_in, script_in, crew_in, counts_in, spent}
+use Rattle.sn_machine.specs.States.{State, ENDED, is_claimed, is_ended, At, RunsJob, jobs_in, script_in, crew_in, counts_in, spent}
 use Rattle.sn_machine.specs.Steps.{CanRest, ended_front, last_list, rested_view, after_rest, CanJoin, join_view, after_join}
 use Rattle.sn_machine.specs.Rule.{tally, total, owing, owing_pair, waiting, level, IsBlank, live_of, Knows, InRound, Between, RoundHolds}
 use Rattle.sn_machine.proofs.Replaced.{set_here, set_else, same_at, each_set, total_set, total_le}
@@ -142,8 +142,8 @@ module _ (s : State) (r : InRound s) (m : View) (other : ℕ) (v : View) (at : A
   each : (P : ℕ → View → Type 0) → P 0 l → P other spent → ((i : ℕ) (u : View) → At s.views i u → P i u) → (i : ℕ) (u : View) → At views' i u → P i u
   each P left gone old i u a = each_set P (set s.views 0 l) other spent gone (λ i u n a. each_set P s.views 0 l left (λ i u n a. old i u a) i u a) i u a
 
-  was : (i : ℕ) (u : View) (k : ℕ) (p : List ℕ) → At views' i u → Runs u k p → (x : View) × At s.views i x × Runs x k p
-  was i u k p a = each (λ i u. Runs u k p → (x : View) × At s.views i x × Runs x k p) (λ runs. (m, at, runs)) (λ runs. absurd (no_run spent k p refl runs)) (λ i u a runs. (u, a, runs)) i u a
+  was : (i : ℕ) (u : View) (k : ℕ) (p : List ℕ) → At views' i u → RunsJob u k p → (x : View) × At s.views i x × RunsJob x k p
+  was i u k p a = each (λ i u. RunsJob u k p → (x : View) × At s.views i x × RunsJob x k p) (λ runs. (m, at, runs)) (λ runs. absurd (no_run spent k p refl runs)) (λ i u a runs. (u, a, runs)) i u a
 
   -- an old view but the joined one stands there with its worker's part
   stays : (i : ℕ) (u : View) → i ≢ other → At s.views i u → (x : View) × At views' i x × (x.worker ≡ u.worker) × ((k : ℕ) → Contains u.main.ended k → Contains x.main.ended k)
@@ -202,10 +202,10 @@ module _ (s : State) (r : InRound s) (m : View) (other : ℕ) (v : View) (at : A
     claims = record {
       has_runner = λ k j c.
           let h = r.claims.has_runner k j c in
-          let n : h.0 ≢ other = λ e. no_run v k h.2 can.runs (subst (λ (u : View). Runs u k h.2) (same_at s.views other h.1 v (subst (λ i. At s.views i h.1) e h.3) there) h.4) in
+          let n : h.0 ≢ other = λ e. no_run v k h.2 can.runs (subst (λ (u : View). RunsJob u k h.2) (same_at s.views other h.1 v (subst (λ i. At s.views i h.1) e h.3) there) h.4) in
           let x = stays h.0 h.1 n h.3 in
           (h.0, x.0, h.2, x.1, ap (λ (y : Worker). y.runs) x.2 ∙ h.4);
-      runner = λ i u k p a runs. each (λ i (u : View). Runs u k p → (u.worker.live ≡ true) × (k < length r.jobs) × (is_claimed s.counts k ≡ true) × (u.worker.debts ≡ []))
+      runner = λ i u k p a runs. each (λ i (u : View). RunsJob u k p → (u.worker.live ≡ true) × (k < length r.jobs) × (is_claimed s.counts k ≡ true) × (u.worker.debts ≡ []))
           (λ runs. r.claims.runner 0 m k p at runs) (λ runs. absurd (no_run spent k p refl runs)) (λ i u a runs. r.claims.runner i u k p a runs) i u a runs;
       alone = λ i k j u y p q a b ru ry. let f = was i u j p a ru in let g = was k y j q b ry in r.claims.alone i k j f.0 g.0 p q f.1 g.1 f.2 g.2;
     };

@@ -2,7 +2,7 @@
 use Rattle.std.proofs.Common.{◌≡◌, ℕ, zero, suc, ◌+◌, ◌<◌, eqb, false, true≢false, List, [], ◌∷◌, ◌++◌, length, get_or, set, take, drop, Option, refl, sym, ap, subst, ◌∙◌, arith}
 use Rattle.sn_round.specs.declared.jobs.Job.{Job}
 use Rattle.sn_machine.specs.declared.views.View.{View}
-use Rattle.sn_machine.specs.declared.views.Running.{Running}
+use Rattle.sn_machine.specs.declared.views.RunningJob.{RunningJob}
 use Rattle.sn_machine.specs.declared.views.Phase.{Phase}
 use Rattle.sn_machine.specs.declared.views.Phase.TheVariants.{Round}
 use Rattle.sn_machine.specs.States.{State, At, IsInRound, jobs_in, script_in, crew_in, counts_in}
@@ -32,7 +32,7 @@ takes s i may after a m t l ea em can e =
     (m, here s.views i m l em, same, e same)
 
 pub painted_is : (v : View) (x a : ℕ) → IsBusy v → painted v x a ≡ pictured v (job_of v) (set (picture_of v) x a)
-painted_is v x a runs = ap (λ (r : Option Running). record v { worker = record v.worker { runs = painted_run r x a } }) runs
+painted_is v x a runs = ap (λ (r : Option RunningJob). record v { worker = record v.worker { runs = painted_run r x a } }) runs
 
 parts : (xs : List (ℕ × ℕ)) (n : ℕ) → n < length xs → xs ≡ take n xs ++ get_or xs n (0, 0) ∷ drop (suc n) xs
 parts [] n l = absurd (omega arith)

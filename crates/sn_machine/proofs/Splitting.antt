@@ -10,7 +10,7 @@ use Rattle.sn_machine.specs.declared.views.Worker.{Worker}
 use Rattle.sn_machine.specs.declared.views.Phase.{Phase}
 use Rattle.sn_machine.specs.declared.views.Phase.TheVariants.{Idle, Round}
 use Rattle.sn_round.specs.Jobs.{predecessors}
-use Rattle.sn_machine.specs.States.{State, is_claimed, is_ended, At, Runs, jobs_in, script_in, crew_in, counts_in}
+use Rattle.sn_machine.specs.States.{State, is_claimed, is_ended, At, RunsJob, jobs_in, script_in, crew_in, counts_in}
 use Rattle.sn_machine.specs.Steps.{CanSplit, crewed, split_main, split_worker, after_split}
 use Rattle.sn_machine.specs.Rule.{total, owing, owing_pair, waiting, IsBlank, live_of, Knows, SweepHolds, InRound, Between, RoundHolds}
 use Rattle.sn_machine.proofs.Replaced.{set_here, set_else, same_at, each_set, total_same, total_le}
@@ -71,8 +71,8 @@ module _ (s : State) (r : InRound s) (m : View) (at : At s.views 0 m) (can : Can
       (at_snoc (set s.views 0 l) n u i a)
 
   -- a view that runs a job is as an old one
-  was : (i : ℕ) (u : View) (k : ℕ) (p : List ℕ) → At views' i u → Runs u k p → (x : View) × At s.views i x × Runs x k p
-  was i u k p a = each (λ i u. Runs u k p → (x : View) × At s.views i x × Runs x k p) (λ i runs. absurd (no_run n k p refl runs)) (λ runs. (m, at, runs)) (λ i u a runs. (u, a, runs)) i u a
+  was : (i : ℕ) (u : View) (k : ℕ) (p : List ℕ) → At views' i u → RunsJob u k p → (x : View) × At s.views i x × RunsJob x k p
+  was i u k p a = each (λ i u. RunsJob u k p → (x : View) × At s.views i x × RunsJob x k p) (λ i runs. absurd (no_run n k p refl runs)) (λ runs. (m, at, runs)) (λ i u a runs. (u, a, runs)) i u a
 
   -- and an old view stands there with its worker's part, and what main knew
   stays : (i : ℕ) (u : View) → At s.views i u → (x : View) × At views' i x × (x.worker ≡ u.worker) × (x.main.ended ≡ u.main.ended)
@@ -150,7 +150,7 @@ module _ (s : State) (r : InRound s) (m : View) (at : At s.views 0 m) (can : Can
     };
     claims = record {
       has_runner = λ k j c. let h = r.claims.has_runner k j c in let x = stays h.0 h.1 h.3 in (h.0, x.0, h.2, x.1, ap (λ (y : Worker). y.runs) x.2 ∙ h.4);
-      runner = λ i u k p a runs. each (λ i (u : View). Runs u k p → (u.worker.live ≡ true) × (k < length r.jobs) × (is_claimed s.counts k ≡ true) × (u.worker.debts ≡ []))
+      runner = λ i u k p a runs. each (λ i (u : View). RunsJob u k p → (u.worker.live ≡ true) × (k < length r.jobs) × (is_claimed s.counts k ≡ true) × (u.worker.debts ≡ []))
           (λ i runs. absurd (no_run n k p refl runs)) (λ runs. r.claims.runner 0 m k p at runs) (λ i u a runs. r.claims.runner i u k p a runs) i u a runs;
       alone = λ i k j u y p q a b ru ry. let f = was i u j p a ru in let g = was k y j q b ry in r.claims.alone i k j f.0 g.0 p q f.1 g.1 f.2 g.2;
     };

@@ -8,7 +8,7 @@ use Rattle.sn_round.specs.declared.jobs.Job.{Job}
 use Rattle.sn_machine.specs.declared.views.View.{View}
 use Rattle.sn_round.specs.Jobs.{foot_at, predecessors, AreWithin}
 use Rattle.sn_round.specs.Scripts.{IsScript, word_at}
-use Rattle.sn_machine.specs.States.{State, is_claimed, is_ended, At, Runs}
+use Rattle.sn_machine.specs.States.{State, is_claimed, is_ended, At, RunsJob}
 use Rattle.sn_machine.specs.Steps.{CanStore, pictured, after_store}
 use Rattle.sn_machine.specs.Rule.{owing, owing_pair, waiting, ClaimsHold, PicturesHold, SettledHold, IsBlank, live_of, Knows, InRound, Between, RoundHolds}
 use Rattle.sn_machine.proofs.Forms.{in_order, sound}
@@ -46,35 +46,35 @@ module _ (s : State) (r : InRound s) (id : ℕ) (v : View) (j : ℕ) (picture : 
   in_picture : x < length picture
   in_picture = subst (λ n. x < n) (sym (r.pictures.wide id v j picture at can.runs)) in_memory
 
-  drawn_runs : Runs w j drawn
+  drawn_runs : RunsJob w j drawn
   drawn_runs = refl
 
   -- who runs a job afterwards ran it before
-  was : (i : ℕ) (u : View) (k : ℕ) (p : List ℕ) → At views' i u → Runs u k p → (y : View) × (q : List ℕ) × At s.views i y × Runs y k q
+  was : (i : ℕ) (u : View) (k : ℕ) (p : List ℕ) → At views' i u → RunsJob u k p → (y : View) × (q : List ℕ) × At s.views i y × RunsJob y k q
   was i u k p b runs = ⊎_elim
       (λ (t : (i ≡ id) × (w ≡ u)).
       let e = same_job w.worker.runs j k drawn p drawn_runs (ap (λ (y : View). y.worker.runs) t.1 ∙ runs) in
-      (v, picture, subst (λ m. At s.views m v) (sym t.0) at, subst (λ m. Runs v m picture) e can.runs))
+      (v, picture, subst (λ m. At s.views m v) (sym t.0) at, subst (λ m. RunsJob v m picture) e can.runs))
       (λ (t : (i ≢ id) × At s.views i u). (u, p, t.1, runs))
       (at_set s.views id i w u b)
 
   -- another seat runs another job, which does not touch x
-  apart : (i : ℕ) (u : View) (k : ℕ) (p : List ℕ) (y : ℕ) → i ≢ id → At s.views i u → Runs u k p → touches (foot_at r.jobs k) y ≡ true → y ≢ x
+  apart : (i : ℕ) (u : View) (k : ℕ) (p : List ℕ) (y : ℕ) → i ≢ id → At s.views i u → RunsJob u k p → touches (foot_at r.jobs k) y ≡ true → y ≢ x
   apart i u k p y n b runs t e =
       let h = r.claims.runner i u k p b runs in
-      let d : j ≢ k = λ e. n (r.claims.alone i id k u v p picture b at runs (subst (λ m. Runs v m picture) e can.runs)) in
+      let d : j ≢ k = λ e. n (r.claims.alone i id k u v p picture b at runs (subst (λ m. RunsJob v m picture) e can.runs)) in
       both_ways (touches (foot_at r.jobs k) x) (subst (λ m. touches (foot_at r.jobs k) m ≡ true) e t)
       (claimed_apart r.jobs s.counts s.views (in_order r.jobs r.plan.order) (sound r.jobs r.plan.order r.plan.free) r.begun j k x d runs_j.1 h.1 runs_j.2 h.2 written)
 
   store_pictures : PicturesHold r.jobs r.script now views'
   store_pictures = record {
-    wide = λ i u k p b runs. each_set (λ i (u : View). Runs u k p → length p ≡ length now) s.views id w
+    wide = λ i u k p b runs. each_set (λ i (u : View). RunsJob u k p → length p ≡ length now) s.views id w
         (λ runs. ap length (sym (mine k p runs).1) ∙ (length-set picture x a ∙ (r.pictures.wide id v j picture at can.runs ∙ sym (length-set s.memory x a))))
         (λ i u n b runs. r.pictures.wide i u k p b runs ∙ sym (length-set s.memory x a)) i u b runs;
-    inside = λ i u k p y b runs t. each_set (λ i (u : View). Runs u k p → touches (foot_at r.jobs k) y ≡ true → get_or p y 0 ≡ get_or now y 0) s.views id w
+    inside = λ i u k p y b runs t. each_set (λ i (u : View). RunsJob u k p → touches (foot_at r.jobs k) y ≡ true → get_or p y 0 ≡ get_or now y 0) s.views id w
         (λ runs t. ap (λ (l : List ℕ). get_or l y 0) (sym (mine k p runs).1) ∙ both y (subst (λ m. touches (foot_at r.jobs m) y ≡ true) (sym (mine k p runs).0) t))
         (λ i u n b runs t. r.pictures.inside i u k p y b runs t ∙ sym (get_or-set_other s.memory x y a 0 (apart i u k p y n b runs t))) i u b runs t;
-    outside = λ i u k p y b runs t. each_set (λ i (u : View). Runs u k p → writes (foot_at r.jobs k) y ≡ false → get_or p y 0 ≡ word_at r.script k y) s.views id w
+    outside = λ i u k p y b runs t. each_set (λ i (u : View). RunsJob u k p → writes (foot_at r.jobs k) y ≡ false → get_or p y 0 ≡ word_at r.script k y) s.views id w
         (λ runs t.
         let t' : writes (foot_at r.jobs j) y ≡ false = subst (λ m. writes (foot_at r.jobs m) y ≡ false) (sym (mine k p runs).0) t in
         ap (λ (l : List ℕ). get_or l y 0) (sym (mine k p runs).1)
@@ -83,7 +83,7 @@ module _ (s : State) (r : InRound s) (id : ℕ) (v : View) (j : ℕ) (picture : 
         (λ i u n b runs t. r.pictures.outside i u k p y b runs t) i u b runs t;
   }
     where
-      mine : (k : ℕ) (p : List ℕ) → Runs w k p → (j ≡ k) × (drawn ≡ p)
+      mine : (k : ℕ) (p : List ℕ) → RunsJob w k p → (j ≡ k) × (drawn ≡ p)
       mine k p runs = (same_job w.worker.runs j k drawn p drawn_runs runs, same_picture w.worker.runs j k drawn p drawn_runs runs)
 
       both : (y : ℕ) → touches (foot_at r.jobs j) y ≡ true → get_or drawn y 0 ≡ get_or now y 0
@@ -99,10 +99,10 @@ module _ (s : State) (r : InRound s) (id : ℕ) (v : View) (j : ℕ) (picture : 
         ⊎_elim
         (λ (e : h.0 ≡ id).
         let f : k ≡ j = same_job v.worker.runs k j h.2 picture (ap (λ (y : View). y.worker.runs) (same_at s.views id v h.1 at (subst (λ m. At s.views m h.1) e h.3)) ∙ h.4) can.runs in
-        (id, w, drawn, set_here s.views id w v at, subst (λ m. Runs w m drawn) (sym f) drawn_runs))
+        (id, w, drawn, set_here s.views id w v at, subst (λ m. RunsJob w m drawn) (sym f) drawn_runs))
         (λ (d : h.0 ≡ id → ⊥). (h.0, h.1, h.2, set_else s.views id h.0 w d ∙ h.3, h.4))
         (cases_eq h.0 id);
-    runner = λ i u k p b runs. each_set (λ i (u : View). Runs u k p → (u.worker.live ≡ true) × (k < length r.jobs) × (is_claimed s.counts k ≡ true) × (u.worker.debts ≡ [])) s.views id w
+    runner = λ i u k p b runs. each_set (λ i (u : View). RunsJob u k p → (u.worker.live ≡ true) × (k < length r.jobs) × (is_claimed s.counts k ≡ true) × (u.worker.debts ≡ [])) s.views id w
         (λ runs. let e = same_job w.worker.runs j k drawn p drawn_runs runs in (runs_j.0, subst (λ m. m < length r.jobs) e runs_j.1, subst (λ m. is_claimed s.counts m ≡ true) e runs_j.2, runs_j.3))
         (λ i u n b runs. r.claims.runner i u k p b runs) i u b runs;
     alone = λ i k m u y p q b c ru ry. let f = was i u m p b ru in let g = was k y m q c ry in r.claims.alone i k m f.0 g.0 f.1 g.1 f.2 g.2 f.3 g.3;

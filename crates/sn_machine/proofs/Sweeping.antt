@@ -5,7 +5,7 @@ use Rattle.std.proofs.lemmas.Bool.{cases_Bool, false_from_ne_true, or_parts, or_
 use Rattle.sn_round.specs.declared.jobs.Job.{Job}
 use Rattle.sn_machine.specs.declared.views.View.{View}
 use Rattle.sn_round.specs.Jobs.{predecessors}
-use Rattle.sn_machine.specs.States.{State, is_claimed, is_ended, has_begun, At, Runs}
+use Rattle.sn_machine.specs.States.{State, is_claimed, is_ended, has_begun, At, RunsJob}
 use Rattle.sn_machine.specs.Steps.{CanClaim}
 use Rattle.sn_machine.specs.Rule.{tally, total, owing, waiting, InRound, RoundHolds}
 use Rattle.sn_machine.proofs.Forms.{in_order}
@@ -43,7 +43,7 @@ module _ (s : State) (r : InRound s) (id : ℕ) (v : View) (j : ℕ) (at : At s.
       let unclaimed : is_claimed s.counts j ≡ false = false_from_ne_true (is_claimed s.counts j) (λ c.
       let h = r.claims.has_runner j inside c in
       let live = (r.claims.runner h.0 h.1 j h.2 h.3 h.4).0 in
-      no_run v j h.2 can.runs (subst (λ (y : View). Runs y j h.2) (same_at s.views id h.1 v (subst (λ k. At s.views k h.1) (r.sweep.alone id h.0 v h.1 at can.live sweeps h.3 live) h.3) at) h.4)) in
+      no_run v j h.2 can.runs (subst (λ (y : View). RunsJob y j h.2) (same_at s.views id h.1 v (subst (λ k. At s.views k h.1) (r.sweep.alone id h.0 v h.1 at can.live sweeps h.3 live) h.3) at) h.4)) in
       let fresh : has_begun s.counts j ≡ false = false_from_ne_true (has_begun s.counts j) (λ b. ⊎_elim (λ c. both_ways (is_claimed s.counts j) c unclaimed) (λ e. both_ways (is_ended s.counts j) e unended) (or_cases (is_claimed s.counts j) (is_ended s.counts j) b)) in
       let wait : waiting (is_ended s.counts) (predecessors r.jobs j) ≡ 0 = tally_zero (λ p. not (is_ended s.counts p)) (predecessors r.jobs j) (λ p c. ap not (ended p (done p (subst (λ (js : List Job). Contains (predecessors js j) p) (sym same_jobs) c)))) in
       let owed : total (owing j) s.views ≡ 0 = total_zero (owing j) s.views (λ i u a. ap (λ (ds : List (ℕ × ℕ)). tally (λ (d : ℕ × ℕ). eqb d.1 j) ds) (no_debts i u a)) in

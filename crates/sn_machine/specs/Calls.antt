@@ -2,7 +2,7 @@
 use Rattle.std.specs.Prelude.{◌≡◌, ◌≢◌, ℕ, ◌+◌, ◌-◌, Bool, true, false, nat_le, List, ◌++◌, Option, Some, None, take, drop, slice_index_or, slice_set}
 use Rattle.sn_mem.specs.declared.extents.Extent.{Extent}
 use Rattle.sn_machine.specs.declared.views.View.{View}
-use Rattle.sn_machine.specs.declared.views.Running.{Running}
+use Rattle.sn_machine.specs.declared.views.RunningJob.{RunningJob}
 use Rattle.sn_machine.specs.declared.views.Phase.{Phase}
 use Rattle.sn_machine.specs.declared.views.Phase.TheVariants.{Idle, Round}
 use Rattle.sn_machine.specs.declared.machine.Machine.{Machine}
@@ -33,7 +33,7 @@ abbrev pub ends_below : ℕ → Extent → Bool
 ends_below size e = nat_le (e.at + e.len) size
 
 -- a worker whose picture has the word a at x, if it runs a job
-abbrev pub painted_run : Option Running → ℕ → ℕ → Option Running
+abbrev pub painted_run : Option RunningJob → ℕ → ℕ → Option RunningJob
 painted_run None x a = None
 painted_run (Some r) x a = Some (record r { picture = slice_set r.picture x a })
 

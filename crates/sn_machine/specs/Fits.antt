@@ -4,11 +4,11 @@ use Rattle.sn_mem.specs.declared.extents.Foot.{Foot}
 use Rattle.sn_round.specs.Jobs.{AreWithin, foot_at, predecessors}
 use Rattle.sn_round.specs.Scripts.{list_at}
 use Rattle.sn_machine.specs.declared.views.View.{View}
-use Rattle.sn_machine.specs.declared.views.Running.{Running}
-use Rattle.sn_machine.specs.States.{Runs, jobs_in, script_in, counts_in}
+use Rattle.sn_machine.specs.declared.views.RunningJob.{RunningJob}
+use Rattle.sn_machine.specs.States.{RunsJob, jobs_in, script_in, counts_in}
 
 -- the job that a worker runs, with its picture
-abbrev pub running_in : Option Running → Running
+abbrev pub running_in : Option RunningJob → RunningJob
 running_in None = record { job = 0; picture = [] }
 running_in (Some r) = r
 
@@ -23,14 +23,14 @@ foot_of v = foot_at v.worker.jobs (job_of v)
 
 -- the worker runs a job
 abbrev pub IsBusy : View → Type 0
-IsBusy v = Runs v (job_of v) (picture_of v)
+IsBusy v = RunsJob v (job_of v) (picture_of v)
 
 -- a worker's jobs, script and picture fit the numbers of words
 pub record Fits (v : View) : Type 0 where
   pub few : length v.worker.jobs ≤ v.room
   pub within : AreWithin v.size v.worker.jobs
   pub script : (i : ℕ) → i < length v.worker.jobs → length (list_at v.worker.script i) ≡ v.size
-  pub running : (j : ℕ) (picture : List ℕ) → Runs v j picture → (j < length v.worker.jobs) × (length picture ≡ v.size)
+  pub running : (j : ℕ) (picture : List ℕ) → RunsJob v j picture → (j < length v.worker.jobs) × (length picture ≡ v.size)
 
 -- so does what main knows
 pub record MainFits (v : View) : Type 0 where

@@ -8,7 +8,7 @@ use Rattle.sn_machine.specs.declared.views.View.{View}
 use Rattle.sn_machine.specs.declared.views.Main.{Main}
 use Rattle.sn_machine.specs.declared.views.Worker.{Worker}
 use Rattle.sn_machine.specs.declared.views.Phase.TheVariants.{Idle, Round}
-use Rattle.sn_machine.specs.States.{State, At, Runs, is_claimed, is_ended, has_begun}
+use Rattle.sn_machine.specs.States.{State, At, RunsJob, is_claimed, is_ended, has_begun}
 
 -- how many pass
 abbrev pub tally : {A : Type 0} → (A → Bool) → List A → ℕ
@@ -46,9 +46,9 @@ pub record DebtsHold (jobs : List Job) (counts : List ℕ) (views : List View) :
 
 -- (b) A word is CLAIMED exactly where one live worker runs the job. Who runs a job owes nothing.
 pub record ClaimsHold (jobs : List Job) (counts : List ℕ) (views : List View) : Type 0 where
-  pub has_runner : (j : ℕ) → j < length jobs → is_claimed counts j ≡ true → (i : ℕ) × (v : View) × (picture : List ℕ) × At views i v × Runs v j picture
-  pub runner : (i : ℕ) (v : View) (j : ℕ) (picture : List ℕ) → At views i v → Runs v j picture → (v.worker.live ≡ true) × (j < length jobs) × (is_claimed counts j ≡ true) × (v.worker.debts ≡ [])
-  pub alone : (i k j : ℕ) (v w : View) (p q : List ℕ) → At views i v → At views k w → Runs v j p → Runs w j q → i ≡ k
+  pub has_runner : (j : ℕ) → j < length jobs → is_claimed counts j ≡ true → (i : ℕ) × (v : View) × (picture : List ℕ) × At views i v × RunsJob v j picture
+  pub runner : (i : ℕ) (v : View) (j : ℕ) (picture : List ℕ) → At views i v → RunsJob v j picture → (v.worker.live ≡ true) × (j < length jobs) × (is_claimed counts j ≡ true) × (v.worker.debts ≡ [])
+  pub alone : (i k j : ℕ) (v w : View) (p q : List ℕ) → At views i v → At views k w → RunsJob v j p → RunsJob w j q → i ≡ k
 
 -- (c) The predecessors of a job that has begun have ended, and no debt names it.
 pub record BegunHold (jobs : List Job) (counts : List ℕ) (views : List View) : Type 0 where
@@ -57,9 +57,9 @@ pub record BegunHold (jobs : List Job) (counts : List ℕ) (views : List View) :
 
 -- (d) The picture of a running job is the words on its foot, and the list of the script outside its writes.
 pub record PicturesHold (jobs : List Job) (script : List (List ℕ)) (memory : List ℕ) (views : List View) : Type 0 where
-  pub wide : (i : ℕ) (v : View) (j : ℕ) (picture : List ℕ) → At views i v → Runs v j picture → length picture ≡ length memory
-  pub inside : (i : ℕ) (v : View) (j : ℕ) (picture : List ℕ) (x : ℕ) → At views i v → Runs v j picture → touches (foot_at jobs j) x ≡ true → slice_index picture x ≡ slice_index memory x
-  pub outside : (i : ℕ) (v : View) (j : ℕ) (picture : List ℕ) (x : ℕ) → At views i v → Runs v j picture → writes (foot_at jobs j) x ≡ false → slice_index picture x ≡ word_at script j x
+  pub wide : (i : ℕ) (v : View) (j : ℕ) (picture : List ℕ) → At views i v → RunsJob v j picture → length picture ≡ length memory
+  pub inside : (i : ℕ) (v : View) (j : ℕ) (picture : List ℕ) (x : ℕ) → At views i v → RunsJob v j picture → touches (foot_at jobs j) x ≡ true → slice_index picture x ≡ slice_index memory x
+  pub outside : (i : ℕ) (v : View) (j : ℕ) (picture : List ℕ) (x : ℕ) → At views i v → RunsJob v j picture → writes (foot_at jobs j) x ≡ false → slice_index picture x ≡ word_at script j x
 
 -- the list of the script after the last ended job that writes the word x, or the first list
 abbrev pub level_of : List Job → (ℕ → Bool) → ℕ → ℕ

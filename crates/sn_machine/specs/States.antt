@@ -36,8 +36,8 @@ abbrev pub At : List View → ℕ → View → Type 0
 At views i v = get_elem? views i ≡ some v
 
 -- the worker runs the job j, and sees the memory so
-abbrev pub Runs : View → ℕ → List ℕ → Type 0
-Runs v j picture = v.worker.runs ≡ Some (record { job = j; picture = picture })
+abbrev pub RunsJob : View → ℕ → List ℕ → Type 0
+RunsJob v j picture = v.worker.runs ≡ Some (record { job = j; picture = picture })
 
 -- what main knows while no round runs
 abbrev pub memory_in : Phase → List ℕ

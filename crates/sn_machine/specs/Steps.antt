@@ -7,7 +7,7 @@ use Rattle.sn_round.specs.Scripts.{IsScript, list_at, word_at}
 use Rattle.sn_machine.specs.declared.views.View.{View}
 use Rattle.sn_machine.specs.declared.views.Phase.{Phase}
 use Rattle.sn_machine.specs.declared.views.Phase.TheVariants.{Idle, Round}
-use Rattle.sn_machine.specs.States.{State, At, CLAIMED, ENDED, Runs, IsIdle, IsInRound, memory_in, counts_in, jobs_in, script_in, crew_in, no_main, spent}
+use Rattle.sn_machine.specs.States.{State, At, CLAIMED, ENDED, RunsJob, IsIdle, IsInRound, memory_in, counts_in, jobs_in, script_in, crew_in, no_main, spent}
 
 -- Idle store, by main, of a memory word or a job word. Allowed while no round runs.
 -- The word changes, and the list of main's that has it. For a memory word the number of these stores grows.
@@ -68,12 +68,12 @@ after_claim s id v j = record { memory = s.memory; counts = slice_set s.counts j
 -- Load, by a worker, of a memory word. Allowed where it runs a job, and the word is in its foot. Nothing changes.
 -- Main may load any word while no round runs.
 pub record CanLoad (v : View) (j : ℕ) (picture : List ℕ) (x : ℕ) : Type 0 where
-  pub runs : Runs v j picture
+  pub runs : RunsJob v j picture
   pub touches : touches (foot_at v.worker.jobs j) x ≡ true
 
 -- Store, by a worker, of a memory word. Allowed where it runs a job that may write the word. The word changes, and the picture.
 pub record CanStore (v : View) (j : ℕ) (picture : List ℕ) (x : ℕ) : Type 0 where
-  pub runs : Runs v j picture
+  pub runs : RunsJob v j picture
   pub writes : writes (foot_at v.worker.jobs j) x ≡ true
 
 abbrev pub pictured : View → ℕ → List ℕ → View
@@ -85,7 +85,7 @@ after_store s id v j picture x a = record { memory = slice_set s.memory x a; cou
 -- End, by a worker, of a job's word. Allowed where its picture is list j + 1 of the script on what the job j may write.
 -- The word becomes ENDED. The worker runs nothing, knows that j has ended, and owes each successor once.
 pub record CanEnd (v : View) (j : ℕ) (picture : List ℕ) : Type 0 where
-  pub runs : Runs v j picture
+  pub runs : RunsJob v j picture
   pub done : (x : ℕ) → writes (foot_at v.worker.jobs j) x ≡ true → slice_index picture x ≡ word_at v.worker.script (j + 1) x
 
 -- what is owed of the job j to these

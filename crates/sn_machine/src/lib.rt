@@ -21,5 +21,5 @@ pub use laws::{
 };
 pub use lists::{Debts, Rests, Script, Words};
 pub use machine::Machine;
-pub use views::{Main, Phase, Rested, Running, View, Worker};
+pub use views::{Main, Phase, Rested, RunningJob, View, Worker};
 pub use worker::{CLAIMED, ENDED};

@@ -39,7 +39,7 @@ pub struct Main {
 
 /// A job that a worker runs, and the memory words as it sees them.
 #[derive(Drop)]
-pub struct Running {
+pub struct RunningJob {
     /// The job.
     pub job: u32,
     /// Its picture of the memory words.
@@ -58,7 +58,7 @@ pub struct Worker {
     /// The script of the round.
     pub script: Script,
     /// The job that it runs.
-    pub runs: Option<Running>,
+    pub runs: Option<RunningJob>,
     /// What it owes: each pair is a job that it ended, and a successor that is to be told.
     pub debts: Debts,
     /// The jobs that it knows to have ended.

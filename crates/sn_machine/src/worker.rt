@@ -6,7 +6,7 @@ ghost use Rattle.sn_machine.specs.Calls.{painted, debt_at, front_of, back_of};
 
 use crate::feet::{agree, may_touch, may_write};
 use crate::lists::{Debts, words_of};
-use crate::views::{Running, View};
+use crate::views::{RunningJob, View};
 use sn_ports::NoMemory;
 use std::alloc::Global;
 
@@ -125,7 +125,7 @@ impl View {
         ensures { OnOk result (self.new ≡ got_view self.old job) }
     {
         let picture = words_of(alloc, self.worker.script.list(job as usize))?;
-        self.worker.runs = Some(Running { job, picture });
+        self.worker.runs = Some(RunningJob { job, picture });
         self.read(job, 0);
         Ok(())
     }

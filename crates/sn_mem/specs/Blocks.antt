@@ -1,7 +1,8 @@
--- Blocks of 64 samples, and runs of words.
+-- Blocks of samples, and runs of words.
 use Rattle.std.specs.Prelude.{◌≡◌, ◌<◌, ℕ, zero, suc, ◌+◌, ◌%◌, List, [], ◌∷◌, ◌++◌, ℤ, pos, slice_index, slice_index_or, slice_set}
 use Rattle.std.specs.List.{All}
 use Rattle.std.specs.Int.{w32, cast_signed, cast_unsigned}
+use Rattle.sn_ports.specs.Limits.{block_frames}
 
 -- a block by its number, and one of its samples
 abbrev pub block : List (List ℤ) → ℕ → List ℤ
@@ -10,9 +11,9 @@ block bs i = slice_index_or bs i []
 abbrev pub sample : List (List ℤ) → ℕ → ℕ → ℤ
 sample bs i k = slice_index_or (block bs i) k (pos 0)
 
--- 64 samples that are all equal, and blocks of such samples
+-- samples of a block that are all equal, and blocks of such samples
 abbrev pub IsSteady : List ℤ → Type 0
-IsSteady xs = (k : ℕ) → k < 64 → slice_index_or xs k (pos 0) ≡ slice_index_or xs 0 (pos 0)
+IsSteady xs = (k : ℕ) → k < block_frames → slice_index_or xs k (pos 0) ≡ slice_index_or xs 0 (pos 0)
 
 abbrev pub AreSteady : List (List ℤ) → Type 0
 AreSteady bs = All IsSteady bs
@@ -46,20 +47,20 @@ scan step s inputs (suc k) = let r = scan step s inputs k in let t = step r.0 in
 
 -- a recurrence over a block, from the words that hold its state: the words that hold it after the block, and the samples
 abbrev pub recurrence : {S : Type 0} → (List ℕ → S) → (S → List ℕ) → (S → List (List ℤ) → ℕ → S × ℤ) → List ℕ → List (List ℤ) → List ℕ × List ℤ
-recurrence loaded stored step state inputs = let r = scan step (loaded state) inputs 64 in (stored r.0, r.1)
+recurrence loaded stored step state inputs = let r = scan step (loaded state) inputs block_frames in (stored r.0, r.1)
 
 -- the same with its state in `size` words from a place on: all words after it, and the samples
 abbrev pub recurred : {S : Type 0} → ℕ → (List ℕ → S) → (S → List ℕ) → (S → List (List ℤ) → ℕ → S × ℤ) → List ℕ → ℕ → List (List ℤ) → List ℕ × List ℤ
 recurred size loaded stored step ws at inputs = let r = recurrence loaded stored step (window ws at size) inputs in (put ws at r.0, r.1)
 
--- 64 samples in words
+-- the samples of a block in words
 abbrev pub samples_at : List ℕ → ℕ → List ℤ
-samples_at ws at = table (λ k. sample_in (slice_index ws (at + k))) 64
+samples_at ws at = table (λ k. sample_in (slice_index ws (at + k))) block_frames
 
--- the words that hold 64 samples
+-- the words that hold the samples of a block
 abbrev pub sample_words : List ℤ → List ℕ
-sample_words xs = table (λ k. word_for (slice_index_or xs k (pos 0))) 64
+sample_words xs = table (λ k. word_for (slice_index_or xs k (pos 0))) block_frames
 
 -- the words of a block after each was changed by its frame's sample
 abbrev pub changed : (ℕ → ℤ → ℕ) → List ℕ → ℕ → List ℤ → List ℕ
-changed f ws at xs = put ws at (table (λ k. f (slice_index ws (at + k)) (slice_index_or xs k (pos 0))) 64)
+changed f ws at xs = put ws at (table (λ k. f (slice_index ws (at + k)) (slice_index_or xs k (pos 0))) block_frames)

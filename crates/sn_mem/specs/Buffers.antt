@@ -2,6 +2,8 @@
 use Rattle.std.specs.Prelude.{◌≡◌, ◌≤◌, ◌<◌, ◌+◌, ◌*◌, ◌++◌, ℕ, ℤ, List, [], ◌∷◌, map, Option, Some, None, if◌then◌else◌}
 use Rattle.std.specs.Option.{option_map}
 use Rattle.std.specs.List.{All}
+use Rattle.sn_ports.specs.Limits.{most_channels}
+use Rattle.sn_mem.specs.Layout.{bus_words}
 use Rattle.sn_mem.specs.declared.extents.Extent.{Extent}
 use Rattle.sn_mem.specs.declared.buffers.BufferPlace.{BufferPlace}
 use Rattle.sn_mem.specs.Blocks.{window, sample_in}
@@ -55,9 +57,9 @@ pub record IsPlace (p : BufferPlace) : Type 0 where
   pub frames : 1 ≤ p.frames
   pub short : p.frames < 2147483648
   pub channels : 1 ≤ p.channels
-  pub few : p.channels ≤ 8
+  pub few : p.channels ≤ most_channels
   pub size : p.extent.len ≡ p.frames * p.channels
-  pub behind : 10368 ≤ p.extent.at
+  pub behind : bus_words ≤ p.extent.at
 
 abbrev pub MayBePlace : Option BufferPlace → Type 0
 MayBePlace None = Unit {0}

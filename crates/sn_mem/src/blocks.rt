@@ -1,43 +1,43 @@
-//! Blocks of 64 samples.
+//! Blocks of samples.
 ghost use Rattle.std.specs.Prelude.{◌≡◌, ◌<◌, ◌≤◌, ◌+◌, ◌++◌, ◌∷◌, [], IfOk, length, replicate};
+ghost use Rattle.sn_ports.specs.Limits.{block_frames, most_wires};
 ghost use Rattle.sn_mem.specs.Blocks.{sample, block};
 
 use sn_ports::NoMemory;
+use sn_ports::limits::{BLOCK_FRAMES, MOST_WIRES};
 use std::alloc::Global;
 use std::marker::Model;
 
-/// 64 samples in Q8.24, one a frame.
-pub type Block = [i32; 64];
+/// The samples of a block in Q8.24, one a frame.
+pub type Block = [i32; BLOCK_FRAMES];
 
-/// The most blocks of a list.
-pub const MOST_BLOCKS: usize = 512;
-
-/// A list of at most 512 blocks.
+/// A list of blocks, no more than a definition has wires.
 #[derive(Drop)]
 pub struct Blocks {
     items: Vec<Block>,
     used: usize,
-    // Whether each block is known to be of 64 equal samples. It holds nothing that a clause sees.
+    // Whether each block is known to be of equal samples. It holds nothing that a clause sees.
     steady: bool,
 }
 
 impl Model for Blocks {
     ghost use Rattle.std.specs.Prelude.{List, ℤ, take, true, ◌≡◌, ◌≤◌, vec_len};
+    ghost use Rattle.sn_ports.specs.Limits.{most_wires};
     ghost use Rattle.sn_mem.specs.Blocks.{AreSteady};
 
     ghost Value = { List (List ℤ) };
 
     ghost view = { λ b. take b.used b.items.items };
 
-    ghost invariant = { λ b. (vec_len b.items ≡ 512) × (b.used ≤ 512) × (b.steady ≡ true → AreSteady (take b.used b.items.items)) };
+    ghost invariant = { λ b. (vec_len b.items ≡ most_wires) × (b.used ≤ most_wires) × (b.steady ≡ true → AreSteady (take b.used b.items.items)) };
 }
 
 impl Blocks {
-    /// No blocks, with room for 512.
+    /// No blocks, with room for as many as there may be.
     pub fn new(alloc: Global) -> Result<Blocks, NoMemory>
         ensures { IfOk result (λ b. b ≡ []) }
     {
-        let items = vec![in alloc; [0i32; 64]; MOST_BLOCKS]?;
+        let items = vec![in alloc; [0i32; BLOCK_FRAMES]; MOST_WIRES]?;
         Ok(Blocks {
             items,
             used: 0,
@@ -48,7 +48,7 @@ impl Blocks {
     /// How many blocks there are.
     pub fn len(&self) -> usize
         ensures value { result ≡ length self.now }
-        ensures bound { result ≤ 512 }
+        ensures bound { result ≤ most_wires }
     {
         self.used
     }
@@ -63,7 +63,7 @@ impl Blocks {
 
     /// Puts a block at the end.
     pub fn push(&mut self, samples: &Block)
-        requires { length self.old < 512 }
+        requires { length self.old < most_wires }
         ensures { self.new ≡ self.old ++ samples.now ∷ [] }
     {
         self.steady = false;
@@ -71,18 +71,18 @@ impl Blocks {
         self.used += 1;
     }
 
-    /// Puts a block of 64 equal samples at the end.
+    /// Puts a block of equal samples at the end.
     pub fn push_equal(&mut self, value: i32)
-        requires { length self.old < 512 }
-        ensures { self.new ≡ self.old ++ replicate 64 value ∷ [] }
+        requires { length self.old < most_wires }
+        ensures { self.new ≡ self.old ++ replicate block_frames value ∷ [] }
     {
-        self.items[self.used] = [value; 64];
+        self.items[self.used] = [value; BLOCK_FRAMES];
         self.used += 1;
     }
 
     /// Puts the blocks of another list at the end.
     pub fn append(&mut self, other: &Blocks)
-        requires { length self.old + length other.now ≤ 512 }
+        requires { length self.old + length other.now ≤ most_wires }
         ensures { self.new ≡ self.old ++ other.now }
     {
         for number in 0..other.len() {
@@ -92,7 +92,7 @@ impl Blocks {
 
     /// Makes it a list of so many blocks, whatever is in them.
     pub fn resize(&mut self, count: usize)
-        requires { count ≤ 512 }
+        requires { count ≤ most_wires }
         ensures { length self.new ≡ count }
     {
         self.steady = false;
@@ -107,7 +107,7 @@ impl Blocks {
         &self.items[number]
     }
 
-    /// Whether each block is known to be of 64 equal samples. Whatever it gives, `at` gives the same.
+    /// Whether each block is known to be of equal samples. Whatever it gives, `at` gives the same.
     pub(crate) fn is_steady(&self) -> bool {
         self.steady
     }
@@ -116,7 +116,7 @@ impl Blocks {
     /// frame, so that a loop over frames reads it once.
     pub fn at(&self, number: usize, frame: usize) -> i32
         requires number { number < length self.now }
-        requires frame { frame < 64 }
+        requires frame { frame < block_frames }
         ensures { result ≡ sample self.now number frame }
     {
         if self.steady {

@@ -1,8 +1,10 @@
 //! Where the buffers are.
 ghost use Rattle.std.specs.Prelude.{◌≡◌, ◌<◌, None, length, replicate, slice_index_or, slice_set, IfOk};
+ghost use Rattle.sn_ports.specs.Limits.{buffer_count};
 
 use crate::extents::Extent;
 use sn_ports::NoMemory;
+use sn_ports::limits::BUFFER_COUNT;
 use std::alloc::Global;
 use std::marker::Model;
 
@@ -17,9 +19,6 @@ pub struct BufferPlace {
     /// The number of samples in a frame.
     pub channels: u32,
 }
-
-/// How many buffers there may be.
-pub const BUFFERS: u32 = 1024;
 
 /// The place of each buffer that is allocated, by its number.
 #[derive(Drop)]
@@ -46,10 +45,10 @@ fn none_allocated(alloc: Global, numbers: u32) -> Result<Vec<Option<BufferPlace>
 impl Buffers {
     /// No buffer is allocated.
     pub fn new(alloc: Global) -> Result<Buffers, NoMemory>
-        ensures { IfOk result (λ b. b ≡ replicate 1024 None) }
+        ensures { IfOk result (λ b. b ≡ replicate buffer_count None) }
     {
         Ok(Buffers {
-            places: none_allocated(alloc, BUFFERS)?,
+            places: none_allocated(alloc, BUFFER_COUNT)?,
         })
     }
 

@@ -1,8 +1,9 @@
 //! A port with a plain copy of its first words.
 ghost use Rattle.std.specs.Prelude.{◌≡◌, ◌≤◌, ◌<◌, ◌+◌, ◌^◌, ℕ, true, min, length, slice_set};
+ghost use Rattle.sn_ports.specs.Limits.{block_frames};
 ghost use Rattle.sn_mem.specs.Words.{has, covers, touches, writes};
 ghost use Rattle.sn_mem.specs.Blocks.{samples_at, window};
-ghost use Rattle.sn_mem.specs.Frames.{outside};
+ghost use Rattle.sn_mem.specs.ThroughFoot.{outside};
 ghost use Rattle.sn_mem.specs.Copies.{IsCopied, covered_below, had_below, localized};
 
 use crate::blocks::Block;
@@ -10,6 +11,7 @@ use crate::extents::{Extent, Foot};
 use crate::port::Port;
 use crate::runs::copy_in;
 use crate::samples::{put_samples, samples_in};
+use sn_ports::limits::BLOCK_FRAMES;
 use std::collections::LinkedList;
 
 /// What a port with a copy keeps. No value of it is made.
@@ -122,10 +124,10 @@ impl<'a, P> LocalPort<'a, P> {
         into.copy_from_slice(&self.copy[at..at + into.len()]);
     }
 
-    /// The samples in the 64 words of the copy from `at` on.
+    /// The samples in a block's words of the copy from `at` on.
     #[inline(always)]
     fn copied_samples(&self, at: usize) -> Block
-        requires { at + 64 ≤ length self.now.copy.now }
+        requires { at + block_frames ≤ length self.now.copy.now }
         ensures { result ≡ samples_at self.now.copy.now at }
     {
         samples_in(self.copy, at)
@@ -230,11 +232,11 @@ impl<P: Port> Port for LocalPort<'_, P> {
     #[inline(always)]
     fn load_samples(&mut self, at: u32) -> Block {
         let begin = at as usize;
-        let end = begin + 64;
+        let end = begin + BLOCK_FRAMES;
         if end <= self.copy.len() {
             self.copied_samples(begin)
         } else {
-            let mut words = [0u64; 64];
+            let mut words = [0u64; BLOCK_FRAMES];
             self.load_run(at, &mut words);
             samples_in(&words, 0)
         }
@@ -244,11 +246,11 @@ impl<P: Port> Port for LocalPort<'_, P> {
     #[inline(always)]
     fn store_samples(&mut self, at: u32, samples: &Block) {
         let begin = at as usize;
-        let end = begin + 64;
+        let end = begin + BLOCK_FRAMES;
         if end <= self.copy.len() {
             put_samples(samples, self.copy, begin);
         } else {
-            let mut words = [0u64; 64];
+            let mut words = [0u64; BLOCK_FRAMES];
             put_samples(samples, &mut words, 0);
             self.store_run(at, &words);
         }

@@ -1,5 +1,6 @@
 //! Units that go from frame to frame with a small state.
 ghost use Rattle.std.specs.Prelude.{◌≡◌, ◌<◌, ◌≤◌, ◌∷◌, [], ℕ, ℤ, List, length};
+ghost use Rattle.sn_ports.specs.Limits.{block_frames};
 ghost use Rattle.sn_mem.specs.Words.{MayWrite};
 ghost use Rattle.sn_mem.specs.Blocks.{recurred, scan};
 
@@ -7,6 +8,7 @@ use crate::blocks::{Block, Blocks};
 use crate::port::Port;
 use crate::runs::{load_words, store_words};
 use crate::stored::Stored;
+use sn_ports::limits::BLOCK_FRAMES;
 
 /// A unit with one output, by its recurrence.
 ///
@@ -24,7 +26,7 @@ pub trait Recurrence: Copy {
     /// One frame. The unit stays the same but for what it remembers.
     fn next(&mut self, state: Self::State, inputs: &Blocks, frame: usize) -> (Self::State, i32)
         requires inputs { arity self.old ≤ length inputs.now }
-        requires frame { frame < 64 }
+        requires frame { frame < block_frames }
         ensures value { result ≡ step self.old state inputs.now frame }
         ensures step { step self.new ≡ step self.old }
         ensures arity { arity self.new ≡ arity self.old };
@@ -39,12 +41,12 @@ fn run_frames<U: Recurrence>(
     samples: &mut Block,
 ) -> U::State
     requires { U.arity unit.now ≤ length inputs.now }
-    ensures state { result ≡ (scan (U.step unit.now) begin inputs.now 64).0 }
-    ensures samples { samples.new ≡ (scan (U.step unit.now) begin inputs.now 64).1 }
+    ensures state { result ≡ (scan (U.step unit.now) begin inputs.now block_frames).0 }
+    ensures samples { samples.new ≡ (scan (U.step unit.now) begin inputs.now block_frames).1 }
 {
     let mut running = *unit;
     let mut state = begin;
-    for frame in 0..64 {
+    for frame in 0..BLOCK_FRAMES {
         let (after, sample) = running.next(state, inputs, frame);
         state = after;
         samples[frame] = sample;
@@ -62,8 +64,8 @@ fn run_steady_frames<U: Recurrence>(
     samples: &mut Block,
 ) -> U::State
     requires { U.arity unit.now ≤ length inputs.now }
-    ensures state { result ≡ (scan (U.step unit.now) begin inputs.now 64).0 }
-    ensures samples { samples.new ≡ (scan (U.step unit.now) begin inputs.now 64).1 }
+    ensures state { result ≡ (scan (U.step unit.now) begin inputs.now block_frames).0 }
+    ensures samples { samples.new ≡ (scan (U.step unit.now) begin inputs.now block_frames).1 }
 {
     run_frames(unit, begin, inputs, samples)
 }
@@ -87,7 +89,7 @@ pub fn run_recurrence<U: Recurrence, P: Port>(
     let words = &mut words[..U::State::size()];
     load_words(port, at, words);
     let begin = U::State::load(words);
-    let mut samples = [0i32; 64];
+    let mut samples = [0i32; BLOCK_FRAMES];
     let state = if inputs.is_steady() {
         run_steady_frames(unit, begin, inputs, &mut samples)
     } else {

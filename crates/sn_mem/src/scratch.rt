@@ -1,19 +1,17 @@
 //! What a synth needs besides its port while it runs.
 ghost use Rattle.std.specs.Prelude.{◌≡◌, ◌<◌, ◌≤◌, ◌++◌, ◌∷◌, [], IfOk, length, pos, slice_index_or};
+ghost use Rattle.sn_ports.specs.Limits.{most_wires};
 
 use crate::blocks::Blocks;
+use crate::places::BUS_WORDS;
 use sn_fixed::Heights;
 use sn_ports::NoMemory;
+use sn_ports::limits::MOST_WIRES;
 use std::alloc::Global;
 use std::marker::Model;
 use std::sync::Arc;
 
-const MOST_VALUES: usize = 512;
-
-/// How many words the buses have.
-pub const BUS_WORDS: usize = 10368;
-
-/// A list of at most 512 values in Q8.24.
+/// A list of values in Q8.24, no more than a definition has controls.
 #[derive(Drop)]
 pub struct Values {
     items: Vec<i32>,
@@ -22,20 +20,21 @@ pub struct Values {
 
 impl Model for Values {
     ghost use Rattle.std.specs.Prelude.{List, ℤ, take, ◌≡◌, ◌≤◌, vec_len};
+    ghost use Rattle.sn_ports.specs.Limits.{most_wires};
 
     ghost Value = { List ℤ };
 
     ghost view = { λ v. take v.used v.items.items };
 
-    ghost invariant = { λ v. (vec_len v.items ≡ 512) × (v.used ≤ 512) };
+    ghost invariant = { λ v. (vec_len v.items ≡ most_wires) × (v.used ≤ most_wires) };
 }
 
 impl Values {
-    /// No values, with room for 512.
+    /// No values, with room for as many as there may be.
     pub fn new(alloc: Global) -> Result<Values, NoMemory>
         ensures { IfOk result (λ v. v ≡ []) }
     {
-        let items = vec![in alloc; 0i32; MOST_VALUES]?;
+        let items = vec![in alloc; 0i32; MOST_WIRES]?;
         Ok(Values { items, used: 0 })
     }
 
@@ -48,7 +47,7 @@ impl Values {
 
     /// Puts a value at the end.
     pub fn push(&mut self, value: i32)
-        requires { length self.old < 512 }
+        requires { length self.old < most_wires }
         ensures { self.new ≡ self.old ++ value ∷ [] }
     {
         self.items[self.used] = value;

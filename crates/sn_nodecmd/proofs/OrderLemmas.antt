@@ -11,8 +11,8 @@ use Rattle.sn_ports.specs.declared.failed.NoMemory.{NoMemory}
 use Rattle.sn_reply.specs.declared.reason.Reason.{Reason}
 use Rattle.sn_reply.specs.declared.reason.Reason.TheVariants as Reasons
 use Rattle.sn_reply.specs.Replies.{ReplyShape}
-use Rattle.sn_tree.specs.declared.node.Action.{Action}
-use Rattle.sn_tree.specs.declared.node.Action.TheVariants.{After}
+use Rattle.sn_tree.specs.declared.node.AddAction.{AddAction}
+use Rattle.sn_tree.specs.declared.node.AddAction.TheVariants.{After}
 use Rattle.sn_tree.specs.declared.node.NodeKind.{NodeKind}
 use Rattle.sn_tree.specs.declared.node.Spot.{Spot}
 use Rattle.sn_tree.specs.Trees.{Label, Nodes, none, node, holds, label_of, view_from, view_of, first_id, last_id}
@@ -118,10 +118,10 @@ row_next ms more spot past ns i d m lt is-m is-more is-past =
     one : suc i ≡ i + 1
     one = omega arith
 
-pub row_whole : (ms : List NodeMove) (action : Action) (target : ℤ) (ns : List NodeId) (i : ℕ) → length ns ≤ i → ms ++ in_a_row action target (drop i ns) ≡ ms
+pub row_whole : (ms : List NodeMove) (action : AddAction) (target : ℤ) (ns : List NodeId) (i : ℕ) → length ns ≤ i → ms ++ in_a_row action target (drop i ns) ≡ ms
 row_whole ms action target ns i past = ap (λ (rest : List NodeId). ms ++ in_a_row action target rest) (drop_all i ns past) ∙ append-nil ms
 
-pub row_length : (action : Action) (target : ℤ) (ns : List NodeId) → length (in_a_row action target ns) ≡ length ns
+pub row_length : (action : AddAction) (target : ℤ) (ns : List NodeId) → length (in_a_row action target ns) ≡ length ns
 row_length action target [] = refl
 row_length action target (n ∷ ns) = ap suc (row_length After n.id ns)
 

@@ -9,8 +9,8 @@ use Rattle.sn_reply.specs.declared.reason.Reason.TheVariants as Reasons
 use Rattle.sn_tree.specs.declared.node.NodeKind.{NodeKind}
 use Rattle.sn_tree.specs.declared.node.NodeView.{NodeView}
 use Rattle.sn_tree.specs.declared.node.TreeFault.TheVariants as faults
-use Rattle.sn_tree.specs.declared.node.Action.{Action}
-use Rattle.sn_tree.specs.declared.node.Action.TheVariants.{Head, Tail, Before, After}
+use Rattle.sn_tree.specs.declared.node.AddAction.{AddAction}
+use Rattle.sn_tree.specs.declared.node.AddAction.TheVariants.{Head, Tail, Before, After}
 use Rattle.sn_tree.specs.Trees.{Label, Nodes, Sides, none, node, holds, count, beside, put, leaf, label_of, subtree, without, with_payloads}
 use Rattle.sn_tree.specs.Views.{views_below}
 use Rattle.sn_tree.specs.Faults.{first_fault, detach_fault, is_inside, is_in_synth, is_beside_root, labels_synth}
@@ -40,13 +40,13 @@ use Rattle.sn_nodecmd.specs.Folding.{room_in, saved_in, KeepsTree, Keeps}
 
 -- ---- how many nodes
 
-count-beside : (action : Action) (new : Nodes Held) (l : Label Held) (below after : Nodes Held) → count (beside action new l below after) ≡ count new + count (node l below after)
+count-beside : (action : AddAction) (new : Nodes Held) (l : Label Held) (below after : Nodes Held) → count (beside action new l below after) ≡ count new + count (node l below after)
 count-beside Head new l below after = omega (arith, count-joined new below)
 count-beside Tail new l below after = omega (arith, count-joined below new)
 count-beside Before new l below after = count-joined new (node l below after)
 count-beside After new l below after = omega (arith, count-joined new after)
 
-pub count-put : (action : Action) (target : ℤ) (new t : Nodes Held) → count (put action target new t) ≤ count new + count t
+pub count-put : (action : AddAction) (target : ℤ) (new t : Nodes Held) → count (put action target new t) ≤ count new + count t
 count-put action target new none = omega arith
 count-put action target new (node l below after) =
     cond_both (int_eq l.id target) (beside action new l below after) (if holds target below then node l (put action target new below) after else node l below (put action target new after))
@@ -93,11 +93,11 @@ unfolding amount
 group_amount weight id kind = amount-leaf weight id kind held.Group
 
 -- a target is there, and is no synth if a node goes inside it
-pub record IsOpenTo (action : Action) (target : ℤ) (t : Nodes Held) : Type 0 where
+pub record IsOpenTo (action : AddAction) (target : ℤ) (t : Nodes Held) : Type 0 where
   pub there : holds target t ≡ true
   pub group : is_inside action ≡ true → labels_synth (label_of target t) ≡ false
 
-pub keeps_inserted : (id : ℤ) (kind : NodeKind) (action : Action) (target : ℤ) (tree : NodeTree Held) → KindAgrees kind held.Group none → IsOpenTo action target tree.attached → KeepsTree tree (inserted id kind action target held.Group tree)
+pub keeps_inserted : (id : ℤ) (kind : NodeKind) (action : AddAction) (target : ℤ) (tree : NodeTree Held) → KindAgrees kind held.Group none → IsOpenTo action target tree.attached → KeepsTree tree (inserted id kind action target held.Group tree)
 keeps_inserted id kind action target tree agrees can = record {
   saved = saved_followed 0 (inserting id kind action target None) tree.journal;
   room = omega (arith, room_followed 0 (inserting id kind action target None) tree.journal, count-put action target (leaf id kind held.Group) tree.attached);
@@ -166,17 +166,17 @@ node_refusal_in stage words id action target = λ i. first_of (
     used (Some x) = holds-payloads f x t
 
 -- with the nodes that are replaced
-pub added_attached : (b : Bool) (id : ℤ) (kind : NodeKind) (action : Action) (target : ℤ) (h : Held) (tree : NodeTree Held) → (added b id kind action target h tree).attached ≡ left_by b target (put action target (leaf id kind h) tree.attached)
+pub added_attached : (b : Bool) (id : ℤ) (kind : NodeKind) (action : AddAction) (target : ℤ) (h : Held) (tree : NodeTree Held) → (added b id kind action target h tree).attached ≡ left_by b target (put action target (leaf id kind h) tree.attached)
 added_attached true id kind action target h tree = refl
 added_attached false id kind action target h tree = refl
 
-keeps_added : (b : Bool) (id : ℤ) (kind : NodeKind) (action : Action) (target : ℤ) (tree : NodeTree Held) → (b ≡ true → action ≡ Before) → KindAgrees kind held.Group none → IsOpenTo action target tree.attached → KeepsTree tree (added b id kind action target held.Group tree)
+keeps_added : (b : Bool) (id : ℤ) (kind : NodeKind) (action : AddAction) (target : ℤ) (tree : NodeTree Held) → (b ≡ true → action ≡ Before) → KindAgrees kind held.Group none → IsOpenTo action target tree.attached → KeepsTree tree (added b id kind action target held.Group tree)
 keeps_added false id kind action target tree before agrees can = keeps_inserted id kind action target tree agrees can
 keeps_added true id kind action target tree before agrees can =
     let one : KeepsTree tree (inserted id kind action target held.Group tree) = keeps_inserted id kind action target tree agrees can in
     let two = keeps_detached target (inserted id kind action target held.Group tree) in
     let stays : holds target (put action target (leaf id kind held.Group) tree.attached) ≡ true =
-    subst (λ (a : Action). holds target (put a target (leaf id kind held.Group) tree.attached) ≡ true) (sym (before refl)) (still_held id target kind held.Group tree.attached can.there) in
+    subst (λ (a : AddAction). holds target (put a target (leaf id kind held.Group) tree.attached) ≡ true) (sym (before refl)) (still_held id target kind held.Group tree.attached can.there) in
     record {
       saved = two.saved ∙ one.saved;
       room = omega (arith, one.room, room_followed 1 (detaching target) (inserted id kind action target held.Group tree).journal, fewer target (put action target (leaf id kind held.Group) tree.attached) stays, count-put action target (leaf id kind held.Group) tree.attached, room_followed 0 (inserting id kind action target None) tree.journal);

@@ -16,7 +16,7 @@ use Rattle.sn_world.specs.Notices.{event_message, notices, notified, told, told_
 use Rattle.sn_world.specs.Freeing.{told_ends}
 use Rattle.sn_world.specs.declared.notices.NodeEvent.TheVariants.{Went, Ended}
 use Rattle.sn_world.specs.World.{World, Turn, world_of, turn_of}
-use Rattle.sn_nodecmd.specs.Telling.{said}
+use Rattle.sn_nodecmd.specs.Telling.{told_replies}
 
 view_is : (stage : Stage) (words : List ℕ) (id : ℤ) (o : Option NodeView) → o ≡ view_of id stage.tree.attached → view_of id (world_of stage words).nodes ≡ o
 view_is stage words id o is = view-payloads (content_of words) (negsuc 0) (negsuc 0) id stage.tree.attached ∙ sym is
@@ -33,15 +33,15 @@ pub on_ok : (o : Result (Unit {0}) NoMemory) (P Q : Type 0) → (P → Q) → On
 on_ok (Ok u) P Q f p = f p
 on_ok (Err e) P Q f p = p
 
-told_said : (event : NodeEvent) (id : ℤ) (o : Option NodeView) (t : Turn) → told_at event id o t ≡ record t { replies = said event id o t.world.notify t.replies }
+told_said : (event : NodeEvent) (id : ℤ) (o : Option NodeView) (t : Turn) → told_at event id o t ≡ record t { replies = told_replies event id o t.world.notify t.replies }
 told_said event id None t = refl
 told_said event id (Some view) t = refl
 
 -- by what was said at its place in a stage
-pub told_by : (stage : Stage) (words : List ℕ) (id : ℤ) (old new : List ReplyShape) → new ≡ said Went id (view_of id stage.tree.attached) stage.notify old → told Went id (turn_of stage words old) ≡ turn_of stage words new
+pub told_by : (stage : Stage) (words : List ℕ) (id : ℤ) (old new : List ReplyShape) → new ≡ told_replies Went id (view_of id stage.tree.attached) stage.notify old → told Went id (turn_of stage words old) ≡ turn_of stage words new
 told_by stage words id old new is =
     told_said Went id (view_of id (world_of stage words).nodes) (turn_of stage words old)
-    ∙ ap (turn_of stage words) (ap (λ (o : Option NodeView). said Went id o stage.notify old) (view_is stage words id (view_of id stage.tree.attached) refl) ∙ sym is)
+    ∙ ap (turn_of stage words) (ap (λ (o : Option NodeView). told_replies Went id o stage.notify old) (view_is stage words id (view_of id stage.tree.attached) refl) ∙ sym is)
 
 -- no client is told
 unheard : (client : ℕ) (flags : List Bool) (message : MessageShape) → list_any (λ (on : Bool). on) flags ≡ false → notices client flags message ≡ []

@@ -1,6 +1,7 @@
 -- What a walk over nodes tells of each of them.
 use Rattle.std.specs.Prelude.{◌≤◌, ℕ, ℤ, pos, negsuc, List, [], ◌∷◌, ◌++◌, codes}
 use Rattle.std.specs.List.{AllByRecursion}
+use Rattle.sn_ports.specs.Limits.{most_nodes}
 use Rattle.sn_osc.specs.Shape.{Argument, int, string, arguments, MessageShape}
 use Rattle.sn_tree.specs.Trees.{Label}
 use Rattle.sn_world.specs.declared.stage.Held.{Held}
@@ -18,7 +19,7 @@ described (m ∷ ms) = held_arguments m.0.id m.0.payload m.1 ++ described ms
 
 -- none of them has more children than a tree has nodes
 abbrev pub HaveFew : List (Label Held × ℕ) → Type 0
-HaveFew ms = AllByRecursion (λ (m : Label Held × ℕ). m.1 ≤ 4096) ms
+HaveFew ms = AllByRecursion (λ (m : Label Held × ℕ). m.1 ≤ most_nodes) ms
 
 -- the reply of a group with so many children and these nodes below it
 abbrev pub tree_reply : ℤ → ℕ → List (Label Held × ℕ) → MessageShape

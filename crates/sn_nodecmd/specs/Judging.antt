@@ -2,7 +2,7 @@
 use Rattle.std.specs.Prelude.{ℤ, Bool, true, false, Option, Some, None}
 use Rattle.sn_reply.specs.declared.reason.Reason.{Reason}
 use Rattle.sn_reply.specs.declared.reason.Reason.TheVariants as Reasons
-use Rattle.sn_tree.specs.declared.node.Action.{Action}
+use Rattle.sn_tree.specs.declared.node.AddAction.{AddAction}
 use Rattle.sn_tree.specs.declared.node.TreeFault.{TreeFault}
 use Rattle.sn_tree.specs.declared.node.TreeFault.TheVariants as faults
 use Rattle.sn_tree.specs.Trees.{Nodes}
@@ -23,6 +23,6 @@ reason_against_new known (Some faults.Inside) = if_known known (Some Reasons.Ins
 reason_against_new known (Some faults.TooMany) = if_known known (Some Reasons.TooManyNodes)
 
 -- the tree's fault against a new node, which takes the place of its target or is put beside others
-abbrev pub fault_by : {P : Type 0} → Bool → ℤ → Action → ℤ → Nodes P → Option TreeFault
+abbrev pub fault_by : {P : Type 0} → Bool → ℤ → AddAction → ℤ → Nodes P → Option TreeFault
 fault_by true id action target nodes = replace_fault id target nodes
 fault_by false id action target nodes = insert_fault id action target nodes

@@ -4,7 +4,7 @@ use Rattle.sn_def.specs.declared.control.Control.{Control}
 use Rattle.sn_def.specs.Definition.{Definition}
 use Rattle.sn_def.specs.Defs.{definition_of}
 use Rattle.sn_world.specs.ControlRuns.{ControlRun, ForNode}
-use Rattle.sn_nodecmd.specs.declared.settings.AskedRuns.{AskedRuns}
+use Rattle.sn_nodecmd.specs.declared.setting.AskedRuns.{AskedRuns}
 use Rattle.sn_nodecmd.specs.Runs.{run_of}
 use Rattle.sn_world.specs.declared.stage.Held.{Held}
 use Rattle.sn_world.specs.declared.stage.Held.TheVariants as held

@@ -15,13 +15,13 @@ use Rattle.sn_world.specs.NewNodes.{replaces, told_if}
 use Rattle.sn_world.specs.World.{World}
 
 -- an event of a node that stands so; nothing of one that is not there
-abbrev pub said : NodeEvent → ℤ → Option NodeView → List Bool → List ReplyShape → List ReplyShape
-said event id None flags replies = replies
-said event id (Some view) flags replies = replies ++ notices 0 flags (event_message event id view)
+abbrev pub told_replies : NodeEvent → ℤ → Option NodeView → List Bool → List ReplyShape → List ReplyShape
+told_replies event id None flags replies = replies
+told_replies event id (Some view) flags replies = replies ++ notices 0 flags (event_message event id view)
 
 -- The nodes that are replaced were told to end, and then a new node was told to be there, at its place. What is told rests on the flags.
 abbrev pub Tells : Bool → List (ℤ × NodeView) → ℤ → Option NodeView → List Bool → List ReplyShape → List ReplyShape → Type 0
-Tells b gone id view flags old new = (w : World) → w.notify ≡ flags → new ≡ said Went id view flags (told_if b gone (record { world = w; replies = old })).replies
+Tells b gone id view flags old new = (w : World) → w.notify ≡ flags → new ≡ told_replies Went id view flags (told_if b gone (record { world = w; replies = old })).replies
 
 -- A synth that was put into a stage was told of; else nothing was told.
 abbrev pub TellsOf : ℤ → NewNode → Stage → Stage → List ReplyShape → List ReplyShape → Result (Option Extent) NoMemory → Type 0

@@ -12,7 +12,7 @@ use sn_world::{NewNode, Triple};
 
 /// The arguments of `/s_new`.
 #[derive(Clone, Copy)]
-pub struct Asked<'a> {
+pub struct AskedSynth<'a> {
     /// The name of a definition.
     pub name: &'a [u8],
     pub node: NewNode,
@@ -54,7 +54,7 @@ fn are_values(arguments: &[Arg]) -> bool
 }
 
 /// What arguments ask for, where they are those of `/s_new`.
-pub fn asked_by(arguments: &[Arg]) -> Option<Asked<'_>>
+pub fn asked_by(arguments: &[Arg]) -> Option<AskedSynth<'_>>
     ensures request { option_map request_of result ≡ new_synth (map argument_of arguments.now) }
     ensures values { IfSome result (λ a. AreValues a.values.now) }
 {
@@ -70,5 +70,5 @@ pub fn asked_by(arguments: &[Arg]) -> Option<Asked<'_>>
     if !are_values(values) {
         return None;
     }
-    Some(Asked { name, node, values })
+    Some(AskedSynth { name, node, values })
 }

@@ -1,5 +1,6 @@
 //! `/g_queryTree`.
 ghost use Rattle.std.specs.Prelude.{◌≡◌, ◌≤◌, ◌∷◌, ◌++◌, [], List, ℕ, pos, negsuc, length, map, true, IfOk, OnOk};
+ghost use Rattle.sn_ports.specs.Limits.{most_nodes};
 ghost use Rattle.sn_osc.specs.Shape.{argument_of, message_of, int, string};
 ghost use Rattle.sn_reply.specs.Sending.{IsSendable};
 ghost use Rattle.sn_def.specs.Grammar.{is_given_name};
@@ -38,7 +39,7 @@ fn push_synth(answer: &mut Answer, id: i32, def: &Def) -> Result<(), NoMemory>
 
 /// A group: its id, and the number of its children.
 fn push_group(answer: &mut Answer, id: i32, children: u32) -> Result<(), NoMemory>
-    requires few { children ≤ 4096 }
+    requires few { children ≤ most_nodes }
     ensures { OnOk result (answer.new ≡ answer.old ++ int id ∷ int (pos children) ∷ []) }
 {
     answer.push_int(id)?;
@@ -46,7 +47,7 @@ fn push_group(answer: &mut Answer, id: i32, children: u32) -> Result<(), NoMemor
 }
 
 fn push_member(answer: &mut Answer, member: &Member<'_, Held>) -> Result<(), NoMemory>
-    requires few { member.now.children ≤ 4096 }
+    requires few { member.now.children ≤ most_nodes }
     ensures { OnOk result (answer.new ≡ answer.old ++ held_arguments member.now.id member.now.payload.now member.now.children) }
 {
     match member.payload {
@@ -73,9 +74,9 @@ fn tree_message(
     children: u32,
     below: Members<'_, Held>,
 ) -> Result<Message, NoMemory>
-    requires few { children ≤ 4096 }
+    requires few { children ≤ most_nodes }
     requires each { HaveFew below }
-    requires all { length below ≤ 4096 }
+    requires all { length below ≤ most_nodes }
     ensures message { IfOk result (λ m. message_of m ≡ tree_reply group children below.entry) }
     ensures sendable { IfOk result (λ m. IsSendable (message_of m)) }
 {
@@ -88,7 +89,7 @@ fn tree_message(
 
 /// A law: a tree has at most 4,096 nodes.
 fn are_few(tree: &Tree<Held>)
-    ensures { count tree.now.attached ≤ 4096 }
+    ensures { count tree.now.attached ≤ most_nodes }
 {
     // The proof takes the law from the length.
     let _ = tree.len();

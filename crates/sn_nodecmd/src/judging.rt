@@ -6,7 +6,7 @@ ghost use Rattle.sn_world.specs.NewNodes.{id_for, one_below, next_after, add_act
 ghost use Rattle.sn_nodecmd.specs.Judging.{reason_against_new, fault_by};
 
 use sn_reply::Reason;
-use sn_tree::{Action, NodeKind, Spot, Tree, TreeFault};
+use sn_tree::{AddAction, NodeKind, Spot, Tree, TreeFault};
 use sn_world::{Held, NewNode, NodeId};
 
 /// Whether a kind is that of synths.
@@ -52,14 +52,14 @@ pub fn next_after(next_id: Option<i32>, new: &NewNode) -> Option<i32>
 }
 
 /// The add action with a number.
-pub fn add_action(action: i32) -> Option<Action>
+pub fn add_action(action: i32) -> Option<AddAction>
     ensures { result ≡ add_action action }
 {
     match action {
-        0 => Some(Action::Head),
-        1 => Some(Action::Tail),
-        2 | 4 => Some(Action::Before),
-        3 => Some(Action::After),
+        0 => Some(AddAction::Head),
+        1 => Some(AddAction::Tail),
+        2 | 4 => Some(AddAction::Before),
+        3 => Some(AddAction::After),
         _ => None,
     }
 }
@@ -76,7 +76,7 @@ pub fn spot_of(new: &NewNode) -> Spot
     ensures { result ≡ record { action = action_for new.now.action; target = new.now.target } }
 {
     Spot {
-        action: add_action(new.action).unwrap_or(Action::Head),
+        action: add_action(new.action).unwrap_or(AddAction::Head),
         target: new.target,
     }
 }

@@ -31,7 +31,7 @@ pub struct Judged<T> {
 }
 
 /// A control, and the place of a request that begins with it.
-type Place<'a> = (NamedControl<'a>, usize);
+type RunPlace<'a> = (NamedControl<'a>, usize);
 
 fn unjudged<T: Copy + Covering>(alloc: Global, items: &[T]) -> Result<Vec<Judged<T>>, NoMemory>
     ensures judged { IfOk result (λ v. AreJudged T.covered v.items) }
@@ -48,7 +48,7 @@ fn unjudged<T: Copy + Covering>(alloc: Global, items: &[T]) -> Result<Vec<Judged
 }
 
 /// The places of requests. Those with the same control stand beside each other, in the order of their places.
-fn places_of<T: Covering>(alloc: Global, items: &[T]) -> Result<Vec<Place<'_>>, NoMemory> {
+fn places_of<T: Covering>(alloc: Global, items: &[T]) -> Result<Vec<RunPlace<'_>>, NoMemory> {
     let mut places = Vec::new(alloc);
     for at in 0..items.len() {
         let item = &items[at];
@@ -89,7 +89,7 @@ fn mark<T: Copy + Covering>(judged: &mut [Judged<T>], place: usize, later: usize
 }
 
 /// Marks each request that the next one with the same control covers.
-fn mark_all<T: Copy + Covering>(judged: &mut [Judged<T>], places: &[Place<'_>])
+fn mark_all<T: Copy + Covering>(judged: &mut [Judged<T>], places: &[RunPlace<'_>])
     requires { AreJudged T.covered judged.old }
     ensures judged { AreJudged T.covered judged.new }
     ensures items { items_in judged.new ≡ items_in judged.old }

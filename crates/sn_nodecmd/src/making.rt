@@ -8,7 +8,7 @@ ghost use Rattle.sn_world.specs.NewSynth.{new_of, new_row};
 ghost use Rattle.sn_world.specs.Answers.{Follows, UnlessFollowed};
 ghost use Rattle.sn_nodecmd.specs.Asking.{request_of, AreValues};
 
-use crate::asked::{Asked, asked_by};
+use crate::asked::{AskedSynth, asked_by};
 use crate::controls::controls_of;
 use crate::judging::{id_for, next_after, refusal};
 use crate::placing::{add_synth, clear};
@@ -26,7 +26,7 @@ fn make<P: Port>(
     alloc: Global,
     stage: &mut Stage,
     port: &mut P,
-    asked: &Asked<'_>,
+    asked: &AskedSynth<'_>,
     def: Arc<Def, Global>,
     replies: &mut Replies,
 ) -> Result<Option<Reason>, NoMemory>

@@ -20,6 +20,7 @@ use crate::needed::needed;
 use sn_def::{Control, Controls, Def};
 use sn_osc::Arg;
 use sn_ports::NoMemory;
+use sn_ports::limits::CONTROL_BUS_COUNT;
 use sn_reply::Reason;
 use sn_tree::{ChangePayload, Tree};
 use sn_world::{Held, Stage, some_of};
@@ -144,11 +145,14 @@ fn asked_mappings(alloc: Global, arguments: &[Arg]) -> Result<Option<AskedMappin
     Ok(Some(AskedMappings { id: *id, mappings }))
 }
 
+/// How many control buses there are.
+const BUSES: i32 = CONTROL_BUS_COUNT as i32;
+
 /// Whether it is a control bus, or -1 for none.
 pub fn is_followable(bus: i32) -> bool
     ensures { result ≡ is_followable bus }
 {
-    -1 <= bus && bus < 1024
+    -1 <= bus && bus < BUSES
 }
 
 /// Whether it is an index control of a definition.

@@ -17,20 +17,20 @@ use crate::telling::tell;
 use sn_osc::Arg;
 use sn_ports::NoMemory;
 use sn_reply::{Reason, Replies};
-use sn_tree::{Action, Spot, Tree, TreeFault};
+use sn_tree::{AddAction, Spot, Tree, TreeFault};
 use sn_world::{Held, NodeEvent, NodeId, NodeMove, Stage};
 use std::alloc::Global;
 
-fn node_move(action: Action, first: i32, second: i32) -> NodeMove
+fn node_move(action: AddAction, first: i32, second: i32) -> NodeMove
     ensures { result ≡ node_move action first second }
 {
     match action {
-        Action::Before | Action::After => NodeMove {
+        AddAction::Before | AddAction::After => NodeMove {
             action,
             id: first,
             target: second,
         },
-        Action::Head | Action::Tail => NodeMove {
+        AddAction::Head | AddAction::Tail => NodeMove {
             action,
             id: second,
             target: first,
@@ -38,7 +38,7 @@ fn node_move(action: Action, first: i32, second: i32) -> NodeMove
     }
 }
 
-fn move_from(action: Action, first: &Arg, second: &Arg) -> Option<NodeMove>
+fn move_from(action: AddAction, first: &Arg, second: &Arg) -> Option<NodeMove>
     ensures { result ≡ move_from action (argument_of first.now) (argument_of second.now) }
 {
     match (first, second) {
@@ -50,7 +50,7 @@ fn move_from(action: Action, first: &Arg, second: &Arg) -> Option<NodeMove>
 /// Moves with an action, each of two arguments: (id target).. for `/n_before` and `/n_after`, (group id).. for `/g_head` and `/g_tail`.
 pub fn moves(
     alloc: Global,
-    action: Action,
+    action: AddAction,
     arguments: &[Arg],
 ) -> Result<Option<Vec<NodeMove>>, NoMemory>
     ensures { IfOk result (λ found. option_map (λ v. v.items) found ≡ pairs (move_from action) (map argument_of arguments.now)) }

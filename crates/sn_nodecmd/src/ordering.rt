@@ -4,7 +4,7 @@ ghost use Rattle.std.specs.Option.{option_map};
 ghost use Rattle.std.specs.List.{filter};
 ghost use Rattle.sn_osc.specs.Shape.{argument_of};
 ghost use Rattle.sn_reply.specs.declared.reason.Reason.TheVariants as Reasons;
-ghost use Rattle.sn_tree.specs.declared.node.Action.TheVariants.{After};
+ghost use Rattle.sn_tree.specs.declared.node.AddAction.TheVariants.{After};
 ghost use Rattle.sn_tree.specs.Trees.{holds, label_of, view_of};
 ghost use Rattle.sn_tree.specs.Faults.{is_beside_root, is_inside, is_synth};
 ghost use Rattle.sn_world.specs.World.{turn_of};
@@ -22,7 +22,7 @@ use crate::judging::add_action;
 use sn_osc::Arg;
 use sn_ports::NoMemory;
 use sn_reply::{Reason, Replies};
-use sn_tree::{Action, NodeKind, NodeView, Spot, Tree};
+use sn_tree::{AddAction, NodeKind, NodeView, Spot, Tree};
 use sn_world::{Held, NodeId, NodeMove, NodePlace, Pair, Stage, singles};
 use std::alloc::Global;
 
@@ -62,7 +62,7 @@ fn spot_of(place: &NodePlace) -> Spot
     ensures { result ≡ record { action = action_for place.now.action; target = place.now.target } }
 {
     Spot {
-        action: add_action(place.action).unwrap_or(Action::Head),
+        action: add_action(place.action).unwrap_or(AddAction::Head),
         target: place.target,
     }
 }
@@ -89,8 +89,8 @@ fn refusal_at(kind: NodeKind, spot: Spot) -> Option<Reason>
     ensures { result ≡ first_of ((is_inside spot.action && is_synth kind, Reasons.NotGroup) ∷ (is_beside_root spot.action spot.target, Reasons.Root) ∷ []) }
 {
     match (spot.action, kind) {
-        (Action::Head | Action::Tail, NodeKind::Synth) => Some(Reason::NotGroup),
-        (Action::Before | Action::After, _) if spot.target == 0 => Some(Reason::Root),
+        (AddAction::Head | AddAction::Tail, NodeKind::Synth) => Some(Reason::NotGroup),
+        (AddAction::Before | AddAction::After, _) if spot.target == 0 => Some(Reason::Root),
         _ => None,
     }
 }
@@ -144,7 +144,7 @@ fn after(node: &NodeId) -> Spot
     ensures { result ≡ record { action = After; target = node.now.id } }
 {
     Spot {
-        action: Action::After,
+        action: AddAction::After,
         target: node.id,
     }
 }

@@ -1,5 +1,7 @@
 //! A synth that is put into a stage, and its words.
 ghost use Rattle.std.specs.Prelude.{◌≡◌, ◌≤◌, ◌<◌, ◌+◌, ◌^◌, ℕ, None, true, IfOk, IfErr, OnOk, OnErr};
+ghost use Rattle.sn_mem.specs.Layout.{bus_words};
+ghost use Rattle.sn_ports.specs.Limits.{high_rate};
 ghost use Rattle.sn_mem.specs.declared.extents.Extent.{Extent};
 ghost use Rattle.sn_mem.specs.Words.{writes};
 ghost use Rattle.sn_def.specs.Defs.{definition_of};
@@ -33,7 +35,7 @@ use std::sync::Arc;
 
 /// Takes so many words at their least place. No words stand where the pool begins.
 fn place(pool: &mut Pool, words: u32) -> Result<Extent, Untaken>
-    requires base { pool.old.region.at ≡ 10368 }
+    requires base { pool.old.region.at ≡ bus_words }
     ensures free { IfOk result (λ extent. (extent.len ≡ words) × IsFree pool.old.region pool.old.live words extent.at) }
     ensures by_trial { GivesPlace result (place_in pool.old words) }
     ensures taken { IfOk result (λ extent. pool.new ≡ taken extent pool.old) }
@@ -155,10 +157,10 @@ pub fn add_synth(
     controls: Controls,
     replies: &mut Replies,
 ) -> Result<Option<Extent>, NoMemory>
-    requires base { stage.old.pool.region.at ≡ 10368 }
+    requires base { stage.old.pool.region.at ≡ bus_words }
     requires settled { stage.old.tree.journal ≡ None }
     requires closed { stage.old.pool.journal ≡ None }
-    requires rate { stage.old.rate ≤ 96000 }
+    requires rate { stage.old.rate ≤ high_rate }
     requires live { (e : Extent) → 1 ≤ e.len → times e (live_held stage.old.tree.attached) ≤ times e stage.old.pool.live }
     ensures adds { Adds node.now.id new.now (λ state. held.Synth def controls state) (state_words stage.old.rate (definition_of def.value)) stage.old stage.new result }
     ensures told { TellsOf node.now.id new.now stage.old stage.new replies.old replies.new result }

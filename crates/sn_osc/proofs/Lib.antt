@@ -12,6 +12,7 @@ pub mod Decoded
 pub mod Frames
 pub mod Streams
 pub mod Framing
+pub mod CutFrames
 pub mod DataFaults
 pub mod PacketFaults
 pub mod DataFound

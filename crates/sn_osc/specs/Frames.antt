@@ -1,5 +1,6 @@
 -- A stream is frames: before each packet stands its int32 size.
 use Rattle.std.specs.Prelude.{◌≡◌, ◌<◌, ◌+◌, ◌%◌, ℕ, ℤ, List, [], ◌∷◌, ◌++◌, length, take, drop, Bool, not, nat_lt, nat_le, ◌==◌, ◌&&◌, if◌then◌else◌, IsTrue}
+use Rattle.sn_ports.specs.Limits.{most_packet}
 use Rattle.sn_osc.specs.declared.fault.StreamFault.{StreamFault}
 use Rattle.sn_osc.specs.declared.fault.StreamFault.TheVariants.{Packet, FrameSize, FrameCut}
 use Rattle.sn_osc.specs.declared.frame.NoFrame.{NoFrame}
@@ -10,9 +11,9 @@ use Rattle.sn_osc.specs.Grammar.{Spells}
 use Rattle.sn_osc.specs.Reading.{int_in, size_in}
 use Rattle.sn_osc.specs.Faults.{FirstFault}
 
--- 4 to 65,536, a multiple of 4
+-- from 4 on to the bytes of the longest packet, a multiple of 4
 abbrev pub is_frame_size : ℕ → Bool
-is_frame_size n = nat_le 4 n && nat_le n 65536 && n % 4 == 0
+is_frame_size n = nat_le 4 n && nat_le n most_packet && n % 4 == 0
 
 -- The bytes are the joined frames of the packets.
 abbrev pub Frames : List Shape → List ℕ → Type 0

@@ -2,6 +2,7 @@
 use Rattle.std.specs.Prelude.{◌≡◌, ◌<◌, ◌^◌, ◌%◌, ℕ, zero, suc, ℤ, List, [], ◌∷◌, ◌++◌, length, map, not, IsTrue}
 use Rattle.std.specs.List.{list_all}
 use Rattle.std.specs.Int.{w32, w64, to_be_bytes}
+use Rattle.sn_ports.specs.Limits.{most_bundles}
 use Rattle.sn_osc.specs.Shape.{Argument, int, string, blob, BodyShape, bare, arguments, foreign, MessageShape, Shape, Shapes, message, bundle, none, more}
 use Rattle.sn_osc.specs.Bytes.{int_bytes, string_bytes, blob_bytes, tag_of, bundle_head, has_no_null, begins_with, fits_int, is_argument_tag, counts_as, is_early}
 
@@ -54,7 +55,7 @@ abbrev mutual
 
 -- Bundles nest at most 8 deep, and an outermost bundle may have any tag.
 abbrev pub Spells : Shape → List ℕ → Type 0
-Spells = SpellsWithin 8 1
+Spells = SpellsWithin most_bundles 1
 
 -- the packet has a spelling shorter than 2 ^ 31 bytes
 abbrev pub IsSpellable : Shape → Type 0

@@ -3,6 +3,7 @@
 use Rattle.std.specs.Prelude.{◌≡◌, ◌+◌, ◌-◌, ◌%◌, ℕ, zero, suc, ℤ, List, [], ◌∷◌, length, take, drop, Result, Ok, Err, Bool, not, nat_lt, nat_le, ◌==◌, ◌&&◌, ◌||◌, if◌then◌else◌}
 use Rattle.std.specs.List.{position_or_len, list_all, starts_with}
 use Rattle.std.specs.Int.{w32, w64, from_be_bytes, cast_signed}
+use Rattle.sn_ports.specs.Limits.{most_packet, most_bundles}
 use Rattle.sn_osc.specs.declared.fault.PacketFault.{PacketFault}
 use Rattle.sn_osc.specs.declared.fault.PacketKind.{PacketKind}
 use Rattle.sn_osc.specs.declared.fault.PacketKind.TheVariants.{Size, Start, Unended, Padding, NoTags, ShortArgs, LongArgs, BlobSize, ElementSize, Head, NestedEarly, TooDeep}
@@ -164,13 +165,13 @@ unfoldable pub packet_in : ℕ → ℕ → ℕ → List ℕ → Result Shape Pac
 packet_in zero around end bytes = packet_or (fault TooDeep (end - length bytes)) end bytes
 packet_in (suc deep) around end bytes = packet_or (bundle_in (packet_in deep (counts_as around (tag_in bytes))) around end bytes) end bytes
 
--- 1 to 65,536 bytes, and a multiple of 4
+-- at least one byte, no more than a packet has, and a multiple of 4
 abbrev pub is_packet_size : ℕ → Bool
-is_packet_size n = nat_lt 0 n && nat_le n 65536 && n % 4 == 0
+is_packet_size n = nat_lt 0 n && nat_le n most_packet && n % 4 == 0
 
 -- all of the bytes
 unfoldable pub read : List ℕ → Result Shape PacketFault
-read bytes = if is_packet_size (length bytes) then packet_in 8 1 (length bytes) bytes else fault Size 0
+read bytes = if is_packet_size (length bytes) then packet_in most_bundles 1 (length bytes) bytes else fault Size 0
 
 abbrev pub BadHas : Undecoded → (PacketFault → Type 0) → Type 0
 BadHas undecoded.NoMemory P = Unit {0}

@@ -1,5 +1,6 @@
 //! Packets read from all of their bytes. `end` is the place behind the packet's last byte.
 ghost use Rattle.std.specs.Prelude.{◌≡◌, ◌≤◌, ◌<◌, ◌+◌, length, map, IfOk, IsTrue, Ok, Err};
+ghost use Rattle.sn_ports.specs.Limits.{most_packet};
 ghost use Rattle.sn_osc.specs.Shape.{Shape, message, bundle, shape, shapes};
 ghost use Rattle.sn_osc.specs.Bytes.{counts_as, is_early};
 ghost use Rattle.sn_osc.specs.Grammar.{Spells};
@@ -10,13 +11,8 @@ ghost use Rattle.sn_osc.specs.declared.fault.PacketFault.{PacketFault};
 use crate::fault::{PacketKind, Undecoded};
 use crate::packet::{Bundle, Elements, Message, Packet};
 use crate::reading::{bad, begins_with, message, place, size};
+use sn_ports::limits::{MOST_BUNDLES, MOST_PACKET};
 use std::alloc::Global;
-
-/// The most bytes of a packet.
-const MOST_BYTES: usize = 65536;
-
-/// How deep bundles may nest.
-pub const MOST_BUNDLES: u32 = 8;
 
 /// The tag that means at once.
 pub const AT_ONCE: u64 = 1;
@@ -166,7 +162,7 @@ fn packet(
 fn read(alloc: Global, bytes: &[u8]) -> Result<Packet, Undecoded>
     ensures { Gives shape result (read bytes.now) }
 {
-    if bytes.is_empty() || bytes.len() > MOST_BYTES || bytes.len() % 4 != 0 {
+    if bytes.is_empty() || bytes.len() > MOST_PACKET || bytes.len() % 4 != 0 {
         return Err(bad(PacketKind::Size, 0));
     }
     packet(alloc, MOST_BUNDLES, AT_ONCE, bytes.len() as u32, bytes)
@@ -174,15 +170,15 @@ fn read(alloc: Global, bytes: &[u8]) -> Result<Packet, Undecoded>
 
 /// The packet that the bytes spell, as all of Open Sound Control 1.0 that this server takes, or their first fault.
 ///
-/// Bundles nest at most 8 deep, and decoding goes no deeper, whatever the bytes say.
+/// Bundles nest no deeper than they may, and decoding goes no deeper, whatever the bytes say.
 pub fn decode(alloc: Global, bytes: &[u8]) -> Result<Packet, Undecoded>
     // The answer is what reading from left to right gives, or want of memory.
     ensures reads { Gives shape result (read bytes.now) }
     // A packet comes only where the bytes spell it, and a fault only where it is the first.
-    ensures found { IfOk result (λ p. (length bytes.now ≤ 65536) × Spells (shape p) bytes.now) }
+    ensures found { IfOk result (λ p. (length bytes.now ≤ most_packet) × Spells (shape p) bytes.now) }
     ensures bad { IfBad result (λ f. FirstFault bytes.now f.kind f.place) }
     // What is spelled is found, and what is at fault is refused, unless memory runs out.
-    ensures only_found { (x : Shape) → length bytes.now ≤ 65536 → Spells x bytes.now → Gives shape result (Ok x) }
+    ensures only_found { (x : Shape) → length bytes.now ≤ most_packet → Spells x bytes.now → Gives shape result (Ok x) }
     ensures only_bad { (f : PacketFault) → FirstFault bytes.now f.kind f.place → Gives shape result (Err f) }
 {
     read(alloc, bytes)

@@ -4,10 +4,11 @@ ghost use Rattle.sn_osc.specs.Bytes.{frame_bytes};
 ghost use Rattle.sn_osc.specs.Frames.{is_frame_size, first_frame, frame, instead};
 
 use crate::reading::{int, size};
+use sn_ports::limits::MOST_PACKET;
 use sn_ports::{NoMemory, Text};
 
-/// The most bytes of a packet in a stream.
-const MOST_BYTES: u32 = 65536;
+/// The greatest size of a packet.
+const MOST_SIZE: u32 = MOST_PACKET as u32;
 
 /// The bytes of one packet of a stream.
 #[derive(Debug, Drop)]
@@ -48,7 +49,7 @@ pub enum NoFrame {
 fn is_frame_size(size: u32) -> bool
     ensures { result ≡ is_frame_size size }
 {
-    size >= 4 && size <= MOST_BYTES && size % 4 == 0
+    size >= 4 && size <= MOST_SIZE && size % 4 == 0
 }
 
 /// The packet's bytes of the first frame, and those behind the frame; or why there is none.

@@ -1,5 +1,6 @@
 //! A stream that comes in pieces, cut into frames.
 ghost use Rattle.std.specs.Prelude.{◌≡◌, ◌⊎◌, ◌≤◌, ◌<◌, ◌+◌, ◌-◌, ◌^◌, ◌++◌, ◌∷◌, ℕ, List, [], length, drop, vec_len, vec_capacity, IfOk, OnOk, OnErr};
+ghost use Rattle.sn_ports.specs.Limits.{most_count};
 ghost use Rattle.sn_osc.specs.Framed.{fed_with, Next, NextWhole, HasNoFrame, AreFirst, joined_pieces};
 
 use crate::frame::{Frame, NoFrame, Unframed, first_frame};
@@ -78,7 +79,7 @@ impl Framer {
     /// Puts a piece of the stream behind what is kept. After `NoMemory` all is as before.
     pub fn feed(&mut self, piece: &[u8]) -> Result<(), NoMemory>
         requires room { length self.old.kept + length piece.now < 2 ^ 32 }
-        requires count { self.old.fed < 2 ^ 62 }
+        requires count { self.old.fed < most_count }
         ensures ok { OnOk result (self.new ≡ fed_with piece.now self.old) }
         ensures err { OnErr result (self.new ≡ self.old) }
     {
@@ -163,7 +164,7 @@ impl Framer {
     /// kept, with the piece or without it.
     pub fn feed_and_take(&mut self, piece: &[u8], frames: &mut Vec<Frame>) -> Result<(), NoMemory>
         requires room { length self.old.kept + length piece.now < 2 ^ 32 }
-        requires count { self.old.fed < 2 ^ 62 }
+        requires count { self.old.fed < most_count }
         ensures ok { (stream : List ℕ) → AreFirst stream frames.old.items self.old → OnOk result (AreFirst (stream ++ piece.now) frames.new.items self.new × HasNoFrame self.new.kept) }
         ensures err { (stream : List ℕ) → AreFirst stream frames.old.items self.old → OnErr result (AreFirst stream frames.new.items self.new ⊎ AreFirst (stream ++ piece.now) frames.new.items self.new) }
     {

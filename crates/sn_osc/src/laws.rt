@@ -1,5 +1,6 @@
 //! Laws of packets and frames, each a fact about all of them.
 ghost use Rattle.std.specs.Prelude.{◌≡◌, ◌≤◌, ◌<◌, ◌^◌, ◌*◌, ◌++◌, ◌↔◌, IsTrue, slice_index, List, [], ℕ, ℤ, Ok, length, map};
+ghost use Rattle.sn_ports.specs.Limits.{most_packet};
 ghost use Rattle.sn_osc.specs.Shape.{Argument, MessageShape, Shape, arguments};
 ghost use Rattle.sn_osc.specs.Bytes.{message_bytes, packet_bytes, frame_bytes};
 ghost use Rattle.sn_osc.specs.Frames.{Frames, StreamFaultAt, frame, bad_size, is_frame_size, first_frame};
@@ -26,12 +27,12 @@ pub fn one_packet()
 
 /// What is encoded is decoded to the same shape, where it is no longer than a packet may be.
 pub fn decoded_again()
-    ensures { (x : Shape) → IsSpellable x → length (packet_bytes x) ≤ 65536 → read (packet_bytes x) ≡ Ok x }
+    ensures { (x : Shape) → IsSpellable x → length (packet_bytes x) ≤ most_packet → read (packet_bytes x) ≡ Ok x }
 {}
 
 /// Bytes that spell a packet have no fault.
 pub fn no_fault()
-    ensures { (x : Shape) (bytes : List ℕ) (f : PacketFault) → length bytes ≤ 65536 → Spells x bytes → FirstFault bytes f.kind f.place → ⊥ }
+    ensures { (x : Shape) (bytes : List ℕ) (f : PacketFault) → length bytes ≤ most_packet → Spells x bytes → FirstFault bytes f.kind f.place → ⊥ }
 {}
 
 /// No frame begins another.

@@ -12,7 +12,7 @@ mod packet;
 mod reading;
 mod spelling;
 
-pub use decoding::decode;
+pub use decoding::{AT_ONCE, counts_as, decode, is_early};
 pub use encoding::{append_frame, encode};
 pub use fault::{PacketFault, PacketKind, StreamFault, Undecoded};
 pub use frame::{Frame, NoFrame, Unframed, first_frame};

@@ -1,11 +1,11 @@
 //! The data of a message, read from the bytes that are left of it. `end` is the place behind the message's last byte.
-ghost use Rattle.std.specs.Prelude.{◌≡◌, ◌≤◌, ◌<◌, ◌-◌, ◌==◌, nat_le, not, length, map, drop, position, IfOk, FitsSigned};
+ghost use Rattle.std.specs.Prelude.{◌≡◌, ◌≤◌, ◌<◌, ◌-◌, ◌==◌, not, length, map, drop, position, IfOk, FitsSigned};
 ghost use Rattle.std.specs.Int.{w32};
 ghost use Rattle.std.specs.List.{list_all};
 ghost use Rattle.sn_osc.specs.declared.fault.Undecoded.TheVariants as undecoded;
 ghost use Rattle.sn_osc.specs.Shape.{argument_of, body_of, message_of};
 ghost use Rattle.sn_osc.specs.Bytes.{is_argument_tag, begins_with};
-ghost use Rattle.sn_osc.specs.Reading.{Gives, int_in, size_in, string_len, text_len, null_len, is_ended, padded_at, string_at, blob_at, argument_at, arguments_at, tags_at, arguments_in, body_in, message_in};
+ghost use Rattle.sn_osc.specs.Reading.{Gives, int_in, size_in, text_len, null_len, is_ended, padded_at, string_at, blob_at, argument_at, arguments_at, tags_at, arguments_in, body_in, message_in};
 
 use crate::fault::{PacketFault, PacketKind, Undecoded};
 use crate::packet::{Arg, Args, Body, Message};
@@ -78,13 +78,15 @@ fn padded(end: u32, len: usize, whole: usize, bytes: &[u8]) -> Result<(&[u8], &[
 fn is_ended(bytes: &[u8]) -> bool
     ensures { result ≡ is_ended bytes.now }
 {
-    is_there(text_len(bytes), bytes)
+    let len = text_len(bytes);
+    is_ended_at(len, bytes)
 }
 
-/// Whether a string of so many bytes and the null bytes behind it are there.
-fn is_there(len: usize, bytes: &[u8]) -> bool
-    requires { len ≤ length bytes.now }
-    ensures { result ≡ nat_le (string_len len) (length bytes.now) }
+/// Whether the null bytes behind a string of so many bytes are there.
+fn is_ended_at(len: usize, bytes: &[u8]) -> bool
+    requires value { len ≡ text_len bytes.now }
+    requires bound { len ≤ length bytes.now }
+    ensures { result ≡ is_ended bytes.now }
 {
     len + (4 - len % 4) <= bytes.len()
 }
@@ -96,7 +98,7 @@ fn string(end: u32, bytes: &[u8]) -> Result<(&[u8], &[u8]), Undecoded>
     ensures shorter { IfOk result (λ x. length x.1.now ≤ length bytes.now) }
 {
     let len = text_len(bytes);
-    if !is_there(len, bytes) {
+    if !is_ended_at(len, bytes) {
         return Err(bad(PacketKind::Unended, place(end, bytes)));
     }
     padded(end, len, len + (4 - len % 4), bytes)

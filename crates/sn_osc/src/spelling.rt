@@ -5,10 +5,11 @@ ghost use Rattle.sn_osc.specs.Shape.{bundle, argument_of, body_of, message_of, s
 ghost use Rattle.sn_osc.specs.Bytes.{has_no_null, fits_int, is_argument, is_body, is_message, is_packet};
 ghost use Rattle.sn_osc.specs.Grammar.{IsSpellable};
 
-use crate::decoding::{AT_ONCE, MOST_BUNDLES, counts_as, is_early};
+use crate::decoding::{AT_ONCE, counts_as, is_early};
 use crate::lengths::{TOO_MANY, packet_len};
 use crate::packet::{Arg, Body, Bundle, Message, Packet};
 use crate::reading::{are_argument_tags, begins_with};
+use sn_ports::limits::MOST_BUNDLES;
 
 fn has_no_null(s: &[u8]) -> bool
     ensures { result ≡ has_no_null s.now }

@@ -1,5 +1,8 @@
 ghost use Rattle.std.specs.Prelude.{◌≡◌, IsTrue};
+ghost use Rattle.sn_ports.specs.Limits.{most_channels, most_workers, least_memory, most_memory};
 ghost use Rattle.sn_pcm.specs.Allowed.{is_rate, is_width, is_within};
+
+use sn_ports::limits::MIDDLE_RATE;
 
 /// How to render. Each field always holds a value that a run allows.
 #[derive(Clone, Copy, Debug)]
@@ -15,10 +18,10 @@ pub struct Settings {
     /// Words of 8 bytes in the pool of buffers and unit states: 65,536 to 16,777,216.
     pub memory: u32,
     pub ghost rate_is: { IsTrue (is_rate rate) },
-    pub ghost channels_are: { IsTrue (is_within 1 8 channels) },
+    pub ghost channels_are: { IsTrue (is_within 1 most_channels channels) },
     pub ghost bits_are: { IsTrue (is_width bits) },
-    pub ghost workers_are: { IsTrue (is_within 1 16 workers) },
-    pub ghost memory_is: { IsTrue (is_within 65536 16777216 memory) },
+    pub ghost workers_are: { IsTrue (is_within 1 most_workers workers) },
+    pub ghost memory_is: { IsTrue (is_within least_memory most_memory memory) },
 }
 
 impl Settings {
@@ -30,7 +33,7 @@ impl Settings {
         ensures { result ≡ opening }
     {
         Settings {
-            rate: 48000,
+            rate: MIDDLE_RATE,
             channels: 2,
             bits: 16,
             workers: 4,

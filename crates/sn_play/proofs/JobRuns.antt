@@ -5,7 +5,7 @@ use Rattle.std.specs.Option.{option_map}
 use Rattle.sn_mem.specs.declared.extents.Extent.{Extent}
 use Rattle.sn_mem.specs.declared.buffers.BufferPlace.{BufferPlace}
 use Rattle.sn_io.specs.ByFoot.{IsByFoot}
-use Rattle.sn_io.proofs.ByFoot.{framed_same}
+use Rattle.sn_io.proofs.ByFoot.{kept_same}
 use Rattle.sn_round.specs.declared.jobs.Job.{Job}
 use Rattle.sn_round.specs.Jobs.{foot_at, job_at}
 use Rattle.sn_tree.specs.Trees.{Label, ids, running_labels, subtree}
@@ -70,7 +70,7 @@ module _ (stage : Stage) (top : subtree (pos 0) stage.tree.attached ≡ stage.tr
   job_runs b i ws lt =
       let P : List ℤ → Type 0 = λ (is : List ℤ). words_by_ids stage b is ws ≡ walk_words stage.rate b stage.buffers (share i) ws in
       ids_are i P lt (by_their_ids stage b (share i) ws (named i))
-      ∙ sym (framed_same (foot_at js i) (walk_words stage.rate b stage.buffers (share i)) ws (runs_by_foot stage top words p js planned b i lt))
+      ∙ sym (kept_same (foot_at js i) (walk_words stage.rate b stage.buffers (share i)) ws (runs_by_foot stage top words p js planned b i lt))
 
   -- it sees and changes the job's foot alone
   pub job_by_foot : (b i : ℕ) → i < length js → IsByFoot (foot_at js i) (words_by_ids stage b (job_at js i).synths)

@@ -3,7 +3,7 @@ use Rattle.std.proofs.Common.{◌≡◌, ◌<◌, ℕ, suc, ◌+◌, List, [], �
 use Rattle.std.specs.Prelude.{drop}
 use Rattle.sn_mem.specs.declared.extents.Extent.{Extent}
 use Rattle.sn_mem.specs.declared.buffers.BufferPlace.{BufferPlace}
-use Rattle.sn_io.proofs.ByFoot.{framed_same}
+use Rattle.sn_io.proofs.ByFoot.{kept_same}
 use Rattle.sn_round.specs.declared.jobs.Job.{Job}
 use Rattle.sn_round.specs.Jobs.{foot_at}
 use Rattle.sn_round.specs.Scripts.{list_at, sequential_from, sequential}
@@ -41,5 +41,5 @@ plan_walks rate b region buffers clashing t js words base bounded each held kind
     (λ i j ws lt e.
     let s : i ≡ j = omega (arith, e) in
     let Q : ℕ → Type 0 = λ j. outcome j ws ≡ walk_words rate b buffers (share_at js ls i) ws in
-    subst Q s (framed_same (foot_at js i) (walk_words rate b buffers (share_at js ls i)) ws (job_by_foot buffers clashing t js kinds planned rate region base bounded each held b i (omega (arith, lt, shares_long js ls))))))
+    subst Q s (kept_same (foot_at js i) (walk_words rate b buffers (share_at js ls i)) ws (job_by_foot buffers clashing t js kinds planned rate region base bounded each held b i (omega (arith, lt, shares_long js ls))))))
     ∙ (ap (λ (ms : List (Label Held)). walk_words rate b buffers ms words) (joined_shares buffers js ls (joined_ids buffers clashing t js kinds planned)) ∙ synths_walk rate b buffers (running_labels t) words)

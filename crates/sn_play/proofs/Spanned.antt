@@ -8,14 +8,14 @@ use Rattle.sn_mem.specs.declared.extents.Foot.{Foot}
 use Rattle.sn_mem.specs.Words.{covers, has, touches, writes}
 use Rattle.sn_mem.specs.Blocks.{sample_in, table}
 use Rattle.sn_mem.specs.Buses.{AudioBus, heard, silent}
-use Rattle.sn_mem.specs.Frames.{framed}
+use Rattle.sn_mem.specs.ThroughFoot.{kept_to}
 use Rattle.sn_mem.specs.Layout.{audio_place}
 use Rattle.sn_mem.proofs.BusLaws.{audio_at}
 use Rattle.sn_mem.proofs.Masks.{touched}
 use Rattle.sn_mem.proofs.Tables.{length-table}
 use Rattle.sn_mem.proofs.Windows.{table_at}
 use Rattle.sn_io.specs.ByFoot.{IsByFoot}
-use Rattle.sn_io.proofs.ByFoot.{framed_same}
+use Rattle.sn_io.proofs.ByFoot.{kept_same}
 use Rattle.sn_round.specs.declared.jobs.Job.{Job}
 use Rattle.sn_round.specs.Jobs.{AreWithin, foot_at}
 use Rattle.sn_span.specs.Captures.{AreOutputs, bus_at, no_extent, output_at}
@@ -155,8 +155,8 @@ module _ (w : Span) (top : subtree (pos 0) w.first.stage.now.tree.attached ≡ w
   -- kept to its foot, each job makes what it makes
   pub kept : (j : ℕ) (vs : List ℕ) → j < length all → outcome_in w j vs ≡ made_in w j vs
   kept j vs l =
-      ap (λ (js : List Job). framed (foot_at js j) (made_in w j) vs) ready.all_are
-      ∙ framed_same (foot_at all j) (made_in w j) vs (by_its_foot (foot_at all j) (made_in w j) (feet j l))
+      ap (λ (js : List Job). kept_to (foot_at js j) (made_in w j) vs) ready.all_are
+      ∙ kept_same (foot_at all j) (made_in w j) vs (by_its_foot (foot_at all j) (made_in w j) (feet j l))
 
   module _ (words : List ℕ) (p : Pictures stage words) (fits : w.copies + 512 * w.blocks ≤ length words) where
     has_copies : HasCopies js outputs copies w.blocks (length words)

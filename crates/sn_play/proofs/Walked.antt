@@ -12,7 +12,7 @@ use Rattle.sn_world.specs.WalkWords.{held_words, walk_words}
 use Rattle.sn_world.specs.declared.stage.Held.{Held}
 use Rattle.sn_world.specs.declared.stage.Held.TheVariants as held
 use Rattle.sn_graph.specs.declared.nodes.Voice.{Voice}
-use Rattle.sn_graph.specs.Voices.{Running, voices}
+use Rattle.sn_graph.specs.Voices.{HeardNodes, voices}
 use Rattle.sn_graph.specs.Stages.{voice_of, with_group, with_node, running_of}
 use Rattle.sn_graph.specs.Plans.{is_listed}
 use Rattle.sn_graph.proofs.Hearing.{voices_group}
@@ -51,11 +51,11 @@ module _ (buffers : List (Option BufferPlace)) (clashing : List ℤ) where
       sym (map-append (λ (l : Label Held). voice_of buffers l.id l.payload) (synths_in xs) (synths_in ys))
       ∙ ap (voices_of buffers) (sym (filter-append (λ (l : Label Held). has_synth l.payload) xs ys))
 
-  inner : (flag : Bool) (label : Label Held) (b a : Running) (xs ys : List (Label Held)) → has_synth label.payload ≡ false → voices b ≡ voices_of buffers (synths_in xs) → voices a ≡ voices_of buffers (synths_in ys) → voices (with_group flag b a) ≡ voices_of buffers (synths_in (label ∷ (xs ++ ys)))
+  inner : (flag : Bool) (label : Label Held) (b a : HeardNodes) (xs ys : List (Label Held)) → has_synth label.payload ≡ false → voices b ≡ voices_of buffers (synths_in xs) → voices a ≡ voices_of buffers (synths_in ys) → voices (with_group flag b a) ≡ voices_of buffers (synths_in (label ∷ (xs ++ ys)))
   inner flag label b a xs ys off e f =
       voices_group flag b a ∙ ap (λ vs. vs ++ voices a) e ∙ (ap (λ vs. voices_of buffers (synths_in xs) ++ vs) f ∙ (both xs ys ∙ ap (voices_of buffers) (sym (without label (xs ++ ys) off))))
 
-  of_node : (kind : NodeKind) (label : Label Held) (below after : Nodes Held) (b a : Running) → KindAgrees kind label.payload below → voices b ≡ voices_of buffers (synths_in (running_labels below)) → voices a ≡ voices_of buffers (synths_in (running_labels after))
+  of_node : (kind : NodeKind) (label : Label Held) (below after : Nodes Held) (b a : HeardNodes) → KindAgrees kind label.payload below → voices b ≡ voices_of buffers (synths_in (running_labels below)) → voices a ≡ voices_of buffers (synths_in (running_labels after))
       → voices (with_node buffers clashing kind label b a) ≡ voices_of buffers (synths_in (label ∷ (running_labels below ++ running_labels after)))
   of_node kinds.Synth label below after b a is e f =
       let v : Voice = voice_of buffers label.id label.payload in
@@ -66,7 +66,7 @@ module _ (buffers : List (Option BufferPlace)) (clashing : List ℤ) where
   of_node kinds.Group label below after b a is e f = inner false label b a (running_labels below) (running_labels after) is e f
   of_node kinds.Parallel label below after b a is e f = inner (not (is_listed clashing label.id)) label b a (running_labels below) (running_labels after) is e f
 
-  of_if : (run : Bool) (x y : Running) (xs ys : List (Label Held)) → voices x ≡ voices_of buffers (synths_in xs) → voices y ≡ voices_of buffers (synths_in ys) → voices (if run then x else y) ≡ voices_of buffers (synths_in (if run then xs else ys))
+  of_if : (run : Bool) (x y : HeardNodes) (xs ys : List (Label Held)) → voices x ≡ voices_of buffers (synths_in xs) → voices y ≡ voices_of buffers (synths_in ys) → voices (if run then x else y) ≡ voices_of buffers (synths_in (if run then xs else ys))
   of_if true x y xs ys e f = e
   of_if false x y xs ys e f = f
 

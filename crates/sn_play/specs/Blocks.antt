@@ -1,7 +1,7 @@
 -- The jobs of a block.
 use Rattle.std.specs.Prelude.{◌<◌, ◌^◌, ℕ, List}
 use Rattle.sn_io.specs.ByFoot.{IsByFoot}
-use Rattle.sn_io.proofs.ByFoot.{framed_by_foot}
+use Rattle.sn_io.proofs.ByFoot.{kept_is_by_foot}
 use Rattle.sn_round.specs.Jobs.{foot_at}
 use Rattle.sn_world.specs.Pictures.{Pictures}
 use Rattle.sn_world.specs.WalkWords.{walk_words}
@@ -16,7 +16,7 @@ outcome_of w j ws = job_words w.stage.now.rate w.block w.stage.now.buffers w.pla
 
 -- it sees and changes the foot alone
 pub outcome_by_foot : (w : Block) (j : ℕ) → IsByFoot (foot_at w.plan.now j) (outcome_of w j)
-outcome_by_foot w j = framed_by_foot (foot_at w.plan.now j) (walk_words w.stage.now.rate w.block w.stage.now.buffers (share_at w.plan.now (walk_synths w.stage.now) j))
+outcome_by_foot w j = kept_is_by_foot (foot_at w.plan.now j) (walk_words w.stage.now.rate w.block w.stage.now.buffers (share_at w.plan.now (walk_synths w.stage.now) j))
 
 -- The stage of a block stands for a world with some words, and its jobs are a plan of the stage.
 pub record IsReady (w : Block) : Type 0 where

@@ -2,7 +2,7 @@
 use Rattle.std.specs.Prelude.{ℕ, List, [], ◌∷◌, ◌++◌, length, take, drop, map, Option, slice_index_or}
 use Rattle.std.specs.List.{filter}
 use Rattle.sn_mem.specs.declared.buffers.BufferPlace.{BufferPlace}
-use Rattle.sn_mem.specs.Frames.{framed}
+use Rattle.sn_mem.specs.ThroughFoot.{kept_to}
 use Rattle.sn_round.specs.declared.jobs.Job.{Job}
 use Rattle.sn_round.specs.Jobs.{foot_at}
 use Rattle.sn_round.specs.Scripts.{list_at, sequential}
@@ -41,7 +41,7 @@ joined (ls ∷ lss) = ls ++ joined lss
 
 -- what the share of a job makes of words in block b, kept to the job's foot
 abbrev pub job_words : ℕ → ℕ → List (Option BufferPlace) → List Job → List (Label Held) → ℕ → List ℕ → List ℕ
-job_words rate b buffers js ls i ws = framed (foot_at js i) (walk_words rate b buffers (share_at js ls i)) ws
+job_words rate b buffers js ls i ws = kept_to (foot_at js i) (walk_words rate b buffers (share_at js ls i)) ws
 
 -- the words after all jobs of a stage in block b, one after the other
 abbrev pub words_after : Stage → ℕ → List Job → List ℕ → List ℕ

@@ -1,9 +1,10 @@
 -- The jobs of several blocks in one round.
 use Rattle.std.specs.Prelude.{◌≡◌, ◌<◌, ◌≤◌, ◌+◌, ◌*◌, ◌^◌, ℕ, List, length, slice_index, slice_index_or}
+use Rattle.sn_ports.specs.Limits.{block_samples, block_frames, most_channels}
 use Rattle.sn_mem.specs.Blocks.{sample_in, table}
 use Rattle.sn_mem.specs.Buses.{heard, silent}
-use Rattle.sn_mem.specs.Frames.{framed}
-use Rattle.sn_mem.specs.Layout.{audio_place}
+use Rattle.sn_mem.specs.ThroughFoot.{kept_to}
+use Rattle.sn_mem.specs.Layout.{audio_place, bus_words}
 use Rattle.sn_round.specs.Jobs.{foot_at}
 use Rattle.sn_span.specs.Rounds.{in_span}
 use Rattle.sn_span.specs.Unrolling.{unrolled}
@@ -27,23 +28,23 @@ made_in w = in_span w.outputs.now w.copies w.first.block (λ k. outcome_of (bloc
 
 -- kept to the job's foot
 abbrev pub outcome_in : Span → ℕ → List ℕ → List ℕ
-outcome_in w j ws = framed (foot_at w.all.now j) (made_in w j) ws
+outcome_in w j ws = kept_to (foot_at w.all.now j) (made_in w j) ws
 
 -- The stage of a span stands for a world with some words. The jobs are those of a plan of the stage in so many blocks. The first audio buses are its outputs, and their copies stand behind all other words.
 pub record IsSpanReady (w : Span) : Type 0 where
   pub channels : ℕ
-  pub few : channels ≤ 8
+  pub few : channels ≤ most_channels
   pub outputs_are : w.outputs.now ≡ table audio_place channels
   pub words : List ℕ
   pub pictures : Pictures w.first.stage.now words
   pub planned : IsPlanned (nodes_in w.first.stage.now) w.first.plan.now
   pub early : w.first.block + w.blocks < 2 ^ 63
   pub all_are : w.all.now ≡ unrolled w.first.plan.now w.outputs.now w.copies w.blocks
-  pub behind : 10368 + w.first.stage.now.pool.region.len ≤ w.copies
-  pub bounded : w.copies + 512 * w.blocks < 4294967296
+  pub behind : bus_words + w.first.stage.now.pool.region.len ≤ w.copies
+  pub bounded : w.copies + block_samples * w.blocks < 4294967296
 
 -- Words stand for the world after n walks from block b on over other words, and in the copies stands what is heard of the first audio buses after each walk.
 pub record ArePlayed (stage : Stage) (b n copies channels : ℕ) (words us : List ℕ) : Type 0 where
   pub world : world_of stage us ≡ walks b n (world_of stage words)
   pub pictures : Pictures stage us
-  pub sound : (k c frame : ℕ) → k < n → c < channels → frame < 64 → sample_in (slice_index us (copies + 512 * k + 64 * c + frame)) ≡ heard (b + k) (slice_index_or (walks b (k + 1) (world_of stage words)).audio_buses c silent) frame
+  pub sound : (k c frame : ℕ) → k < n → c < channels → frame < block_frames → sample_in (slice_index us (copies + block_samples * k + block_frames * c + frame)) ≡ heard (b + k) (slice_index_or (walks b (k + 1) (world_of stage words)).audio_buses c silent) frame

@@ -1,6 +1,7 @@
 //! Laws of a plan, of its jobs and of the walk, in a stage that stands for a world.
 ghost use Rattle.std.specs.Prelude.{◌≡◌, ◌<◌, ◌^◌, ◌≤◌, ◌+◌, ◌*◌, ◌∷◌, [], ℕ, List, Option, length};
 ghost use Rattle.std.specs.List.{All};
+ghost use Rattle.sn_ports.specs.Limits.{block_samples};
 ghost use Rattle.sn_mem.specs.declared.buffers.BufferPlace.{BufferPlace};
 ghost use Rattle.sn_io.specs.ByFoot.{IsByFoot, IsPart};
 ghost use Rattle.sn_tree.specs.Trees.{Label};
@@ -101,9 +102,9 @@ pub fn block_is_the_walk(work: &Block<'_>)
 /// make of the words, one after the other, is a script. Its last words stand for the world after the walks of its blocks,
 /// and its copies hold the sound of each.
 pub fn span_is_the_walks(work: &Span<'_>)
-    ensures feet { (words : List ℕ) → IsSpanReady work.now → Pictures work.now.first.stage.now words → work.now.copies + 512 * work.now.blocks ≤ length words → AreWithin (length words) work.now.all.now }
+    ensures feet { (words : List ℕ) → IsSpanReady work.now → Pictures work.now.first.stage.now words → work.now.copies + block_samples * work.now.blocks ≤ length words → AreWithin (length words) work.now.all.now }
     ensures script { (words : List ℕ) → IsScript work.now.all.now (length words) (sequential (outcome_in work.now) (length work.now.all.now) words) }
-    ensures played { (words : List ℕ) (ready : IsSpanReady work.now) → Pictures work.now.first.stage.now words → work.now.copies + 512 * work.now.blocks ≤ length words
+    ensures played { (words : List ℕ) (ready : IsSpanReady work.now) → Pictures work.now.first.stage.now words → work.now.copies + block_samples * work.now.blocks ≤ length words
         → ArePlayed work.now.first.stage.now work.now.first.block work.now.blocks work.now.copies ready.channels words (list_at (sequential (outcome_in work.now) (length work.now.all.now) words) (length work.now.all.now)) }
 {
     work.first.stage.tree.root_holds_all();

@@ -1,6 +1,7 @@
 //! Nodes that run by their ids, one after the other.
 ghost use Rattle.std.specs.Prelude.{◌≡◌, ◌<◌, ◌^◌, length};
 ghost use Rattle.std.specs.List.{All};
+ghost use Rattle.sn_mem.specs.Layout.{bus_words};
 ghost use Rattle.sn_io.specs.ByFoot.{IsByFoot};
 ghost use Rattle.sn_world.specs.WalkWords.{held_words};
 ghost use Rattle.sn_play.specs.Named.{CanRun, held_at, words_by_ids};
@@ -21,7 +22,7 @@ fn run_held<P: Port>(
     scratch: &mut Scratch,
 )
     requires rate { 0 < stage.now.rate }
-    requires base { stage.now.pool.region.at ≡ 10368 }
+    requires base { stage.now.pool.region.at ≡ bus_words }
     requires block { block < 2 ^ 63 }
     requires held { CanRun stage.now (P.foot port.old) held.now }
     ensures words { P.words port.new ≡ held_words stage.now.rate block node stage.now.buffers held.now (P.words port.old) }
@@ -49,7 +50,7 @@ fn run_held<P: Port>(
 /// Runs the attached node of an id.
 fn run_node<P: Port>(port: &mut P, stage: &Stage, block: u64, node: i32, scratch: &mut Scratch)
     requires rate { 0 < stage.now.rate }
-    requires base { stage.now.pool.region.at ≡ 10368 }
+    requires base { stage.now.pool.region.at ≡ bus_words }
     requires block { block < 2 ^ 63 }
     requires held { CanRun stage.now (P.foot port.old) (held_at stage.now node) }
     ensures words { P.words port.new ≡ held_words stage.now.rate block node stage.now.buffers (held_at stage.now node) (P.words port.old) }
@@ -65,7 +66,7 @@ fn run_node<P: Port>(port: &mut P, stage: &Stage, block: u64, node: i32, scratch
 /// Runs the attached nodes of some ids for a block, in order.
 fn run_nodes<P: Port>(port: &mut P, stage: &Stage, block: u64, nodes: &[i32], scratch: &mut Scratch)
     requires rate { 0 < stage.now.rate }
-    requires base { stage.now.pool.region.at ≡ 10368 }
+    requires base { stage.now.pool.region.at ≡ bus_words }
     requires block { block < 2 ^ 63 }
     requires nodes { All (λ id. CanRun stage.now (P.foot port.old) (held_at stage.now id)) nodes.now }
     ensures words { P.words port.new ≡ words_by_ids stage.now block nodes.now (P.words port.old) }
@@ -88,7 +89,7 @@ fn run_in_copy<P: Port>(
     scratch: &mut Scratch,
 )
     requires rate { 0 < stage.now.rate }
-    requires base { stage.now.pool.region.at ≡ 10368 }
+    requires base { stage.now.pool.region.at ≡ bus_words }
     requires block { block < 2 ^ 63 }
     requires size { length copy.old < 2 ^ 32 }
     requires foot { foot.now ≡ P.foot port.old }
@@ -114,7 +115,7 @@ pub fn run_job<P: Port>(
     scratch: &mut Scratch,
 )
     requires rate { 0 < stage.now.rate }
-    requires base { stage.now.pool.region.at ≡ 10368 }
+    requires base { stage.now.pool.region.at ≡ bus_words }
     requires block { block < 2 ^ 63 }
     requires foot { foot.now ≡ P.foot port.old }
     requires nodes { All (λ id. CanRun stage.now (P.foot port.old) (held_at stage.now id)) nodes.now }

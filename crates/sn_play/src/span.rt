@@ -5,7 +5,7 @@ ghost use Rattle.sn_span.specs.Unrolling.{start, unrolled};
 use crate::block::Block;
 use sn_mem::{Extents, Foot, Port, Scratch};
 use sn_round::{Plan, Work};
-use sn_span::capture;
+use sn_span::{COPY_WORDS, capture};
 
 /// The jobs of a plan of a stage in several blocks, with a job after each block that copies its sound.
 #[derive(Clone, Copy)]
@@ -18,7 +18,7 @@ pub struct Span<'a> {
     pub blocks: u32,
     /// The audio buses whose sound is copied.
     pub outputs: &'a Extents,
-    /// Where the copies begin: 512 words for each block.
+    /// Where the copies begin, one for each block.
     pub copies: u32,
 }
 
@@ -44,7 +44,7 @@ fn place_of(jobs: u32, job: u32) -> JobPlace
 impl Work for Span<'_> {
     ghost use Rattle.std.specs.Prelude.{length};
     ghost use Rattle.sn_mem.proofs.Masks.{touched};
-    ghost use Rattle.sn_io.proofs.ByFoot.{framed_by_foot};
+    ghost use Rattle.sn_io.proofs.ByFoot.{kept_is_by_foot};
     ghost use Rattle.sn_round.specs.Jobs.{foot_at};
     ghost use Rattle.sn_play.specs.Spans.{IsSpanReady, made_in, outcome_in};
 
@@ -67,7 +67,7 @@ impl Work for Span<'_> {
         let place = place_of(jobs, job);
         let block = self.first.block + u64::from(place.block);
         if place.number == jobs {
-            let at = self.copies + 512 * place.block;
+            let at = self.copies + COPY_WORDS * place.block;
             capture(port, self.outputs.as_slice(), at, block);
         } else {
             let played = Block {
@@ -79,9 +79,9 @@ impl Work for Span<'_> {
         }
     }
 
-    ghost as_long = { λ w j ws h. (framed_by_foot (foot_at w.all.now j) (made_in w j)).long ws };
+    ghost as_long = { λ w j ws h. (kept_is_by_foot (foot_at w.all.now j) (made_in w j)).long ws };
 
-    ghost only_writes = { λ w j x ws h off. (framed_by_foot (foot_at w.all.now j) (made_in w j)).keeps ws x off };
+    ghost only_writes = { λ w j x ws h off. (kept_is_by_foot (foot_at w.all.now j) (made_in w j)).keeps ws x off };
 
-    ghost by_foot = { λ w j us ws h long same x on. ((framed_by_foot (foot_at w.all.now j) (made_in w j)).agree us ws (record { long = long; same = same })).same x (touched (foot_at w.all.now j) x on) };
+    ghost by_foot = { λ w j us ws h long same x on. ((kept_is_by_foot (foot_at w.all.now j) (made_in w j)).agree us ws (record { long = long; same = same })).same x (touched (foot_at w.all.now j) x on) };
 }

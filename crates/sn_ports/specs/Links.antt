@@ -1,6 +1,7 @@
 -- What comes over a link, and what a link does with it.
 use Rattle.std.specs.Prelude.{◌≡◌, ◌≤◌, ◌<◌, ℕ, List, [], ◌∷◌, ◌++◌, length, take, drop, min, map, Option, None, Some, Result, MatchResult, IfOk, ⊤}
 use Rattle.std.specs.List.{AllByRecursion}
+use Rattle.sn_ports.specs.Limits.{most_ticks}
 use Rattle.sn_ports.specs.declared.links.Event.{Event}
 use Rattle.sn_ports.specs.declared.links.Event.TheVariants as event
 use Rattle.sn_ports.specs.declared.links.Fed.{Fed}
@@ -48,10 +49,10 @@ KeepsEvents old new = Known old new (λ a b. b ≡ a)
 abbrev pub NextTakes : {E : Type 0} → Option (List LinkEvent) → Option (List LinkEvent) → Result Fed E → List ℕ → Type 0
 NextTakes old new r into = MatchResult r (λ f. Known old new (λ a b. Feeds a b into f)) (λ _. KeepsEvents old new)
 
--- at least one byte and no more than there is room for, or 1 to 1,024 blocks
+-- at least one byte and no more than there is room for, or at least one block and no more than are due at once
 abbrev pub IsFed : List ℕ → Fed → Type 0
 IsFed into (fed.Bytes n) = (0 < n) × (n ≤ length into)
-IsFed into (fed.Ticks n) = (0 < n) × (n ≤ 1024)
+IsFed into (fed.Ticks n) = (0 < n) × (n ≤ most_ticks)
 IsFed into fed.End = Unit {0}
 
 abbrev pub FeedsWithin : {E : Type 0} → Result Fed E → List ℕ → Type 0
@@ -63,10 +64,10 @@ abbrev pub event_of : Event → LinkEvent
 event_of (event.Bytes text) = bytes text.bytes
 event_of (event.Ticks n) = ticks n
 
--- at least one byte, or 1 to 1,024 blocks
+-- at least one byte, or at least one block and no more than are due at once
 abbrev pub IsPlayable : Event → Type 0
 IsPlayable (event.Bytes text) = 0 < length text.bytes
-IsPlayable (event.Ticks n) = (0 < n) × (n ≤ 1024)
+IsPlayable (event.Ticks n) = (0 < n) × (n ≤ most_ticks)
 
 abbrev pub ArePlayable : List Event → Type 0
 ArePlayable es = AllByRecursion IsPlayable es
@@ -93,7 +94,7 @@ events_left given (event.Ticks n ∷ es) = ticks n ∷ map event_of es
 abbrev pub AreLeft : ℕ → List Event → Type 0
 AreLeft given [] = given ≡ 0
 AreLeft given (event.Bytes text ∷ es) = (given < length text.bytes) × ArePlayable es
-AreLeft given (event.Ticks n ∷ es) = (given ≡ 0) × (0 < n) × (n ≤ 1024) × ArePlayable es
+AreLeft given (event.Ticks n ∷ es) = (given ≡ 0) × (0 < n) × (n ≤ most_ticks) × ArePlayable es
 
 -- What a contract sees of a link that is played: the events that are left, the bytes that were sent, how many may be sent in all, which
 -- calls fail, and how many calls and faults there were.

@@ -7,6 +7,7 @@ mod failed;
 mod failing;
 mod files;
 mod gate;
+pub mod limits;
 mod links;
 mod memory;
 mod played;

@@ -5,8 +5,8 @@ use Rattle.std.specs.List.{AllByRecursion, filter}
 use Rattle.std.specs.BTreeMap.{BTreeMap}
 use Rattle.std.proofs.lemmas.Bool.{lt-leb}
 use Rattle.std.proofs.lemmas.List.Filters.{length-filter_both}
-use Rattle.sn_queue.specs.declared.entry.Place.{Place}
-use Rattle.sn_queue.specs.declared.entry.Held.{Held}
+use Rattle.sn_queue.specs.declared.entry.Rank.{Rank}
+use Rattle.sn_queue.specs.declared.entry.Batch.{Batch}
 use Rattle.sn_queue.specs.declared.queue.Queue.TheInside.{Inside}
 use Rattle.sn_queue.specs.Time.{IsInReach}
 use Rattle.sn_queue.specs.Waiting.{Waiting, WaitingList, ActsBefore, DiffersFrom, AllPairwise, IsInOrder}
@@ -18,7 +18,7 @@ map-front : {X Y : Type 0} (f : X → Y) (xs : List X) (y : X) → map f (xs ++ 
 map-front f [] y = refl
 map-front f (x ∷ xs) y = ap (λ ys. f x ∷ ys) (map-front f xs y)
 
-pub greatest-entry : (q : WaitingList) (es : List (Place × Held)) (p : Place × Held) → AllPairwise ActsBefore (map waiting_at es) → slice_get es (length es - 1) ≡ Some p
+pub greatest-entry : (q : WaitingList) (es : List (Rank × Batch)) (p : Rank × Batch) → AllPairwise ActsBefore (map waiting_at es) → slice_get es (length es - 1) ≡ Some p
     → greatest (map (due_of q) (map waiting_at es)) ≡ Some (due_of q (waiting_at p))
 greatest-entry q es p order e =
     let split = split_last es p e in
@@ -45,7 +45,7 @@ length-front : {X : Type 0} (xs : List X) (y : X) → length xs ≤ length (xs +
 length-front [] y = omega arith
 length-front (x ∷ xs) y = omega (arith, length-front xs y)
 
-pub IsInOrder-popped : (q : Inside) (m : BTreeMap Place Held) (r : Option (Place × Held)) → IsInOrder (meaning q)
+pub IsInOrder-popped : (q : Inside) (m : BTreeMap Rank Batch) (r : Option (Rank × Batch)) → IsInOrder (meaning q)
     → IfSome r (λ p. q.waiting.entries ≡ m.entries ++ p ∷ []) → IfNone r (m.entries ≡ q.waiting.entries) → IsInOrder (meaning (record q { waiting = m }))
 IsInOrder-popped q m None o removal same = subst (λ es. IsInOrder (record (meaning q) { waiting = map waiting_at es })) (sym same) o
 IsInOrder-popped q m (Some p) o removal same =
@@ -53,7 +53,7 @@ IsInOrder-popped q m (Some p) o removal same =
     let fewer : length (map waiting_at m.entries) ≤ length (meaning q).waiting = subst (λ ws. length (map waiting_at m.entries) ≤ length ws) (sym parts) (length-front (map waiting_at m.entries) (waiting_at p)) in
     shorter (meaning q) (map waiting_at m.entries) (waiting_at p) o parts fewer
 
-pub clear_after-popped : (q : Inside) (m : BTreeMap Place Held) (r : Option (Place × Held)) (now n : ℕ) → IsInOrder (meaning q)
+pub clear_after-popped : (q : Inside) (m : BTreeMap Rank Batch) (r : Option (Rank × Batch)) (now n : ℕ) → IsInOrder (meaning q)
     → IfSome r (λ p. q.waiting.entries ≡ m.entries ++ p ∷ []) → IfNone r (m.entries ≡ q.waiting.entries) → last_due (meaning q) ≡ Some n → now < n
     → clear_after (meaning (record q { waiting = m })) now ≡ clear_after (meaning q) now
 clear_after-popped q m None now n o removal same last late = ap (λ es. clear_after (record (meaning q) { waiting = map waiting_at es }) now) same

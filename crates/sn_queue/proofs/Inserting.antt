@@ -5,8 +5,8 @@ use Rattle.std.specs.List.{AllByRecursion}
 use Rattle.std.specs.Ordering.{nat_cmp, ordering_then}
 use Rattle.std.specs.BTreeMap.{BTreeMap, insert_entry}
 use Rattle.sn_queue.specs.declared.clock.Clock.{Clock}
-use Rattle.sn_queue.specs.declared.entry.Place.{Place}
-use Rattle.sn_queue.specs.declared.entry.Held.{Held}
+use Rattle.sn_queue.specs.declared.entry.Rank.{Rank}
+use Rattle.sn_queue.specs.declared.entry.Batch.{Batch}
 use Rattle.sn_osc.specs.Shape.{MessageShape, message_of}
 use Rattle.sn_queue.specs.declared.queue.Queue.TheInside.{Inside}
 use Rattle.sn_queue.specs.Time.{key_of, IsInReach}
@@ -42,11 +42,11 @@ distinct-insert w (v ∷ vs) later distinct = elim (leb v.key w.key) as (λ b. A
 ]
 
 -- how places are compared
-abbrev pub place_cmp : Place → Place → Ordering
-place_cmp a b = ordering_then (nat_cmp a.key b.key) (nat_cmp a.number b.number)
+abbrev pub rank_cmp : Rank → Rank → Ordering
+rank_cmp a b = ordering_then (nat_cmp a.key b.key) (nat_cmp a.number b.number)
 
-pub waiting-insert_entry : (k : Place) (h : Held) (es : List (Place × Held)) → AllByRecursion (λ w. w.number < k.number) (map waiting_at es)
-    → map waiting_at (insert_entry place_cmp es k h) ≡ insert (waiting_at (k, h)) (map waiting_at es)
+pub waiting-insert_entry : (k : Rank) (h : Batch) (es : List (Rank × Batch)) → AllByRecursion (λ w. w.number < k.number) (map waiting_at es)
+    → map waiting_at (insert_entry rank_cmp es k h) ≡ insert (waiting_at (k, h)) (map waiting_at es)
 waiting-insert_entry k h [] later = refl
 waiting-insert_entry k h (e ∷ es) later = grind (arith, waiting-insert_entry k h es later.1, later.0)
 
@@ -72,8 +72,8 @@ IsInOrder-put q tag boundary from messages o few room reach =
       keys = All-insert (λ v. IsInReach v.key q.base q.rate) w reach q.waiting o.keys;
     }
 
-pub meaning-put : (q : Inside) (k : Clock) (m : BTreeMap Place Held) (h : Held) (key tag boundary : ℕ) → IsInOrder (meaning q) → k.base ≡ q.clock.base → k.rate ≡ q.clock.rate → key ≡ key_of tag boundary q.clock.base q.clock.rate
-    → m.entries ≡ insert_entry place_cmp q.waiting.entries (record { key = key; number = q.puts }) h
+pub meaning-put : (q : Inside) (k : Clock) (m : BTreeMap Rank Batch) (h : Batch) (key tag boundary : ℕ) → IsInOrder (meaning q) → k.base ≡ q.clock.base → k.rate ≡ q.clock.rate → key ≡ key_of tag boundary q.clock.base q.clock.rate
+    → m.entries ≡ insert_entry rank_cmp q.waiting.entries (record { key = key; number = q.puts }) h
     → meaning (record q { clock = k; puts = q.puts + 1; waiting = m }) ≡ put (meaning q) tag boundary h.from (map message_of h.messages)
 meaning-put q k m h key tag boundary o base rate value entries =
     let list = ap (map waiting_at) entries ∙ waiting-insert_entry (record { key = key; number = q.puts }) h q.waiting.entries o.numbers in

@@ -1,6 +1,7 @@
 -- The list of the entries that wait, as they act one after another.
-use Rattle.std.specs.Prelude.{◌≡◌, ◌≢◌, ◌≤◌, ◌<◌, ◌^◌, ◌⊎◌, ℕ, List, [], ◌∷◌, length, Option, IfSome}
+use Rattle.std.specs.Prelude.{◌≡◌, ◌≢◌, ◌≤◌, ◌<◌, ◌⊎◌, ℕ, List, [], ◌∷◌, length, Option, IfSome}
 use Rattle.std.specs.List.{AllByRecursion}
+use Rattle.sn_ports.specs.Limits.{most_count}
 use Rattle.sn_osc.specs.Shape.{MessageShape}
 use Rattle.sn_queue.specs.Time.{IsInReach}
 
@@ -34,7 +35,7 @@ AllPairwise R (x ∷ xs) = AllByRecursion (R x) xs × AllPairwise R xs
 -- what always holds of a waiting list
 pub record IsInOrder (q : WaitingList) : Type 0 where
   pub rate : 0 < q.rate
-  pub puts : q.puts ≤ 2 ^ 62
+  pub puts : q.puts ≤ most_count
   pub limit : IfSome q.limit (λ n. length q.waiting ≤ n)
   pub order : AllPairwise ActsBefore q.waiting
   pub distinct : AllPairwise DiffersFrom q.waiting

@@ -1,4 +1,5 @@
 ghost use Rattle.std.specs.Prelude.{◌≡◌, ◌<◌, ◌^◌};
+ghost use Rattle.sn_ports.specs.Limits.{most_count};
 ghost use Rattle.sn_queue.specs.Time.{due, at, key_of, acts_at, IsInReach};
 
 use crate::time::at;
@@ -34,7 +35,7 @@ impl Clock {
 
     /// The tag of a boundary, rounded up. It is computed only where the boundary isn't the last one.
     fn at(&mut self, boundary: u64) -> u128
-        requires { boundary < 2 ^ 62 }
+        requires { boundary < most_count }
         ensures value { result ≡ at boundary self.old.base self.old.rate }
         ensures base { self.new.base ≡ self.old.base }
         ensures rate { self.new.rate ≡ self.old.rate }
@@ -54,7 +55,7 @@ impl Clock {
 
     /// The time at which an entry acts that has this tag and arrives at this boundary.
     pub(crate) fn key(&mut self, tag: u64, boundary: u64) -> u128
-        requires { boundary < 2 ^ 62 }
+        requires { boundary < most_count }
         ensures value { result ≡ key_of tag boundary self.old.base self.old.rate }
         ensures in_reach { IsInReach result self.old.base self.old.rate }
         ensures acts_at { due result self.old.base self.old.rate ≡ acts_at tag boundary self.old.base self.old.rate }

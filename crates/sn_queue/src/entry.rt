@@ -37,16 +37,16 @@ impl<T: Drop> From<AllocFailed<T>> for Unput {
 
 /// Where an entry stands in the order: by time, and at one time by arrival.
 #[derive(Clone, Copy, Debug, PartialEq, Eq, PartialOrd, Ord)]
-pub(crate) struct Place {
+pub(crate) struct Rank {
     /// The time, in units of 2^-32 seconds.
     pub(crate) key: u128,
     /// How many entries were put before.
     pub(crate) number: u64,
 }
 
-/// What waits at a place.
+/// What waits at a rank.
 #[derive(Debug, Drop)]
-pub(crate) struct Held {
+pub(crate) struct Batch {
     /// The client that sent them.
     pub(crate) from: u32,
     /// What acts, in order.
@@ -54,15 +54,15 @@ pub(crate) struct Held {
 }
 
 impl Entry {
-    /// The entry that waits at this place.
-    pub(crate) fn of(place: Place, held: Held) -> Self
-        ensures { waiting_of result ≡ waiting_at (place, held) }
+    /// The entry that waits at this rank.
+    pub(crate) fn of(rank: Rank, batch: Batch) -> Self
+        ensures { waiting_of result ≡ waiting_at (rank, batch) }
     {
         Entry {
-            key: place.key,
-            number: place.number,
-            from: held.from,
-            messages: held.messages,
+            key: rank.key,
+            number: rank.number,
+            from: batch.from,
+            messages: batch.messages,
         }
     }
 }

@@ -1,6 +1,7 @@
-ghost use Rattle.std.specs.Prelude.{◌≡◌, ◌<◌, ◌+◌, ◌^◌, ◌↔◌, IsTrue, List, [], map, length, false, OnOk, OnErr};
+ghost use Rattle.std.specs.Prelude.{◌≡◌, ◌<◌, ◌+◌, ◌↔◌, IsTrue, List, [], map, length, false, OnOk, OnErr};
 ghost use Rattle.std.specs.List.{AllByRecursion, list_any};
 ghost use Rattle.std.specs.Option.{option_map};
+ghost use Rattle.sn_ports.specs.Limits.{most_count};
 ghost use Rattle.sn_osc.specs.Shape.{message_of};
 ghost use Rattle.sn_queue.specs.Time.{due, key_of, acts_at};
 ghost use Rattle.sn_queue.specs.Waiting.{WaitingList, IsInOrder};
@@ -8,7 +9,7 @@ ghost use Rattle.sn_queue.specs.Meaning.{waiting_of};
 ghost use Rattle.sn_queue.specs.Steps.{put, due_of, first_due, without_first_due, is_due, last_due, clear_after, count_after};
 
 use crate::clock::Clock;
-use crate::entry::{Entry, Held, Place, Unput};
+use crate::entry::{Batch, Entry, Rank, Unput};
 use crate::messages::Messages;
 use crate::time::due;
 use std::alloc::Global;
@@ -21,7 +22,7 @@ pub struct Queue {
     clock: Clock,
     limit: Option<u32>,
     puts: u64,
-    waiting: BTreeMap<Place, Held>,
+    waiting: BTreeMap<Rank, Batch>,
 }
 
 impl Model for Queue {
@@ -88,8 +89,8 @@ impl Queue {
         from: u32,
         messages: Messages,
     ) -> Result<(), Unput>
-        requires boundary { boundary < 2 ^ 62 }
-        requires puts { self.old.puts < 2 ^ 62 }
+        requires boundary { boundary < most_count }
+        requires puts { self.old.puts < most_count }
         ensures full { (result ≡ Err Unput.QueueFull) ↔ (self.old.limit ≡ Some (length self.old.waiting)) }
         ensures put { OnOk result (self.new ≡ put self.old tag boundary from (map message_of messages)) }
         ensures refused { OnErr result (self.new ≡ self.old) }
@@ -99,11 +100,11 @@ impl Queue {
         if self.is_full() {
             return Err(Unput::QueueFull);
         }
-        let place = Place {
+        let rank = Rank {
             key: self.clock.key(tag, boundary),
             number: self.puts,
         };
-        self.waiting.insert(place, Held { from, messages })?;
+        self.waiting.insert(rank, Batch { from, messages })?;
         self.puts += 1;
         Ok(())
     }
@@ -113,7 +114,7 @@ impl Queue {
         ensures { result ≡ list_any (is_due self.now now) self.now.waiting }
     {
         match self.waiting.first_key_value() {
-            Some((place, _)) => due(place.key, self.clock.base, self.clock.rate) <= now,
+            Some((rank, _)) => due(rank.key, self.clock.base, self.clock.rate) <= now,
             None => false,
         }
     }
@@ -129,8 +130,8 @@ impl Queue {
         if !self.has_due(now) {
             return None;
         }
-        let (place, held) = self.waiting.pop_first()?;
-        Some(Entry::of(place, held))
+        let (rank, batch) = self.waiting.pop_first()?;
+        Some(Entry::of(rank, batch))
     }
 
     /// The greatest due number of the entries that wait. `None` comes exactly where none waits.
@@ -138,8 +139,8 @@ impl Queue {
         ensures value { result ≡ last_due self.now }
         ensures none { (result ≡ None) ↔ (self.now.waiting ≡ []) }
     {
-        let (place, _) = self.waiting.last_key_value()?;
-        Some(due(place.key, self.clock.base, self.clock.rate))
+        let (rank, _) = self.waiting.last_key_value()?;
+        Some(due(rank.key, self.clock.base, self.clock.rate))
     }
 
     /// Drops the last entry, where it is due after `now`, and tells so.

@@ -1,4 +1,5 @@
-ghost use Rattle.std.specs.Prelude.{◌≡◌, ◌≤◌, ◌<◌, ◌^◌, ℕ};
+ghost use Rattle.std.specs.Prelude.{◌≡◌, ◌≤◌, ◌<◌, ℕ};
+ghost use Rattle.sn_ports.specs.Limits.{most_count};
 ghost use Rattle.sn_queue.specs.Time.{due, at, IsInReach, IsLeastDue};
 
 /// The number of the boundary at which `tag` is due: the last block that begins no later than it. A
@@ -18,7 +19,7 @@ pub fn due(tag: u128, base: u64, rate: u32) -> u64
 
 /// The tag of the boundary before `block`, rounded up.
 pub fn at(block: u64, base: u64, rate: u32) -> u128
-    requires block { block < 2 ^ 62 }
+    requires block { block < most_count }
     requires rate { 0 < rate }
     ensures value { result ≡ at block base rate }
     ensures least { 1 ≤ block → IsLeastDue result block base rate }

@@ -14,7 +14,7 @@ use Rattle.sn_tree.specs.Trees.{Nodes, none, node, Label, view_of}
 use Rattle.sn_world.specs.declared.endings.Ending.{Ending}
 use Rattle.sn_world.specs.Nodes.{Content, group, synth}
 use Rattle.sn_world.specs.World.{World, Turn}
-use Rattle.sn_world.specs.Settling.{unit_triggers, content_triggers, triggers_in, ending_of, endings_at, unit_endings, content_endings, endings_in, acted_at, all_acted, told_all, with_settled, settled}
+use Rattle.sn_world.specs.Settling.{unit_triggers, content_triggers, triggers_in, ending_of, endings_at, unit_endings, content_endings, endings_in, acted_at, all_acted, told_all, with_nodes_settled, settled}
 use Rattle.sn_quiet.specs.Quiet.{acts, is_quiet_unit, is_quiet_content, are_quiet}
 
 -- ---- no trigger
@@ -117,10 +117,10 @@ quiet_endings rate (node label below after) h =
     (cases_Bool label.running)
 
 -- a settling of what is quiet settles the done words, and does nothing else
-pub quiet_settles : (b : ℕ) (t : Turn) → are_quiet t.world.nodes ≡ true → settled b t ≡ with_settled t
+pub quiet_settles : (b : ℕ) (t : Turn) → are_quiet t.world.nodes ≡ true → settled b t ≡ with_nodes_settled t
 quiet_settles b t h =
     let w : World = t.world in
-    let told : List Notice → Turn = λ events. with_settled (told_all events t) in
+    let told : List Notice → Turn = λ events. with_nodes_settled (told_all events t) in
     all_mild (endings_in w.rate w.nodes) (told (triggers_in w.rate b w.nodes)) (quiet_endings w.rate w.nodes h)
     ∙ (ap told (quiet_triggers w.rate b w.nodes h)
-    ∙ ap (λ (replies : List ReplyShape). with_settled (record { world = w; replies = replies })) (append-nil t.replies))
+    ∙ ap (λ (replies : List ReplyShape). with_nodes_settled (record { world = w; replies = replies })) (append-nil t.replies))

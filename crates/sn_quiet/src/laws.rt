@@ -1,6 +1,6 @@
 //! Laws of blocks that are settled each, or once, after the last.
 ghost use Rattle.std.specs.Prelude.{◌≡◌, ◌+◌, true, ℕ};
-ghost use Rattle.sn_world.specs.Settling.{settled, with_settled};
+ghost use Rattle.sn_world.specs.Settling.{settled, with_nodes_settled};
 ghost use Rattle.sn_world.specs.Walk.{walk};
 ghost use Rattle.sn_world.specs.World.{World, Turn};
 ghost use Rattle.sn_quiet.specs.Quiet.{are_quiet};
@@ -16,7 +16,7 @@ pub fn settling_is_unseen()
 /// A law: if no synth that runs sends triggers or acts when a unit ends, a settling tells nothing, and settles the done words
 /// alone.
 pub fn quiet_blocks_settle()
-    ensures { (b : ℕ) (t : Turn) → are_quiet t.world.nodes ≡ true → settled b t ≡ with_settled t }
+    ensures { (b : ℕ) (t : Turn) → are_quiet t.world.nodes ≡ true → settled b t ≡ with_nodes_settled t }
 {}
 
 /// A law: nodes stay quiet while blocks are walked and settled.

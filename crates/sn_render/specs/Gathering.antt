@@ -1,6 +1,7 @@
 -- Why a stream gives no packets.
-use Rattle.std.specs.Prelude.{◌≡◌, ◌⊎◌, ◌<◌, ◌≤◌, ℕ, List, length, Option, Result, Ok, Err, IfSome}
+use Rattle.std.specs.Prelude.{◌+◌, ◌≡◌, ◌⊎◌, ◌<◌, ◌≤◌, ℕ, List, length, Option, Result, Ok, Err, IfSome}
 use Rattle.std.specs.Io.KnownBytes.{Consumes, IsAtEnd, Keeps}
+use Rattle.sn_ports.specs.Limits.{most_stream}
 use Rattle.sn_osc.specs.Frames.{StreamFaultAt}
 use Rattle.sn_osc.specs.Shape.{Shape}
 use Rattle.sn_render.specs.Outcomes.{Takes}
@@ -9,8 +10,8 @@ use Rattle.sn_render.specs.declared.gathering.Ungathered.TheVariants.{NoMemory, 
 
 -- The refusal that the bytes of a stream have: it is too long, or has a first fault.
 abbrev pub HasRefusal : List ℕ → Ungathered → Type 0
-HasRefusal bytes (LongStream n) = (n ≡ 16777217) × (16777216 < length bytes)
-HasRefusal bytes (BadStream packet place fault) = (length bytes ≤ 16777216) × StreamFaultAt bytes packet place fault
+HasRefusal bytes (LongStream n) = (n ≡ most_stream + 1) × (most_stream < length bytes)
+HasRefusal bytes (BadStream packet place fault) = (length bytes ≤ most_stream) × StreamFaultAt bytes packet place fault
 HasRefusal bytes NoMemory = ⊥
 HasRefusal bytes ReadFault = ⊥
 
@@ -26,8 +27,8 @@ IsRefusalOf stream ReadFault = Unit {0}
 abbrev pub TakesRefused : Ungathered → Option (List ℕ) → Option (List ℕ) → Type 0
 TakesRefused (BadStream packet place fault) old new = IsAtEnd new
 TakesRefused (LongStream n) old new = Takes n old new
-TakesRefused ReadFault old new = (front : List ℕ) × Consumes old new front × (length front ≤ 16777216)
-TakesRefused NoMemory old new = Keeps old new ⊎ (IsAtEnd new × IfSome old (λ bytes. length bytes ≤ 16777216))
+TakesRefused ReadFault old new = (front : List ℕ) × Consumes old new front × (length front ≤ most_stream)
+TakesRefused NoMemory old new = Keeps old new ⊎ (IsAtEnd new × IfSome old (λ bytes. length bytes ≤ most_stream))
 
 -- the answer is these packets, or want of memory
 abbrev pub GathersOnly : {X : Type 0} → (X → List Shape) → Result X Ungathered → List Shape → Type 0

@@ -1,6 +1,7 @@
 -- What each outcome of a run says.
 use Rattle.std.specs.Prelude.{◌≡◌, ◌⊎◌, ◌<◌, ◌≤◌, ◌+◌, ℕ, List, length, Option, IfSome, ⊤}
 use Rattle.std.specs.Io.KnownBytes.{Appends, Consumes, IsAtEnd, Keeps}
+use Rattle.sn_ports.specs.Limits.{most_stream}
 use Rattle.sn_osc.specs.Shape.{Shape}
 use Rattle.sn_pcm.specs.declared.settings.Settings.{Settings}
 use Rattle.sn_pcm.specs.Sound.{data_len}
@@ -16,10 +17,10 @@ IsTooLong s blocks = 4294967295 < 36 + data_len s blocks
 
 -- The answer that the bytes of a stream have: it is too long, or has a first fault, or its sound is too long, or it is played.
 abbrev pub HasAnswer : Settings → List ℕ → Outcome → Type 0
-HasAnswer s bytes (LongStream n) = (n ≡ 16777217) × (16777216 < length bytes)
-HasAnswer s bytes (BadStream packet place fault) = (length bytes ≤ 16777216) × StreamFaultAt bytes packet place fault
-HasAnswer s bytes (LongSound n) = (length bytes ≤ 16777216) × ((packets : List Shape) × Frames packets bytes × (n ≡ last_of s packets) × IsTooLong s n)
-HasAnswer s bytes (Done n) = (length bytes ≤ 16777216) × ((packets : List Shape) × Frames packets bytes × (n ≡ last_of s packets) × (IsTooLong s n → ⊥))
+HasAnswer s bytes (LongStream n) = (n ≡ most_stream + 1) × (most_stream < length bytes)
+HasAnswer s bytes (BadStream packet place fault) = (length bytes ≤ most_stream) × StreamFaultAt bytes packet place fault
+HasAnswer s bytes (LongSound n) = (length bytes ≤ most_stream) × ((packets : List Shape) × Frames packets bytes × (n ≡ last_of s packets) × IsTooLong s n)
+HasAnswer s bytes (Done n) = (length bytes ≤ most_stream) × ((packets : List Shape) × Frames packets bytes × (n ≡ last_of s packets) × (IsTooLong s n → ⊥))
 HasAnswer s bytes NoMemory = ⊥
 HasAnswer s bytes (BadWords i) = ⊥
 HasAnswer s bytes ReadFault = ⊥
@@ -47,7 +48,7 @@ Played s stream blocks sound_old sound_new replies_old replies_new = IfSome stre
 pub record ArePacketsOf (stream : Option (List ℕ)) (packets : List Shape) : Type 0 where
   pub bytes : List ℕ
   pub told : IfSome stream (λ xs. bytes ≡ xs)
-  pub size : length bytes ≤ 16777216
+  pub size : length bytes ≤ most_stream
   pub frames : Frames packets bytes
 
 -- an outcome of a stream that has no packets, or from which none came
@@ -94,8 +95,8 @@ TakesStream (Done n) old new = IsAtEnd new
 TakesStream (BadStream packet place fault) old new = IsAtEnd new
 TakesStream (LongSound n) old new = IsAtEnd new
 TakesStream (LongStream n) old new = Takes n old new
-TakesStream ReadFault old new = (front : List ℕ) × Consumes old new front × (length front ≤ 16777216)
+TakesStream ReadFault old new = (front : List ℕ) × Consumes old new front × (length front ≤ most_stream)
 TakesStream SoundFault old new = IsAtEnd new
 TakesStream ReplyFault old new = IsAtEnd new
-TakesStream NoMemory old new = Keeps old new ⊎ (IsAtEnd new × IfSome old (λ bytes. length bytes ≤ 16777216))
+TakesStream NoMemory old new = Keeps old new ⊎ (IsAtEnd new × IfSome old (λ bytes. length bytes ≤ most_stream))
 TakesStream (BadWords i) old new = Keeps old new

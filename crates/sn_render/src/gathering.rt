@@ -1,6 +1,7 @@
 //! A stream of commands is read to its end and decoded.
 ghost use Rattle.std.specs.Prelude.{◌≡◌, ◌⊎◌, ◌≤◌, ℕ, List, Some, Err, IfOk, IfErr, OnOk, length, map};
 ghost use Rattle.std.specs.Io.KnownBytes.{IsAtEnd};
+ghost use Rattle.sn_ports.specs.Limits.{most_stream};
 ghost use Rattle.sn_osc.specs.Frames.{Frames};
 ghost use Rattle.sn_osc.specs.Shape.{Shape, shape};
 ghost use Rattle.sn_ports.specs.Causes.{Rose};
@@ -9,7 +10,7 @@ ghost use Rattle.sn_render.specs.Outcomes.{ArePacketsOf};
 ghost use Rattle.sn_render.specs.Stream.{AreFramed};
 ghost use Rattle.sn_render.specs.declared.gathering.Ungathered.{Ungathered};
 
-use crate::stream::{TOO_MANY_BYTES, Unframed, Unread, decode_stream, read_stream};
+use crate::stream::{NoPackets, TOO_MANY_BYTES, Unread, decode_stream, read_stream};
 use sn_osc::{Packet, StreamFault};
 use sn_ports::Source;
 use std::alloc::Global;
@@ -24,7 +25,7 @@ pub enum Ungathered {
     NoMemory,
     /// The source failed.
     ReadFault,
-    /// The stream has more than 16,777,216 bytes. So many were taken from the source: 16,777,217.
+    /// The stream has more bytes than it may. So many were taken from the source, one too many.
     LongStream {
         bytes: u64,
     },
@@ -55,8 +56,8 @@ fn gathered<S: Source>(alloc: Global, source: &mut S) -> Result<Packets, Ungathe
     };
     match decode_stream(alloc, &bytes) {
         Ok(packets) => Ok(packets),
-        Err(Unframed::NoMemory) => Err(Ungathered::NoMemory),
-        Err(Unframed::Bad(bad)) => Err(Ungathered::BadStream {
+        Err(NoPackets::NoMemory) => Err(Ungathered::NoMemory),
+        Err(NoPackets::Bad(bad)) => Err(Ungathered::BadStream {
             packet: bad.packet,
             place: bad.place,
             fault: bad.fault,
@@ -82,7 +83,7 @@ pub fn gather<S: Source>(alloc: Global, source: &mut S) -> Result<Packets, Ungat
     ensures end { OnOk result (IsAtEnd (S.left source.new)) }
     ensures taken { IfErr result (λ e. TakesRefused e (S.left source.old) (S.left source.new)) }
     // Where no count rises, the answer is the one that the stream has, or want of memory.
-    ensures only_packets { (bytes : List ℕ) (packets : List Shape) → S.left source.old ≡ Some bytes → length bytes ≤ 16777216 → Frames packets bytes
+    ensures only_packets { (bytes : List ℕ) (packets : List Shape) → S.left source.old ≡ Some bytes → length bytes ≤ most_stream → Frames packets bytes
         → (Rose (S.faults source.old) (S.faults source.new) → ⊥) → GathersOnly (λ v. map shape v.items) result packets }
     ensures only_refused { (bytes : List ℕ) (e : Ungathered) → S.left source.old ≡ Some bytes → HasRefusal bytes e
         → (Rose (S.faults source.old) (S.faults source.new) → ⊥) → (result ≡ Err e) ⊎ (result ≡ Err Ungathered.NoMemory) }

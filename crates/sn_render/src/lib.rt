@@ -5,12 +5,12 @@ mod gathering;
 mod outcome;
 mod playing;
 mod rendering;
-mod running;
 mod stream;
+mod streaming;
 
 pub use gathering::{Packets, Ungathered, gather};
 pub use outcome::Outcome;
 pub use playing::play;
-pub use running::{read_packets, render};
 pub use sn_osc::StreamFault;
-pub use stream::{TOO_MANY_BYTES, Unread, read_stream, room};
+pub use stream::{TOO_MANY_BYTES, Unread, read_stream, zeroed};
+pub use streaming::{read_packets, render};

@@ -1,4 +1,5 @@
-ghost use Rattle.std.specs.Prelude.{◌≡◌, ◌<◌, ◌≤◌, ◌+◌, ◌^◌, length, OnErr, OnOk};
+ghost use Rattle.std.specs.Prelude.{◌≡◌, ◌<◌, ◌≤◌, ◌+◌, length, OnErr, OnOk};
+ghost use Rattle.sn_ports.specs.Limits.{most_count};
 ghost use Rattle.sn_ports.specs.Causes.{Rose};
 ghost use Rattle.sn_render.specs.Fronts.{TakesFront, TakeFronts, TakeBoth};
 ghost use Rattle.sn_render.specs.Going.{IsAtBoundary, IsWritten};
@@ -10,6 +11,7 @@ ghost use Rattle.sn_engine.specs.declared.standing.Standing.TheVariants.{Settled
 ghost use Rattle.sn_render.specs.declared.rendering.Stop.TheVariants as stops;
 
 use sn_engine::Engine;
+use sn_ports::limits::MOST_SPAN;
 use sn_ports::{Gate, NoMemory, Sink};
 use std::alloc::{AllocError, Global};
 use std::thread::Threads;
@@ -17,8 +19,8 @@ use std::thread::Threads;
 /// How many bytes are gathered before they are written.
 const PIECE: usize = 16384;
 
-/// How many blocks are asked for in a row, at most.
-const MOST_BLOCKS: u64 = 32;
+/// How many blocks are asked for in a row, at most: those of a span.
+const SPAN: u64 = MOST_SPAN as u64;
 
 /// Why a run stopped before its end.
 #[derive(Clone, Copy, Debug, PartialEq, Eq)]
@@ -95,7 +97,7 @@ fn play_row<H: Threads + Sync, G: Gate>(
     gate: &G,
 ) -> Result<(), NoMemory>
     requires most { 1 ≤ most }
-    requires block { engine.old.running.block + most ≤ 2 ^ 62 }
+    requires block { engine.old.running.block + most ≤ most_count }
     requires settled { engine.old.running.standing ≡ Settled }
     ensures { OnOk result (IsRow most engine.old.running engine.new.running) }
 {
@@ -119,7 +121,7 @@ fn render_row<H: Threads + Sync, O: Sink, R: Sink, G: Gate>(
     gate: &G,
 ) -> Result<(), Stop>
     requires most { 1 ≤ most }
-    requires block { engine.old.running.block + most ≤ 2 ^ 62 }
+    requires block { engine.old.running.block + most ≤ most_count }
     requires settled { engine.old.running.standing ≡ Settled }
     requires alone { length engine.old.running.replies ≡ 1 }
     ensures row { OnOk result (IsRowWritten most (O.taken sound.old) (O.taken sound.new) (R.taken replies.old) (R.taken replies.new) engine.old.running engine.new.running) }
@@ -176,7 +178,7 @@ pub fn render_blocks<H: Threads + Sync, O: Sink, R: Sink, G: Gate>(
 ) -> Result<(), Stop>
     requires begun { engine.running.block ≡ 0 }
     requires stands { IsAtBoundary engine.running }
-    requires blocks { blocks < 2 ^ 62 }
+    requires blocks { blocks < most_count }
     ensures ended { OnOk result (TakeBoth (O.taken sound.old) (O.taken sound.new) (R.taken replies.old) (R.taken replies.new) (to_end blocks engine.running).sound (to_first (to_end blocks engine.running).replies)) }
     ensures fronts { OnErr result (TakeFronts (O.taken sound.old) (O.taken sound.new) (R.taken replies.old) (R.taken replies.new) (to_end blocks engine.running).sound (to_first (to_end blocks engine.running).replies)) }
     ensures sound { result ≡ Err Stop.SoundFault → Rose (O.faults sound.old) (O.faults sound.new) }
@@ -185,7 +187,7 @@ pub fn render_blocks<H: Threads + Sync, O: Sink, R: Sink, G: Gate>(
 {
     let mut done = 0;
     while done < blocks {
-        let most = (blocks - done).min(MOST_BLOCKS) as u32;
+        let most = (blocks - done).min(SPAN) as u32;
         render_row(rt, alloc, most, &mut engine, sound, replies, gate)?;
         done = engine.block();
     }

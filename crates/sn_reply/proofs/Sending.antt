@@ -36,11 +36,14 @@ length-string_bytes s = length-append s (replicate (4 - length s % 4) 0) ∙ ap 
 pub length-arguments_bytes-least : (xs : List Argument) → 4 * length xs ≤ length (arguments_bytes xs)
 length-arguments_bytes-least xs = four_each xs
 
--- a message of arguments has few of them
-few-arguments : (address : List ℕ) (xs : List Argument) → IsAnswerable (record { address = address; body = arguments xs }) → 16 * length xs + 2 ^ 20 < 2 ^ 31
+-- a message of arguments has few of them, since each has a tag and at least four bytes
+few-arguments : (address : List ℕ) (xs : List Argument) → IsAnswerable (record { address = address; body = arguments xs }) → 20 * length xs + 2 ^ 20 < 2 ^ 31
 few-arguments address xs a =
-    let whole = length-append (string_bytes address) (tags_bytes (map tag_of xs) ++ arguments_bytes xs) in
-    let body = length-append (tags_bytes (map tag_of xs)) (arguments_bytes xs) in
+    let tags = 44 ∷ map tag_of xs in
+    let whole = length-append (string_bytes address) (string_bytes tags ++ arguments_bytes xs) in
+    let body = length-append (string_bytes tags) (arguments_bytes xs) in
+    let padded = length-string_bytes tags in
+    let names : length (map tag_of xs) ≡ length xs = length-map xs tag_of in
     let least = length-arguments_bytes-least xs in
     let short = a.short in
     omega arith
@@ -98,7 +101,7 @@ answerable-address m a =
     let short = a.short in
     (clean, omega arith)
 
-pub few-arguments_of : (m : MessageShape) (xs : List Argument) → m.body ≡ arguments xs → IsAnswerable m → 16 * length xs + 2 ^ 20 < 2 ^ 31
+pub few-arguments_of : (m : MessageShape) (xs : List Argument) → m.body ≡ arguments xs → IsAnswerable m → 20 * length xs + 2 ^ 20 < 2 ^ 31
 few-arguments_of m xs is a = few-arguments m.address xs (subst (λ (b : BodyShape). IsAnswerable (record { address = m.address; body = b })) is a)
 
 -- the bytes of a message's arguments

@@ -1,13 +1,13 @@
 //! What clients are told when a block is settled.
 ghost use Rattle.std.specs.Prelude.{◌≡◌, ◌≤◌, ◌+◌, ◌++◌, length};
 ghost use Rattle.sn_osc.specs.Bytes.{int_bytes, arguments_bytes, message_bytes, frame_bytes};
-ghost use Rattle.sn_reply.specs.Events.{place_arguments, trigger_arguments, notice_message};
+ghost use Rattle.sn_reply.specs.Events.{neighbours_arguments, trigger_arguments, notice_message};
 
 use sn_ports::Text;
 
-/// Where a synth stands in the tree: its neighbours by their ids, with -1 for none.
+/// A synth and the nodes around it in the tree, by their ids, with -1 for none.
 #[derive(Clone, Copy, Debug, PartialEq, Eq)]
-pub struct Place {
+pub struct Neighbours {
     /// The synth's node id.
     pub id: i32,
     /// The id of its group, or -1.
@@ -24,9 +24,9 @@ pub enum Notice {
     /// `/tr`: a trigger rose.
     Tr { node: i32, id: i32, value: i32 },
     /// `/n_end`: the synth was freed. It stood here.
-    End(Place),
+    End(Neighbours),
     /// `/n_off`: the synth was paused.
-    Off(Place),
+    Off(Neighbours),
 }
 
 fn put_int(value: i32, out: &mut Text)
@@ -49,17 +49,17 @@ fn put_trigger(head: &[u8], node: i32, id: i32, value: i32, out: &mut Text)
     put_int(value, out);
 }
 
-/// Appends the arguments of a place, behind what stands before them in its frame.
-fn put_place(head: &[u8], place: &Place, out: &mut Text)
+/// Appends the ids of a synth and of its neighbours, behind what stands before them in its frame.
+fn put_neighbours(head: &[u8], neighbours: &Neighbours, out: &mut Text)
     requires room { length head.now + 20 ≤ out.old.spare }
-    ensures bytes { out.new.bytes ≡ out.old.bytes ++ (head.now ++ arguments_bytes (place_arguments place.now)) }
+    ensures bytes { out.new.bytes ≡ out.old.bytes ++ (head.now ++ arguments_bytes (neighbours_arguments neighbours.now)) }
     ensures room { out.old.spare ≤ out.new.spare + (length head.now + 20) }
 {
     out.append_within(head);
-    put_int(place.id, out);
-    put_int(place.parent, out);
-    put_int(place.previous, out);
-    put_int(place.next, out);
+    put_int(neighbours.id, out);
+    put_int(neighbours.parent, out);
+    put_int(neighbours.previous, out);
+    put_int(neighbours.next, out);
     put_int(0, out);
 }
 
@@ -73,7 +73,15 @@ pub fn event_frame(event: &Notice, out: &mut Text)
         Notice::Tr { node, id, value } => {
             put_trigger(b"\0\0\0\x18/tr\0,iii\0\0\0\0", *node, *id, *value, out);
         }
-        Notice::End(place) => put_place(b"\0\0\0\x24/n_end\0\0,iiiii\0\0", place, out),
-        Notice::Off(place) => put_place(b"\0\0\0\x24/n_off\0\0,iiiii\0\0", place, out),
+        Notice::End(neighbours) => put_neighbours(
+            b"\0\0\0\x24/n_end\0\0,iiiii\0\0",
+            neighbours,
+            out,
+        ),
+        Notice::Off(neighbours) => put_neighbours(
+            b"\0\0\0\x24/n_off\0\0,iiiii\0\0",
+            neighbours,
+            out,
+        ),
     }
 }

@@ -9,7 +9,7 @@ use sn_osc::{Arg, Args, Body, Message};
 use sn_ports::{NoMemory, Text};
 use std::alloc::Global;
 
-/// The words of a reason.
+/// The text of a reason.
 fn reason_text(alloc: Global, reason: Reason) -> Result<Text, NoMemory>
     ensures words { IfOk result (λ text. text.bytes ≡ reason_text reason) }
     ensures short { IfOk result (λ text. IsShortText text.bytes) }

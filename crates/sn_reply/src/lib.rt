@@ -9,7 +9,7 @@ mod reason;
 mod replies;
 
 pub use answer::Answer;
-pub use events::{Notice, Place, event_frame};
+pub use events::{Neighbours, Notice, event_frame};
 pub use failing::fail;
 pub use framing::send;
 pub use reason::Reason;

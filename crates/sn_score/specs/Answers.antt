@@ -2,6 +2,7 @@
 use Rattle.std.specs.Prelude.{◌≡◌, ◌≤◌, ◌<◌, ℕ, List, length, map, reverse, Option, Some, None, Result, Ok, Err, IsTrue}
 use Rattle.sn_osc.specs.Bytes.{are_octets, packet_bytes, is_packet}
 use Rattle.std.specs.Borrow.{Bor}
+use Rattle.sn_ports.specs.Limits.{most_packet, most_bundles}
 use Rattle.sn_osc.specs.Shape.{Shape, shape}
 use Rattle.sn_score.specs.declared.fault.Refused.{Refused}
 use Rattle.sn_score.specs.declared.fault.Refused.TheVariants as refused
@@ -47,10 +48,10 @@ abbrev pub NextGives : ℕ → Result Draft Unscored → Option Reached → Type
 NextGives number (Ok d) read = read ≡ Some (reached d)
 NextGives number (Err e) read = NextAs number e read
 
--- how many bytes the packet spells in, where they are at most 65,536
+-- how many bytes the packet spells in, if they are no more than a packet may have
 abbrev pub IsSpellingLen : Option ℕ → Shape → Type 0
-IsSpellingLen (Some n) x = IsTrue (is_packet 8 1 x) × IsTrue (are_octets (packet_bytes x)) × (n ≡ length (packet_bytes x)) × (n ≤ 65536)
-IsSpellingLen None x = IsTrue (is_packet 8 1 x) → 65536 < length (packet_bytes x)
+IsSpellingLen (Some n) x = IsTrue (is_packet most_bundles 1 x) × IsTrue (are_octets (packet_bytes x)) × (n ≡ length (packet_bytes x)) × (n ≤ most_packet)
+IsSpellingLen None x = IsTrue (is_packet most_bundles 1 x) → most_packet < length (packet_bytes x)
 
 abbrev pub texts : List (Bor (List ℕ)) → List (List ℕ)
 texts pieces = map (λ p. p.now) pieces

@@ -2,6 +2,7 @@
 use Rattle.std.specs.Prelude.{◌+◌, ◌-◌, ℕ, List, [], ◌∷◌, ◌++◌, length, codes, Option, Some, None, Result, Ok, Err, Bool, not, nat_lt, nat_le, ◌==◌, ◌&&◌, if◌then◌else◌}
 use Rattle.std.specs.List.{slice_split}
 use Rattle.std.specs.Str.{bytes_eq}
+use Rattle.sn_ports.specs.Limits.{most_packet, most_bundles}
 use Rattle.sn_osc.specs.Shape.{MessageShape, Shape, message, bundle, shapes_from}
 use Rattle.sn_osc.specs.Bytes.{are_octets, begins_with, message_bytes, is_message, counts_as, is_early}
 use Rattle.sn_score.specs.Lines.{message_line, bundle_line}
@@ -30,9 +31,9 @@ at_start = record { row = score_row; outer = []; room = 0 }
 abbrev pub put : Shape → Row → Row
 put x row = record { tag = row.tag; around = row.around; elements = row.elements ++ x ∷ [] }
 
--- A packet of the score has room for 65,536 bytes.
+-- A packet of the score has room for as many bytes as a packet may have.
 abbrev pub room_of : Reached → ℕ
-room_of s = if length s.outer == 0 then 65536 else s.room
+room_of s = if length s.outer == 0 then most_packet else s.room
 
 -- An element stands behind the 4 bytes of its size.
 abbrev pub need_of : Reached → ℕ → ℕ
@@ -66,11 +67,11 @@ abbrev pub closed : Row → List Row → ℕ → Option Reached
 closed row [] room = None
 closed row (next ∷ outer) room = Some (record { row = put (bundle_of row) next; outer = outer; room = room })
 
--- the message spells in at most 65,536 bytes
+-- the message spells in no more bytes than a packet may have
 abbrev pub is_spelled : MessageShape → Bool
-is_spelled m = is_message m && are_octets (message_bytes m) && nat_le (length (message_bytes m)) 65536
+is_spelled m = is_message m && are_octets (message_bytes m) && nat_le (length (message_bytes m)) most_packet
 
--- the line of this message, where it spells in at most 65,536 bytes and has room
+-- the line of this message, if it spells in no more bytes than a packet may have, and has room
 unfoldable pub after_message_line : Reached → MessageShape → List ℕ → Option Reached
 after_message_line s m line = if bytes_eq (message_line m) line && is_spelled m then with_packet s (message m) (length (message_bytes m)) else None
 
@@ -80,7 +81,7 @@ after_message s line = after_message_line s (message_at line) line
 
 -- a bundle of this tag may stand here, and has room
 abbrev pub has_place : Reached → ℕ → Bool
-has_place s tag = nat_lt (length s.outer) 8 && not (is_early s.row.around tag) && has_room s 16
+has_place s tag = nat_lt (length s.outer) most_bundles && not (is_early s.row.around tag) && has_room s 16
 
 -- the first line of a bundle
 unfoldable pub after_opening : Reached → List ℕ → Option Reached

@@ -3,7 +3,6 @@ ghost use Rattle.std.specs.Prelude.{◌≡◌, ◌<◌, ◌^◌, ◌==◌, not, 
 ghost use Rattle.std.specs.Option.{option_map};
 ghost use Rattle.std.specs.Str.{bytes_eq};
 ghost use Rattle.sn_osc.specs.Shape.{shape, message_of};
-ghost use Rattle.sn_osc.specs.Bytes.{counts_as, is_early};
 ghost use Rattle.sn_score.specs.Lines.{message_line, bundle_line};
 ghost use Rattle.sn_score.specs.Reached.{score_row, inside, at_start, put, room_of, need_of, has_room, with_packet, has_place, opened, bundle_of, closed, after_message, after_opening, after_line, packets_of};
 ghost use Rattle.sn_score.specs.Answers.{Gives, IsSpellingLen, row_of, reached};
@@ -11,21 +10,18 @@ ghost use Rattle.sn_score.specs.Answers.{Gives, IsSpellingLen, row_of, reached};
 use crate::fault::Refused;
 use crate::fields::{begins_with, message, tag};
 use crate::lines::{put_message, put_opening};
-use sn_osc::{Bundle, Elements, Message, Packet, packet_len, spellable};
+use sn_osc::{
+    AT_ONCE, Bundle, Elements, Message, Packet, counts_as, is_early, packet_len, spellable,
+};
+use sn_ports::limits::{MOST_BUNDLES, MOST_PACKET};
 use sn_ports::{NoMemory, Text};
 use std::alloc::Global;
 
-/// The most bytes of a packet.
-const MOST_BYTES: usize = 65536;
-
 /// How deep bundles may nest.
-const MOST_BUNDLES: usize = 8;
+const DEEPEST: usize = MOST_BUNDLES as usize;
 
 /// Most lines have at most so many bytes.
 const LINE_BYTES: u32 = 64;
-
-/// The tag that means at once.
-const AT_ONCE: u64 = 1;
 
 /// Packets one after the other: those of the score, or the elements of a bundle that is open.
 #[derive(Drop)]
@@ -90,20 +86,6 @@ impl Level {
     }
 }
 
-/// The tag that an enclosed tag counts as, in a bundle that counts as `around`.
-fn counts_as(around: u64, tag: u64) -> u64
-    ensures { result ≡ counts_as around tag }
-{
-    if tag == AT_ONCE { around } else { tag }
-}
-
-/// Whether an enclosed tag is earlier than that of the bundle around it, where neither means at once.
-fn is_early(around: u64, tag: u64) -> bool
-    ensures { result ≡ is_early around tag }
-{
-    tag != AT_ONCE && around != AT_ONCE && tag < around
-}
-
 /// Whether the line is the one of this message.
 fn is_message_line(alloc: Global, message: &Message, line: &[u8]) -> Result<bool, NoMemory>
     ensures { IfOk result (λ b. b ≡ bytes_eq (message_line (message_of message.now)) line.now) }
@@ -124,7 +106,7 @@ fn is_bundle_line(alloc: Global, tag: u64, line: &[u8]) -> Result<bool, NoMemory
     Ok(written.as_slice() == line)
 }
 
-/// How many bytes the packet spells in, where they are at most 65,536.
+/// How many bytes the packet spells in, if they are no more than a packet may have.
 fn spelling_len(packet: &Packet) -> Option<usize>
     ensures { IsSpellingLen result (shape packet.now) }
 {
@@ -132,7 +114,7 @@ fn spelling_len(packet: &Packet) -> Option<usize>
         return None;
     }
     let len = packet_len(packet) as usize;
-    if len > MOST_BYTES {
+    if len > MOST_PACKET {
         return None;
     }
     Some(len)
@@ -164,7 +146,7 @@ impl Draft {
         if self.is_open() {
             return self.room;
         }
-        MOST_BYTES
+        MOST_PACKET
     }
 
     /// How much room a packet of so many bytes needs: an element stands behind the 4 bytes of its size.
@@ -223,7 +205,7 @@ impl Draft {
     fn has_place(&self, tag: u64) -> bool
         ensures { result ≡ has_place (reached self.now) tag }
     {
-        self.outer.len() < MOST_BUNDLES && !is_early(self.level.around, tag) && self.has_room(16)
+        self.outer.len() < DEEPEST && !is_early(self.level.around, tag) && self.has_room(16)
     }
 
     /// One bundle more is open.

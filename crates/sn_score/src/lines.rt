@@ -109,7 +109,7 @@ fn put_packets(out: &mut Text, packets: &[Packet]) -> Result<(), NoMemory>
     Ok(())
 }
 
-/// The one text of packets that each spell in at most 65,536 bytes.
+/// The one text of packets that each are no longer than a packet may be.
 pub fn write_score(alloc: Global, packets: &[Packet]) -> Result<Text, NoMemory>
     requires { AllFit (map shape packets.now) }
     ensures { IfOk result (λ t. Score t.bytes (map shape packets.now)) }

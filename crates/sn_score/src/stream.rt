@@ -1,5 +1,6 @@
 //! Packets as a stream, written.
 ghost use Rattle.std.specs.Prelude.{◌≡◌, ◌≤◌, ◌++◌, length, map, flat_map, IfOk, OnOk};
+ghost use Rattle.sn_ports.specs.Limits.{most_packet};
 ghost use Rattle.sn_osc.specs.Bytes.{frame_bytes, packet_bytes};
 ghost use Rattle.sn_osc.specs.Frames.{Frames};
 ghost use Rattle.sn_osc.specs.Shape.{shape};
@@ -9,11 +10,11 @@ use sn_osc::{Packet, encode};
 use sn_ports::{NoMemory, Text};
 use std::alloc::Global;
 
-/// The bytes of a packet, at most 65,536.
+/// The bytes of a packet.
 fn spelling(alloc: Global, packet: &Packet) -> Result<Text, NoMemory>
     requires { Fits (shape packet.now) }
     ensures bytes { IfOk result (λ t. t.bytes ≡ packet_bytes (shape packet.now)) }
-    ensures few { IfOk result (λ t. length t.bytes ≤ 65536) }
+    ensures few { IfOk result (λ t. length t.bytes ≤ most_packet) }
 {
     encode(alloc, packet)
 }
@@ -38,7 +39,7 @@ fn put_frames(alloc: Global, out: &mut Text, packets: &[Packet]) -> Result<(), N
     Ok(())
 }
 
-/// The stream of packets that each spell in at most 65,536 bytes.
+/// The stream of packets that each are no longer than a packet may be.
 pub fn write_stream(alloc: Global, packets: &[Packet]) -> Result<Text, NoMemory>
     requires { AllFit (map shape packets.now) }
     ensures { IfOk result (λ t. Frames (map shape packets.now) t.bytes) }

@@ -15,7 +15,7 @@ use Rattle.sn_server.specs.declared.ended.Ended.{Ended}
 use Rattle.sn_server.specs.declared.ended.Ended.TheVariants.{Quit, NoMemory, Closed, Cut, BadFrame, LinkFault, SoundFault, Worn}
 use Rattle.sn_render.specs.Play.{to_first}
 use Rattle.sn_server.specs.PlayEvents.{Live, Over, Course, going, ended, event, is_worn, worn, unless_worn, after_event, after_events, at_end, closing, closed, beginning, over_events, play_events, bytes_in}
-use Rattle.sn_server.specs.Served.{TakesBetween, TakesEach, WhileOpen, IsCutShort, ByEnd, IsServed, Served, AtClose}
+use Rattle.sn_server.specs.Served.{TakesBetween, TakesEach, WhileOpen, IsCutShort, ByEnd, IsServed, GivesEnd, AtClose}
 use Rattle.sn_server.specs.Serving.{IsLive, IsReady, HasEnded, GoesOn, IsCut, Follows, IsWornOut, HasLeft, TookEvent, EndsBy, IsStepCut, Took, IsServing}
 use Rattle.sn_server.proofs.JoiningLemmas.{some_left, events_both}
 use Rattle.sn_render.proofs.StepLemmas.{grows_not}
@@ -247,7 +247,7 @@ cut_short s base left_old left_mid left_new sound_old sound_mid sound_new sent_o
     }
 
 -- memory ran out before an event was asked for
-pub serves_nothing : (s : Settings) (base : ℕ) (left : Option (List LinkEvent)) (sound sent : Option (List ℕ)) → Served s base left left sound sound sent sent NoMemory
+pub serves_nothing : (s : Settings) (base : ℕ) (left : Option (List LinkEvent)) (sound sent : Option (List ℕ)) → GivesEnd s base left left sound sound sent sent NoMemory
 serves_nothing s base left sound sent =
     let e = opened s base (Some 65536) 1 in
     let f : Framing = record { kept = []; fed = 0 } in
@@ -255,7 +255,7 @@ serves_nothing s base left sound sent =
     cut_short s base left left left sound sound sound sent sent sent e f i (none_taken left left sound sound sent sent i.live e f i.stands (known_same left (λ a b. b ≡ a) (λ a. refl)))
 
 pub serves_to : (s : Settings) (base : ℕ) (left_old left_mid left_new : Option (List LinkEvent)) (sound_old sound_mid sound_new sent_old sent_mid sent_new : Option (List ℕ)) (e : Running) (f : Framing) (how : Ended) → (i : IsServing s base left_old left_mid sound_old sound_mid sent_old sent_mid e f)
-    → ByEnd how (EndsBy left_mid left_new sound_old sound_new sent_old sent_new (going i.live) how) (IsStepCut left_mid left_new sound_old sound_new sent_old sent_new i.live) → Served s base left_old left_new sound_old sound_new sent_old sent_new how
+    → ByEnd how (EndsBy left_mid left_new sound_old sound_new sent_old sent_new (going i.live) how) (IsStepCut left_mid left_new sound_old sound_new sent_old sent_new i.live) → GivesEnd s base left_old left_new sound_old sound_new sent_old sent_new how
 serves_to s base left_old left_mid left_new sound_old sound_mid sound_new sent_old sent_mid sent_new e f how i given_end =
     by_end_so how (EndsBy left_mid left_new sound_old sound_new sent_old sent_new (going i.live) how) (IsServed s base left_old left_new sound_old sound_new sent_old sent_new how)
     (IsStepCut left_mid left_new sound_old sound_new sent_old sent_new i.live) (IsCutShort s base left_old left_new sound_old sound_new sent_old sent_new)
@@ -300,7 +300,7 @@ all_given s base events None sound_old sound_new sent_old sent_new how few serve
 all_given s base events (Some new) sound_old sound_new sent_old sent_new how few served none =
     sym served.ending ∙ sym (ap (λ (o : Over). o.ending) (whole_end s base served.events events new few served.taken (λ c. closes how (over_events s base served.events).ending events new none served.ending c)))
 
-completes_told : (s : Settings) (base : ℕ) (events : List LinkEvent) (left_new : Option (List LinkEvent)) (sound_old sound_new sent_old sent_new : Option (List ℕ)) (how : Ended) (A B : Type 0) → Served s base (Some events) left_new sound_old sound_new sent_old sent_new how → AtClose how (Some events) left_new
+completes_told : (s : Settings) (base : ℕ) (events : List LinkEvent) (left_new : Option (List LinkEvent)) (sound_old sound_new sent_old sent_new : Option (List ℕ)) (how : Ended) (A B : Type 0) → GivesEnd s base (Some events) left_new sound_old sound_new sent_old sent_new how → AtClose how (Some events) left_new
     → (how ≡ LinkFault → A) → (how ≡ SoundFault → B) → bytes_in events < 4611686018427387904 → (A → ⊥) → (B → ⊥) → (how ≡ (play_events s base events).ending) ⊎ (how ≡ NoMemory)
 completes_told s base events left_new sound_old sound_new sent_old sent_new Quit A B served none link sound few a b = inl (all_given s base events left_new sound_old sound_new sent_old sent_new Quit few served none)
 completes_told s base events left_new sound_old sound_new sent_old sent_new Closed A B served none link sound few a b = inl (all_given s base events left_new sound_old sound_new sent_old sent_new Closed few served none)
@@ -311,10 +311,10 @@ completes_told s base events left_new sound_old sound_new sent_old sent_new NoMe
 completes_told s base events left_new sound_old sound_new sent_old sent_new LinkFault A B served none link sound few a b = absurd (a (link refl))
 completes_told s base events left_new sound_old sound_new sent_old sent_new SoundFault A B served none link sound few a b = absurd (b (sound refl))
 
-pub completes : (s : Settings) (base : ℕ) (left_old left_new : Option (List LinkEvent)) (sound_old sound_new sent_old sent_new : Option (List ℕ)) (how : Ended) (A B : Type 0) → Served s base left_old left_new sound_old sound_new sent_old sent_new how → AtClose how left_old left_new
+pub completes : (s : Settings) (base : ℕ) (left_old left_new : Option (List LinkEvent)) (sound_old sound_new sent_old sent_new : Option (List ℕ)) (how : Ended) (A B : Type 0) → GivesEnd s base left_old left_new sound_old sound_new sent_old sent_new how → AtClose how left_old left_new
     → (how ≡ LinkFault → A) → (how ≡ SoundFault → B) → (events : List LinkEvent) → left_old ≡ Some events → bytes_in events < 4611686018427387904 → (A → ⊥) → (B → ⊥)
     → (how ≡ (play_events s base events).ending) ⊎ (how ≡ NoMemory)
 completes s base None left_new sound_old sound_new sent_old sent_new how A B served none link sound events told few a b = absurd cc
 completes s base (Some es) left_new sound_old sound_new sent_old sent_new how A B served none link sound events told few a b =
     let same : es ≡ events = cc in
-    completes_told s base events left_new sound_old sound_new sent_old sent_new how A B (subst (λ (x : List LinkEvent). Served s base (Some x) left_new sound_old sound_new sent_old sent_new how) same served) (subst (λ (x : List LinkEvent). AtClose how (Some x) left_new) same none) link sound few a b
+    completes_told s base events left_new sound_old sound_new sent_old sent_new how A B (subst (λ (x : List LinkEvent). GivesEnd s base (Some x) left_new sound_old sound_new sent_old sent_new how) same served) (subst (λ (x : List LinkEvent). AtClose how (Some x) left_new) same none) link sound few a b

@@ -1,20 +1,20 @@
 -- Packets that come to an engine over a connection.
-use Rattle.std.proofs.Common.{◌≡◌, ℕ, ℤ, ◌+◌, ◌≤◌, Bool, true, false, not, cond, ltb, Result, Ok, Err, Some, List, [], ◌∷◌, ◌++◌, length, take, drop, refl, sym, ap, ◌∙◌, arith}
+use Rattle.std.proofs.Common.{◌≡◌, ℕ, ◌+◌, ◌≤◌, Result, Ok, Err, Some, List, [], ◌∷◌, ◌++◌, length, refl, sym, ap, ◌∙◌, arith}
 use Rattle.std.specs.Int.{w32, to_be_bytes}
 use Rattle.std.specs.Prelude.{IsTrue}
-use Rattle.std.proofs.lemmas.Bool.{ltb-true}
-use Rattle.std.proofs.lemmas.List.{length-append, length-drop}
+use Rattle.std.proofs.lemmas.List.{length-append}
 use Rattle.sn_osc.specs.Bytes.{frame_bytes}
-use Rattle.sn_osc.specs.Frames.{cut, bad_size, frame, first_frame, is_frame_size}
+use Rattle.sn_osc.specs.Frames.{cut, first_frame, is_frame_size}
 use Rattle.sn_osc.specs.Framing.{Framing}
 use Rattle.sn_osc.specs.Framed.{fed_with, packet_of, Next}
 use Rattle.sn_osc.specs.declared.frame.Frame.{Frame}
-use Rattle.sn_osc.specs.Reading.{int_in, size_in, read}
+use Rattle.sn_osc.specs.Reading.{read}
 use Rattle.sn_osc.specs.Shape.{Shape}
 use Rattle.sn_osc.specs.Grammar.{Spells}
 use Rattle.sn_osc.specs.Unpacking.{unpacked, one_more}
 use Rattle.sn_osc.specs.declared.fault.PacketFault.{PacketFault}
-use Rattle.sn_osc.proofs.Streams.{no_more, frame_first}
+use Rattle.sn_osc.proofs.Streams.{frame_first}
+use Rattle.sn_osc.proofs.CutFrames.{front_is_short}
 use Rattle.sn_osc.proofs.UnpackingLemmas.{unpack_frame}
 use Rattle.sn_engine.specs.Arriving.{nothing_offered, next_boundary, with_offered}
 use Rattle.sn_engine.specs.Entries.{entries_of}
@@ -42,22 +42,6 @@ packets_stay [] r = record { settings = refl; standing = refl; block = refl; sou
 packets_stay (p ∷ ps) r =
     let next = with_packet (read p) r in
     stay_both r next (with_packets ps next) (packet_stays (read p) r) (packets_stay ps next)
-
--- the front of a frame is no longer than a frame
-cut_parts : (b c d : Bool) (i : ℤ) (f a : List ℕ) (P : Type 0) → cond b cut (cond c (bad_size i) (cond d cut (frame f a))) ≡ cut → (b ≡ true → P) → (c ≡ false → d ≡ true → P) → P
-cut_parts true c d i f a P e short inside = short refl
-cut_parts false true d i f a P e short inside = absurd cc
-cut_parts false false true i f a P e short inside = inside refl refl
-cut_parts false false false i f a P e short inside = absurd cc
-
-pub front_is_short : (bytes : List ℕ) → first_frame bytes ≡ cut → length bytes ≤ 65540
-front_is_short bytes e = cut_parts (ltb (length bytes) 4) (not (is_frame_size (size_in bytes))) (ltb (length (drop 4 bytes)) (size_in bytes)) (int_in bytes) (take (size_in bytes) (drop 4 bytes)) (drop (size_in bytes) (drop 4 bytes)) (length bytes ≤ 65540) e
-    (λ short. omega (arith, ltb-true _ _ short))
-    (λ good inside. omega (arith, ltb-true _ _ inside, length-drop 4 bytes, no_more (size_in bytes) (double (is_frame_size (size_in bytes)) good)))
-  where
-    double : (b : Bool) → not b ≡ false → b ≡ true
-    double true h = refl
-    double false h = absurd cc
 
 -- ---- frame after frame is taken
 

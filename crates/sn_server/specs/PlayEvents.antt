@@ -1,5 +1,6 @@
 -- What a connection gives: the engine's own steps, over the events that come; nothing is written in between.
-use Rattle.std.specs.Prelude.{ℕ, zero, suc, ◌+◌, ◌^◌, List, [], ◌∷◌, length, Some, Bool, ◌||◌, nat_le, if◌then◌else◌, Result, Ok, Err}
+use Rattle.std.specs.Prelude.{ℕ, zero, suc, ◌+◌, List, [], ◌∷◌, length, Some, Bool, ◌||◌, nat_le, if◌then◌else◌, Result, Ok, Err}
+use Rattle.sn_ports.specs.Limits.{most_count, most_entries}
 use Rattle.sn_ports.specs.Links.{LinkEvent, bytes, ticks}
 use Rattle.sn_osc.specs.Framing.{Framing}
 use Rattle.sn_osc.specs.Framed.{fed_with}
@@ -68,7 +69,7 @@ receive piece v = take_all (fed_with piece v.framing) v.play
 
 -- as many bytes came, or as many blocks were done, as may
 abbrev pub is_worn : Live → Bool
-is_worn v = nat_le (2 ^ 62) v.framing.fed || nat_le (2 ^ 62) v.play.block
+is_worn v = nat_le most_count v.framing.fed || nat_le most_count v.play.block
 
 abbrev pub worn : Live → Over
 worn v = record { play = v.play; ending = Worn v.framing.fed v.play.block }
@@ -118,9 +119,9 @@ at_end (going v) = if is_worn v then worn v else closed v
 
 -- ---- the whole connection
 
--- Nothing has come, and block 0 begins at a time. At most 65,536 entries wait.
+-- Nothing has come, and block 0 begins at a time. No more entries wait than may.
 abbrev pub beginning : Settings → ℕ → Live
-beginning s base = record { play = opened s base (Some 65536) 1; framing = record { kept = []; fed = 0 } }
+beginning s base = record { play = opened s base (Some most_entries) 1; framing = record { kept = []; fed = 0 } }
 
 -- what was played over all events, and how it ended
 abbrev pub over_events : Settings → ℕ → List LinkEvent → Over

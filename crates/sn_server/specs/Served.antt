@@ -56,8 +56,8 @@ pub record IsCutShort (s : Settings) (base : ℕ) (left_old left_new : Option (L
   pub sent : TakesBetween sent_old sent_new (play_events s base whole).sent (play_events s base (whole ++ last)).sent
 
 -- At an end that events give, those that were taken give it. A fault and want of memory cut it short.
-abbrev pub Served : Settings → ℕ → Option (List LinkEvent) → Option (List LinkEvent) → Option (List ℕ) → Option (List ℕ) → Option (List ℕ) → Option (List ℕ) → Ended → Type 0
-Served s base left_old left_new sound_old sound_new sent_old sent_new how =
+abbrev pub GivesEnd : Settings → ℕ → Option (List LinkEvent) → Option (List LinkEvent) → Option (List ℕ) → Option (List ℕ) → Option (List ℕ) → Option (List ℕ) → Ended → Type 0
+GivesEnd s base left_old left_new sound_old sound_new sent_old sent_new how =
     ByEnd how (IsServed s base left_old left_new sound_old sound_new sent_old sent_new how) (IsCutShort s base left_old left_new sound_old sound_new sent_old sent_new)
 
 -- where nothing more comes, no event is left

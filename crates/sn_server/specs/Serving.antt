@@ -1,6 +1,7 @@
 -- How far a connection has come that is served.
-use Rattle.std.specs.Prelude.{◌≡◌, ◌⊎◌, ◌≤◌, ◌<◌, ◌+◌, ◌^◌, ◌||◌, nat_le, true, false, ℕ, List, [], ◌∷◌, length, Option, None, Some, Result, Ok, Err, ⊤}
+use Rattle.std.specs.Prelude.{◌≡◌, ◌⊎◌, ◌≤◌, ◌<◌, ◌+◌, ◌||◌, nat_le, true, false, ℕ, List, [], ◌∷◌, length, Option, None, Some, Result, Ok, Err, ⊤}
 use Rattle.std.specs.Io.KnownBytes.{Appends, Keeps}
+use Rattle.sn_ports.specs.Limits.{most_count}
 use Rattle.sn_ports.specs.Links.{LinkEvent, Takes, Known}
 use Rattle.sn_osc.specs.Framing.{Framing}
 use Rattle.sn_osc.specs.Frames.{FirstFrame, cut, bad_size}
@@ -94,7 +95,7 @@ pub record IsReady (e : Running) (f : Framing) : Type 0 where
   pub silent : e.sound ≡ []
   pub said : e.replies ≡ [] ∷ []
   pub puts : e.waiting.puts + length f.kept ≤ f.fed
-  pub fed : f.fed ≤ 2 ^ 62
+  pub fed : f.fed ≤ most_count
   pub kept : length f.kept ≤ 65540
 
 -- at each of the next n boundaries the server goes on
@@ -139,12 +140,12 @@ pub record IsTickPart (most : ℕ) (sound_old sound_new sent_old sent_new : Opti
 -- as many bytes came, or as many blocks were done, as may
 pub record IsWornOut (e : Running) (f : Framing) (how : Ended) : Type 0 where
   pub numbers : how ≡ Worn f.fed e.block
-  pub most : (nat_le (2 ^ 62) f.fed || nat_le (2 ^ 62) e.block) ≡ true
+  pub most : (nat_le most_count f.fed || nat_le most_count e.block) ≡ true
 
 -- more can be taken
 pub record HasLeft (e : Running) (f : Framing) : Type 0 where
-  pub fed : f.fed < 2 ^ 62
-  pub block : e.block < 2 ^ 62
+  pub fed : f.fed < most_count
+  pub block : e.block < most_count
 
 -- ---- one event after another
 

@@ -1,6 +1,7 @@
 //! Bytes that come over a connection: whole frames are taken out of them, and what these make is sent.
-ghost use Rattle.std.specs.Prelude.{◌≡◌, ◌⊎◌, ◌≤◌, ◌<◌, ◌+◌, ◌^◌, ◌∷◌, [], List, ℕ, Option, IfOk, IfErr, OnOk, Err, length};
+ghost use Rattle.std.specs.Prelude.{◌≡◌, ◌⊎◌, ◌≤◌, ◌<◌, ◌+◌, ◌∷◌, [], List, ℕ, Option, IfOk, IfErr, OnOk, Err, length};
 ghost use Rattle.std.specs.Io.KnownBytes.{Appends};
+ghost use Rattle.sn_ports.specs.Limits.{most_count, most_packet};
 ghost use Rattle.sn_ports.specs.Causes.{Rose};
 ghost use Rattle.sn_ports.specs.Links.{KeepsEvents};
 ghost use Rattle.sn_osc.specs.Frames.{first_frame};
@@ -22,8 +23,8 @@ use std::alloc::Global;
 /// Offers the packet that the bytes spell, or answers that they spell none.
 fn take_packet(alloc: Global, engine: &mut Engine, bytes: &[u8]) -> Result<(), NoMemory>
     requires settled { engine.old.running.standing ≡ Settled }
-    requires block { engine.old.running.block < 2 ^ 62 }
-    requires puts { engine.old.running.waiting.puts + length bytes.now ≤ 2 ^ 62 }
+    requires block { engine.old.running.block < most_count }
+    requires puts { engine.old.running.waiting.puts + length bytes.now ≤ most_count }
     requires size { 4 ≤ length bytes.now }
     ensures packet { OnOk result (engine.new.running ≡ with_packet (read bytes.now) engine.old.running) }
     ensures puts { OnOk result (engine.new.running.waiting.puts ≤ engine.old.running.waiting.puts + length bytes.now) }
@@ -45,8 +46,8 @@ fn take_packets(
     framer: &mut Framer,
 ) -> Result<Option<Ended>, NoMemory>
     requires settled { engine.old.running.standing ≡ Settled }
-    requires block { engine.old.running.block < 2 ^ 62 }
-    requires puts { engine.old.running.waiting.puts + length framer.old.kept ≤ 2 ^ 62 }
+    requires block { engine.old.running.block < most_count }
+    requires puts { engine.old.running.waiting.puts + length framer.old.kept ≤ most_count }
     ensures engine { OnOk result (engine.new.running ≡ with_packets (unpacked framer.old.kept).packets engine.old.running) }
     ensures framer { OnOk result (framer.new ≡ record framer.old { kept = (unpacked framer.old.kept).rest }) }
     ensures stops { IfOk result (λ bad. Stops (first_frame framer.new.kept) bad) }
@@ -89,10 +90,10 @@ pub fn receive<L: Link>(
     link: &mut L,
 ) -> Result<(), Ended>
     requires ready { IsReady engine.old.running framer.old }
-    requires block { engine.old.running.block < 2 ^ 62 }
-    requires fed { framer.old.fed + length piece.now ≤ 2 ^ 62 }
-    requires new { framer.old.fed < 2 ^ 62 }
-    requires few { length piece.now ≤ 65536 }
+    requires block { engine.old.running.block < most_count }
+    requires fed { framer.old.fed + length piece.now ≤ most_count }
+    requires new { framer.old.fed < most_count }
+    requires few { length piece.now ≤ most_packet }
     ensures follows { (v : Live) (sound_old sound_new sent_old : Option (List ℕ)) → IsLive sound_old sound_new sent_old (L.sent link.old) v engine.old.running framer.old
         → Follows sound_old sound_new sent_old (L.sent link.new) v (receive piece.now v) engine.new.running framer.new result }
     ensures ready { OnOk result (IsReady engine.new.running framer.new) }

@@ -1,28 +1,27 @@
 //! One connection: what comes over it is taken, event by event, and what comes of it is written.
-ghost use Rattle.std.specs.Prelude.{◌≡◌, ◌⊎◌, ◌≤◌, ◌<◌, ◌+◌, ◌^◌, ℕ, List, Option, Some, IfErr, OnOk, Err, length};
+ghost use Rattle.std.specs.Prelude.{◌≡◌, ◌⊎◌, ◌≤◌, ◌<◌, ◌+◌, ℕ, List, Option, Some, IfErr, OnOk, Err, length};
+ghost use Rattle.sn_ports.specs.Limits.{most_packet, most_count};
 ghost use Rattle.sn_ports.specs.Causes.{Rose};
 ghost use Rattle.sn_ports.specs.Links.{LinkEvent};
 ghost use Rattle.sn_server.specs.PlayEvents.{Live, bytes_in, closing, play_events};
-ghost use Rattle.sn_server.specs.Served.{Served, AtClose};
+ghost use Rattle.sn_server.specs.Served.{GivesEnd, AtClose};
 ghost use Rattle.sn_server.specs.Serving.{IsLive, IsReady, HasLeft, Took};
 ghost use Rattle.sn_server.specs.declared.ended.Ended.{Ended};
 
 use crate::ended::Ended;
 use crate::receiving::receive;
-use crate::ticking::{MOST, check_worn, ticks};
+use crate::ticking::{check_worn, ticks};
 use sn_engine::Engine;
 use sn_osc::Framer;
 use sn_pcm::Settings;
+use sn_ports::limits::{MOST_COUNT, MOST_ENTRIES, MOST_PACKET};
 use sn_ports::{Fed, Gate, Link, Sink};
-use sn_render::room;
+use sn_render::zeroed;
 use std::alloc::Global;
 use std::thread::Threads;
 
-/// How many bytes are asked for at once.
-const PIECE: usize = 65536;
-
-/// As many entries wait as may.
-const MOST_ENTRIES: u32 = 65536;
+/// How many bytes are asked for at once: as many as the longest packet has.
+const PIECE: usize = MOST_PACKET;
 
 /// How a connection ends over which nothing more comes.
 fn closing(framer: &Framer) -> Ended
@@ -40,15 +39,15 @@ fn take_event<H: Threads + Sync, L: Link, O: Sink, G: Gate>(
     alloc: Global,
     engine: &mut Engine,
     framer: &mut Framer,
-    room: &mut [u8],
+    piece: &mut [u8],
     link: &mut L,
     sound: &mut O,
     gate: &G,
 ) -> Result<(), Ended>
     requires ready { IsReady engine.old.running framer.old }
     requires left { HasLeft engine.old.running framer.old }
-    requires room { 0 < length room.old }
-    requires few { length room.old ≤ 65536 }
+    requires piece { 0 < length piece.old }
+    requires few { length piece.old ≤ most_packet }
     ensures took { (v : Live) (sound_old sent_old : Option (List ℕ)) → IsLive sound_old (O.taken sound.old) sent_old (L.sent link.old) v engine.old.running framer.old
         → Took (L.left link.old) (L.left link.new) sound_old (O.taken sound.new) sent_old (L.sent link.new) v engine.new.running framer.new result }
     ensures ready { OnOk result (IsReady engine.new.running framer.new) }
@@ -63,8 +62,8 @@ fn take_event<H: Threads + Sync, L: Link, O: Sink, G: Gate>(
     ensures link_unfailed { (result ≡ Err Ended.LinkFault) ⊎ (L.faults link.new ≡ L.faults link.old) }
     ensures sound_unfailed { (result ≡ Err Ended.SoundFault) ⊎ (O.faults sound.new ≡ O.faults sound.old) }
 {
-    let most = (room.len() as u64).min(MOST - framer.fed()) as usize;
-    let into = &mut room[..most];
+    let most = (piece.len() as u64).min(MOST_COUNT - framer.fed()) as usize;
+    let into = &mut piece[..most];
     match link.next(into) {
         Ok(Fed::Bytes(count)) => receive(alloc, engine, framer, &into[..count], link),
         Ok(Fed::Ticks(count)) => ticks(rt, alloc, engine, framer, count, link, sound, gate),
@@ -79,14 +78,14 @@ fn serve_event<H: Threads + Sync, L: Link, O: Sink, G: Gate>(
     alloc: Global,
     engine: &mut Engine,
     framer: &mut Framer,
-    room: &mut [u8],
+    piece: &mut [u8],
     link: &mut L,
     sound: &mut O,
     gate: &G,
 ) -> Result<(), Ended>
     requires ready { IsReady engine.old.running framer.old }
-    requires room { 0 < length room.old }
-    requires few { length room.old ≤ 65536 }
+    requires piece { 0 < length piece.old }
+    requires few { length piece.old ≤ most_packet }
     ensures took { (v : Live) (sound_old sent_old : Option (List ℕ)) → IsLive sound_old (O.taken sound.old) sent_old (L.sent link.old) v engine.old.running framer.old
         → Took (L.left link.old) (L.left link.new) sound_old (O.taken sound.new) sent_old (L.sent link.new) v engine.new.running framer.new result }
     ensures ready { OnOk result (IsReady engine.new.running framer.new) }
@@ -103,11 +102,11 @@ fn serve_event<H: Threads + Sync, L: Link, O: Sink, G: Gate>(
     ensures sound_unfailed { (result ≡ Err Ended.SoundFault) ⊎ (O.faults sound.new ≡ O.faults sound.old) }
 {
     check_worn(engine, framer)?;
-    take_event(rt, alloc, engine, framer, room, link, sound, gate)
+    take_event(rt, alloc, engine, framer, piece, link, sound, gate)
 }
 
 /// Takes event after event, until the connection ends.
-fn serve<H: Threads + Sync, L: Link, O: Sink, G: Gate>(
+fn serve_events<H: Threads + Sync, L: Link, O: Sink, G: Gate>(
     rt: &H,
     alloc: Global,
     settings: &Settings,
@@ -116,7 +115,7 @@ fn serve<H: Threads + Sync, L: Link, O: Sink, G: Gate>(
     sound: &mut O,
     gate: &G,
 ) -> Ended
-    ensures served { Served settings.now base (L.left link.old) (L.left link.new) (O.taken sound.old) (O.taken sound.new) (L.sent link.old) (L.sent link.new) result }
+    ensures served { GivesEnd settings.now base (L.left link.old) (L.left link.new) (O.taken sound.old) (O.taken sound.new) (L.sent link.old) (L.sent link.new) result }
     ensures close { AtClose result (L.left link.old) (L.left link.new) }
     ensures link { result ≡ Ended.LinkFault → Rose (L.faults link.old) (L.faults link.new) }
     ensures sound { result ≡ Ended.SoundFault → Rose (O.faults sound.old) (O.faults sound.new) }
@@ -126,7 +125,7 @@ fn serve<H: Threads + Sync, L: Link, O: Sink, G: Gate>(
     let Ok(mut engine) = Engine::open(alloc, settings, base, Some(MOST_ENTRIES), 1) else {
         return Ended::NoMemory;
     };
-    let Ok(mut room) = room(alloc, PIECE) else {
+    let Ok(mut piece) = zeroed(alloc, PIECE) else {
         return Ended::NoMemory;
     };
     let mut framer = Framer::new(alloc);
@@ -136,7 +135,7 @@ fn serve<H: Threads + Sync, L: Link, O: Sink, G: Gate>(
             alloc,
             &mut engine,
             &mut framer,
-            &mut room,
+            &mut piece,
             link,
             sound,
             gate,
@@ -163,7 +162,7 @@ pub fn serve_one<H: Threads + Sync, L: Link, O: Sink, G: Gate>(
 ) -> Ended
     // What was taken gives this end, and what it gives was written; or the connection was cut short in its last event. Each is said where the
     // objects tell it.
-    ensures served { Served settings.now base (L.left link.old) (L.left link.new) (O.taken sound.old) (O.taken sound.new) (L.sent link.old) (L.sent link.new) result }
+    ensures served { GivesEnd settings.now base (L.left link.old) (L.left link.new) (O.taken sound.old) (O.taken sound.new) (L.sent link.old) (L.sent link.new) result }
     // No event is left where nothing more comes.
     ensures close { AtClose result (L.left link.old) (L.left link.new) }
     // A fault has its cause.
@@ -173,8 +172,8 @@ pub fn serve_one<H: Threads + Sync, L: Link, O: Sink, G: Gate>(
     ensures link_unfailed { (result ≡ Ended.LinkFault) ⊎ (L.faults link.new ≡ L.faults link.old) }
     ensures sound_unfailed { (result ≡ Ended.SoundFault) ⊎ (O.faults sound.new ≡ O.faults sound.old) }
     // Where no count rises, the answer is the end that all events give, or want of memory.
-    ensures complete { (events : List LinkEvent) → L.left link.old ≡ Some events → bytes_in events < 2 ^ 62 → (Rose (L.faults link.old) (L.faults link.new) → ⊥)
+    ensures complete { (events : List LinkEvent) → L.left link.old ≡ Some events → bytes_in events < most_count → (Rose (L.faults link.old) (L.faults link.new) → ⊥)
         → (Rose (O.faults sound.old) (O.faults sound.new) → ⊥) → (result ≡ (play_events settings.now base events).ending) ⊎ (result ≡ Ended.NoMemory) }
 {
-    serve(rt, alloc, settings, base, link, sound, gate)
+    serve_events(rt, alloc, settings, base, link, sound, gate)
 }

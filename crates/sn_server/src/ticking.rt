@@ -1,6 +1,7 @@
 //! Blocks of a connection: boundaries, each with its block unless the server ends at it.
-ghost use Rattle.std.specs.Prelude.{◌≡◌, ◌⊎◌, ◌≤◌, ◌<◌, ◌+◌, ◌^◌, [], List, ℕ, Option, IfErr, OnOk, Err, length};
+ghost use Rattle.std.specs.Prelude.{◌≡◌, ◌⊎◌, ◌≤◌, ◌<◌, ◌+◌, [], List, ℕ, Option, IfErr, OnOk, Err, length};
 ghost use Rattle.std.specs.Io.KnownBytes.{Appends};
+ghost use Rattle.sn_ports.specs.Limits.{most_count};
 ghost use Rattle.sn_ports.specs.Causes.{Rose};
 ghost use Rattle.sn_ports.specs.Links.{KeepsEvents};
 ghost use Rattle.sn_engine.specs.Running.{Running, at_boundary, flow_at};
@@ -15,12 +16,10 @@ use crate::ended::Ended;
 use crate::receiving::send_replies;
 use sn_engine::{Engine, Flow};
 use sn_osc::Framer;
+use sn_ports::limits::MOST_COUNT;
 use sn_ports::{Gate, Link, Sink};
 use std::alloc::Global;
 use std::thread::Threads;
-
-/// As many bytes may come, and as many blocks may be done.
-pub const MOST: u64 = 4611686018427387904;
 
 /// Writes the sound that is still to be written. After a fault a front of it was written.
 fn write_sound<O: Sink>(engine: &mut Engine, sound: &mut O) -> Result<(), Ended>
@@ -42,7 +41,7 @@ fn write_sound<O: Sink>(engine: &mut Engine, sound: &mut O) -> Result<(), Ended>
 fn play_row<H: Threads + Sync, G: Gate>(rt: &H, engine: &mut Engine, most: u32, gate: &G)
     requires some { 1 ≤ most }
     requires bounded { engine.old.running.standing ≡ Bounded }
-    requires block { engine.old.running.block + most ≤ 2 ^ 62 }
+    requires block { engine.old.running.block + most ≤ most_count }
     ensures { (r : Running) → engine.old.running ≡ at_boundary r → flow_at r ≡ On → IsRowOn most r engine.new.running }
 {
     engine.rows_are_turns();
@@ -66,7 +65,7 @@ fn tick<H: Threads + Sync, L: Link, O: Sink, G: Gate>(
     requires some { 1 ≤ most }
     requires settled { engine.old.running.standing ≡ Settled }
     requires alone { length engine.old.running.replies ≡ 1 }
-    requires block { engine.old.running.block + most ≤ 2 ^ 62 }
+    requires block { engine.old.running.block + most ≤ most_count }
     ensures block { OnOk result (IsTicked most (O.taken sound.old) (O.taken sound.new) (L.sent link.old) (L.sent link.new) engine.old.running engine.new.running) }
     ensures quit { result ≡ Err Ended.Quit → HasQuit (O.taken sound.old) (O.taken sound.new) (L.sent link.old) (L.sent link.new) engine.old.running }
     ensures part { IsTickPart most (O.taken sound.old) (O.taken sound.new) (L.sent link.old) (L.sent link.new) engine.old.running }
@@ -100,7 +99,7 @@ pub fn check_worn(engine: &Engine, framer: &Framer) -> Result<(), Ended>
 {
     let bytes = framer.fed();
     let blocks = engine.block();
-    if bytes >= MOST || blocks >= MOST {
+    if bytes >= MOST_COUNT || blocks >= MOST_COUNT {
         return Err(Ended::Worn { bytes, blocks });
     }
     Ok(())
@@ -135,7 +134,7 @@ pub fn ticks<H: Threads + Sync, L: Link, O: Sink, G: Gate>(
     let mut done = 0;
     while done < count {
         check_worn(engine, framer)?;
-        let most = u64::from(count - done).min(MOST - engine.block()) as u32;
+        let most = u64::from(count - done).min(MOST_COUNT - engine.block()) as u32;
         tick(rt, alloc, engine, most, link, sound, gate)?;
         done = (engine.block() - first) as u32;
     }

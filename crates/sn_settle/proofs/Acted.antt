@@ -24,7 +24,7 @@ use Rattle.sn_world.specs.Nodes.{content_of}
 use Rattle.sn_world.specs.Buffers.{AreBuffers}
 use Rattle.sn_mem.specs.Buffers.{overlaps}
 use Rattle.sn_world.specs.Pictures.{Pictures, live_held, AreHeld}
-use Rattle.sn_world.specs.Settling.{notices_of, place_of, paused_at, freed_at, acted_at, acted, all_acted}
+use Rattle.sn_world.specs.Settling.{notices_of, neighbours_of, paused_at, freed_at, acted_at, acted, all_acted}
 use Rattle.sn_world.specs.World.{Turn, world_of, turn_of}
 use Rattle.sn_world.proofs.Counting.{amount-without, overlaps-amount, times-amount}
 use Rattle.sn_world.proofs.Replacing.{held-without}
@@ -47,14 +47,14 @@ turned_pictures stage id words p =
     pictures-tree stage (running id false stage.tree) words (λ rate region h. held-turned rate region id false stage.tree.attached h) (live-turned id false stage.tree.attached) refl
     (ap (λ (j : Option (Journal Held)). (running id false (record { attached = stage.tree.attached; detached = stage.tree.detached; journal = j })).journal) p.settled) p
 
-pub paused_acted : (stage : Stage) (id : ℤ) (view : NodeView) (tree : NodeTree Held) (event : Notice) (a b : List Octets) → view.running ≡ true → tree ≡ running id false stage.tree → event ≡ notice.Off (place_of id view)
+pub paused_acted : (stage : Stage) (id : ℤ) (view : NodeView) (tree : NodeTree Held) (event : Notice) (a b : List Octets) → view.running ≡ true → tree ≡ running id false stage.tree → event ≡ notice.Off (neighbours_of id view)
     → AreTold stage.notify (event ∷ []) a b → IsActed 1 (paused_at id view) stage (with_tree tree stage) a b
 paused_acted stage id view tree event a b on is event_is told = record {
   events = event ∷ [];
   few = omega arith;
   is = λ words replies.
       let t : Turn = turn_of stage words replies in
-      let off : List Notice = notice.Off (place_of id view) ∷ [] in
+      let off : List Notice = notice.Off (neighbours_of id view) ∷ [] in
       let after : List ReplyShape = replies ++ notices_of stage.notify off in
       ap (λ (r : Bool). if r then with_nodes stage words after (changed id (with_running false) (with_payloads (content_of words) stage.tree.attached)) else t) on
       ∙ ap (with_nodes stage words after) (changed-payloads (content_of words) id (with_running false) (with_running false) (λ l. refl) stage.tree.attached)
@@ -107,13 +107,13 @@ freed_pictures stage id taken tree pool words is rest live closed region p =
     }
 
 pub freed_acted : (stage : Stage) (id : ℤ) (view : NodeView) (taken tree : NodeTree Held) (pool : PoolState) (event : Notice) (a b : List Octets) → taken ≡ detached id stage.tree → tree ≡ record taken { detached = none }
-    → ((e : Extent) → 1 ≤ e.len → times e stage.pool.live ≡ times e (live_held taken.detached) + times e pool.live) → pool.journal ≡ None → pool.region ≡ stage.pool.region → event ≡ notice.End (place_of id view)
+    → ((e : Extent) → 1 ≤ e.len → times e stage.pool.live ≡ times e (live_held taken.detached) + times e pool.live) → pool.journal ≡ None → pool.region ≡ stage.pool.region → event ≡ notice.End (neighbours_of id view)
     → AreTold stage.notify (event ∷ []) a b → IsActed 1 (freed_at id view) stage (with_parts stage tree pool) a b
 freed_acted stage id view taken tree pool event a b is rest live closed region event_is told = record {
   events = event ∷ [];
   few = omega arith;
   is = λ words replies.
-      let gone : List Notice = notice.End (place_of id view) ∷ [] in
+      let gone : List Notice = notice.End (neighbours_of id view) ∷ [] in
       let after : List ReplyShape = replies ++ notices_of stage.notify gone in
       let attached : tree.attached ≡ without id stage.tree.attached = ap (λ (t : NodeTree Held). t.attached) rest ∙ ap (λ (t : NodeTree Held). t.attached) is in
       ap (with_nodes stage words after) (without-payloads (content_of words) id stage.tree.attached ∙ ap (with_payloads (content_of words)) (sym attached))

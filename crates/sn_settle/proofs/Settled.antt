@@ -21,7 +21,7 @@ use Rattle.sn_world.specs.Nodes.{Content, content_of}
 use Rattle.sn_world.specs.Noted.{Noted}
 use Rattle.sn_world.specs.Pictures.{Pictures, IsHeld, AreHeld, KeepsOutside, held_extents, live_held}
 use Rattle.sn_def.specs.Facts.{done_action}
-use Rattle.sn_world.specs.Settling.{after_ending, settled_at, settled_units, triggers_in, endings_in, notices_of, told_all, all_acted, with_settled, settled}
+use Rattle.sn_world.specs.Settling.{after_ending, settled_at, settled_units, triggers_in, endings_in, notices_of, told_all, all_acted, with_nodes_settled, settled}
 use Rattle.sn_world.specs.SettleWords.{settled_held, walk_triggers, walk_endings, settled_walk, walk_room}
 use Rattle.sn_world.specs.World.{World, Turn, world_of, turn_of}
 use Rattle.sn_world.proofs.Changes.{pictured_again}
@@ -96,9 +96,9 @@ module _ (stage : Stage) (b : ℕ) (ws : List ℕ) (p : Pictures stage ws) where
   abbrev with_parts : Nodes Content → List AudioBus → List ControlBus → List (Option Buffer) → Turn
   with_parts nodes audio control buffers = with_world (record (world_of stage ws) { nodes = nodes; audio_buses = audio; control_buses = control; buffers = buffers })
 
-  pub settled_turn : with_settled (told_all (triggers_in stage.rate b (with_payloads (content_of ws) stage.tree.attached)) (turn_of stage ws [])) ≡ turn_of stage words (notices_of stage.notify events)
+  pub settled_turn : with_nodes_settled (told_all (triggers_in stage.rate b (with_payloads (content_of ws) stage.tree.attached)) (turn_of stage ws [])) ≡ turn_of stage words (notices_of stage.notify events)
   settled_turn =
-      ap (λ (es : List Notice). with_settled (told_all es (turn_of stage ws []))) (triggers_are stage.rate b stage.pool.region stage.tree.attached ws p.synths)
+      ap (λ (es : List Notice). with_nodes_settled (told_all es (turn_of stage ws []))) (triggers_are stage.rate b stage.pool.region stage.tree.attached ws p.synths)
       ∙ ap (λ (n : Nodes Content). with_parts n (audio_buses ws) (control_buses ws) (buffers_of ws stage.buffers)) settled_nodes_are.is
       ∙ ap (λ (a : List AudioBus). with_parts (with_payloads (content_of words) stage.tree.attached) a (control_buses ws) (buffers_of ws stage.buffers)) (sym (audio_same words ws (λ k lt. low k (omega (arith, lt)))))
       ∙ ap (λ (a : List ControlBus). with_parts (with_payloads (content_of words) stage.tree.attached) (audio_buses words) a (buffers_of ws stage.buffers)) (sym (control_same words ws (λ k from lt. low k lt)))
@@ -107,7 +107,7 @@ module _ (stage : Stage) (b : ℕ) (ws : List ℕ) (p : Pictures stage ws) where
   module _ (new : Stage) (outs mid sent : List Octets) (most : ℕ) (told : AreTold stage.notify events outs mid) (acts : IsActed most (all_acted endings) stage new mid sent) where
     pub settled_is : settled b (turn_of stage ws []) ≡ turn_of new words (notices_of stage.notify (events ++ acts.events))
     settled_is =
-        ap (λ (es : List Ending). all_acted es (with_settled (told_all (triggers_in stage.rate b (with_payloads (content_of ws) stage.tree.attached)) (turn_of stage ws [])))) (endings_are stage.rate stage.pool.region stage.tree.attached ws p.synths)
+        ap (λ (es : List Ending). all_acted es (with_nodes_settled (told_all (triggers_in stage.rate b (with_payloads (content_of ws) stage.tree.attached)) (turn_of stage ws [])))) (endings_are stage.rate stage.pool.region stage.tree.attached ws p.synths)
         ∙ ap (all_acted endings) settled_turn
         ∙ acts.is words (notices_of stage.notify events)
         ∙ ap (turn_of new words) (sym (notices_of-append stage.notify events acts.events))

@@ -1,5 +1,6 @@
 -- What the bytes that wait for each client are after events were told.
 use Rattle.std.specs.Prelude.{◌≡◌, ◌≤◌, ◌<◌, ◌+◌, ◌*◌, ℕ, Bool, List, [], ◌++◌, length, slice_index_or}
+use Rattle.sn_ports.specs.Limits.{most_clients}
 use Rattle.sn_ports.specs.Octets.{Octets}
 use Rattle.sn_reply.specs.Frames.{frames_to}
 use Rattle.sn_reply.specs.Replies.{ReplyShape}
@@ -32,7 +33,7 @@ pub record AreNoted (endings : List Ending) (old new : Noted) : Type 0 where
 
 -- there is room to tell events and to note endings
 pub record CanLook (events : List Notice) (endings : List Ending) (outs : List Octets) (noted : Noted) : Type 0 where
-  pub clients : length outs ≤ 4
+  pub clients : length outs ≤ most_clients
   pub bytes : HaveRoom (48 * length events) outs
   pub room : length endings ≤ noted.spare
 

@@ -2,24 +2,25 @@
 ghost use Rattle.std.specs.Prelude.{◌≡◌, ◌≤◌, ◌*◌, ◌||◌, ℕ, pos, List, length, true, false, None, Some};
 ghost use Rattle.std.specs.List.{All};
 ghost use Rattle.std.specs.Ordering.{int_eq};
+ghost use Rattle.sn_ports.specs.Limits.{most_clients};
 ghost use Rattle.sn_tree.specs.Trees.{holds, view_of};
 ghost use Rattle.sn_tree.specs.Steps.{running, detached};
 ghost use Rattle.sn_world.specs.Pictures.{Pictures};
-ghost use Rattle.sn_world.specs.Settling.{place_of, paused_at, freed_at, acted_at, acted, all_acted};
+ghost use Rattle.sn_world.specs.Settling.{neighbours_of, paused_at, freed_at, acted_at, acted, all_acted};
 ghost use Rattle.sn_settle.specs.Telling.{HaveRoom};
 ghost use Rattle.sn_settle.specs.Acting.{IsActed, IsBelowRoot};
 
 use crate::telling::tell;
 use sn_ports::Text;
-use sn_reply::{Notice, Place};
+use sn_reply::{Neighbours, Notice};
 use sn_tree::{NodeView, Tree};
 use sn_world::{Ending, Held, Stage, end_freed};
 
 /// Where a synth stands.
-fn place_of(ending: &Ending, view: &NodeView) -> Place
-    ensures { result ≡ place_of ending.now.node view.now }
+fn neighbours_of(ending: &Ending, view: &NodeView) -> Neighbours
+    ensures { result ≡ neighbours_of ending.now.node view.now }
 {
-    Place {
+    Neighbours {
         id: ending.node,
         parent: view.parent,
         previous: view.previous,
@@ -56,7 +57,7 @@ fn take_out(tree: &mut Tree<Held>, ending: &Ending)
 fn pause(stage: &mut Stage, ending: &Ending, view: &NodeView, outs: &mut [Text])
     requires there { view_of ending.now.node stage.old.tree.attached ≡ Some view.now }
     requires pictures { (words : List ℕ) × Pictures stage.old words }
-    requires clients { length outs.old ≤ 4 }
+    requires clients { length outs.old ≤ most_clients }
     requires room { HaveRoom 48 outs.old }
     ensures { IsActed 1 (paused_at ending.now.node view.now) stage.old stage.new outs.old outs.new }
 {
@@ -64,7 +65,11 @@ fn pause(stage: &mut Stage, ending: &Ending, view: &NodeView, outs: &mut [Text])
         return;
     }
     stop(&mut stage.tree, ending);
-    tell(&stage.notify, &Notice::Off(place_of(ending, view)), outs);
+    tell(
+        &stage.notify,
+        &Notice::Off(neighbours_of(ending, view)),
+        outs,
+    );
 }
 
 /// Frees a synth that stands so, and tells of it.
@@ -72,13 +77,17 @@ fn free(stage: &mut Stage, ending: &Ending, view: &NodeView, outs: &mut [Text])
     requires there { view_of ending.now.node stage.old.tree.attached ≡ Some view.now }
     requires other { IsBelowRoot ending.now }
     requires pictures { (words : List ℕ) × Pictures stage.old words }
-    requires clients { length outs.old ≤ 4 }
+    requires clients { length outs.old ≤ most_clients }
     requires room { HaveRoom 48 outs.old }
     ensures { IsActed 1 (freed_at ending.now.node view.now) stage.old stage.new outs.old outs.new }
 {
     take_out(&mut stage.tree, ending);
     end_freed(&mut stage.tree, &mut stage.pool);
-    tell(&stage.notify, &Notice::End(place_of(ending, view)), outs);
+    tell(
+        &stage.notify,
+        &Notice::End(neighbours_of(ending, view)),
+        outs,
+    );
 }
 
 /// Does what a unit's end asks for with a synth that stands so.
@@ -86,7 +95,7 @@ fn act_here(stage: &mut Stage, ending: &Ending, view: &NodeView, outs: &mut [Tex
     requires there { view_of ending.now.node stage.old.tree.attached ≡ Some view.now }
     requires other { IsBelowRoot ending.now }
     requires pictures { (words : List ℕ) × Pictures stage.old words }
-    requires clients { length outs.old ≤ 4 }
+    requires clients { length outs.old ≤ most_clients }
     requires room { HaveRoom 48 outs.old }
     ensures { IsActed 1 (acted_at ending.now (Some view.now)) stage.old stage.new outs.old outs.new }
 {
@@ -118,7 +127,7 @@ fn asks(ending: &Ending) -> bool
 fn act(stage: &mut Stage, ending: &Ending, outs: &mut [Text])
     requires other { IsBelowRoot ending.now }
     requires pictures { (words : List ℕ) × Pictures stage.old words }
-    requires clients { length outs.old ≤ 4 }
+    requires clients { length outs.old ≤ most_clients }
     requires room { HaveRoom 48 outs.old }
     ensures { IsActed 1 (acted ending.now) stage.old stage.new outs.old outs.new }
 {
@@ -135,7 +144,7 @@ fn act(stage: &mut Stage, ending: &Ending, outs: &mut [Text])
 pub fn act_all(stage: &mut Stage, endings: &[Ending], outs: &mut [Text])
     requires others { All IsBelowRoot endings.now }
     requires pictures { (words : List ℕ) × Pictures stage.old words }
-    requires clients { length outs.old ≤ 4 }
+    requires clients { length outs.old ≤ most_clients }
     requires room { HaveRoom (48 * length endings.now) outs.old }
     ensures { IsActed (length endings.now) (all_acted endings.now) stage.old stage.new outs.old outs.new }
 {

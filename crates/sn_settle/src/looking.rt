@@ -1,5 +1,6 @@
 //! What a block left in the state words of the units: triggers that are told, and ends that are noted.
 ghost use Rattle.std.specs.Prelude.{◌≡◌, ◌≤◌, ◌<◌, ◌+◌, ◌*◌, ◌^◌, ℕ, length};
+ghost use Rattle.sn_ports.specs.Limits.{most_clients};
 ghost use Rattle.sn_def.specs.StateWords.{unit_words, units_words};
 ghost use Rattle.sn_mem.specs.Words.{MayRead};
 ghost use Rattle.sn_reply.specs.declared.events.Notice.{Notice};
@@ -64,7 +65,7 @@ fn ending_at<P: Port>(port: &mut P, now: &Now, unit: &Unit, at: u32) -> Option<E
 
 /// Tells of a trigger that was found.
 fn tell_found(flags: &Flags, found: Option<Notice>, outs: &mut [Text])
-    requires clients { length outs.old ≤ 4 }
+    requires clients { length outs.old ≤ most_clients }
     requires room { HaveRoom (48 * length (listed found)) outs.old }
     ensures { AreTold flags.now (listed found) outs.old outs.new }
 {

@@ -1,5 +1,6 @@
 //! How much may come of the settling of a block.
 ghost use Rattle.std.specs.Prelude.{◌≡◌, ◌≤◌, length};
+ghost use Rattle.sn_ports.specs.Limits.{most_wires, most_units};
 ghost use Rattle.sn_tree.specs.Trees.{running_labels};
 ghost use Rattle.sn_world.specs.SettleWords.{unit_room, units_room, held_room, walk_room};
 
@@ -18,9 +19,9 @@ fn unit_room(unit: &Unit) -> u32
 
 /// How many may come of a synth's units.
 fn units_room(units: &[Unit]) -> u32
-    requires { length units.now ≤ 256 }
+    requires { length units.now ≤ most_units }
     ensures room { result ≡ units_room units.now }
-    ensures few { result ≤ 512 }
+    ensures few { result ≤ most_wires }
 {
     let mut room = 0;
     for unit in units {
@@ -32,7 +33,7 @@ fn units_room(units: &[Unit]) -> u32
 /// How many may come of what a node holds.
 fn held_room(held: &Held) -> u32
     ensures room { result ≡ held_room held.now }
-    ensures few { result ≤ 512 }
+    ensures few { result ≤ most_wires }
 {
     match held {
         Held::Group => 0,

@@ -1,5 +1,6 @@
 //! What happens after a block.
 ghost use Rattle.std.specs.Prelude.{◌≡◌, ◌≤◌, ◌<◌, ◌+◌, ◌*◌, ◌^◌, [], false, length};
+ghost use Rattle.sn_ports.specs.Limits.{most_clients};
 ghost use Rattle.sn_tree.specs.Trees.{running_labels};
 ghost use Rattle.sn_world.specs.Pictures.{Pictures, WritesWorld, KeepsOutside};
 ghost use Rattle.sn_world.specs.Settling.{endings_in, settled};
@@ -30,7 +31,7 @@ pub fn settle<P: Port>(
     requires pictures { Pictures stage.old (P.words port.old) }
     requires foot { WritesWorld (P.foot port.old) stage.old.pool.region }
     requires block { block < 2 ^ 63 }
-    requires clients { length outs.old ≤ 4 }
+    requires clients { length outs.old ≤ most_clients }
     requires bytes { HaveRoom (48 * walk_room (running_labels stage.old.tree.attached)) outs.old }
     requires room { walk_room (running_labels stage.old.tree.attached) ≤ endings.old.spare }
     ensures world { world_of stage.new (P.words port.new) ≡ (settled block (turn_of stage.old (P.words port.old) [])).world }

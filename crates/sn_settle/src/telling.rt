@@ -1,5 +1,6 @@
 //! Events that clients are told of, without taking memory.
 ghost use Rattle.std.specs.Prelude.{◌≡◌, ◌≤◌, ◌+◌, ◌++◌, ◌∷◌, [], length, if◌then◌else◌};
+ghost use Rattle.sn_ports.specs.Limits.{most_clients};
 ghost use Rattle.sn_osc.specs.Bytes.{message_bytes, frame_bytes};
 ghost use Rattle.sn_reply.specs.Events.{notice_message};
 ghost use Rattle.sn_settle.specs.Telling.{HaveRoom, AreTold};
@@ -21,7 +22,7 @@ fn tell_client(on: bool, event: &Notice, out: &mut Text)
 
 /// Tells each client whose flag is on of an event. The clients' bytes stand by their numbers, with room for 48 more each.
 pub fn tell(flags: &Flags, event: &Notice, outs: &mut [Text])
-    requires clients { length outs.old ≤ 4 }
+    requires clients { length outs.old ≤ most_clients }
     requires room { HaveRoom 48 outs.old }
     ensures { AreTold flags.now (event.now ∷ []) outs.old outs.new }
 {

@@ -1,6 +1,7 @@
 -- What `/b_allocRead` with the path of a file becomes: the command that carries the samples.
 use Rattle.std.specs.Prelude.{◌-◌, ◌*◌, ◌/◌, ◌==◌, ◌||◌, ℕ, ℤ, pos, negsuc, nat_lt, if◌then◌else◌, List, [], ◌∷◌, length, take, drop, Option, Some, None, option_map, option_to_list, unwrap_or, codes, bytes_eq}
 use Rattle.std.specs.List.{flat_map}
+use Rattle.sn_ports.specs.Limits.{most_samples}
 use Rattle.sn_osc.specs.Shape.{Argument, int, string, blob, BodyShape, bare, arguments, foreign, MessageShape, Shape, Shapes, message, bundle, none, more}
 use Rattle.sn_osc.specs.Bytes.{int_bytes}
 use Rattle.sn_shelf.specs.Files.{File, bytes_named}
@@ -134,10 +135,6 @@ abbrev mutual
 abbrev pub expanded_list : List File → ℕ → List Shape → List Shape × ℕ
 expanded_list files room [] = ([], room)
 expanded_list files room (x ∷ xs) = let first = expanded files room x in let others = expanded_list files first.1 xs in (first.0 ∷ others.0, others.1)
-
--- the most samples that come into a stream
-abbrev pub most_samples : ℕ
-most_samples = 16777216
 
 -- the packets of a stream
 abbrev pub expanded_packets : List File → List Shape → List Shape

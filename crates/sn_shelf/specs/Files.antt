@@ -1,5 +1,6 @@
 -- What lies on a shelf, and what is read from it.
 use Rattle.std.specs.Prelude.{◌≡◌, ◌<◌, ◌≤◌, ℕ, if◌then◌else◌, List, [], ◌∷◌, length, take, drop, map, Option, Some, None, Result, Ok, Err, IfSome, nat_le, bytes_eq, ⊤}
+use Rattle.sn_ports.specs.Limits.{most_file}
 use Rattle.sn_ports.specs.Transfer.{Before}
 use Rattle.sn_shelf.specs.declared.traits.Unshelved.{Unshelved}
 use Rattle.sn_shelf.specs.declared.traits.Unshelved.TheVariants.{Missing, Failed}
@@ -61,7 +62,7 @@ pub record Stocked : Type 0 where
 -- a file of at most 33,554,432 bytes
 abbrev pub within_limit : Option (List ℕ) → Option (List ℕ)
 within_limit None = None
-within_limit (Some bytes) = if nat_le (length bytes) 33554432 then Some bytes else None
+within_limit (Some bytes) = if nat_le (length bytes) most_file then Some bytes else None
 
 -- what has been read of a file begins it, and nothing has where there is none
 abbrev pub IsReadOf : List ℕ → Option (List ℕ) → Type 0

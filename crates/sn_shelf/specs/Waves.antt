@@ -2,6 +2,7 @@
 use Rattle.std.specs.Prelude.{◌+◌, ◌*◌, ◌/◌, ◌%◌, ◌^◌, ◌==◌, ◌&&◌, ◌||◌, ℕ, zero, suc, ℤ, pos, ◌*ℤ◌, ◌-ℤ◌, Bool, not, nat_lt, nat_le, if◌then◌else◌, List, [], ◌∷◌, length, take, drop, Option, Some, None, option_and_then, codes}
 use Rattle.std.specs.List.{starts_with}
 use Rattle.std.specs.Int.{w16, w32, from_le_bytes, cast_signed}
+use Rattle.sn_ports.specs.Limits.{most_file, most_channels}
 
 -- What is heard: how many channels there are, and the samples of one frame after the other, each frame's in the order of the channels.
 pub record Wave : Type 0 where
@@ -59,7 +60,7 @@ is_pcm format = (number_16 0 format == 1) || ((number_16 0 format == 65534) && n
 
 -- 1 to 8 channels of 16 or 24 bits, and frames without gaps
 abbrev pub is_playable : List ℕ → Bool
-is_playable format = nat_le 1 (channels_in format) && nat_le (channels_in format) 8 && ((bits_in format == 16) || (bits_in format == 24))
+is_playable format = nat_le 1 (channels_in format) && nat_le (channels_in format) most_channels && ((bits_in format == 16) || (bits_in format == 24))
     && (align_in format == channels_in format * bits_in format / 8)
 
 abbrev pub is_format : List ℕ → Bool
@@ -106,7 +107,7 @@ data_name = codes "data"
 
 -- at most 33,554,432 bytes, which begin with `RIFF`, four bytes and `WAVE`
 abbrev pub is_headed : List ℕ → Bool
-is_headed bytes = nat_le (length bytes) 33554432 && nat_le 12 (length bytes) && is_named (codes "RIFF") bytes && is_named (codes "WAVE") (drop 8 bytes)
+is_headed bytes = nat_le (length bytes) most_file && nat_le 12 (length bytes) && is_named (codes "RIFF") bytes && is_named (codes "WAVE") (drop 8 bytes)
 
 -- the first chunk of data behind a format
 abbrev pub data_behind : List ℕ → Option (List ℕ)

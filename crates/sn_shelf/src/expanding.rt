@@ -1,5 +1,6 @@
 //! Packets in which `/b_allocRead` carries the samples of the file that it named.
 ghost use Rattle.std.specs.Prelude.{◌≡◌, ◌⊎◌, ◌≤◌, ◌<◌, ◌+◌, ◌-◌, ◌*◌, ◌^◌, pos, List, ℕ, Err, IfOk, IfSome, length, map, option_map};
+ghost use Rattle.sn_ports.specs.Limits.{most_packet, most_samples};
 ghost use Rattle.sn_ports.specs.Causes.{Rose};
 ghost use Rattle.sn_osc.specs.Grammar.{Spells};
 ghost use Rattle.sn_osc.specs.Shape.{int, argument_of, message_of, shape, shapes, bundle};
@@ -16,11 +17,9 @@ use crate::requests::{Request, request_of};
 use crate::traits::Shelf;
 use crate::waves::Recording;
 use sn_osc::{Arg, Args, Body, Bundle, Elements, Message, Packet};
+use sn_ports::limits::MOST_SAMPLES;
 use sn_ports::{NoMemory, Text};
 use std::alloc::Global;
-
-/// The most samples that come into a stream.
-const MOST_SAMPLES: u32 = 16777216;
 
 /// A number as an argument.
 #[tactic(auto, using(crate::proofs::PartLemmas::number_again))]
@@ -47,7 +46,7 @@ fn with_samples(
     part: &Recording<'_>,
 ) -> Result<Args, NoMemory>
     requires whole { IsWhole part.now }
-    requires room { part.now.frames * part.now.channels ≤ 16777216 }
+    requires room { part.now.frames * part.now.channels ≤ most_samples }
     ensures { IfOk result (λ xs. map argument_of xs ≡ with_samples (asked request.now) (heard part.now)) }
 {
     let mut args = Vec::new(alloc);
@@ -69,7 +68,7 @@ fn fill_message<H: Shelf>(
     message: Message,
     room: &mut u32,
 ) -> Result<Message, Unexpanded>
-    requires { room.old ≤ 16777216 }
+    requires { room.old ≤ most_samples }
     ensures told { IfSome (H.files shelf.old) (λ fs. IfOk result (λ m. (message_of m, room.new) ≡ expanded_message fs room.old (message_of message))) }
     ensures grows { IfOk result (λ m. MessageGrows (message_of message) (message_of m) room.old room.new) }
     ensures room { room.new ≤ room.old }
@@ -111,7 +110,7 @@ fn fill_elements<H: Shelf>(
     elements: Elements,
     room: &mut u32,
 ) -> Result<Elements, Unexpanded>
-    requires { room.old ≤ 16777216 }
+    requires { room.old ≤ most_samples }
     ensures told { IfSome (H.files shelf.old) (λ fs. IfOk result (λ xs. (shapes xs.items, room.new) ≡ expanded_elements fs room.old (shapes elements.items))) }
     ensures grows { IfOk result (λ xs. AllGrow (shapes elements.items) (shapes xs.items) room.old room.new) }
     ensures room { room.new ≤ room.old }
@@ -136,7 +135,7 @@ fn fill<H: Shelf>(
     packet: Packet,
     room: &mut u32,
 ) -> Result<Packet, Unexpanded>
-    requires { room.old ≤ 16777216 }
+    requires { room.old ≤ most_samples }
     ensures told { IfSome (H.files shelf.old) (λ fs. IfOk result (λ p. (shape p, room.new) ≡ expanded fs room.old (shape packet))) }
     ensures grows { IfOk result (λ p. Grows (shape packet) (shape p) room.old room.new) }
     ensures room { room.new ≤ room.old }
@@ -167,11 +166,11 @@ pub fn expand<H: Shelf>(
     packet: Packet,
     room: &mut u32,
 ) -> Result<Packet, Unexpanded>
-    requires { room.old ≤ 16777216 }
+    requires { room.old ≤ most_samples }
     // What comes of the packet, where the shelf tells its files.
     ensures told { IfSome (H.files shelf.old) (λ fs. IfOk result (λ p. (shape p, room.new) ≡ expanded fs room.old (shape packet))) }
     // Told or not, a packet that came in a stream has a spelling again, longer by no more than the samples that came in and its own length.
-    ensures spelled { (bytes : List ℕ) → Spells (shape packet) bytes → length bytes ≤ 65536
+    ensures spelled { (bytes : List ℕ) → Spells (shape packet) bytes → length bytes ≤ most_packet
         → IfOk result (λ p. IsSpelledWithin (shape p) (2 * length bytes + 4 * (room.old - room.new))) }
     ensures room { room.new ≤ room.old }
     ensures kept { H.files shelf.new ≡ H.files shelf.old }
@@ -193,7 +192,7 @@ pub fn expand_all<H: Shelf>(
     shelf: &mut H,
     packets: Elements,
 ) -> Result<Elements, Unexpanded>
-    requires { AllSpelledWithin 65536 (map shape packets.items) }
+    requires { AllSpelledWithin most_packet (map shape packets.items) }
     // What comes of the packets, where the shelf tells its files.
     ensures told { IfSome (H.files shelf.old) (λ fs. IfOk result (λ v. map shape v.items ≡ expanded_packets fs (map shape packets.items))) }
     // Told or not, they are as many, and each has a spelling of at most 2^27 bytes.

@@ -1,15 +1,14 @@
 //! Whole files, read from a shelf in pieces.
 ghost use Rattle.std.specs.Prelude.{◌≡◌, ◌⊎◌, ◌≤◌, ◌<◌, ◌+◌, Ok, Err, IfOk, IfSome, length, option_map};
+ghost use Rattle.sn_ports.specs.Limits.{most_file};
 ghost use Rattle.sn_ports.specs.Causes.{Rose};
 ghost use Rattle.sn_shelf.specs.Files.{IsReadNamed, AnswersPiece, within_limit, bytes_named};
 
 use crate::fault::Unexpanded;
 use crate::traits::{Shelf, Unshelved};
 use sn_ports::Text;
+use sn_ports::limits::MOST_FILE;
 use std::alloc::{AllocError, Global};
-
-/// The most bytes of a file.
-const MOST_BYTES: usize = 33554432;
 
 /// How many bytes are asked for at once.
 const PIECE: usize = 1048576;
@@ -26,7 +25,7 @@ enum Piece {
 }
 
 /// So many bytes to write over.
-fn room(alloc: Global, len: usize) -> Result<Vec<u8>, AllocError>
+fn zeroed(alloc: Global, len: usize) -> Result<Vec<u8>, AllocError>
     ensures { IfOk result (λ v. length v.items ≡ len) }
 {
     vec![in alloc; 0; len]
@@ -41,7 +40,7 @@ fn read_piece<H: Shelf>(
     bytes: &mut Text,
 ) -> Result<Piece, Unexpanded>
     requires some { 0 < length piece.old }
-    requires few { length bytes.old.bytes ≤ 33554432 }
+    requires few { length bytes.old.bytes ≤ most_file }
     ensures told { IfSome (H.files shelf.old) (λ fs. AnswersPiece (bytes_named name.now.bytes fs) result bytes.old.bytes bytes.new.bytes) }
     ensures more { result ≡ Ok Piece.More → length bytes.old.bytes < length bytes.new.bytes }
     ensures end { result ≡ Ok Piece.End → bytes.new.bytes ≡ bytes.old.bytes }
@@ -77,8 +76,8 @@ pub fn read_file<H: Shelf>(
     ensures unfailed { (result ≡ Err Unexpanded.Failed) ⊎ (H.faults shelf.new ≡ H.faults shelf.old) }
 {
     let mut bytes = Text::new(alloc);
-    let mut piece = room(alloc, PIECE)?;
-    while bytes.len() <= MOST_BYTES {
+    let mut piece = zeroed(alloc, PIECE)?;
+    while bytes.len() <= MOST_FILE {
         match read_piece(shelf, name, &mut piece, &mut bytes)? {
             Piece::More => {}
             Piece::End => return Ok(Some(bytes)),

@@ -1,6 +1,7 @@
 //! Parts of a recording, and their samples as the bytes of a blob.
 ghost use Rattle.std.specs.Prelude.{◌≡◌, ◌≤◌, ◌⊎◌, ◌+◌, ◌*◌, ◌++◌, drop, length, IfSome, IfOk, OnOk};
 ghost use Rattle.std.specs.List.{flat_map};
+ghost use Rattle.sn_ports.specs.Limits.{most_samples};
 ghost use Rattle.sn_osc.specs.Bytes.{int_bytes};
 ghost use Rattle.sn_shelf.specs.Waves.{sample_of, sample_16, sample_24, samples_of};
 ghost use Rattle.sn_shelf.specs.WaveViews.{heard, IsWhole, Finds};
@@ -156,7 +157,7 @@ fn put_samples(out: &mut Text, count: u32, width: usize, bytes: &[u8]) -> Result
 /// The samples of a part, each as a big-endian integer.
 pub fn blob_of(alloc: Global, part: &Recording<'_>) -> Result<Text, NoMemory>
     requires whole { IsWhole part.now }
-    requires room { part.now.frames * part.now.channels ≤ 16777216 }
+    requires room { part.now.frames * part.now.channels ≤ most_samples }
     ensures { IfOk result (λ t. t.bytes ≡ flat_map int_bytes (heard part.now).samples) }
 {
     let count = part.frames * part.channels;

@@ -1,10 +1,10 @@
 //! WAV files of whole numbers.
 ghost use Rattle.std.specs.Prelude.{◌≡◌, ◌≤◌, ◌<◌, ◌+◌, ◌*◌, ◌^◌, ◌||◌, false, Some, None, IfSome, IfNone, IsTrue, length, drop};
+ghost use Rattle.sn_ports.specs.Limits.{most_file};
 ghost use Rattle.sn_shelf.specs.Waves.{number_16, is_named, size_of, content_of, behind, first_of, is_pcm, is_playable, is_format, is_headed, whole_frames, wave_from, wave_in};
 ghost use Rattle.sn_shelf.specs.WaveViews.{heard, IsSaid, IsPlayable, IsWhole, Finds};
 
-/// The most bytes of a file.
-const MOST_BYTES: usize = 33554432;
+use sn_ports::limits::{MOST_CHANNELS, MOST_FILE};
 
 /// The format of whole numbers.
 const PCM: u16 = 1;
@@ -124,7 +124,7 @@ fn is_playable(format: &[u8]) -> bool
     let channels = u32::from(number_16(format, 2));
     let bits = u32::from(number_16(format, 14));
     channels >= 1
-        && channels <= 8
+        && channels <= MOST_CHANNELS
         && (bits == 16 || bits == 24)
         && u32::from(number_16(format, 12)) == channels * bits / 8
 }
@@ -155,7 +155,7 @@ fn format_in(bytes: &[u8]) -> Option<Format>
 #[tactic(auto, using(crate::proofs::WaveLemmas::align_some, crate::proofs::WaveLemmas::align_few, crate::proofs::WaveLemmas::frames_few, crate::proofs::WaveLemmas::frames_whole, crate::proofs::WaveLemmas::too_few_frames, crate::proofs::WaveLemmas::frames_heard))]
 fn whole_frames(format: Format, sounding: &[u8]) -> Option<Recording<'_>>
     requires playable { IsPlayable format }
-    requires size { length sounding.now ≤ 33554432 }
+    requires size { length sounding.now ≤ most_file }
     ensures value { Finds heard result (whole_frames format.channels format.width (format.channels * format.width) sounding.now) }
     ensures whole { IfSome result IsWhole }
 {
@@ -176,7 +176,7 @@ fn whole_frames(format: Format, sounding: &[u8]) -> Option<Recording<'_>>
 #[tactic(auto, using(crate::proofs::WaveLemmas::data_first, crate::proofs::WaveLemmas::no_format, crate::proofs::WaveLemmas::no_data, crate::proofs::WaveLemmas::finds_data))]
 fn recording_from(chunk: &[u8]) -> Option<Recording<'_>>
     requires long { 8 ≤ length chunk.now }
-    requires size { length chunk.now ≤ 33554432 }
+    requires size { length chunk.now ≤ most_file }
     ensures value { Finds heard result (wave_from chunk.now) }
     ensures whole { IfSome result IsWhole }
 {
@@ -200,9 +200,9 @@ fn chunks_of(bytes: &[u8]) -> &[u8]
 /// At most 33,554,432 bytes, which begin with `RIFF`, four bytes and `WAVE`.
 fn is_headed(bytes: &[u8]) -> bool
     ensures value { result ≡ is_headed bytes.now }
-    ensures long { IsTrue result → (12 ≤ length bytes.now) × (length bytes.now ≤ 33554432) }
+    ensures long { IsTrue result → (12 ≤ length bytes.now) × (length bytes.now ≤ most_file) }
 {
-    bytes.len() <= MOST_BYTES
+    bytes.len() <= MOST_FILE
         && bytes.len() >= 12
         && is_named(b"RIFF", bytes)
         && is_named(b"WAVE", &bytes[8..])

@@ -1,6 +1,8 @@
 -- What the capture of a block writes: a copy of the sound of its outputs.
 use Rattle.std.specs.Prelude.{◌≡◌, ◌⊎◌, ◌≤◌, ℕ, ◌+◌, ◌*◌, ◌==◌, cond, List, [], ◌∷◌, ◌++◌, length, slice_index, slice_index_or}
 use Rattle.std.specs.List.{All}
+use Rattle.sn_mem.specs.Layout.{audio_bus_words}
+use Rattle.sn_ports.specs.Limits.{most_channels, block_frames}
 use Rattle.sn_mem.specs.declared.extents.Extent.{Extent}
 use Rattle.sn_mem.specs.declared.extents.Foot.{Foot}
 use Rattle.sn_mem.specs.Words.{MayRead, MayWrite}
@@ -19,19 +21,19 @@ no_extent = record { at = 0; len = 0 }
 abbrev pub output_at : List Extent → ℕ → Extent
 output_at outputs c = slice_index_or outputs c no_extent
 
--- at most 8 audio buses
+-- audio buses, no more than a sound has channels
 pub record AreOutputs (outputs : List Extent) : Type 0 where
-  pub few : length outputs ≤ 8
-  pub buses : All (λ e. e.len ≡ 65) outputs
+  pub few : length outputs ≤ most_channels
+  pub buses : All (λ e. e.len ≡ audio_bus_words) outputs
 
 -- the word of an audio bus at a frame of block b: 0 if the bus was not written in this block
 abbrev pub heard_word : ℕ → List ℕ → Extent → ℕ → ℕ
 heard_word b words e frame = cond (slice_index words e.at == b + 1) (slice_index words (e.at + 1 + frame)) 0
 
--- the 64 words of each, one bus after the other
+-- a word of each for each frame, one bus after the other
 abbrev pub heard_words : ℕ → List ℕ → List Extent → List ℕ
 heard_words b words [] = []
-heard_words b words (e ∷ es) = table (heard_word b words e) 64 ++ heard_words b words es
+heard_words b words (e ∷ es) = table (heard_word b words e) block_frames ++ heard_words b words es
 
 -- what a capture makes of words: those of the sound of block b stand from a place on
 abbrev pub captured : List Extent → ℕ → ℕ → List ℕ → List ℕ
@@ -43,7 +45,7 @@ IsBeside e at n = (e.at + e.len ≤ at) ⊎ (at + n ≤ e.at)
 
 -- a foot has what a capture touches: it may read audio buses, and write the words from a place on, which are none of theirs
 pub record CanCapture (foot : Foot) (outputs : List Extent) (at : ℕ) : Type 0 where
-  pub buses : All (λ e. e.len ≡ 65) outputs
-  pub reads : All (λ e. MayRead foot e.at 65) outputs
-  pub writes : MayWrite foot at (64 * length outputs)
-  pub beside : All (λ e. IsBeside e at (64 * length outputs)) outputs
+  pub buses : All (λ e. e.len ≡ audio_bus_words) outputs
+  pub reads : All (λ e. MayRead foot e.at audio_bus_words) outputs
+  pub writes : MayWrite foot at (block_frames * length outputs)
+  pub beside : All (λ e. IsBeside e at (block_frames * length outputs)) outputs

@@ -1,5 +1,6 @@
 -- Rounds one after another, and a span of blocks that stands for them.
 use Rattle.std.specs.Prelude.{◌≡◌, ◌⊎◌, ℕ, zero, suc, ◌+◌, ◌*◌, ◌<◌, ◌≤◌, true, false, List, length, slice_index}
+use Rattle.sn_ports.specs.Limits.{block_samples, block_frames}
 use Rattle.sn_mem.specs.declared.extents.Extent.{Extent}
 use Rattle.sn_mem.specs.declared.extents.Foot.{Foot}
 use Rattle.sn_mem.specs.Words.{covers, writes, touches}
@@ -26,7 +27,7 @@ DoesAsRounds f n blocks outcome = (k i : ℕ) (words : List ℕ) → k < blocks 
 
 -- The jobs of a work are those of an unrolled plan, and make of the words what the jobs of rounds make. Of captures it says nothing but their feet.
 pub record IsSpan (jobs : List Job) (outputs : List Extent) (copies : Extent) (blocks : ℕ) (f : ℕ → ℕ → List ℕ → List ℕ) (count : ℕ) (foot_of : ℕ → Foot) (outcome : ℕ → List ℕ → List ℕ) : Type 0 where
-  pub room : 512 * blocks ≤ copies.len
+  pub room : block_samples * blocks ≤ copies.len
   pub apart : AreApart jobs outputs copies
   pub whole : count ≡ start (length jobs) blocks
   pub feet : (j : ℕ) → j < start (length jobs) blocks → foot_of j ≡ foot_at (unrolled jobs outputs copies.at blocks) j
@@ -34,7 +35,7 @@ pub record IsSpan (jobs : List Job) (outputs : List Extent) (copies : Extent) (b
 
 -- the word x is in none of the copies of the first k blocks
 abbrev pub IsOutside : ℕ → ℕ → ℕ → Type 0
-IsOutside at k x = (x < at) ⊎ (at + 512 * k ≤ x)
+IsOutside at k x = (x < at) ⊎ (at + block_samples * k ≤ x)
 
 -- Words are those after the rounds, but for the copies: that of each block is what its capture makes of the words after its round.
 pub record AreOfRounds (n at blocks : ℕ) (f : ℕ → ℕ → List ℕ → List ℕ) (outcome : ℕ → List ℕ → List ℕ) (base us : List ℕ) : Type 0 where
@@ -54,20 +55,20 @@ KeepToFeet jobs blocks f = (k i : ℕ) → k < blocks → i < length jobs → Ke
 
 -- what each job of a span makes of the words: the jobs of its blocks as in the rounds, and the captures copy the sound. The first block is block b.
 abbrev pub in_span : List Extent → ℕ → ℕ → (ℕ → ℕ → List ℕ → List ℕ) → ℕ → ℕ → List ℕ → List ℕ
-in_span outputs at b f n = by_block f (λ k. captured outputs (at + 512 * k) (b + k)) n
+in_span outputs at b f n = by_block f (λ k. captured outputs (at + block_samples * k) (b + k)) n
 
--- There is a copy of 512 words for the sound of each block, in a memory of so many words, and nothing else has a word of it.
+-- There is a copy for the sound of each block, in a memory of so many words, and nothing else has a word of it.
 pub record HasCopies (jobs : List Job) (outputs : List Extent) (copies : Extent) (blocks size : ℕ) : Type 0 where
   pub are_outputs : AreOutputs outputs
-  pub room : 512 * blocks ≤ copies.len
-  pub inside : copies.at + 512 * blocks ≤ size
+  pub room : block_samples * blocks ≤ copies.len
+  pub inside : copies.at + block_samples * blocks ≤ size
   pub apart : AreApart jobs outputs copies
 
 -- Words are those after the rounds of some blocks from block b on, but for the copies. The copy of each block holds the samples that are heard of each output after its round.
 pub record HoldSound (n : ℕ) (outputs : List Extent) (at blocks b : ℕ) (f : ℕ → ℕ → List ℕ → List ℕ) (base us : List ℕ) : Type 0 where
   pub long : length us ≡ length base
   pub outside : (x : ℕ) → IsOutside at blocks x → slice_index us x ≡ slice_index (rounds f n blocks base) x
-  pub copied : (k c frame : ℕ) → k < blocks → c < length outputs → frame < 64 → sample_in (slice_index us (at + 512 * k + 64 * c + frame)) ≡ heard (b + k) (bus_at (rounds f n (k + 1) base) (output_at outputs c)) frame
+  pub copied : (k c frame : ℕ) → k < blocks → c < length outputs → frame < block_frames → sample_in (slice_index us (at + block_samples * k + block_frames * c + frame)) ≡ heard (b + k) (bus_at (rounds f n (k + 1) base) (output_at outputs c)) frame
 
 -- The jobs of a span keep to their feet, and the words after them, one after the other, are those after the rounds, with the sound of each block.
 pub record EndsAsRounds (jobs : List Job) (outputs : List Extent) (at blocks b : ℕ) (f : ℕ → ℕ → List ℕ → List ℕ) (base : List ℕ) (all : List Job) : Type 0 where

@@ -1,5 +1,6 @@
 -- The jobs of several blocks of a plan, in one round.
 use Rattle.std.specs.Prelude.{◌≡◌, ℕ, zero, suc, ◌+◌, ◌*◌, ◌/◌, ◌%◌, ◌==◌, ◌<◌, true, false, if◌then◌else◌, List, [], ◌∷◌, ◌++◌, length, map, filter}
+use Rattle.sn_ports.specs.Limits.{block_samples}
 use Rattle.sn_mem.specs.declared.extents.Extent.{Extent}
 use Rattle.sn_mem.specs.declared.extents.Foot.{Foot}
 use Rattle.sn_mem.specs.Blocks.{table}
@@ -39,7 +40,7 @@ entries jobs = filter (λ i. length (predecessors jobs i) == 0) (table (λ i. i)
 
 -- the words of a block's outputs among the copies
 abbrev pub copy_at : ℕ → ℕ → Extent
-copy_at at k = record { at = at + 512 * k; len = 512 }
+copy_at at k = record { at = at + block_samples * k; len = block_samples }
 
 -- a capture reads the outputs, and writes their copy
 abbrev pub capture_foot : List Extent → ℕ → ℕ → Foot

@@ -1,6 +1,7 @@
 //! The jobs of several blocks.
 ghost use Rattle.std.specs.Prelude.{◌≡◌, ◌<◌, ◌≤◌, ◌+◌, ◌*◌, ◌++◌, ◌∷◌, [], ℕ, List, IfOk, OnOk, length, map};
 ghost use Rattle.std.specs.List.{All};
+ghost use Rattle.sn_ports.specs.Limits.{block_samples, most_jobs};
 ghost use Rattle.sn_mem.specs.Blocks.{table};
 ghost use Rattle.sn_round.specs.Jobs.{IsRaceFree};
 ghost use Rattle.sn_span.specs.Rounds.{EndsAsRounds, HasCopies, KeepToFeet};
@@ -8,11 +9,12 @@ ghost use Rattle.sn_span.specs.Unrolling.{block_of, capture_foot, capture_of, co
 
 use sn_mem::{Extent, Extents, Foot};
 use sn_ports::NoMemory;
+use sn_ports::limits::BLOCK_SAMPLES;
 use sn_round::{Ids, Job, Jobs, Plan, SharedFoot};
 use std::alloc::Global;
 
 /// How many words a copy of the outputs has.
-const COPY: u32 = 512;
+pub const COPY_WORDS: u32 = BLOCK_SAMPLES as u32;
 
 /// The capture of the block before, if there is one.
 #[tactic(auto, unfolding(crate::specs::Unrolling::entry))]
@@ -98,14 +100,14 @@ fn capture_foot(
     at: u32,
     block: u32,
 ) -> Result<SharedFoot, NoMemory>
-    requires { at + 512 * block < 4294967296 }
+    requires { at + block_samples * block < 4294967296 }
     ensures { IfOk result (λ foot. foot ≡ capture_foot outputs.now at block) }
 {
     let reads = copied_extents(alloc, outputs)?;
     let mut writes = Extents::new(alloc);
     writes.push(Extent {
-        at: at + COPY * block,
-        len: COPY,
+        at: at + COPY_WORDS * block,
+        len: COPY_WORDS,
     })?;
     SharedFoot::new(alloc, Foot { reads, writes })
 }
@@ -134,7 +136,7 @@ fn put_block(
 ) -> Result<(), NoMemory>
     requires last { last.now ≡ last_jobs plan.now }
     requires room { start (length plan.now) (block + 1) < 4294967296 }
-    requires copies { at + 512 * block < 4294967296 }
+    requires copies { at + block_samples * block < 4294967296 }
     ensures { OnOk result (jobs.new.items ≡ jobs.old.items ++ block_of plan.now outputs.now at block) }
 {
     put_jobs(alloc, plan, block, jobs)?;
@@ -155,8 +157,8 @@ fn jobs_of_blocks(
     outputs: &Extents,
     at: u32,
 ) -> Result<Plan, NoMemory>
-    requires jobs { start (length plan.now) blocks ≤ 65536 }
-    requires copies { at + 512 * blocks < 4294967296 }
+    requires jobs { start (length plan.now) blocks ≤ most_jobs }
+    requires copies { at + block_samples * blocks < 4294967296 }
     ensures { IfOk result (λ answer. answer ≡ unrolled plan.now outputs.now at blocks) }
 {
     plan.is_well_formed();
@@ -171,8 +173,8 @@ fn jobs_of_blocks(
 /// The plan of `blocks` blocks in one round: in each block the jobs of `plan`, and then a job that captures its outputs.
 ///
 /// If `plan` has n jobs, job i of block k has the number `k * (n + 1) + i`, and the capture of block k comes after its
-/// jobs, as number `k * (n + 1) + n`. It may read the extents `outputs`, and write the 512 words from
-/// `copies.at + 512 * k` on. It follows all jobs of its block, and all later ones follow it.
+/// jobs, as number `k * (n + 1) + n`. It may read the extents `outputs`, and write the words of a copy from
+/// `copies.at + COPY_WORDS * k` on. It follows all jobs of its block, and all later ones follow it.
 ///
 /// The plan is free of races if `plan` is. Let the jobs of a block make of the words what they make in a round of
 /// `plan`, let each capture copy the sound of its block (`captured`), and let nothing else touch the copies. Then the
@@ -185,8 +187,8 @@ pub fn unroll(
     outputs: &Extents,
     copies: Extent,
 ) -> Result<Plan, NoMemory>
-    requires jobs { start (length plan.now) blocks ≤ 65536 }
-    requires copies { copies.at + 512 * blocks < 4294967296 }
+    requires jobs { start (length plan.now) blocks ≤ most_jobs }
+    requires copies { copies.at + block_samples * blocks < 4294967296 }
     ensures plan { IfOk result (λ all. all ≡ unrolled plan.now outputs.now copies.at blocks) }
     ensures race_free { IsRaceFree plan.now → IfOk result (λ all. IsRaceFree all) }
     ensures rounds { (b : ℕ) (f : ℕ → ℕ → List ℕ → List ℕ) (base : List ℕ) → HasCopies plan.now outputs.now copies blocks (length base) → KeepToFeet plan.now blocks f

@@ -1,5 +1,6 @@
 //! Laws of unrolled plans.
 ghost use Rattle.std.specs.Prelude.{◌≡◌, ◌<◌, ◌≤◌, ◌+◌, ◌*◌, ◌^◌, ◌==◌, ◌++◌, ◌∷◌, [], if◌then◌else◌, ℕ, List, true, length, map};
+ghost use Rattle.sn_ports.specs.Limits.{block_samples};
 ghost use Rattle.sn_mem.specs.declared.extents.Extent.{Extent};
 ghost use Rattle.sn_mem.specs.Words.{has};
 ghost use Rattle.sn_round.specs.declared.jobs.Job.{Job};
@@ -55,7 +56,7 @@ pub fn successors_go_by_blocks()
 
 /// A law: the feet lie in a memory if those of the plan, the outputs and the copies do.
 pub fn unrolled_lies_in_memory()
-    ensures { (jobs : List Job) (outputs : List Extent) (at blocks size : ℕ) → AreWithin size jobs → ((x : ℕ) → has outputs x ≡ true → x < size) → at + 512 * blocks ≤ size → AreWithin size (unrolled jobs outputs at blocks) }
+    ensures { (jobs : List Job) (outputs : List Extent) (at blocks size : ℕ) → AreWithin size jobs → ((x : ℕ) → has outputs x ≡ true → x < size) → at + block_samples * blocks ≤ size → AreWithin size (unrolled jobs outputs at blocks) }
 {}
 
 /// A law: the last words of a span are those of its rounds one after the other, and each copy is what the capture makes of

@@ -5,7 +5,7 @@ mod blocks;
 mod capturing;
 mod laws;
 
-pub use blocks::unroll;
+pub use blocks::{COPY_WORDS, unroll};
 pub use capturing::capture;
 pub use laws::{
     captures_are_barriers, numbers_tell_blocks, spans_end_as_their_rounds, successors_go_by_blocks,

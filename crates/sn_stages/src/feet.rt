@@ -1,6 +1,7 @@
 //! The feet of nodes.
 ghost use Rattle.std.specs.Prelude.{◌≡◌, ◌<◌, ◌+◌, IfOk, IsTrue, length, nat_lt};
 ghost use Rattle.std.specs.List.{All};
+ghost use Rattle.sn_ports.specs.Limits.{buffer_count};
 ghost use Rattle.sn_mem.specs.Buffers.{live_places, place_extents};
 ghost use Rattle.sn_foot.specs.Canonical.{Ends};
 
@@ -41,7 +42,7 @@ fn have_ends(places: &[Extent]) -> bool
 
 /// No buffer is allocated.
 fn no_buffers(alloc: Global) -> Result<Buffers, NoMemory>
-    ensures long { IfOk result (λ buffers. length buffers ≡ 1024) }
+    ensures long { IfOk result (λ buffers. length buffers ≡ buffer_count) }
     ensures ends { IfOk result (λ buffers. All Ends (live_places buffers)) }
 {
     Buffers::new(alloc)

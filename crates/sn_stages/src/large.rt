@@ -1,5 +1,6 @@
 //! Plans of the largest trees. Each takes well below a second.
 ghost use Rattle.std.specs.Prelude.{◌≡◌, ◌≤◌, None};
+ghost use Rattle.sn_ports.specs.Limits.{most_nodes};
 
 use crate::plans::{planned, put};
 use sn_def::{Controls, Def, read};
@@ -34,7 +35,7 @@ fn put_synth(
     group: i32,
 ) -> Result<bool, NoMemory>
     requires closed { tree.old.journal ≡ None }
-    requires few { number ≤ 4096 }
+    requires few { number ≤ most_nodes }
     ensures closed { tree.new.journal ≡ None }
 {
     let held = Held::Synth {
@@ -50,7 +51,7 @@ fn put_synth(
 
 /// So many synths of a definition in a parallel group.
 fn members(alloc: Global, text: &[u8], count: u32) -> Result<Option<Tree<Held>>, NoMemory>
-    requires few { count ≤ 4096 }
+    requires few { count ≤ most_nodes }
 {
     let Some(def) = def_of(alloc, text)? else {
         return Ok(None);
@@ -70,7 +71,7 @@ fn nested(
     groups: u32,
     synths: u32,
 ) -> Result<Option<Tree<Held>>, NoMemory>
-    requires few { groups ≤ 4096 }
+    requires few { groups ≤ most_nodes }
     requires no_more { synths ≤ groups }
 {
     let Some(def) = def_of(alloc, text)? else {

@@ -10,7 +10,7 @@ use sn_graph::plan;
 use sn_mem::Extent;
 use sn_ports::NoMemory;
 use sn_round::Plan;
-use sn_tree::{Action, NodeKind, Spot, Tally, Tree};
+use sn_tree::{AddAction, NodeKind, Spot, Tally, Tree};
 use sn_world::{Held, Stage};
 use std::alloc::{AllocError, Global};
 use std::sync::Arc;
@@ -86,7 +86,7 @@ pub fn put(tree: &mut Tree<Held>, id: i32, kind: NodeKind, target: i32, held: He
     ensures closed { tree.new.journal ≡ None }
 {
     let spot = Spot {
-        action: Action::Tail,
+        action: AddAction::Tail,
         target,
     };
     tree.insert(id, kind, spot, held).is_ok()

@@ -5,8 +5,8 @@ use Rattle.std.proofs.lemmas.List.{get_or-replicate}
 use Rattle.sn_fixed.specs.Fixed.{frames_of}
 use Rattle.sn_def.specs.declared.kind.Kind.{Kind}
 use Rattle.sn_def.specs.declared.kind.Kind.TheVariants as kinds
-use Rattle.sn_def.specs.declared.table.Words.{Words}
-use Rattle.sn_def.specs.declared.table.Words.TheVariants.{Fixed, Delay, Comb}
+use Rattle.sn_def.specs.declared.table.StateSize.{StateSize}
+use Rattle.sn_def.specs.declared.table.StateSize.TheVariants.{Fixed, Delay, Comb}
 use Rattle.sn_def.specs.declared.table.Family.{Family}
 use Rattle.sn_def.specs.declared.table.Family.TheVariants as families
 use Rattle.sn_def.specs.declared.table.Mark.{Mark}
@@ -82,7 +82,7 @@ longest_second marks c w values wires (x ∷ Literal v ∷ xs) e h le = get_or-r
 longest_second marks c w values wires (x ∷ Control k ∷ xs) e h le = let P : Mark → Type 0 = λ m. IsAllowed m c w (Control k) in absurd (subst P e h.1.0)
 longest_second marks c w values wires (x ∷ Wire k ∷ xs) e h le = let P : Mark → Type 0 = λ m. IsAllowed m c w (Wire k) in absurd (subst P e h.1.0)
 
-fixed_same : (w : Words) (n frames more : ℕ) → w ≡ Fixed n → words_of w frames ≡ words_of w more
+fixed_same : (w : StateSize) (n frames more : ℕ) → w ≡ Fixed n → words_of w frames ≡ words_of w more
 fixed_same (Fixed m) n frames more e = refl
 fixed_same Delay n frames more e = absurd cc
 fixed_same Comb n frames more e = absurd cc

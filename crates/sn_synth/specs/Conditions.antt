@@ -1,6 +1,8 @@
 -- What a synth needs.
 use Rattle.std.specs.Prelude.{◌≡◌, ◌<◌, ◌≤◌, ◌+◌, ℕ, List, ℤ, pos, ◌+ℤ◌, Option, Some, None, true, length, slice_index_or}
 use Rattle.std.specs.List.{All}
+use Rattle.sn_mem.specs.Layout.{bus_words}
+use Rattle.sn_ports.specs.Limits.{control_bus_count}
 use Rattle.sn_def.specs.declared.control.Control.{Control as SynthControl}
 use Rattle.sn_def.specs.declared.unit.Input.{Input}
 use Rattle.sn_def.specs.declared.unit.Input.TheVariants.{Literal, Control, Wire}
@@ -30,7 +32,7 @@ no_control = record { value = pos 0; bus = None }
 
 abbrev pub IsFollowed : Option ℕ → Type 0
 IsFollowed None = Unit {0}
-IsFollowed (Some n) = n < 1024
+IsFollowed (Some n) = n < control_bus_count
 
 -- one control for each control of the definition, each bus below 1,024, and no bus for an index control
 pub record AreControlsOf (d : Definition) (controls : List SynthControl) : Type 0 where
@@ -96,7 +98,7 @@ pub record CanRun (kind : Kind) (rate : ℕ) (f : Foot) (places : List (Option B
   pub played : is_played kind ≡ true
   pub enough : length (row_of kind).inputs ≤ length inputs
   pub size : words_of (row_of kind).words (most_frames rate inputs) ≡ len
-  pub apart : 0 < len → 10368 ≤ at
+  pub apart : 0 < len → bus_words ≤ at
   pub state : MayWrite f at len
   pub buffers : AreApart (record { at = at; len = len }) places
   pub reach : Reaches kind f places n inputs

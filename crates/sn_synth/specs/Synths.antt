@@ -1,6 +1,7 @@
 -- What one synth makes of a block.
 use Rattle.std.specs.Prelude.{ℕ, ◌+◌, List, [], ◌++◌, ℤ, pos, Option, Some, None, map, replicate, slice_index_or}
 use Rattle.std.specs.List.{fold}
+use Rattle.sn_ports.specs.Limits.{block_frames}
 use Rattle.sn_def.specs.declared.control.Control.{Control as SynthControl}
 use Rattle.sn_def.specs.declared.control.Now.{Now}
 use Rattle.sn_def.specs.declared.unit.Input.{Input}
@@ -26,10 +27,10 @@ control_value buses control = followed buses control.value control.bus
 abbrev pub control_values : List ControlBus → List SynthControl → List ℤ
 control_values buses controls = map (control_value buses) controls
 
--- the block of an input: literals and controls stay the same for all 64 frames
+-- the block of an input: literals and controls stay the same for all frames
 abbrev pub input_block : List ℤ → List (List ℤ) → Input → List ℤ
-input_block values wires (Literal v) = replicate 64 v
-input_block values wires (Control k) = replicate 64 (slice_index_or values k (pos 0))
+input_block values wires (Literal v) = replicate block_frames v
+input_block values wires (Control k) = replicate block_frames (slice_index_or values k (pos 0))
 input_block values wires (Wire k) = block wires k
 
 abbrev pub input_blocks : List ℤ → List (List ℤ) → List Input → List (List ℤ)

@@ -1,6 +1,7 @@
 //! The values of a synth's controls in a block.
 ghost use Rattle.std.specs.Prelude.{◌≡◌, ◌≤◌, length};
 ghost use Rattle.std.specs.List.{All};
+ghost use Rattle.sn_ports.specs.Limits.{most_wires};
 ghost use Rattle.sn_mem.specs.Buses.{control_buses};
 ghost use Rattle.sn_synth.specs.Synths.{control_value, control_values};
 ghost use Rattle.sn_io.specs.Conditions.{MayReadControl};
@@ -28,7 +29,7 @@ pub fn control_value<P: Port>(port: &mut P, control: Control) -> i32
 
 /// Reads each control once.
 pub(crate) fn read_controls<P: Port>(port: &mut P, controls: &[Control], values: &mut Values)
-    requires few { length controls.now ≤ 512 }
+    requires few { length controls.now ≤ most_wires }
     requires buses { All (λ c. IsFollowed c.bus) controls.now }
     requires reads { MayFollow (P.foot port.old) controls.now }
     ensures values { values.new ≡ control_values (control_buses (P.words port.old)) controls.now }

@@ -1,5 +1,6 @@
 //! The blocks of a unit's inputs.
 ghost use Rattle.std.specs.Prelude.{◌≡◌, ◌<◌, ◌≤◌, ◌++◌, ◌∷◌, [], length};
+ghost use Rattle.sn_ports.specs.Limits.{most_wires};
 ghost use Rattle.sn_synth.specs.Synths.{input_block, input_blocks};
 ghost use Rattle.sn_synth.specs.Conditions.{IsKnown, AreKnown};
 
@@ -8,7 +9,7 @@ use sn_mem::{Blocks, Values};
 
 fn push_input(input: Input, values: &Values, wires: &Blocks, blocks: &mut Blocks)
     requires known { IsKnown (length values.now) (length wires.now) input }
-    requires room { length blocks.old < 512 }
+    requires room { length blocks.old < most_wires }
     ensures { blocks.new ≡ blocks.old ++ input_block values.now wires.now input ∷ [] }
 {
     match input {
@@ -21,7 +22,7 @@ fn push_input(input: Input, values: &Values, wires: &Blocks, blocks: &mut Blocks
 /// Puts the blocks of a unit's inputs, in their order, in the place of what `blocks` held.
 pub(crate) fn gather(inputs: &[Input], values: &Values, wires: &Blocks, blocks: &mut Blocks)
     requires known { AreKnown (length values.now) (length wires.now) inputs.now }
-    requires few { length inputs.now ≤ 512 }
+    requires few { length inputs.now ≤ most_wires }
     ensures { blocks.new ≡ input_blocks values.now wires.now inputs.now }
 {
     blocks.clear();

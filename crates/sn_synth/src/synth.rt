@@ -1,5 +1,6 @@
 //! One synth.
 ghost use Rattle.std.specs.Prelude.{◌≡◌, ◌<◌, ◌≤◌, ◌^◌, ◌+◌, ℕ, ◌⊎◌, false, length, slice_index};
+ghost use Rattle.sn_mem.specs.Layout.{bus_words};
 ghost use Rattle.sn_def.specs.Defs.{definition_of};
 ghost use Rattle.sn_def.specs.StateWords.{state_words};
 ghost use Rattle.sn_mem.specs.Words.{MayWrite, writes};
@@ -35,7 +36,7 @@ pub fn run_synth<P: Port>(
     requires block { now.now.block < 2 ^ 63 }
     requires controls { AreControlsOf (definition_of def.now) controls.now }
     requires words { state.len ≡ state_words now.now.rate (definition_of def.now) }
-    requires apart { 0 < state.len → 10368 ≤ state.at }
+    requires apart { 0 < state.len → bus_words ≤ state.at }
     requires state { MayWrite (P.foot port.old) state.at state.len }
     requires buffers { AreApart state buffers.now }
     requires reads { MayFollow (P.foot port.old) controls.now }
@@ -43,7 +44,7 @@ pub fn run_synth<P: Port>(
     ensures words { P.words port.new ≡ synth_words now.now.rate now.now.block now.now.node (definition_of def.now) controls.now buffers.now state.at (P.words port.old) }
     ensures resources { resources_of buffers.now (P.words port.new) ≡ (synth_block now.now.rate now.now.block now.now.node (definition_of def.now) controls.now (resources_of buffers.now (P.words port.old)) (window (P.words port.old) state.at state.len)).resources }
     ensures state { window (P.words port.new) state.at state.len ≡ (synth_block now.now.rate now.now.block now.now.node (definition_of def.now) controls.now (resources_of buffers.now (P.words port.old)) (window (P.words port.old) state.at state.len)).state }
-    ensures others { (j : ℕ) → 10368 ≤ j → (j < state.at) ⊎ (state.at + state.len ≤ j) → overlaps j (live_places buffers.now) ≡ 0 → slice_index (P.words port.new) j ≡ slice_index (P.words port.old) j }
+    ensures others { (j : ℕ) → bus_words ≤ j → (j < state.at) ⊎ (state.at + state.len ≤ j) → overlaps j (live_places buffers.now) ≡ 0 → slice_index (P.words port.new) j ≡ slice_index (P.words port.old) j }
     ensures kept { (j : ℕ) → writes (P.foot port.old) j ≡ false → slice_index (P.words port.new) j ≡ slice_index (P.words port.old) j }
     ensures length { length (P.words port.new) ≡ length (P.words port.old) }
     ensures foot { P.foot port.new ≡ P.foot port.old }

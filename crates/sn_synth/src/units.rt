@@ -1,6 +1,8 @@
 //! The units of a synth, one after the other.
 ghost use Rattle.std.specs.Prelude.{◌≡◌, ◌<◌, ◌≤◌, ◌^◌, length, true};
 ghost use Rattle.std.specs.List.{All};
+ghost use Rattle.sn_mem.specs.Layout.{bus_words};
+ghost use Rattle.sn_ports.specs.Limits.{most_wires, most_units};
 ghost use Rattle.sn_def.specs.WellFormed.{UnitsFit, outputs_of};
 ghost use Rattle.sn_def.specs.StateWords.{words_of, units_words};
 ghost use Rattle.sn_def.specs.Units.{row_of};
@@ -94,7 +96,7 @@ fn run_plain<P: Port>(
     requires block { now.now.block < 2 ^ 63 }
     requires inputs { length (row_of kind).inputs ≤ length inputs.now }
     requires size { words_of (row_of kind).words (most_frames now.now.rate inputs.now) ≡ state.len }
-    requires apart { 0 < state.len → 10368 ≤ state.at }
+    requires apart { 0 < state.len → bus_words ≤ state.at }
     requires state { MayWrite (P.foot port.old) state.at state.len }
     requires buses { MayReach kind (P.foot port.old) (length outputs.old) inputs.now }
     ensures words { P.words port.new ≡ (plain_after kind now.now (length outputs.old) (P.words port.old) state.at state.len inputs.now).0 }
@@ -150,9 +152,9 @@ pub(crate) fn run_units<P: Port>(
     requires block { now.now.block < 2 ^ 63 }
     requires same { units.now ≡ def.now.units }
     requires fit { UnitsFit (length scratch.old.values) 0 units.now }
-    requires wires { outputs_of units.now ≤ 512 }
-    requires few { length units.now ≤ 256 }
-    requires apart { 0 < units_words now.now.rate units.now → 10368 ≤ at }
+    requires wires { outputs_of units.now ≤ most_wires }
+    requires few { length units.now ≤ most_units }
+    requires apart { 0 < units_words now.now.rate units.now → bus_words ≤ at }
     requires state { MayWrite (P.foot port.old) at (units_words now.now.rate units.now) }
     requires buffers { AreApart (record { at = at; len = units_words now.now.rate units.now }) buffers.now }
     requires outputs { All (MayOutput (P.foot port.old) buffers.now scratch.old.values) units.now }

@@ -14,7 +14,7 @@ use Rattle.sn_machine.specs.declared.views.View.{View}
 use Rattle.sn_round.specs.declared.jobs.Job.{Job}
 use Rattle.sn_machine.specs.Fits.{Fits, IsBusy, IsFree, foot_of, job_of, picture_of}
 use Rattle.sn_machine.specs.Rule.{Between, InRound, IsBlank, RoundHolds}
-use Rattle.sn_machine.specs.States.{idle_main, At, CLAIMED, ENDED, IsIdle, Runs, memory_in, spent}
+use Rattle.sn_machine.specs.States.{idle_main, At, CLAIMED, ENDED, IsIdle, RunsJob, memory_in, spent}
 use Rattle.sn_machine.specs.Steps.{CanClaim, CanEnd, CanGo, CanJoin, CanRest, CanSplit, CanStore, claim_view, claim_word, ended_view, go_view, join_view, paid_view, pictured, read_view, rested_view, set_count, set_memory, split_main, split_worker}
 use Rattle.sn_round.specs.Jobs.{foot_at}
 use Rattle.sn_machine.proofs.Quiet.{claim_keeps}
@@ -134,7 +134,7 @@ store_allows_at m n kw kj slots id me j picture x v a b c l can = subst (λ (p :
     (λ k. (sym a k, sym b k, sym c k)) (store_allows m n slots id me.0 j picture x v l can)
 
 -- a running job finds the words of its picture
-found_in : (m : ℕ) (s : St) (id : ℕ) (v : View) (j : ℕ) (picture : List ℕ) (x : ℕ) → RoundHolds (state_of m s) → At s.views id v → Runs v j picture → x < m → touches (foot_at v.worker.jobs j) x ≡ true
+found_in : (m : ℕ) (s : St) (id : ℕ) (v : View) (j : ℕ) (picture : List ℕ) (x : ℕ) → RoundHolds (state_of m s) → At s.views id v → RunsJob v j picture → x < m → touches (foot_at v.worker.jobs j) x ≡ true
     → get_or s.words x 0 ≡ get_or picture x 0
 found_in m s id v j picture x h at runs l t = ⊎_elim
     (λ (b : Between (state_of m s)). absurd (no_run v j picture (b.blank id v at).runs runs))
@@ -143,7 +143,7 @@ found_in m s id v j picture x h at runs l t = ⊎_elim
     sym (r.pictures.inside id v j picture x at runs (subst (λ (js : List Job). touches (foot_at js j) x ≡ true) (r.seats.live id v at live).0 t) ∙ get_or-take m s.words x 0 l))
     h
 
-pub load_allows : (m n slots id : ℕ) (v : View) (j : ℕ) (picture : List ℕ) (x : ℕ) → x < m → Runs v j picture → touches (foot_at v.worker.jobs j) x ≡ true → Allows (TableHolds m n) slots id (v, []) x (λ y. y) (loaded (step slots x 0 0 none) (v, []))
+pub load_allows : (m n slots id : ℕ) (v : View) (j : ℕ) (picture : List ℕ) (x : ℕ) → x < m → RunsJob v j picture → touches (foot_at v.worker.jobs j) x ≡ true → Allows (TableHolds m n) slots id (v, []) x (λ y. y) (loaded (step slots x 0 0 none) (v, []))
 load_allows m n slots id v j picture x l runs t s h len at small = (
   v,
   keeps,
@@ -152,7 +152,7 @@ load_allows m n slots id v j picture x l runs t s h len at small = (
   (refl, λ k p runs' t'. found_in m s id v k p x h.round at runs' l t'),
 )
 
-pub load_allows_at : (m n kw kj slots id : ℕ) (me : Me ℕ View) (j : ℕ) (picture : List ℕ) (x : ℕ) → kw ≡ m → kj ≡ n → me.1 ≡ [] → x < m → Runs me.0 j picture → touches (foot_at me.0.worker.jobs j) x ≡ true
+pub load_allows_at : (m n kw kj slots id : ℕ) (me : Me ℕ View) (j : ℕ) (picture : List ℕ) (x : ℕ) → kw ≡ m → kj ≡ n → me.1 ≡ [] → x < m → RunsJob me.0 j picture → touches (foot_at me.0.worker.jobs j) x ≡ true
     → Allows (TableHolds kw kj) slots id me x (λ y. y) (loaded (step slots x 0 0 none) me)
 load_allows_at m n kw kj slots id me j picture x a b c l runs t = subst (λ (p : ℕ × ℕ × List (ℕ × ℕ)). Allows (TableHolds p.0 p.1) slots id (me.0, p.2) x (λ y. y) (loaded (step slots x 0 0 none) (me.0, p.2)))
     (λ k. (sym a k, sym b k, sym c k)) (load_allows m n slots id me.0 j picture x l runs t)

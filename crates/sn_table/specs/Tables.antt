@@ -7,7 +7,7 @@ use Rattle.sn_machine.specs.declared.views.View.{View}
 use Rattle.sn_round.specs.declared.jobs.Job.{Job}
 use Rattle.sn_machine.specs.Fits.{IsFree}
 use Rattle.sn_machine.specs.Rule.{RoundHolds}
-use Rattle.sn_machine.specs.States.{ENDED, Runs, State, memory_in, idle_main, no_worker}
+use Rattle.sn_machine.specs.States.{ENDED, RunsJob, State, memory_in, idle_main, no_worker}
 use Rattle.sn_machine.specs.Steps.{claim_view, ended_view, go_view, paid_view, pictured, read_view, rested_view, set_count, set_memory}
 use Rattle.sn_round.specs.Jobs.{foot_at}
 
@@ -31,10 +31,10 @@ claimed st m found n = (n ≡ (claim_view m.0 (st.word - m.0.size) found, m.1)) 
 
 -- a load of a running job finds the word of its picture
 abbrev pub loaded : Step ℕ → Seated → ℕ → Seated → Type 0
-loaded st m found n = (n ≡ m) × ((j : ℕ) (picture : List ℕ) → Runs m.0 j picture → touches (foot_at m.0.worker.jobs j) st.word ≡ true → found ≡ slice_index picture st.word)
+loaded st m found n = (n ≡ m) × ((j : ℕ) (picture : List ℕ) → RunsJob m.0 j picture → touches (foot_at m.0.worker.jobs j) st.word ≡ true → found ≡ slice_index picture st.word)
 
 abbrev pub stored : Step ℕ → Seated → ℕ → Seated → Type 0
-stored st m found n = (j : ℕ) (picture : List ℕ) → Runs m.0 j picture → n ≡ (pictured m.0 j (slice_set picture st.word st.first), m.1)
+stored st m found n = (j : ℕ) (picture : List ℕ) → RunsJob m.0 j picture → n ≡ (pictured m.0 j (slice_set picture st.word st.first), m.1)
 
 abbrev pub ended : Step ℕ → Seated → ℕ → Seated → Type 0
 ended st m found n = n ≡ (ended_view m.0 (st.word - m.0.size), m.1)

@@ -3,7 +3,7 @@ ghost use Rattle.std.specs.Prelude.{◌≡◌, length};
 ghost use Rattle.sn_machine.specs.States.{IsIdle};
 ghost use Rattle.sn_table.specs.Answers.{main_view, IsMainOf};
 
-use crate::rule::Place;
+use crate::rule::TableSeat;
 use crate::seats::{MainSeat, Shared};
 use sn_mem::Port;
 
@@ -20,7 +20,7 @@ pub struct MainRest {
     /// The reference to the seat.
     pub seat: u64,
     /// Main's place, but for the memory words and the count of the stores.
-    pub place: Place,
+    pub place: TableSeat,
 }
 
 impl<'a> MainPort<'a> {

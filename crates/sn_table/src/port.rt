@@ -3,7 +3,7 @@ ghost use Rattle.std.specs.Prelude.{◌≡◌};
 ghost use Rattle.sn_machine.specs.Fits.{IsBusy};
 ghost use Rattle.sn_table.specs.Answers.{view, IsSeatOf};
 
-use crate::rule::Place;
+use crate::rule::TableSeat;
 use crate::seats::{Shared, WorkerSeat};
 use sn_mem::Port;
 
@@ -20,7 +20,7 @@ pub struct SeatRest {
     /// The reference to the seat.
     pub seat: u64,
     /// The seat's place, but for its picture.
-    pub place: Place,
+    pub place: TableSeat,
 }
 
 impl<'a> SeatPort<'a> {

@@ -6,14 +6,14 @@ use std::marker::{Brand, PhantomData};
 
 /// How many memory words and job words a table has.
 #[derive(Drop)]
-pub struct Layout {
+pub struct TableSize {
     pub words: u32,
     pub jobs: u32,
 }
 
 pub struct Rounds;
 
-impl TableRule<u8, View, Layout> for Rounds {
+impl TableRule<u8, View, TableSize> for Rounds {
     ghost use Rattle.sn_table.specs.Tables.{TableHolds, first_view};
 
     ghost holds = { λ key s. TableHolds key.words key.jobs s };
@@ -21,9 +21,9 @@ impl TableRule<u8, View, Layout> for Rounds {
     ghost first = { λ key. first_view key.words key.jobs };
 }
 
-pub type Words = Table<u8, View, Layout, Rounds, Global>;
+pub type SharedTable = Table<u8, View, TableSize, Rounds, Global>;
 
-pub type Place = Seat<u8, View>;
+pub type TableSeat = Seat<u8, View>;
 
 pub(crate) struct Claims;
 

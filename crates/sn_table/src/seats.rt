@@ -1,14 +1,15 @@
 //! The words as threads share them, and the seats that step on them.
 ghost use Rattle.std.specs.Prelude.{◌≡◌, ◌+◌, ◌^◌, ◌<◌, ◌≤◌, [], length};
+ghost use Rattle.sn_ports.specs.Limits.{most_jobs};
 ghost use Rattle.sn_machine.specs.Fits.{Fits, MainFits};
 ghost use Rattle.sn_table.specs.Kept.{RunsAs, OwesAs};
 
-use crate::rule::{Place, Words};
+use crate::rule::{SharedTable, TableSeat};
 
 /// The memory words and the job words of rounds, as threads share them.
 #[derive(Drop)]
 pub struct Shared {
-    pub(crate) table: Words,
+    pub(crate) table: SharedTable,
     pub(crate) words: u32,
     pub(crate) jobs: u32,
     ghost count: { table.shared.table_id.words ≡ words + jobs },
@@ -17,13 +18,13 @@ pub struct Shared {
     ghost key_jobs: { table.shared.key.jobs ≡ jobs },
     ghost some: { 1 ≤ words },
     ghost small: { words < 2 ^ 31 },
-    ghost few: { jobs ≤ 65536 },
+    ghost few: { jobs ≤ most_jobs },
 }
 
 /// Main's seat while no round runs, and in a round.
 #[derive(Drop)]
 pub struct MainSeat {
-    pub(crate) place: Place,
+    pub(crate) place: TableSeat,
     ghost first: { place.id ≡ 0 },
     ghost bare: { place.me.1 ≡ [] },
     ghost fits: { MainFits place.me.0 },
@@ -32,7 +33,7 @@ pub struct MainSeat {
 /// A worker's seat.
 #[derive(Drop)]
 pub struct WorkerSeat {
-    pub(crate) place: Place,
+    pub(crate) place: TableSeat,
     // The job that it runs, or whose debts it pays.
     pub(crate) job: u32,
     // How many of them were paid.

@@ -1,5 +1,6 @@
 //! The calls of the shared words.
 ghost use Rattle.std.specs.Prelude.{◌≡◌, ◌+◌, ◌^◌, ◌<◌, ◌≤◌, [], true, Contains, IfOk, length, slice_get, slice_index, slice_set};
+ghost use Rattle.sn_ports.specs.Limits.{most_jobs};
 ghost use Rattle.sn_mem.specs.Words.{writes, touches};
 ghost use Rattle.sn_round.specs.Jobs.{successors};
 ghost use Rattle.sn_machine.specs.States.{ENDED as Ended};
@@ -8,7 +9,9 @@ ghost use Rattle.sn_machine.specs.Steps.{CanClaim, CanEnd, CanSplit, claim_view,
 ghost use Rattle.sn_table.specs.Tables.{first_view};
 ghost use Rattle.sn_table.specs.Answers.{view, main_view, IsSeatOf, IsMainOf, IsPlaceOf, OwesFirst, Claimed, IsGot, Pays, ReadyBelow, Released};
 
-use crate::rule::{Claims, Ends, Layout, Loads, Looks, Place, Releases, Splits, Stores, Words};
+use crate::rule::{
+    Claims, Ends, Loads, Looks, Releases, SharedTable, Splits, Stores, TableSeat, TableSize,
+};
 use crate::seats::{Claim, MainSeat, Release, Shared, WorkerSeat};
 use sn_machine::{CLAIMED, ENDED};
 use sn_ports::NoMemory;
@@ -19,12 +22,12 @@ impl Shared {
     /// `words` memory words and `jobs` job words, all 0, and main's seat, which is idle. For a moment the words take twice their room.
     pub fn open(alloc: Global, words: u32, jobs: u32) -> Result<(Shared, MainSeat), NoMemory>
         requires words { (1 ≤ words) × (words < 2 ^ 31) }
-        requires jobs { jobs ≤ 65536 }
+        requires jobs { jobs ≤ most_jobs }
         ensures { IfOk result (λ r. (r.0.words ≡ words) × (r.0.jobs ≡ jobs) × IsMainOf r.0 r.1 × (main_view r.1 ≡ first_view words jobs)) }
     {
         let zeros = vec![in alloc; 0u64; (words + jobs) as usize]?;
-        let layout = Layout { words, jobs };
-        let (table, place) = Words::of_words(alloc, &zeros, &layout)?;
+        let size = TableSize { words, jobs };
+        let (table, place) = SharedTable::of_words(alloc, &zeros, &size)?;
         Ok((Shared { table, words, jobs }, MainSeat { place }))
     }
 
@@ -55,7 +58,7 @@ impl Shared {
     }
 
     /// Makes the word of a job CLAIMED if it is 0, and answers what it was.
-    fn take(&self, place: &mut Place, job: u32) -> u64
+    fn take(&self, place: &mut TableSeat, job: u32) -> u64
         requires place { IsPlaceOf self.now place.old }
         requires few { job < self.now.jobs }
         requires may { CanClaim place.old.me.0 job }
@@ -106,7 +109,7 @@ impl Shared {
     }
 
     /// Stores ENDED to the word of the job that the place runs.
-    fn finish(&self, place: &mut Place, job: u32)
+    fn finish(&self, place: &mut TableSeat, job: u32)
         requires place { IsPlaceOf self.now place.old }
         requires few { job < self.now.jobs }
         requires may { CanEnd place.old.me.0 job (picture_of place.old.me.0) }
@@ -118,7 +121,7 @@ impl Shared {
     }
 
     /// Takes 1 off the word that the first debt of the place names, and answers what is left.
-    fn pay(&self, place: &mut Place, next: u32) -> u64
+    fn pay(&self, place: &mut TableSeat, next: u32) -> u64
         requires place { IsPlaceOf self.now place.old }
         requires few { next < self.now.jobs }
         requires debt { OwesFirst place.old.me.0 next }
@@ -165,7 +168,7 @@ impl Shared {
     }
 
     /// Reads the word of a job.
-    fn glance(&self, place: &mut Place, job: u32) -> u64
+    fn glance(&self, place: &mut TableSeat, job: u32) -> u64
         requires place { IsPlaceOf self.now place.old }
         requires few { job < self.now.jobs }
         requires live { place.old.me.0.worker.live ≡ true }

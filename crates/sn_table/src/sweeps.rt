@@ -1,7 +1,7 @@
 //! The sweep: every job that is still to run, in walk order, behind a gate.
 ghost use Rattle.std.specs.Prelude.{◌≡◌, ◌+◌, ◌<◌, ℕ, List, length, true};
 ghost use Rattle.sn_mem.specs.declared.extents.Foot.{Foot};
-ghost use Rattle.sn_machine.specs.States.{Runs};
+ghost use Rattle.sn_machine.specs.States.{RunsJob};
 ghost use Rattle.sn_round.specs.Jobs.{AreJobs, foot_at};
 ghost use Rattle.sn_round.specs.Scripts.{list_at};
 ghost use Rattle.sn_table.specs.Answers.{view, IsSeatOf};
@@ -44,7 +44,7 @@ pub fn run_one<W: Work>(
     requires plan { plan.now ≡ (view seat.old).worker.jobs }
     requires work { Serves (W.jobs work.now) (W.foot_of work.now) (W.outcome work.now) (view seat.old) }
     requires job { job < length plan.now }
-    requires runs { Runs (view seat.old) job (list_at (view seat.old).worker.script job) }
+    requires runs { RunsJob (view seat.old) job (list_at (view seat.old).worker.script job) }
     ensures seat { IsSeatOf shared.now seat.new }
     ensures ran { Ran (view seat.old) job (view seat.new) }
 {

@@ -1,12 +1,15 @@
 //! When blocks are due.
 ghost use Rattle.std.specs.Prelude.{◌≡◌, ◌+◌, ◌-◌, ◌*◌, ◌^◌, ◌<◌, ◌≤◌, min};
+ghost use Rattle.sn_ports.specs.Limits.{most_ticks};
 ghost use Rattle.sn_tcp.specs.Pace.{blocks_due, IsUntilNext};
+
+use sn_ports::limits::MOST_TICKS;
 
 /// Nanoseconds that a block takes at one frame a second.
 const BLOCK: u128 = 64_000_000_000;
 
 /// How many blocks are asked for at once, at most.
-const MOST: u128 = 1024;
+const MOST_DUE: u128 = MOST_TICKS as u128;
 
 /// Blocks of 64 frames at a rate, of which the first were asked for.
 #[derive(Clone, Copy, Debug)]
@@ -36,15 +39,15 @@ impl Pace {
         Pace { rate, given: 0 }
     }
 
-    /// Asks for the blocks that are due so long after the start and were not asked for, 1,024 at most. Answers how many.
+    /// Asks for the blocks that are due so long after the start and were not asked for, up to the most at once. Answers how many.
     pub(crate) fn take_due(&mut self, nanos: u128) -> u32
         requires { nanos < 2 ^ 94 }
-        ensures count { result ≡ min (blocks_due self.old.rate nanos - self.old.given) 1024 }
+        ensures count { result ≡ min (blocks_due self.old.rate nanos - self.old.given) most_ticks }
         ensures given { self.new.given ≡ self.old.given + result }
         ensures rate { self.new.rate ≡ self.old.rate }
     {
         let due = blocks_due(self.rate, nanos).saturating_sub(self.given);
-        let count = due.min(MOST) as u32;
+        let count = due.min(MOST_DUE) as u32;
         self.given += u128::from(count);
         count
     }

@@ -4,7 +4,7 @@ use Rattle.std.specs.Prelude.{if◌then◌else◌}
 use Rattle.std.specs.Ordering.{int_eq}
 use Rattle.std.proofs.lemmas.Bool.{lt-ltb, le-ltb, false_from_ne_true}
 use Rattle.std.proofs.lemmas.Bool.Decides.{Decides-int_eq}
-use Rattle.sn_tree.specs.declared.node.Action.{Action}
+use Rattle.sn_tree.specs.declared.node.AddAction.{AddAction}
 use Rattle.sn_tree.specs.declared.node.TreeFault.{TreeFault}
 use Rattle.sn_tree.specs.declared.node.TreeFault.TheVariants.{NoNode, NotGroup, IsRoot, TooMany}
 use Rattle.sn_tree.specs.Trees.{Nodes, holds, count}
@@ -18,13 +18,13 @@ three false true c x h = cc
 three false false true x h = cc
 three false false false x h = refl
 
-pub insert_rest : {P : Type 0} (id : ℤ) (action : Action) (target : ℤ) (t : Nodes P) → holds id t ≡ false → spot_fault action target t ≡ None → insert_fault id action target t ≡ (if nat_lt 4096 (count t + 1) then Some TooMany else None)
+pub insert_rest : {P : Type 0} (id : ℤ) (action : AddAction) (target : ℤ) (t : Nodes P) → holds id t ≡ false → spot_fault action target t ≡ None → insert_fault id action target t ≡ (if nat_lt 4096 (count t + 1) then Some TooMany else None)
 insert_rest id action target t h s = rw h (three (is_missing target t) (is_beside_root action target) (is_in_synth action target t) (if nat_lt 4096 (count t + 1) then Some TooMany else None) s)
 
-pub too_many : {P : Type 0} (id : ℤ) (action : Action) (target : ℤ) (t : Nodes P) → holds id t ≡ false → spot_fault action target t ≡ None → 4096 ≤ count t → insert_fault id action target t ≡ Some TooMany
+pub too_many : {P : Type 0} (id : ℤ) (action : AddAction) (target : ℤ) (t : Nodes P) → holds id t ≡ false → spot_fault action target t ≡ None → 4096 ≤ count t → insert_fault id action target t ≡ Some TooMany
 too_many id action target t h s l = insert_rest id action target t h s ∙ ap (λ b. if b then Some TooMany else None) (lt-ltb 4096 (count t + 1) (omega arith))
 
-pub no_fault : {P : Type 0} (id : ℤ) (action : Action) (target : ℤ) (t : Nodes P) → holds id t ≡ false → spot_fault action target t ≡ None → count t < 4096 → insert_fault id action target t ≡ None
+pub no_fault : {P : Type 0} (id : ℤ) (action : AddAction) (target : ℤ) (t : Nodes P) → holds id t ≡ false → spot_fault action target t ≡ None → count t < 4096 → insert_fault id action target t ≡ None
 no_fault id action target t h s l = insert_rest id action target t h s ∙ ap (λ b. if b then Some TooMany else None) (le-ltb 4096 (count t + 1) (omega arith))
 
 pub not_there : {P : Type 0} (t : Nodes P) (id : ℤ) → holds id t ≡ false → detach_fault id t ≡ Some NoNode

@@ -3,7 +3,7 @@ use Rattle.std.proofs.Common.{◌≡◌, ◌+◌, ◌≤◌, ◌<◌, ℤ, Bool,
 use Rattle.std.specs.Prelude.{if◌then◌else◌}
 use Rattle.std.specs.Ordering.{int_eq}
 use Rattle.std.proofs.lemmas.Bool.{cases_lt, or_parts, lt-ltb, le-ltb}
-use Rattle.sn_tree.specs.declared.node.Action.{Action}
+use Rattle.sn_tree.specs.declared.node.AddAction.{AddAction}
 use Rattle.sn_tree.specs.declared.node.TreeFault.{TreeFault}
 use Rattle.sn_tree.specs.declared.node.TreeFault.TheVariants.{NoNode, InUse, NotGroup, IsRoot, TooMany}
 use Rattle.sn_tree.specs.Trees.{Nodes, none, node, count, has_top, last_top, shares}
@@ -26,7 +26,7 @@ allowed_first [] us h = refl
 allowed_first ((true, f) ∷ ts) us h = cc
 allowed_first ((false, f) ∷ ts) us h = allowed_first ts us h
 
-module _ {P : Type 0} (id : ℤ) (action : Action) (target : ℤ) (t d : Nodes P) where
+module _ {P : Type 0} (id : ℤ) (action : AddAction) (target : ℤ) (t d : Nodes P) where
   pub no_top : has_top id d ≡ false → attach_fault id action target t d ≡ Some NoNode
   no_top h = let e : shares (last_top id d) t ≡ false = ap (λ l. shares l t) (no_last id d h) in rw (e, h) refl
 
@@ -54,7 +54,7 @@ module _ {P : Type 0} (id : ℤ) (action : Action) (target : ℤ) (t d : Nodes P
 
 -- a subtree put in
 
-pub attach_few : {P : Type 0} (id : ℤ) (action : Action) (target : ℤ) (t d : Nodes P) → attach_fault id action target t d ≡ None → count t + count (last_top id d) ≤ 4096
+pub attach_few : {P : Type 0} (id : ℤ) (action : AddAction) (target : ℤ) (t d : Nodes P) → attach_fault id action target t d ≡ None → count t + count (last_top id d) ≤ 4096
 attach_few id action target t d h =
     let no : nat_lt 4096 (count t + count (last_top id d)) ≡ false = (none_holds ((shares (last_top id d) t, InUse) ∷ (not (has_top id d), NoNode) ∷ (is_missing target t, NoNode) ∷ (is_beside_root action target, IsRoot) ∷ (is_in_synth action target t, NotGroup) ∷ (nat_lt 4096 (count t + count (last_top id d)), TooMany) ∷ []) h).1.1.1.1.1.0 in
     ⊎_elim (λ (l : 4096 < count t + count (last_top id d)). let bad : true ≡ false = sym (lt-ltb 4096 (count t + count (last_top id d)) l) ∙ no in cc) (λ (l : count t + count (last_top id d) ≤ 4096). l) (cases_lt 4096 (count t + count (last_top id d)))

@@ -5,8 +5,8 @@ use Rattle.std.specs.Ordering.{int_eq}
 use Rattle.std.proofs.lemmas.Bool.{cases_Bool, false_from_ne_true, or_parts}
 use Rattle.std.proofs.lemmas.Bool.Decides.{Decides-int_eq}
 use Rattle.sn_tree.specs.declared.node.NodeKind.{NodeKind}
-use Rattle.sn_tree.specs.declared.node.Action.{Action}
-use Rattle.sn_tree.specs.declared.node.Action.TheVariants.{Head, Tail, Before, After}
+use Rattle.sn_tree.specs.declared.node.AddAction.{AddAction}
+use Rattle.sn_tree.specs.declared.node.AddAction.TheVariants.{Head, Tail, Before, After}
 use Rattle.sn_tree.specs.Trees.{Label, Nodes, none, node, holds, ids, joined, beside, put, leaf, subtree, without, changed, with_running, has_top, last_top, without_last, shares, without_first}
 use Rattle.sn_tree.specs.Steps.{occurrences, AllDistinct}
 use Rattle.sn_tree.specs.Kept.{EachDistinct}
@@ -26,13 +26,13 @@ module _ {P : Type 0} (x : ℤ) where
   occurs-joined none t = omega arith
   occurs-joined (node label below after) t = omega (arith, occurs-joined after t, occurs-node label below (joined after t), occurs-node label below after)
 
-  occurs-beside : (action : Action) (new : Nodes P) (label : Label P) (below after : Nodes P) → occurs (beside action new label below after) ≡ occurs (node label below after) + occurs new
+  occurs-beside : (action : AddAction) (new : Nodes P) (label : Label P) (below after : Nodes P) → occurs (beside action new label below after) ≡ occurs (node label below after) + occurs new
   occurs-beside Head new label below after = omega (arith, occurs-joined new below, occurs-node label (joined new below) after, occurs-node label below after)
   occurs-beside Tail new label below after = omega (arith, occurs-joined below new, occurs-node label (joined below new) after, occurs-node label below after)
   occurs-beside Before new label below after = omega (arith, occurs-joined new (node label below after))
   occurs-beside After new label below after = omega (arith, occurs-joined new after, occurs-node label below (joined new after), occurs-node label below after)
 
-  pub occurs-put : (action : Action) (target : ℤ) (new t : Nodes P) → occurs (put action target new t) ≤ occurs t + occurs new
+  pub occurs-put : (action : AddAction) (target : ℤ) (new t : Nodes P) → occurs (put action target new t) ≤ occurs t + occurs new
   occurs-put action target new none = omega arith
   occurs-put action target new (node label below after) =
       ⊎_elim
@@ -74,7 +74,7 @@ module _ {P : Type 0} (x : ℤ) where
       omega (arith, occurs-node label below after, not_held below e.0, not_held after e.1)
 
 -- a new id
-pub distinct_leaf : {P : Type 0} (id : ℤ) (kind : NodeKind) (action : Action) (target : ℤ) (payload : P) (t : Nodes P) → holds id t ≡ false → AllDistinct int_eq (ids t) → AllDistinct int_eq (ids (put action target (leaf id kind payload) t))
+pub distinct_leaf : {P : Type 0} (id : ℤ) (kind : NodeKind) (action : AddAction) (target : ℤ) (payload : P) (t : Nodes P) → holds id t ≡ false → AllDistinct int_eq (ids t) → AllDistinct int_eq (ids (put action target (leaf id kind payload) t))
 distinct_leaf id kind action target payload t free h = λ x.
     ⊎_elim
     (λ (n : int_eq id x ≡ true).
@@ -142,7 +142,7 @@ module _ {P : Type 0} where
       let z : ◌≡◌ {A = ℕ} (if int_eq label.id x then 1 else 0) 0 = rw other refl in
       omega (arith, occurs-node x label below after, not_shared x below t e.0 k, not_shared x after t e.1 k)
 
-  pub distinct_attached : (action : Action) (target : ℤ) (new t : Nodes P) → shares new t ≡ false → AllDistinct int_eq (ids new) → AllDistinct int_eq (ids t) → AllDistinct int_eq (ids (put action target new t))
+  pub distinct_attached : (action : AddAction) (target : ℤ) (new t : Nodes P) → shares new t ≡ false → AllDistinct int_eq (ids new) → AllDistinct int_eq (ids t) → AllDistinct int_eq (ids (put action target new t))
   distinct_attached action target new t apart g h = λ x.
       ⊎_elim
       (λ (k : holds x t ≡ true). omega (arith, occurs-put x action target new t, not_shared x new t apart k, h x))

@@ -7,8 +7,8 @@ use Rattle.std.proofs.lemmas.Bool.Decides.{eqb_tells, Decides-int_eq}
 use Rattle.slab.specs.Slab.{Slab, get, Updates}
 use Rattle.sn_tree.specs.declared.node.NodeKind.{NodeKind}
 use Rattle.sn_tree.specs.declared.node.Spot.{Spot}
-use Rattle.sn_tree.specs.declared.node.Action.{Action}
-use Rattle.sn_tree.specs.declared.node.Action.TheVariants.{Head, Tail, Before, After}
+use Rattle.sn_tree.specs.declared.node.AddAction.{AddAction}
+use Rattle.sn_tree.specs.declared.node.AddAction.TheVariants.{Head, Tail, Before, After}
 use Rattle.sn_tree.specs.declared.node.TreeFault.{TreeFault}
 use Rattle.sn_tree.specs.Trees.{Nodes, Sides, none, node, holds, subtree, without, joined, count, has_top, shares, put, leaf, with_payloads, with_payloads_of, changed, with_running, last_top}
 use Rattle.std.specs.List.{AllByRecursion}
@@ -31,13 +31,13 @@ same_root t r below t' e = record { label = r.label; below = below; is = e; id =
 is_zero : (id other : ℤ) → id ≡ pos 0 → int_eq id other ≡ true → int_eq other (pos 0) ≡ true
 is_zero id other z h = (Decides-int_eq other (pos 0)).1 (sym ((Decides-int_eq id other).0 h) ∙ z)
 
-beside_not : (action : Action) (target : ℤ) → is_beside_root action target ≡ false → int_eq target (pos 0) ≡ true → (action ≡ Head) ⊎ (action ≡ Tail)
+beside_not : (action : AddAction) (target : ℤ) → is_beside_root action target ≡ false → int_eq target (pos 0) ≡ true → (action ≡ Head) ⊎ (action ≡ Tail)
 beside_not Head target h z = inl refl
 beside_not Tail target h z = inr refl
 beside_not Before target h z = let bad : true ≡ false = sym (ap (λ b. true && b) z) ∙ h in cc
 beside_not After target h z = let bad : true ≡ false = sym (ap (λ b. true && b) z) ∙ h in cc
 
-pub rooted_put : (action : Action) (target : ℤ) (new t : Nodes Key) → is_beside_root action target ≡ false → IsRooted t → IsRooted (put action target new t)
+pub rooted_put : (action : AddAction) (target : ℤ) (new t : Nodes Key) → is_beside_root action target ≡ false → IsRooted t → IsRooted (put action target new t)
 rooted_put action target new t h r =
     ⊎_elim
     (λ (n : int_eq r.label.id target ≡ true). ⊎_elim
@@ -80,11 +80,11 @@ none_holds ((false, f) ∷ ts) h = (refl, none_holds ts h)
 pub detach_root : {P : Type 0} (id : ℤ) (t : Nodes P) → detach_fault id t ≡ None → int_eq id (pos 0) ≡ false
 detach_root id t h = (none_holds ((is_missing id t, NoNode) ∷ (int_eq id (pos 0), IsRoot) ∷ []) h).1.0
 
-pub insert_beside : {P : Type 0} (id : ℤ) (action : Action) (target : ℤ) (t : Nodes P) → insert_fault id action target t ≡ None → is_beside_root action target ≡ false
+pub insert_beside : {P : Type 0} (id : ℤ) (action : AddAction) (target : ℤ) (t : Nodes P) → insert_fault id action target t ≡ None → is_beside_root action target ≡ false
 insert_beside id action target t h =
     (none_holds ((holds id t, InUse) ∷ (is_missing target t, NoNode) ∷ (is_beside_root action target, IsRoot) ∷ (is_in_synth action target t, NotGroup) ∷ (nat_lt 4096 (count t + 1), TooMany) ∷ []) h).1.1.0
 
-pub insert_free : {P : Type 0} (id : ℤ) (action : Action) (target : ℤ) (t : Nodes P) → insert_fault id action target t ≡ None → holds id t ≡ false
+pub insert_free : {P : Type 0} (id : ℤ) (action : AddAction) (target : ℤ) (t : Nodes P) → insert_fault id action target t ≡ None → holds id t ≡ false
 insert_free id action target t h =
     (none_holds ((holds id t, InUse) ∷ (is_missing target t, NoNode) ∷ (is_beside_root action target, IsRoot) ∷ (is_in_synth action target t, NotGroup) ∷ (nat_lt 4096 (count t + 1), TooMany) ∷ []) h).0
 
@@ -92,29 +92,29 @@ not_missing : (b : Bool) → not b ≡ false → b ≡ true
 not_missing true h = refl
 not_missing false h = sym h
 
-pub insert_there : {P : Type 0} (id : ℤ) (action : Action) (target : ℤ) (t : Nodes P) → insert_fault id action target t ≡ None → holds target t ≡ true
+pub insert_there : {P : Type 0} (id : ℤ) (action : AddAction) (target : ℤ) (t : Nodes P) → insert_fault id action target t ≡ None → holds target t ≡ true
 insert_there id action target t h =
     not_missing (holds target t) (none_holds ((holds id t, InUse) ∷ (is_missing target t, NoNode) ∷ (is_beside_root action target, IsRoot) ∷ (is_in_synth action target t, NotGroup) ∷ (nat_lt 4096 (count t + 1), TooMany) ∷ []) h).1.0
 
-pub move_there : {P : Type 0} (id : ℤ) (action : Action) (target : ℤ) (t : Nodes P) → move_fault id action target t ≡ None → holds target (without id t) ≡ true
+pub move_there : {P : Type 0} (id : ℤ) (action : AddAction) (target : ℤ) (t : Nodes P) → move_fault id action target t ≡ None → holds target (without id t) ≡ true
 move_there id action target t h =
     let all = none_holds ((is_missing id t, NoNode) ∷ (is_missing target t, NoNode) ∷ (int_eq id (pos 0), IsRoot) ∷ (is_beside_root action target, IsRoot) ∷ (is_in_synth action target t, NotGroup) ∷ (holds target (subtree id t), Inside) ∷ []) h in
     held_apart id target t (not_missing (holds target t) all.1.0) all.1.1.1.1.1.0
 
-pub move_root : {P : Type 0} (id : ℤ) (action : Action) (target : ℤ) (t : Nodes P) → move_fault id action target t ≡ None → (int_eq id (pos 0) ≡ false) × (is_beside_root action target ≡ false)
+pub move_root : {P : Type 0} (id : ℤ) (action : AddAction) (target : ℤ) (t : Nodes P) → move_fault id action target t ≡ None → (int_eq id (pos 0) ≡ false) × (is_beside_root action target ≡ false)
 move_root id action target t h =
     let all = none_holds ((is_missing id t, NoNode) ∷ (is_missing target t, NoNode) ∷ (int_eq id (pos 0), IsRoot) ∷ (is_beside_root action target, IsRoot) ∷ (is_in_synth action target t, NotGroup) ∷ (holds target (subtree id t), Inside) ∷ []) h in
     (all.1.1.0, all.1.1.1.0)
 
-pub attach_beside : {P : Type 0} (id : ℤ) (action : Action) (target : ℤ) (t d : Nodes P) → attach_fault id action target t d ≡ None → is_beside_root action target ≡ false
+pub attach_beside : {P : Type 0} (id : ℤ) (action : AddAction) (target : ℤ) (t d : Nodes P) → attach_fault id action target t d ≡ None → is_beside_root action target ≡ false
 attach_beside id action target t d h =
     (none_holds ((shares (last_top id d) t, InUse) ∷ (not (has_top id d), NoNode) ∷ (is_missing target t, NoNode) ∷ (is_beside_root action target, IsRoot) ∷ (is_in_synth action target t, NotGroup) ∷ (nat_lt 4096 (count t + count (last_top id d)), TooMany) ∷ []) h).1.1.1.0
 
-pub attach_there : {P : Type 0} (id : ℤ) (action : Action) (target : ℤ) (t d : Nodes P) → attach_fault id action target t d ≡ None → holds target t ≡ true
+pub attach_there : {P : Type 0} (id : ℤ) (action : AddAction) (target : ℤ) (t d : Nodes P) → attach_fault id action target t d ≡ None → holds target t ≡ true
 attach_there id action target t d h =
     not_missing (holds target t) (none_holds ((shares (last_top id d) t, InUse) ∷ (not (has_top id d), NoNode) ∷ (is_missing target t, NoNode) ∷ (is_beside_root action target, IsRoot) ∷ (is_in_synth action target t, NotGroup) ∷ (nat_lt 4096 (count t + count (last_top id d)), TooMany) ∷ []) h).1.1.0
 
-pub attach_apart : {P : Type 0} (id : ℤ) (action : Action) (target : ℤ) (t d : Nodes P) → attach_fault id action target t d ≡ None → shares (last_top id d) t ≡ false
+pub attach_apart : {P : Type 0} (id : ℤ) (action : AddAction) (target : ℤ) (t d : Nodes P) → attach_fault id action target t d ≡ None → shares (last_top id d) t ≡ false
 attach_apart id action target t d h =
     (none_holds ((shares (last_top id d) t, InUse) ∷ (not (has_top id d), NoNode) ∷ (is_missing target t, NoNode) ∷ (is_beside_root action target, IsRoot) ∷ (is_in_synth action target t, NotGroup) ∷ (nat_lt 4096 (count t + count (last_top id d)), TooMany) ∷ []) h).0
 
@@ -178,7 +178,7 @@ module _ {P : Type 0} (root : P) (slots : List (Option P)) (nodes nodes' : Arran
         there : IsKept slots (setting id on nodes) (spent 1 saved)
         there = record { now = record { keys = λ key. omega (arith, used_setting key id on nodes, kept.now.keys key) }; rooted = rooted_set id on nodes.attached kept.rooted; distinct = λ x. omega (arith, occurs-set x id on nodes.attached, kept.distinct x); aside = kept.aside; before = spent_before slots 1 saved kept.before }
 
-  module _ (id : ℤ) (action : Action) (target : ℤ) where
+  module _ (id : ℤ) (action : AddAction) (target : ℤ) where
     module _ (is : nodes' ≡ moving id action target nodes) where
       pub move_gives : shown root slots nodes' saved' ≡ moved id action target tree
       move_gives =
@@ -245,7 +245,7 @@ module _ {P : Type 0} (root : P) (slots slots' : List (Option P)) (new : ℕ) (p
   kept_nodes : (t : Nodes Key) → ((key : Key) → uses key t ≤ filled slots key) → with_payloads (payload_of root slots') t ≡ with_payloads (payload_of root slots) t
   kept_nodes t h = agree (payload_of root slots') (payload_of root slots) t (λ key u. same_payload key (omega (arith, h key)))
 
-  module _ (nodes : Arranged) (saved : Option SavedNodes) (kept : IsKept slots nodes saved) (id : ℤ) (kind : NodeKind) (action : Action) (target : ℤ) where
+  module _ (nodes : Arranged) (saved : Option SavedNodes) (kept : IsKept slots nodes saved) (id : ℤ) (kind : NodeKind) (action : AddAction) (target : ℤ) where
     pub inserted_keeps : is_beside_root action target ≡ false → holds id nodes.attached ≡ false → holds target nodes.attached ≡ true → IsKept slots' (inserting id kind action target (Some new) nodes) (noted new saved)
     inserted_keeps b free held = record {
       now = record { keys = λ key. omega (arith, uses-put key action target (leaf id kind (Some new)) nodes.attached held, kept.now.keys key, more_filled key) };
@@ -313,7 +313,7 @@ same_shown root slots slots' nodes nodes' saved saved' tree e a b c = (λ i. sho
 pub same_kept : {P : Type 0} (slots slots' : List (Option P)) (nodes nodes' : Arranged) (saved saved' : Option SavedNodes) → IsKept slots nodes saved → slots' ≡ slots → nodes' ≡ nodes → saved' ≡ saved → IsKept slots' nodes' saved'
 same_kept slots slots' nodes nodes' saved saved' k a b c = subst (λ l. IsKept l nodes' saved') (sym a) (subst (λ n. IsKept slots n saved') (sym b) (subst (λ s. IsKept slots nodes s) (sym c) k))
 
-pub room_left : {P : Type 0} (id : ℤ) (action : Action) (target : ℤ) (t : Nodes P) → insert_fault id action target t ≡ None → count t < 4096
+pub room_left : {P : Type 0} (id : ℤ) (action : AddAction) (target : ℤ) (t : Nodes P) → insert_fault id action target t ≡ None → count t < 4096
 room_left id action target t h =
     let no : nat_lt 4096 (count t + 1) ≡ false = (none_holds ((holds id t, InUse) ∷ (is_missing target t, NoNode) ∷ (is_beside_root action target, IsRoot) ∷ (is_in_synth action target t, NotGroup) ∷ (nat_lt 4096 (count t + 1), TooMany) ∷ []) h).1.1.1.1.0 in
     ⊎_elim (λ (l : 4096 < count t + 1). let bad : true ≡ false = sym (lt-ltb 4096 (count t + 1) l) ∙ no in cc) (λ (l : count t + 1 ≤ 4096). omega arith) (cases_lt 4096 (count t + 1))

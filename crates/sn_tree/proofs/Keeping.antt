@@ -6,8 +6,8 @@ use Rattle.std.specs.Option.{option_map}
 use Rattle.std.proofs.lemmas.Bool.{cases_Bool}
 use Rattle.std.proofs.lemmas.Bool.Decides.{eqb_tells}
 use Rattle.sn_tree.specs.declared.node.NodeKind.{NodeKind}
-use Rattle.sn_tree.specs.declared.node.Action.{Action}
-use Rattle.sn_tree.specs.declared.node.Action.TheVariants.{Head, Tail, Before, After}
+use Rattle.sn_tree.specs.declared.node.AddAction.{AddAction}
+use Rattle.sn_tree.specs.declared.node.AddAction.TheVariants.{Head, Tail, Before, After}
 use Rattle.sn_tree.specs.Trees.{Label, Nodes, none, node, holds, label_of, subtree, without, joined, beside, put, leaf, with_payloads, with_payloads_of, changed, with_running, has_top, last_top, without_last}
 use Rattle.sn_tree.specs.Order.{Key}
 use Rattle.sn_tree.specs.Arranged.{Arranged}
@@ -24,13 +24,13 @@ pub uses-joined : (key : Key) (s t : Nodes Key) → uses key (joined s t) ≡ us
 uses-joined key none t = omega arith
 uses-joined key (node label below after) t = omega (arith, uses-joined key after t)
 
-uses-beside : (key : Key) (action : Action) (new : Nodes Key) (label : Label Key) (below after : Nodes Key) → uses key (beside action new label below after) ≡ uses key (node label below after) + uses key new
+uses-beside : (key : Key) (action : AddAction) (new : Nodes Key) (label : Label Key) (below after : Nodes Key) → uses key (beside action new label below after) ≡ uses key (node label below after) + uses key new
 uses-beside key Head new label below after = omega (arith, uses-joined key new below)
 uses-beside key Tail new label below after = omega (arith, uses-joined key below new)
 uses-beside key Before new label below after = omega (arith, uses-joined key new (node label below after))
 uses-beside key After new label below after = omega (arith, uses-joined key new after)
 
-pub uses-put : (key : Key) (action : Action) (target : ℤ) (new t : Nodes Key) → holds target t ≡ true → uses key (put action target new t) ≡ uses key t + uses key new
+pub uses-put : (key : Key) (action : AddAction) (target : ℤ) (new t : Nodes Key) → holds target t ≡ true → uses key (put action target new t) ≡ uses key t + uses key new
 uses-put key action target new none h = cc
 uses-put key action target new (node label below after) h =
     ⊎_elim
@@ -113,7 +113,7 @@ uses-changed key id on (node label below after) =
 -- the steps, with their payloads changed
 
 module _ {Q : Type 0} (h : Key → Q) (nodes : Arranged) where
-  pub inserting_map : (id : ℤ) (kind : NodeKind) (action : Action) (target : ℤ) (key : Key) (payload : Q) → h key ≡ payload
+  pub inserting_map : (id : ℤ) (kind : NodeKind) (action : AddAction) (target : ℤ) (key : Key) (payload : Q) → h key ≡ payload
       → with_payloads_of h (inserting id kind action target key nodes) ≡ inserting id kind action target payload (with_payloads_of h nodes)
   inserting_map id kind action target key payload e = λ i. record {
     attached = (sym (put-payloads h action target (leaf id kind key) nodes.attached) ∙ ap (λ q. put action target (leaf id kind q) (with_payloads h nodes.attached)) e) i;
@@ -126,13 +126,13 @@ module _ {Q : Type 0} (h : Key → Q) (nodes : Arranged) where
     detached = (sym (joined-payloads h nodes.detached (subtree id nodes.attached)) ∙ ap (joined (with_payloads h nodes.detached)) (sym (subtree-payloads h id nodes.attached))) i;
   }
 
-  pub moving_map : (id : ℤ) (action : Action) (target : ℤ) → with_payloads_of h (moving id action target nodes) ≡ moving id action target (with_payloads_of h nodes)
+  pub moving_map : (id : ℤ) (action : AddAction) (target : ℤ) → with_payloads_of h (moving id action target nodes) ≡ moving id action target (with_payloads_of h nodes)
   moving_map id action target = λ i. record {
     attached = (sym (put-payloads h action target (subtree id nodes.attached) (without id nodes.attached)) ∙ (λ j. put action target (sym (subtree-payloads h id nodes.attached) j) (sym (without-payloads h id nodes.attached) j))) i;
     detached = with_payloads h nodes.detached;
   }
 
-  pub attaching_map : (id : ℤ) (action : Action) (target : ℤ) → with_payloads_of h (attaching id action target nodes) ≡ attaching id action target (with_payloads_of h nodes)
+  pub attaching_map : (id : ℤ) (action : AddAction) (target : ℤ) → with_payloads_of h (attaching id action target nodes) ≡ attaching id action target (with_payloads_of h nodes)
   attaching_map id action target = λ i. record {
     attached = (sym (put-payloads h action target (last_top id nodes.detached) nodes.attached) ∙ ap (λ l. put action target l (with_payloads h nodes.attached)) (sym (last_top-payloads h id nodes.detached))) i;
     detached = sym (without_last-payloads h id nodes.detached) i;
@@ -163,10 +163,10 @@ uses-last key id (node label below after) =
 pub used_detaching : (key : Key) (id : ℤ) (nodes : Arranged) → used key (detaching id nodes) ≡ used key nodes
 used_detaching key id nodes = omega (arith, uses-parts key id nodes.attached, uses-joined key nodes.detached (subtree id nodes.attached))
 
-pub used_moving : (key : Key) (id : ℤ) (action : Action) (target : ℤ) (nodes : Arranged) → holds target (without id nodes.attached) ≡ true → used key (moving id action target nodes) ≡ used key nodes
+pub used_moving : (key : Key) (id : ℤ) (action : AddAction) (target : ℤ) (nodes : Arranged) → holds target (without id nodes.attached) ≡ true → used key (moving id action target nodes) ≡ used key nodes
 used_moving key id action target nodes held = omega (arith, uses-parts key id nodes.attached, uses-put key action target (subtree id nodes.attached) (without id nodes.attached) held)
 
-pub used_attaching : (key : Key) (id : ℤ) (action : Action) (target : ℤ) (nodes : Arranged) → holds target nodes.attached ≡ true → used key (attaching id action target nodes) ≡ used key nodes
+pub used_attaching : (key : Key) (id : ℤ) (action : AddAction) (target : ℤ) (nodes : Arranged) → holds target nodes.attached ≡ true → used key (attaching id action target nodes) ≡ used key nodes
 used_attaching key id action target nodes held = omega (arith, uses-last key id nodes.detached, uses-put key action target (last_top id nodes.detached) nodes.attached held)
 
 pub used_setting : (key : Key) (id : ℤ) (on : Bool) (nodes : Arranged) → used key (setting id on nodes) ≡ used key nodes

@@ -13,8 +13,8 @@ use Rattle.sn_forest.proofs.Paths.{Path, top, under, beside, plug, path_uses, us
 use Rattle.sn_forest.proofs.Passing.{without_at, first_at, last_at, before_at, after_at, subtree_found}
 use Rattle.sn_forest.proofs.Climbing.{over, plug-over}
 use Rattle.sn_tree.specs.declared.item.Item.{Item}
-use Rattle.sn_tree.specs.declared.node.Action.{Action}
-use Rattle.sn_tree.specs.declared.node.Action.TheVariants.{Head, Tail, Before, After}
+use Rattle.sn_tree.specs.declared.node.AddAction.{AddAction}
+use Rattle.sn_tree.specs.declared.node.AddAction.TheVariants.{Head, Tail, Before, After}
 use Rattle.sn_tree.specs.Trees.{node, joined, subtree, without, put}
 use Rattle.sn_tree.specs.Arranged.{Arranged}
 use Rattle.sn_tree.specs.Steps.{detaching, moving}
@@ -28,7 +28,7 @@ labels-joined none t = refl
 labels-joined (tree key item below after) t = ap (node (label_by item) (labels below)) (labels-joined after t)
 
 -- new nodes put at a spot, by the path of its target
-pub put_labels : (action : Action) (id : ℤ) (p : Path Item) (key : ℕ) (item : Item) (below after new : Trees Item) → int_eq item.id id ≡ true → path_names id p ≡ 0 → path_uses key p ≡ 0
+pub put_labels : (action : AddAction) (id : ℤ) (p : Path Item) (key : ℕ) (item : Item) (below after new : Trees Item) → int_eq item.id id ≡ true → path_names id p ≡ 0 → path_uses key p ≡ 0
     → put action id (labels new) (labels (plug p (tree key item below after))) ≡ labels (put_at (placed action key) new (plug p (tree key item below after)))
 put_labels Head id p key item below after new is z u =
     id_put id p key item below after is z Head (labels new)
@@ -254,7 +254,7 @@ fronted r root below after (PlaceAfter key) new z w =
     record { inside = put_at (PlaceAfter key) new below; whole = now after ∙ ap (tree r root (put_at (PlaceAfter key) new below)) out; alone = now none }
 
 -- new trees at a spot beside or below an attached node
-pub put_sides : (r : ℕ) (root : Item) (below after : Trees Item) (action : Action) (target : ℤ) (key : ℕ) (new : Trees Item)
+pub put_sides : (r : ℕ) (root : Item) (below after : Trees Item) (action : AddAction) (target : ℤ) (key : ℕ) (new : Trees Item)
     → ((j : ℕ) → uses j (tree r root below after) ≤ 1) → names target (tree r root below none) ≤ 1 → 1 ≤ named target key (tree r root below none) → IsBelowRoot (placed action key) r
     → sides (put_at (placed action key) new (tree r root below after)) ≡ record { attached = put action target (labels new) (labels (tree r root below none)); detached = labels after }
 put_sides r root below after action target key new once distinct h w =
@@ -270,7 +270,7 @@ put_sides r root below after action target key new once distinct h w =
     ∙ ((λ i. let s : Arranged = record { attached = labels (sym o.alone i); detached = labels after } in s)
     ∙ (λ i. let s : Arranged = record { attached = sym put_in i; detached = labels after } in s))
   where
-    by_place : (action : Action) (key : ℕ) (after : Trees Item) → uses key after ≡ 0 → uses (key_of (placed action key)) after ≡ 0
+    by_place : (action : AddAction) (key : ℕ) (after : Trees Item) → uses key after ≡ 0 → uses (key_of (placed action key)) after ≡ 0
     by_place Head key after z = z
     by_place Tail key after z = z
     by_place Before key after z = z
@@ -279,7 +279,7 @@ put_sides r root below after action target key new once distinct h w =
 -- a subtree is put in elsewhere
 module _ (r : ℕ) (root : Item) (below after : Trees Item) (k : ℕ) (once : (j : ℕ) → uses j (tree r root below after) ≤ 1) (u : 1 ≤ uses k below)
     (id : ℤ) (distinct : (x : ℤ) → names x (tree r root below none) ≤ 1) (h : 1 ≤ named id k (tree r root below none)) where
-  pub move_sides : (action : Action) (target : ℤ) (key : ℕ) → 1 ≤ named target key (front (without_key k (tree r root below after))) → IsBelowRoot (placed action key) r
+  pub move_sides : (action : AddAction) (target : ℤ) (key : ℕ) → 1 ≤ named target key (front (without_key k (tree r root below after))) → IsBelowRoot (placed action key) r
       → sides (shifted k (placed action key) (tree r root below after)) ≡ moving id action target (sides (tree r root below after))
   move_sides action target key there w =
       let g : Found k below = found k top below u in

@@ -7,7 +7,7 @@ use Rattle.sn_forest.specs.Trees.{Trees, none, tree}
 use Rattle.sn_forest.proofs.Keys.{some_or_none}
 use Rattle.sn_forest.proofs.Paths.{Path, top, under, beside, plug}
 use Rattle.sn_tree.specs.declared.item.Item.{Item}
-use Rattle.sn_tree.specs.declared.node.Action.{Action}
+use Rattle.sn_tree.specs.declared.node.AddAction.{AddAction}
 use Rattle.sn_tree.specs.Trees.{Label, Nodes, none as no_nodes, node, holds, label_of, subtree, without, put, changed, beside as beside_it}
 use Rattle.sn_tree.specs.Order.{Key}
 use Rattle.sn_tree.specs.Keyed.{label_by, labels, counted, names}
@@ -118,7 +118,7 @@ module _ (id : ℤ) (p : Path Item) (key : ℕ) (item : Item) (below after : Tre
       ∙ (id_finds (label_of id) id (λ l b a n. ap (λ t. if t then Some l else if holds id b then label_of id b else label_of id a) n) p (tree key item below after) there z
       ∙ ap (λ t. if t then Some (label_by item) else if holds id (labels below) then label_of id (labels below) else label_of id (labels after)) is)
 
-  pub id_put : (action : Action) (new : Nodes Key) → put action id new (labels whole) ≡ plug_labels p (beside_it action new (label_by item) (labels below) (labels after))
+  pub id_put : (action : AddAction) (new : Nodes Key) → put action id new (labels whole) ≡ plug_labels p (beside_it action new (label_by item) (labels below) (labels after))
   id_put action new =
       ap (put action id new) (labels-plug p (tree key item below after))
       ∙ (id_passes (put action id new) id (λ l b a n. ap (λ t. if t then beside_it action new l b a else if holds id b then node l (put action id new b) a else node l b (put action id new a)) n) p (tree key item below after) there z

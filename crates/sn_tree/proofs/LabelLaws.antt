@@ -8,7 +8,7 @@ use Rattle.sn_forest.proofs.Keys.{one_same, present}
 use Rattle.sn_forest.proofs.Paths.{Path, top, plug, path_uses, uses-plug}
 use Rattle.sn_forest.proofs.Passing.{value_found, subtree_found}
 use Rattle.sn_tree.specs.declared.item.Item.{Item}
-use Rattle.sn_tree.specs.declared.node.Action.{Action}
+use Rattle.sn_tree.specs.declared.node.AddAction.{AddAction}
 use Rattle.sn_tree.specs.declared.node.TreeFault.TheVariants.{NoNode, IsRoot, NotGroup}
 use Rattle.sn_tree.specs.Trees.{holds, label_of, subtree}
 use Rattle.sn_tree.specs.Faults.{first_fault, spot_fault, is_missing, is_beside_root, is_in_synth, is_inside, is_synth, labels_synth}
@@ -83,7 +83,7 @@ pub named_held : (t : Trees Item) (id : ℤ) (key : ℕ) → 1 ≤ named id key 
 named_held t id key h = is_held id (front t) (omega (arith, h, named-names id key (front t)))
 
 -- why nothing can be put at such a spot of an attached node
-pub spot_at : (t : Trees Item) (action : Action) (id : ℤ) (key : ℕ) (item : Item) → At t id key → 1 ≤ named id key (front t) → Some item ≡ value_of key t
+pub spot_at : (t : Trees Item) (action : AddAction) (id : ℤ) (key : ℕ) (item : Item) → At t id key → 1 ≤ named id key (front t) → Some item ≡ value_of key t
     → spot_fault action id (labels (front t)) ≡ first_fault ((is_beside_root action id, IsRoot) ∷ (is_inside action && is_synth item.kind, NotGroup) ∷ [])
 spot_at t action id key item a h e =
     let there : is_missing id (labels (front t)) ≡ false = ap not (named_held t id key h) in

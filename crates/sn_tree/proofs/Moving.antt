@@ -3,7 +3,7 @@ use Rattle.std.proofs.Common.{◌≡◌, ℤ, pos, Bool, true, false, ◌||◌, 
 use Rattle.std.specs.Prelude.{if◌then◌else◌}
 use Rattle.std.specs.Ordering.{int_eq}
 use Rattle.std.proofs.lemmas.Bool.{cases_Bool, or_parts}
-use Rattle.sn_tree.specs.declared.node.Action.{Action}
+use Rattle.sn_tree.specs.declared.node.AddAction.{AddAction}
 use Rattle.sn_tree.specs.declared.node.TreeFault.{TreeFault}
 use Rattle.sn_tree.specs.declared.node.TreeFault.TheVariants.{NoNode, NotGroup, IsRoot, Inside}
 use Rattle.sn_tree.specs.Trees.{Nodes, none, node, holds, subtree, without, label_of}
@@ -44,7 +44,7 @@ kept_in id target (node label below after) h =
 
 -- faults of a move
 
-module _ (action : Action) (target : ℤ) where
+module _ (action : AddAction) (target : ℤ) where
   spot_first : (d e f : Bool) (x : TreeFault) → (if d then Some IsRoot else if e then Some NotGroup else None) ≡ Some x → (if d then Some IsRoot else if e then Some NotGroup else if f then Some Inside else None) ≡ Some x
   spot_first true e f x h = h
   spot_first false true f x h = h

@@ -9,8 +9,8 @@ use Rattle.sn_forest.specs.declared.place.Place.{Place}
 use Rattle.sn_forest.specs.Places.{put}
 use Rattle.sn_forest.specs.declared.place.Place.TheVariants.{Before as PlaceBefore, After}
 use Rattle.sn_forest.proofs.Keys.{some_or_none}
-use Rattle.sn_tree.specs.declared.node.Action.{Action}
-use Rattle.sn_tree.specs.declared.node.Action.TheVariants.{Before}
+use Rattle.sn_tree.specs.declared.node.AddAction.{AddAction}
+use Rattle.sn_tree.specs.declared.node.AddAction.TheVariants.{Before}
 use Rattle.sn_tree.specs.declared.node.NodeKind.{NodeKind}
 use Rattle.sn_tree.specs.declared.node.TreeFault.{TreeFault}
 use Rattle.sn_tree.specs.declared.node.TreeFault.TheVariants.{NoNode, InUse, IsRoot, NotGroup, TooMany}
@@ -34,12 +34,12 @@ module _ (t : Trees Item) (once : (j : ℕ) → uses j t ≤ 1) (h : IsSound t) 
   pub detach_goes : (key end : ℕ) → detach_fault id (labels (front t)) ≡ None → 1 ≤ named id key (front t) → last_key None t ≡ Some end → Shifts t key (After end) (detaching id (sides t))
   detach_goes key end free u e = detach_any t id key end once h u (detach_root id (labels (front t)) free) e (omega (arith, few))
 
-  pub move_goes : (action : Action) (target : ℤ) (key : ℕ) (place : Place) → move_fault id action target (labels (front t)) ≡ None → IsMovable t id action target key place → Shifts t key place (moving id action target (sides t))
+  pub move_goes : (action : AddAction) (target : ℤ) (key : ℕ) (place : Place) → move_fault id action target (labels (front t)) ≡ None → IsMovable t id action target key place → Shifts t key place (moving id action target (sides t))
   move_goes action target key place free m =
       let n : (int_eq id (pos 0) ≡ false) × (is_beside_root action target ≡ false) = move_root id action target (labels (front t)) free in
       move_any t id action target key place once h m n.0 n.1 few
 
-  pub attach_goes : (action : Action) (target : ℤ) (key : ℕ) (place : Place) → attach_fault id action target (labels (front t)) (labels (behind_tree t)) ≡ None → IsAttachable t id action target key place
+  pub attach_goes : (action : AddAction) (target : ℤ) (key : ℕ) (place : Place) → attach_fault id action target (labels (front t)) (labels (behind_tree t)) ≡ None → IsAttachable t id action target key place
       → Shifts t key place (attaching id action target (sides t))
   attach_goes action target key place free m =
       attach_any t id action target key place once h m (attach_beside id action target (labels (front t)) (labels (behind_tree t)) free)
@@ -63,20 +63,20 @@ run_missing t id f = ap (λ b. let o : Option TreeFault = if not b then Some NoN
 pub run_free : (t : Nodes Key) (id : ℤ) → holds id t ≡ true → set_run_fault id t ≡ None
 run_free t id f = ap (λ b. let o : Option TreeFault = if not b then Some NoNode else None in o) f
 
-insert_few : (id : ℤ) (action : Action) (target : ℤ) (t : Nodes Key) → insert_fault id action target t ≡ None → count_nodes t + 1 ≤ 4096
+insert_few : (id : ℤ) (action : AddAction) (target : ℤ) (t : Nodes Key) → insert_fault id action target t ≡ None → count_nodes t + 1 ≤ 4096
 insert_few id action target t h =
     let no : nat_lt 4096 (count_nodes t + 1) ≡ false =
     (none_holds ((holds id t, InUse) ∷ (is_missing target t, NoNode) ∷ (is_beside_root action target, IsRoot) ∷ (is_in_synth action target t, NotGroup) ∷ (nat_lt 4096 (count_nodes t + 1), TooMany) ∷ []) h).1.1.1.1.0 in
     ⊎_elim (λ (l : 4096 < count_nodes t + 1). let bad : true ≡ false = sym (lt-ltb 4096 (count_nodes t + 1) l) ∙ no in cc) (λ (l : count_nodes t + 1 ≤ 4096). l) (cases_lt 4096 (count_nodes t + 1))
 
 -- what a new node asks
-pub record Comes (t : Trees Item) (id : ℤ) (action : Action) (target : ℤ) (place : Place) : Type 0 where
+pub record Comes (t : Trees Item) (id : ℤ) (action : AddAction) (target : ℤ) (place : Place) : Type 0 where
   pub among : IsAmong t place
   pub absent : names id (front t) ≡ 0
   pub few : count (front t) + 1 ≤ 4096
   pub beside : is_beside_root action target ≡ false
 
-pub insert_comes : (t : Trees Item) → ((j : ℕ) → uses j t ≤ 1) → IsSound t → (id : ℤ) (action : Action) (target : ℤ) (place : Place) → insert_fault id action target (labels (front t)) ≡ None → IsSpot t action target place → Comes t id action target place
+pub insert_comes : (t : Trees Item) → ((j : ℕ) → uses j t ≤ 1) → IsSound t → (id : ℤ) (action : AddAction) (target : ℤ) (place : Place) → insert_fault id action target (labels (front t)) ≡ None → IsSpot t action target place → Comes t id action target place
 insert_comes t once h id action target place free s = record {
   among = spot_is_among t action target place once h s (insert_beside id action target (labels (front t)) free);
   absent = no_names id (front t) (insert_free id action target (labels (front t)) free);

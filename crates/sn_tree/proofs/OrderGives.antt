@@ -5,7 +5,7 @@ use Rattle.sn_forest.specs.Trees.{Trees, none, tree, uses, count}
 use Rattle.sn_forest.specs.Places.{put, shifted}
 use Rattle.sn_forest.specs.Walking.{behind_node, behind_tree}
 use Rattle.sn_forest.specs.declared.place.Place.{Place}
-use Rattle.sn_tree.specs.declared.node.Action.{Action}
+use Rattle.sn_tree.specs.declared.node.AddAction.{AddAction}
 use Rattle.sn_tree.specs.declared.node.NodeKind.{NodeKind}
 use Rattle.sn_tree.specs.Faults.{is_beside_root}
 use Rattle.sn_tree.specs.Trees.{without_first}
@@ -63,12 +63,12 @@ run_gives (tree r root below after) now journal new id key on once h few u g f =
 }
 
 -- a place by its spot is among the attached nodes
-pub spot_is_among : (t : Trees Item) (action : Action) (target : ℤ) (place : Place) → ((j : ℕ) → uses j t ≤ 1) → IsSound t → IsSpot t action target place → is_beside_root action target ≡ false → IsAmong t place
+pub spot_is_among : (t : Trees Item) (action : AddAction) (target : ℤ) (place : Place) → ((j : ℕ) → uses j t ≤ 1) → IsSound t → IsSpot t action target place → is_beside_root action target ≡ false → IsAmong t place
 spot_is_among none action target place once h s beside = absurd (omega (arith, s.there))
 spot_is_among (tree r root below after) action target place once h s beside =
     subst (λ p. IsAmong (tree r root below after) p) (sym s.is) (spot_among r root below after once h action target s.key s.there beside)
 
-pub insert_gives : (t now : Trees Item) (journal new : Option Steps) (action : Action) (target : ℤ) (place : Place) (node : ℕ) (id : ℤ) (kind : NodeKind) (payload : Option ℕ) (key : ℕ) → ((j : ℕ) → uses j t ≤ 1) → IsSound t
+pub insert_gives : (t now : Trees Item) (journal new : Option Steps) (action : AddAction) (target : ℤ) (place : Place) (node : ℕ) (id : ℤ) (kind : NodeKind) (payload : Option ℕ) (key : ℕ) → ((j : ℕ) → uses j t ≤ 1) → IsSound t
     → IsSpot t action target place → is_beside_root action target ≡ false → count (front t) + 1 ≤ 4096
     → now ≡ put place (tree node (record { id = id; kind = kind; running = true; key = payload }) none none) t → FollowedNew t now journal new key
     → Gives now new (inserting id kind action target payload (sides t)) (noted key (saved_by t journal))

@@ -15,8 +15,8 @@ use Rattle.sn_forest.proofs.Paths.{top, path_uses, uses-plug, Found, found}
 use Rattle.sn_forest.proofs.Passing.{untouched, subtree_found}
 use Rattle.sn_tree.specs.declared.item.Item.{Item}
 use Rattle.sn_tree.specs.declared.node.NodeKind.{NodeKind}
-use Rattle.sn_tree.specs.declared.node.Action.{Action}
-use Rattle.sn_tree.specs.declared.node.Action.TheVariants.{Head, Tail, Before, After}
+use Rattle.sn_tree.specs.declared.node.AddAction.{AddAction}
+use Rattle.sn_tree.specs.declared.node.AddAction.TheVariants.{Head, Tail, Before, After}
 use Rattle.sn_tree.specs.Trees.{Label, Nodes, none as no_nodes, node, holds, subtree, count as count_nodes, put, first_label, without_first, changed, with_running}
 use Rattle.sn_tree.specs.Faults.{is_beside_root}
 use Rattle.sn_tree.specs.Order.{Key}
@@ -87,13 +87,13 @@ module _ (r : ℕ) (root : Item) (below after : Trees Item) (once : (j : ℕ) �
       let away : one_at r key ≡ 0 = ap {B = ℕ} (λ b. if b then 1 else 0) (other_key r key (not_root id key u n)) in
       omega (arith, u, named-uses id key (tree r root below none), away)
 
-  pub spot_below : (action : Action) (target : ℤ) (key : ℕ) → 1 ≤ named target key (front all) → is_beside_root action target ≡ false → IsBelowRoot (placed action key) r
+  pub spot_below : (action : AddAction) (target : ℤ) (key : ℕ) → 1 ≤ named target key (front all) → is_beside_root action target ≡ false → IsBelowRoot (placed action key) r
   spot_below Head target key u n = tt
   spot_below Tail target key u n = tt
   spot_below Before target key u n = not_root target key u n
   spot_below After target key u n = not_root target key u n
 
-  pub spot_among : (action : Action) (target : ℤ) (key : ℕ) → 1 ≤ named target key (front all) → is_beside_root action target ≡ false → IsAmong all (placed action key)
+  pub spot_among : (action : AddAction) (target : ℤ) (key : ℕ) → 1 ≤ named target key (front all) → is_beside_root action target ≡ false → IsAmong all (placed action key)
   spot_among Head target key u n =
       let there : 1 ≤ uses key (tree r root below none) = omega (arith, u, named-uses target key (tree r root below none)) in
       (omega (arith, there), present key (tree r root below none) there)
@@ -108,7 +108,7 @@ module _ (r : ℕ) (root : Item) (below after : Trees Item) (once : (j : ℕ) �
       (omega (arith, there), present key below there)
 
   -- a new node
-  pub inserted_sides : (action : Action) (target : ℤ) (key k : ℕ) (id : ℤ) (kind : NodeKind) (payload : Option ℕ) → 1 ≤ named target key (front all) → is_beside_root action target ≡ false
+  pub inserted_sides : (action : AddAction) (target : ℤ) (key k : ℕ) (id : ℤ) (kind : NodeKind) (payload : Option ℕ) → 1 ≤ named target key (front all) → is_beside_root action target ≡ false
       → sides (put_at (placed action key) (tree k (record { id = id; kind = kind; running = true; key = payload }) none none) all) ≡ inserting id kind action target payload (sides all)
   inserted_sides action target key k id kind payload u n =
       put_sides r root below after action target key (tree k (record { id = id; kind = kind; running = true; key = payload }) none none) once (h.distinct target) u (spot_below action target key u n)
@@ -150,7 +150,7 @@ module _ (r : ℕ) (root : Item) (below after : Trees Item) (once : (j : ℕ) �
         ap (λ b. if b then without_key k after else tree r root (without_key k below) (without_key k after)) (other_key r k (apart r k (omega (arith, once k, top_there))))
         ∙ ap (λ x. tree r root x (without_key k after)) (without_absent k below (omega (arith, once k, top_there)))
 
-    pub attached_sides : (action : Action) (target : ℤ) (key : ℕ) → 1 ≤ named target key (front all) → is_beside_root action target ≡ false → sides (shifted k (placed action key) all) ≡ attaching id action target (sides all)
+    pub attached_sides : (action : AddAction) (target : ℤ) (key : ℕ) → 1 ≤ named target key (front all) → is_beside_root action target ≡ false → sides (shifted k (placed action key) all) ≡ attaching id action target (sides all)
     attached_sides action target key u n =
         let fewer : (j : ℕ) → uses j (tree r root below (without_key k after)) ≤ 1 =
         λ j. omega (arith, once j, out_all (λ (t : Trees Item). uses j t) (uses_sum j) k all once (omega (arith, top_there)), ap (λ x. uses j x) top_out) in

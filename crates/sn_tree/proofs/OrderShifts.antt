@@ -11,8 +11,8 @@ use Rattle.sn_forest.specs.declared.place.Place.TheVariants.{Before as PlaceBefo
 use Rattle.sn_forest.proofs.Keys.{some_or_none, one_same, one_other, apart, other_key, missing, present}
 use Rattle.sn_forest.proofs.Walking.{some_first}
 use Rattle.sn_tree.specs.declared.item.Item.{Item}
-use Rattle.sn_tree.specs.declared.node.Action.{Action}
-use Rattle.sn_tree.specs.declared.node.Action.TheVariants.{Before}
+use Rattle.sn_tree.specs.declared.node.AddAction.{AddAction}
+use Rattle.sn_tree.specs.declared.node.AddAction.TheVariants.{Before}
 use Rattle.sn_tree.specs.declared.node.NodeKind.{NodeKind}
 use Rattle.sn_tree.specs.Trees.{holds, shares}
 use Rattle.sn_tree.specs.Faults.{is_beside_root}
@@ -80,7 +80,7 @@ module _ (r : ℕ) (root : Item) (below after : Trees Item) (once : (j : ℕ) �
   is_inner k u n = record { used = u; inner = λ e. n (some_first r k e) }
 
   -- a place of the attached nodes without a node
-  among_left : (k : ℕ) (u : 1 ≤ uses k all) (n : r ≢ k) (b a : Trees Item) → without_key k all ≡ tree r root b a → (action : Action) (target : ℤ) (key : ℕ) → 1 ≤ named target key (front (without_key k all)) → is_beside_root action target ≡ false
+  among_left : (k : ℕ) (u : 1 ≤ uses k all) (n : r ≢ k) (b a : Trees Item) → without_key k all ≡ tree r root b a → (action : AddAction) (target : ℤ) (key : ℕ) → 1 ≤ named target key (front (without_key k all)) → is_beside_root action target ≡ false
       → IsAmong (without_key k all) (placed action key)
   among_left k u n b a e action target key there beside =
       subst (λ t. IsAmong t (placed action key)) (sym e)
@@ -101,7 +101,7 @@ module _ (r : ℕ) (root : Item) (below after : Trees Item) (once : (j : ℕ) �
         few = omega (arith, some, detach_number r root below after once key end there e);
       }
 
-  pub move_shifts : (id : ℤ) (action : Action) (target : ℤ) (key : ℕ) (place : Place) → IsMovable all id action target key place → int_eq id (pos 0) ≡ false → is_beside_root action target ≡ false
+  pub move_shifts : (id : ℤ) (action : AddAction) (target : ℤ) (key : ℕ) (place : Place) → IsMovable all id action target key place → int_eq id (pos 0) ≡ false → is_beside_root action target ≡ false
       → count (front all) ≤ 4096 → Shifts all key place (moving id action target (sides all))
   move_shifts id action target key place m n beside some =
       let there : 1 ≤ uses key below = is_below r root below after once h id key m.node n in
@@ -122,7 +122,7 @@ module _ (r : ℕ) (root : Item) (below after : Trees Item) (once : (j : ℕ) �
         few = omega (arith, some, move_number r root below after once key place there goes);
       }
 
-  pub attach_shifts : (id : ℤ) (action : Action) (target : ℤ) (key : ℕ) (place : Place) → IsAttachable all id action target key place → is_beside_root action target ≡ false
+  pub attach_shifts : (id : ℤ) (action : AddAction) (target : ℤ) (key : ℕ) (place : Place) → IsAttachable all id action target key place → is_beside_root action target ≡ false
       → shares (labels (subtree_of key all)) (labels (front all)) ≡ false → count (front all) + count (subtree_of key all) ≤ 4096
       → Shifts all key place (attaching id action target (sides all))
   attach_shifts id action target key place m beside apart_ids some =
@@ -155,18 +155,18 @@ pub detach_any : (t : Trees Item) (id : ℤ) (key end : ℕ) → ((j : ℕ) → 
 detach_any none id key end once h u n e some = absurd (omega (arith, u))
 detach_any (tree r root below after) id key end once h u n e some = detach_shifts r root below after once h id key end u n e some
 
-pub attach_any : (t : Trees Item) (id : ℤ) (action : Action) (target : ℤ) (key : ℕ) (place : Place) → ((j : ℕ) → uses j t ≤ 1) → IsSound t → IsAttachable t id action target key place → is_beside_root action target ≡ false
+pub attach_any : (t : Trees Item) (id : ℤ) (action : AddAction) (target : ℤ) (key : ℕ) (place : Place) → ((j : ℕ) → uses j t ≤ 1) → IsSound t → IsAttachable t id action target key place → is_beside_root action target ≡ false
     → shares (labels (subtree_of key t)) (labels (front t)) ≡ false → count (front t) + count (subtree_of key t) ≤ 4096 → Shifts t key place (attaching id action target (sides t))
 attach_any none id action target key place once h m beside ids some = absurd (omega (arith, m.node.there))
 attach_any (tree r root below after) id action target key place once h m beside ids some = attach_shifts r root below after once h id action target key place m beside ids some
 
-pub move_any : (t : Trees Item) (id : ℤ) (action : Action) (target : ℤ) (key : ℕ) (place : Place) → ((j : ℕ) → uses j t ≤ 1) → IsSound t → IsMovable t id action target key place → int_eq id (pos 0) ≡ false → is_beside_root action target ≡ false
+pub move_any : (t : Trees Item) (id : ℤ) (action : AddAction) (target : ℤ) (key : ℕ) (place : Place) → ((j : ℕ) → uses j t ≤ 1) → IsSound t → IsMovable t id action target key place → int_eq id (pos 0) ≡ false → is_beside_root action target ≡ false
     → count (front t) ≤ 4096 → Shifts t key place (moving id action target (sides t))
 move_any none id action target key place once h m n beside some = absurd (omega (arith, m.node))
 move_any (tree r root below after) id action target key place once h m n beside some = move_shifts r root below after once h id action target key place m n beside some
 
 -- a target that isn't in the tree of a node stays where that goes out
-pub stays : (t : Trees Item) (id : ℤ) (key : ℕ) (action : Action) (target : ℤ) (at_key : ℕ) (place : Place) → ((j : ℕ) → uses j t ≤ 1) → IsSound t → 1 ≤ named id key (front t) → int_eq id (pos 0) ≡ false
+pub stays : (t : Trees Item) (id : ℤ) (key : ℕ) (action : AddAction) (target : ℤ) (at_key : ℕ) (place : Place) → ((j : ℕ) → uses j t ≤ 1) → IsSound t → 1 ≤ named id key (front t) → int_eq id (pos 0) ≡ false
     → 1 ≤ named target at_key (front t) → has_key at_key (subtree_of key t) ≡ false → place ≡ placed action at_key → IsMovable t id action target key place
 stays none id key action target at_key place once h u n v out is = absurd (omega (arith, u))
 stays (tree r root below after) id key action target at_key place once h u n v out is =

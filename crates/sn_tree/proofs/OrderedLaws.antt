@@ -3,7 +3,7 @@ use Rattle.std.proofs.Common.{◌≡◌, ℕ, ◌≤◌, ℤ, List, [], Option, 
 use Rattle.std.specs.Prelude.{Bool, Result, Ok, Err, OnOk, OnErr, slice_index_or}
 use Rattle.std.specs.Option.{option_map}
 use Rattle.slab.specs.Slab.{Slab, Updates}
-use Rattle.sn_tree.specs.declared.node.Action.{Action}
+use Rattle.sn_tree.specs.declared.node.AddAction.{AddAction}
 use Rattle.sn_tree.specs.declared.node.TreeFault.{TreeFault}
 use Rattle.sn_tree.specs.declared.node.Uninserted.{Uninserted}
 use Rattle.sn_tree.specs.declared.node.Uninserted.TheVariants.{NoMemory, Fault}
@@ -90,7 +90,7 @@ module _ {P : Type 0} (root : P) (slots : List (Option P)) (old new : Ordered) (
   }
   detach_answered id (Err e) fault ok stays = record { kept = (unchanged_by stays).kept; ok = tt; refused = (unchanged_by stays).shows }
 
-  pub attach_answered : {A : Type 0} (id : ℤ) (action : Action) (target : ℤ) (r : Result A TreeFault) → fault_of r ≡ attach_fault id action target old.now.attached old.now.detached → OnOk r (new ≡ record { now = attaching id action target old.now; saved = spent 1 old.saved }) → OnErr r (new ≡ old) → Answered root slots new tree (shown root slots new.now new.saved ≡ attached id action target tree) r
+  pub attach_answered : {A : Type 0} (id : ℤ) (action : AddAction) (target : ℤ) (r : Result A TreeFault) → fault_of r ≡ attach_fault id action target old.now.attached old.now.detached → OnOk r (new ≡ record { now = attaching id action target old.now; saved = spent 1 old.saved }) → OnErr r (new ≡ old) → Answered root slots new tree (shown root slots new.now new.saved ≡ attached id action target tree) r
   attach_answered id action target (Ok a) fault ok stays = record {
     kept = attach_keeps root slots old.now new.now old.saved new.saved tree h.shows h.kept (ap (λ (o : Ordered). o.saved) ok) id action target (ap (λ (o : Ordered). o.now) ok) (sym fault);
     ok = attach_gives root slots old.now new.now old.saved new.saved tree h.shows h.kept (ap (λ (o : Ordered). o.saved) ok) id action target (ap (λ (o : Ordered). o.now) ok);
@@ -98,7 +98,7 @@ module _ {P : Type 0} (root : P) (slots : List (Option P)) (old new : Ordered) (
   }
   attach_answered id action target (Err e) fault ok stays = record { kept = (unchanged_by stays).kept; ok = tt; refused = (unchanged_by stays).shows }
 
-  pub move_answered : {A : Type 0} (id : ℤ) (action : Action) (target : ℤ) (r : Result A TreeFault) → fault_of r ≡ move_fault id action target old.now.attached → OnOk r (new ≡ record { now = moving id action target old.now; saved = spent 1 old.saved }) → OnErr r (new ≡ old) → Answered root slots new tree (shown root slots new.now new.saved ≡ moved id action target tree) r
+  pub move_answered : {A : Type 0} (id : ℤ) (action : AddAction) (target : ℤ) (r : Result A TreeFault) → fault_of r ≡ move_fault id action target old.now.attached → OnOk r (new ≡ record { now = moving id action target old.now; saved = spent 1 old.saved }) → OnErr r (new ≡ old) → Answered root slots new tree (shown root slots new.now new.saved ≡ moved id action target tree) r
   move_answered id action target (Ok a) fault ok stays = record {
     kept = move_keeps root slots old.now new.now old.saved new.saved tree h.shows h.kept (ap (λ (o : Ordered). o.saved) ok) id action target (ap (λ (o : Ordered). o.now) ok) (move_root id action target old.now.attached (sym fault)).0 (move_root id action target old.now.attached (sym fault)).1 (move_there id action target old.now.attached (sym fault));
     ok = move_gives root slots old.now new.now old.saved new.saved tree h.shows h.kept (ap (λ (o : Ordered). o.saved) ok) id action target (ap (λ (o : Ordered). o.now) ok);

@@ -3,8 +3,8 @@ use Rattle.std.proofs.Common.{◌≡◌, ℤ, pos, negsuc, ◌+◌, Bool, true, 
 use Rattle.std.specs.Prelude.{if◌then◌else◌}
 use Rattle.std.specs.Option.{option_map}
 use Rattle.std.specs.Ordering.{int_eq}
-use Rattle.sn_tree.specs.declared.node.Action.{Action}
-use Rattle.sn_tree.specs.declared.node.Action.TheVariants.{Head, Tail, Before, After}
+use Rattle.sn_tree.specs.declared.node.AddAction.{AddAction}
+use Rattle.sn_tree.specs.declared.node.AddAction.TheVariants.{Head, Tail, Before, After}
 use Rattle.sn_tree.specs.declared.node.NodeView.{NodeView}
 use Rattle.sn_tree.specs.declared.node.TreeFault.TheVariants.{NoNode, InUse, NotGroup, IsRoot, Inside, TooMany}
 use Rattle.sn_tree.specs.Trees.{Label, Nodes, none, node, holds, label_of, children, count, ids, subtree, without, joined, beside, put, changed, first_id, last_id, first_of, view_from, with_payloads, has_top, last_top, without_last, shares, first_label, without_first}
@@ -67,13 +67,13 @@ module _ {P Q : Type 0} (f : P → Q) where
   joined-payloads none t = refl
   joined-payloads (node label below after) t = ap (λ u. node (relabelled f label) (with_payloads f below) u) (joined-payloads after t)
 
-  beside-payloads : (action : Action) (new : Nodes P) (label : Label P) (below after : Nodes P) → beside action (with_payloads f new) (relabelled f label) (with_payloads f below) (with_payloads f after) ≡ with_payloads f (beside action new label below after)
+  beside-payloads : (action : AddAction) (new : Nodes P) (label : Label P) (below after : Nodes P) → beside action (with_payloads f new) (relabelled f label) (with_payloads f below) (with_payloads f after) ≡ with_payloads f (beside action new label below after)
   beside-payloads Head new label below after = ap (λ u. node (relabelled f label) u (with_payloads f after)) (joined-payloads new below)
   beside-payloads Tail new label below after = ap (λ u. node (relabelled f label) u (with_payloads f after)) (joined-payloads below new)
   beside-payloads Before new label below after = joined-payloads new (node label below after)
   beside-payloads After new label below after = ap (λ u. node (relabelled f label) (with_payloads f below) u) (joined-payloads new after)
 
-  pub put-payloads : (action : Action) (target : ℤ) (new t : Nodes P) → put action target (with_payloads f new) (with_payloads f t) ≡ with_payloads f (put action target new t)
+  pub put-payloads : (action : AddAction) (target : ℤ) (new t : Nodes P) → put action target (with_payloads f new) (with_payloads f t) ≡ with_payloads f (put action target new t)
   put-payloads action target new none = refl
   put-payloads action target new (node label below after) =
       both (with_payloads f) (int_eq label.id target) _ _ _ _ (beside-payloads action new label below after)
@@ -167,7 +167,7 @@ module _ {P Q : Type 0} (f : P → Q) where
   pub synth-payloads : (id : ℤ) (t : Nodes P) → labels_synth (label_of id (with_payloads f t)) ≡ labels_synth (label_of id t)
   synth-payloads id t = ap labels_synth (label-payloads id t) ∙ synth-map (label_of id t)
 
-  pub insert_fault-payloads : (id : ℤ) (action : Action) (target : ℤ) (t : Nodes P) → insert_fault id action target (with_payloads f t) ≡ insert_fault id action target t
+  pub insert_fault-payloads : (id : ℤ) (action : AddAction) (target : ℤ) (t : Nodes P) → insert_fault id action target (with_payloads f t) ≡ insert_fault id action target t
   insert_fault-payloads id action target t = λ i. first_fault (
       (holds-payloads id t i, InUse)
       ∷ (not (holds-payloads target t i), NoNode)
@@ -185,7 +185,7 @@ module _ {P Q : Type 0} (f : P → Q) where
   pub set_run_fault-payloads : (id : ℤ) (t : Nodes P) → set_run_fault id (with_payloads f t) ≡ set_run_fault id t
   set_run_fault-payloads id t = λ i. first_fault ((not (holds-payloads id t i), NoNode) ∷ [])
 
-  pub move_fault-payloads : (id : ℤ) (action : Action) (target : ℤ) (t : Nodes P) → move_fault id action target (with_payloads f t) ≡ move_fault id action target t
+  pub move_fault-payloads : (id : ℤ) (action : AddAction) (target : ℤ) (t : Nodes P) → move_fault id action target (with_payloads f t) ≡ move_fault id action target t
   move_fault-payloads id action target t = λ i. first_fault (
       (not (holds-payloads id t i), NoNode)
       ∷ (not (holds-payloads target t i), NoNode)
@@ -198,7 +198,7 @@ module _ {P Q : Type 0} (f : P → Q) where
       inside : holds target (subtree id (with_payloads f t)) ≡ holds target (subtree id t)
       inside = ap (holds target) (subtree-payloads id t) ∙ holds-payloads target (subtree id t)
 
-  pub attach_fault-payloads : (id : ℤ) (action : Action) (target : ℤ) (t d : Nodes P) → attach_fault id action target (with_payloads f t) (with_payloads f d) ≡ attach_fault id action target t d
+  pub attach_fault-payloads : (id : ℤ) (action : AddAction) (target : ℤ) (t d : Nodes P) → attach_fault id action target (with_payloads f t) (with_payloads f d) ≡ attach_fault id action target t d
   attach_fault-payloads id action target t d = λ i. first_fault (
       (share i, InUse)
       ∷ (not (has_top-payloads id d i), NoNode)

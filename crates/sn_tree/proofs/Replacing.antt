@@ -5,7 +5,7 @@ use Rattle.std.proofs.lemmas.Bool.{cases_Bool}
 use Rattle.slab.specs.Slab.{Slab, get, Updates}
 use Rattle.sn_tree.specs.declared.node.NodeKind.{NodeKind}
 use Rattle.sn_tree.specs.declared.node.Spot.{Spot}
-use Rattle.sn_tree.specs.declared.node.Action.TheVariants.{Before}
+use Rattle.sn_tree.specs.declared.node.AddAction.TheVariants.{Before}
 use Rattle.sn_tree.specs.declared.node.TreeFault.{TreeFault}
 use Rattle.sn_tree.specs.declared.node.TreeFault.TheVariants.{NoNode, InUse, IsRoot}
 use Rattle.sn_tree.specs.Trees.{Nodes, none, node, holds, put, leaf, subtree}

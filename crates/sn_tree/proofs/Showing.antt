@@ -1,7 +1,7 @@
 -- What the nodes by their keys say of the tree that they stand for.
 use Rattle.std.proofs.Common.{◌≡◌, ℤ, negsuc, List, Option, sym, ap, ◌∙◌}
 use Rattle.std.specs.Option.{option_map}
-use Rattle.sn_tree.specs.declared.node.Action.{Action}
+use Rattle.sn_tree.specs.declared.node.AddAction.{AddAction}
 use Rattle.sn_tree.specs.Trees.{Label, label_of, children, count, ids, next_after, first_of, view_of}
 use Rattle.sn_tree.specs.Views.{views_below}
 use Rattle.sn_tree.specs.Faults.{insert_fault, replace_fault, detach_fault, set_run_fault, move_fault, attach_fault}
@@ -32,7 +32,7 @@ module _ {P : Type 0} (root : P) (slots : List (Option P)) (nodes : Arranged) (s
   pub count_shown : count nodes.attached ≡ count tree.attached
   count_shown = sym (count-payloads (payload_of root slots) nodes.attached) ∙ ap (λ (t : NodeTree P). count t.attached) e
 
-  pub insert_fault_shown : (id : ℤ) (action : Action) (target : ℤ) → insert_fault id action target nodes.attached ≡ insert_fault id action target tree.attached
+  pub insert_fault_shown : (id : ℤ) (action : AddAction) (target : ℤ) → insert_fault id action target nodes.attached ≡ insert_fault id action target tree.attached
   insert_fault_shown id action target =
       sym (insert_fault-payloads (payload_of root slots) id action target nodes.attached) ∙ ap (λ (t : NodeTree P). insert_fault id action target t.attached) e
 
@@ -43,11 +43,11 @@ module _ {P : Type 0} (root : P) (slots : List (Option P)) (nodes : Arranged) (s
   pub detach_fault_shown : (id : ℤ) → detach_fault id nodes.attached ≡ detach_fault id tree.attached
   detach_fault_shown id = sym (detach_fault-payloads (payload_of root slots) id nodes.attached) ∙ ap (λ (t : NodeTree P). detach_fault id t.attached) e
 
-  pub move_fault_shown : (id : ℤ) (action : Action) (target : ℤ) → move_fault id action target nodes.attached ≡ move_fault id action target tree.attached
+  pub move_fault_shown : (id : ℤ) (action : AddAction) (target : ℤ) → move_fault id action target nodes.attached ≡ move_fault id action target tree.attached
   move_fault_shown id action target =
       sym (move_fault-payloads (payload_of root slots) id action target nodes.attached) ∙ ap (λ (t : NodeTree P). move_fault id action target t.attached) e
 
-  pub attach_fault_shown : (id : ℤ) (action : Action) (target : ℤ) → attach_fault id action target nodes.attached nodes.detached ≡ attach_fault id action target tree.attached tree.detached
+  pub attach_fault_shown : (id : ℤ) (action : AddAction) (target : ℤ) → attach_fault id action target nodes.attached nodes.detached ≡ attach_fault id action target tree.attached tree.detached
   attach_fault_shown id action target =
       sym (attach_fault-payloads (payload_of root slots) id action target nodes.attached nodes.detached) ∙ ap (λ (t : NodeTree P). attach_fault id action target t.attached t.detached) e
 

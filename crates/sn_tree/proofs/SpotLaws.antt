@@ -7,7 +7,7 @@ use Rattle.sn_forest.specs.declared.place.Place.{Place}
 use Rattle.sn_forest.proofs.Keys.{some_or_none, missing, present}
 use Rattle.sn_forest.proofs.Paths.{Path, top, under, beside, path_uses, uses-plug}
 use Rattle.sn_tree.specs.declared.item.Item.{Item}
-use Rattle.sn_tree.specs.declared.node.Action.{Action}
+use Rattle.sn_tree.specs.declared.node.AddAction.{AddAction}
 use Rattle.sn_tree.specs.declared.node.TreeFault.{TreeFault}
 use Rattle.sn_tree.specs.declared.node.TreeFault.TheVariants.{NoNode, InUse, NotGroup, IsRoot, TooMany}
 use Rattle.sn_tree.specs.Trees.{Nodes, holds, subtree, count as count_nodes}
@@ -62,21 +62,21 @@ found_held t id None h = sym h
 found_held t id (Some key) h = sym (named_held t id key h)
 
 -- the place of a spot, by its target's key
-pub spot_of : (t : Trees Item) (action : Action) (target : ℤ) (key : ℕ) → 1 ≤ named target key (front t) → (found : Result Place TreeFault)
+pub spot_of : (t : Trees Item) (action : AddAction) (target : ℤ) (key : ℕ) → 1 ≤ named target key (front t) → (found : Result Place TreeFault)
     → MatchResult found (λ place. (spot_fault action target (labels (front t)) ≡ None) × (place ≡ placed action key)) (λ fault. spot_fault action target (labels (front t)) ≡ Some fault)
     → MatchResult found (λ place. (spot_fault action target (labels (front t)) ≡ None) × IsSpot t action target place) (λ fault. spot_fault action target (labels (front t)) ≡ Some fault)
 spot_of t action target key u (Ok place) h = (h.0, record { key = key; is = h.1; there = u })
 spot_of t action target key u (Err fault) h = h
 
-pub spot_missing : (action : Action) (target : ℤ) (t : Nodes Key) → holds target t ≡ false → spot_fault action target t ≡ Some NoNode
+pub spot_missing : (action : AddAction) (target : ℤ) (t : Nodes Key) → holds target t ≡ false → spot_fault action target t ≡ Some NoNode
 spot_missing action target t h = ap (λ b. first_fault ((not b, NoNode) ∷ (is_beside_root action target, IsRoot) ∷ (is_in_synth action target t, NotGroup) ∷ [])) h
 
-pub in_use : (id : ℤ) (action : Action) (target : ℤ) (t : Nodes Key) → holds id t ≡ true → insert_fault id action target t ≡ Some InUse
+pub in_use : (id : ℤ) (action : AddAction) (target : ℤ) (t : Nodes Key) → holds id t ≡ true → insert_fault id action target t ≡ Some InUse
 in_use id action target t h =
     ap (λ b. first_fault ((b, InUse) ∷ (is_missing target t, NoNode) ∷ (is_beside_root action target, IsRoot) ∷ (is_in_synth action target t, NotGroup) ∷ (nat_lt 4096 (count_nodes t + 1), TooMany) ∷ [])) h
 
 -- what hinders at a spot hinders a new node there
-pub refused_too : (id : ℤ) (action : Action) (target : ℤ) (t : Nodes Key) (fault : TreeFault) → holds id t ≡ false → spot_fault action target t ≡ Some fault → insert_fault id action target t ≡ Some fault
+pub refused_too : (id : ℤ) (action : AddAction) (target : ℤ) (t : Nodes Key) (fault : TreeFault) → holds id t ≡ false → spot_fault action target t ≡ Some fault → insert_fault id action target t ≡ Some fault
 refused_too id action target t fault h e =
     ap (λ b. first_fault ((b, InUse) ∷ (is_missing target t, NoNode) ∷ (is_beside_root action target, IsRoot) ∷ (is_in_synth action target t, NotGroup) ∷ (nat_lt 4096 (count_nodes t + 1), TooMany) ∷ [])) h
     ∙ by_tests (is_missing target t) (is_beside_root action target) (is_in_synth action target t) e

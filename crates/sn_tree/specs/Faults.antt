@@ -1,10 +1,11 @@
 -- When a change is refused, and why.
 use Rattle.std.specs.Prelude.{◌+◌, ℤ, pos, Bool, true, false, not, ◌&&◌, if◌then◌else◌, nat_lt, List, [], ◌∷◌, Option, Some, None, Result, Ok, Err}
 use Rattle.std.specs.Ordering.{int_eq}
+use Rattle.sn_ports.specs.Limits.{most_nodes}
 use Rattle.sn_tree.specs.declared.node.NodeKind.{NodeKind}
 use Rattle.sn_tree.specs.declared.node.NodeKind.TheVariants.{Synth, Group, Parallel}
-use Rattle.sn_tree.specs.declared.node.Action.{Action}
-use Rattle.sn_tree.specs.declared.node.Action.TheVariants.{Head, Tail, Before, After}
+use Rattle.sn_tree.specs.declared.node.AddAction.{AddAction}
+use Rattle.sn_tree.specs.declared.node.AddAction.TheVariants.{Head, Tail, Before, After}
 use Rattle.sn_tree.specs.declared.node.TreeFault.{TreeFault}
 use Rattle.sn_tree.specs.declared.node.TreeFault.TheVariants.{NoNode, InUse, NotGroup, IsRoot, Inside, TooMany}
 use Rattle.sn_tree.specs.declared.node.Uninserted.{Uninserted}
@@ -17,7 +18,7 @@ first_fault [] = None
 first_fault (t ∷ ts) = if t.0 then Some t.1 else first_fault ts
 
 -- whether a node at such a spot is a child of the target
-abbrev pub is_inside : Action → Bool
+abbrev pub is_inside : AddAction → Bool
 is_inside Head = true
 is_inside Tail = true
 is_inside Before = false
@@ -29,7 +30,7 @@ is_synth Group = false
 is_synth Parallel = false
 
 -- beside the root
-abbrev pub is_beside_root : Action → ℤ → Bool
+abbrev pub is_beside_root : AddAction → ℤ → Bool
 is_beside_root action target = not (is_inside action) && int_eq target (pos 0)
 
 module _ {P : Type 0} where
@@ -42,24 +43,24 @@ module _ {P : Type 0} where
   is_missing target nodes = not (holds target nodes)
 
   -- inside what is no group
-  abbrev pub is_in_synth : Action → ℤ → Nodes P → Bool
+  abbrev pub is_in_synth : AddAction → ℤ → Nodes P → Bool
   is_in_synth action target nodes = is_inside action && labels_synth (label_of target nodes)
 
   -- the first fault of a spot
-  abbrev pub spot_fault : Action → ℤ → Nodes P → Option TreeFault
+  abbrev pub spot_fault : AddAction → ℤ → Nodes P → Option TreeFault
   spot_fault action target nodes = first_fault (
       (is_missing target nodes, NoNode)
       ∷ (is_beside_root action target, IsRoot)
       ∷ (is_in_synth action target nodes, NotGroup)
       ∷ [])
 
-  abbrev pub insert_fault : ℤ → Action → ℤ → Nodes P → Option TreeFault
+  abbrev pub insert_fault : ℤ → AddAction → ℤ → Nodes P → Option TreeFault
   insert_fault id action target nodes = first_fault (
       (holds id nodes, InUse)
       ∷ (is_missing target nodes, NoNode)
       ∷ (is_beside_root action target, IsRoot)
       ∷ (is_in_synth action target nodes, NotGroup)
-      ∷ (nat_lt 4096 (count nodes + 1), TooMany)
+      ∷ (nat_lt most_nodes (count nodes + 1), TooMany)
       ∷ [])
 
   -- The target gives its place to the new node, so there is always room.
@@ -79,7 +80,7 @@ module _ {P : Type 0} where
   abbrev pub set_run_fault : ℤ → Nodes P → Option TreeFault
   set_run_fault id nodes = first_fault ((is_missing id nodes, NoNode) ∷ [])
 
-  abbrev pub move_fault : ℤ → Action → ℤ → Nodes P → Option TreeFault
+  abbrev pub move_fault : ℤ → AddAction → ℤ → Nodes P → Option TreeFault
   move_fault id action target nodes = first_fault (
       (is_missing id nodes, NoNode)
       ∷ (is_missing target nodes, NoNode)
@@ -90,14 +91,14 @@ module _ {P : Type 0} where
       ∷ [])
 
   -- of the subtree with this top that was detached last
-  abbrev pub attach_fault : ℤ → Action → ℤ → Nodes P → Nodes P → Option TreeFault
+  abbrev pub attach_fault : ℤ → AddAction → ℤ → Nodes P → Nodes P → Option TreeFault
   attach_fault id action target attached detached = first_fault (
       (shares (last_top id detached) attached, InUse)
       ∷ (not (has_top id detached), NoNode)
       ∷ (is_missing target attached, NoNode)
       ∷ (is_beside_root action target, IsRoot)
       ∷ (is_in_synth action target attached, NotGroup)
-      ∷ (nat_lt 4096 (count attached + count (last_top id detached)), TooMany)
+      ∷ (nat_lt most_nodes (count attached + count (last_top id detached)), TooMany)
       ∷ [])
 
 -- the fault of an answer, if it is one

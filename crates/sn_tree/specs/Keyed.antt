@@ -8,9 +8,9 @@ use Rattle.sn_forest.specs.declared.place.Place.{Place}
 use Rattle.sn_forest.specs.declared.place.Place.TheVariants.{First, Last, Before as PlaceBefore, After as PlaceAfter}
 use Rattle.sn_ids.specs.Pairs.{Pairs, key_for}
 use Rattle.sn_tree.specs.declared.item.Item.{Item}
-use Rattle.sn_tree.specs.declared.node.Action.{Action}
+use Rattle.sn_tree.specs.declared.node.AddAction.{AddAction}
 use Rattle.sn_tree.specs.declared.node.NodeView.{NodeView}
-use Rattle.sn_tree.specs.declared.node.Action.TheVariants.{Head, Tail, Before, After}
+use Rattle.sn_tree.specs.declared.node.AddAction.TheVariants.{Head, Tail, Before, After}
 use Rattle.sn_tree.specs.Trees.{Label, Nodes, none as no_nodes, node}
 use Rattle.sn_tree.specs.Order.{Key}
 use Rattle.sn_tree.specs.Arranged.{Arranged}
@@ -42,7 +42,7 @@ abbrev pub counted : Bool → ℕ
 counted test = if test then 1 else 0
 
 -- the place of a spot, by its target's key
-abbrev pub placed : Action → ℕ → Place
+abbrev pub placed : AddAction → ℕ → Place
 placed Head key = First key
 placed Tail key = Last key
 placed Before key = PlaceBefore key

@@ -1,6 +1,7 @@
 -- The nodes by the keys of their payloads, and what an open journal keeps.
 use Rattle.std.specs.Prelude.{ℕ, ◌≤◌, List, Option, Some, None, Result, Ok, Err, refl}
 use Rattle.std.specs.Coded.{Coded, code_by, coded×, coded_option}
+use Rattle.sn_ports.specs.Limits.{most_nodes}
 use Rattle.sn_forest.specs.Trees.{Trees, count}
 use Rattle.sn_tree.specs.declared.node.TreeFault.{TreeFault}
 use Rattle.sn_tree.specs.Arranged.{Arranged, arranged_code}
@@ -32,7 +33,7 @@ ordered_by trees journal = record { now = sides trees; saved = saved_by trees jo
 
 -- at most 4,096 nodes are attached
 abbrev pub AreFew : Trees Item → Type 0
-AreFew trees = count (front trees) ≤ 4096
+AreFew trees = count (front trees) ≤ most_nodes
 
 -- each step of the journal can be undone
 abbrev pub IsReady : Trees Item → Option Steps → Type 0

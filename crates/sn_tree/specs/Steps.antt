@@ -1,8 +1,8 @@
 -- What each call makes of a tree.
 use Rattle.std.specs.Prelude.{◌≡◌, ℕ, ◌+◌, ◌-◌, ◌<◌, ◌≤◌, ◌==◌, ℤ, Bool, if◌then◌else◌, List, [], ◌∷◌, ◌++◌, Option, Some, None}
 use Rattle.sn_tree.specs.declared.node.NodeKind.{NodeKind}
-use Rattle.sn_tree.specs.declared.node.Action.{Action}
-use Rattle.sn_tree.specs.declared.node.Action.TheVariants.{Before}
+use Rattle.sn_tree.specs.declared.node.AddAction.{AddAction}
+use Rattle.sn_tree.specs.declared.node.AddAction.TheVariants.{Before}
 use Rattle.sn_tree.specs.Trees.{Label, Nodes, Sides, none, node, put, leaf, without, subtree, joined, changed, with_running, with_payload, payloads, with_payloads, with_payloads_of, label_of, last_top, without_last, without_first}
 use Rattle.sn_tree.specs.Model.{Journal, NodeTree}
 
@@ -18,7 +18,7 @@ AllDistinct same xs = (x : _) → occurrences same x xs ≤ 1
 module _ {P : Type 0} where
   -- steps on the attached and the detached nodes
 
-  abbrev pub inserting : ℤ → NodeKind → Action → ℤ → P → Sides P → Sides P
+  abbrev pub inserting : ℤ → NodeKind → AddAction → ℤ → P → Sides P → Sides P
   inserting id kind action target payload sides = record sides { attached = put action target (leaf id kind payload) sides.attached }
 
   -- a subtree is put behind those that were detached before
@@ -30,11 +30,11 @@ module _ {P : Type 0} where
   replacing id kind target payload sides = detaching target (inserting id kind Before target payload sides)
 
   -- the subtree with this top that was detached last is put in
-  abbrev pub attaching : ℤ → Action → ℤ → Sides P → Sides P
+  abbrev pub attaching : ℤ → AddAction → ℤ → Sides P → Sides P
   attaching id action target sides = record { attached = put action target (last_top id sides.detached) sides.attached; detached = without_last id sides.detached }
 
   -- a subtree is taken out and put in elsewhere
-  abbrev pub moving : ℤ → Action → ℤ → Sides P → Sides P
+  abbrev pub moving : ℤ → AddAction → ℤ → Sides P → Sides P
   moving id action target sides = record sides { attached = put action target (subtree id sides.attached) (without id sides.attached) }
 
   abbrev pub setting : ℤ → Bool → Sides P → Sides P
@@ -65,7 +65,7 @@ module _ {P : Type 0} where
       let sides : Sides P = step (record { attached = tree.attached; detached = tree.detached }) in
       record { attached = sides.attached; detached = sides.detached; journal = followed cost mark_step tree.journal }
 
-  abbrev pub inserted : ℤ → NodeKind → Action → ℤ → P → NodeTree P → NodeTree P
+  abbrev pub inserted : ℤ → NodeKind → AddAction → ℤ → P → NodeTree P → NodeTree P
   inserted id kind action target payload tree = stepped 0 (inserting id kind action target payload) (inserting id kind action target None) tree
 
   abbrev pub detached : ℤ → NodeTree P → NodeTree P
@@ -74,10 +74,10 @@ module _ {P : Type 0} where
   abbrev pub replaced : ℤ → NodeKind → ℤ → P → NodeTree P → NodeTree P
   replaced id kind target payload tree = detached target (inserted id kind Before target payload tree)
 
-  abbrev pub attached : ℤ → Action → ℤ → NodeTree P → NodeTree P
+  abbrev pub attached : ℤ → AddAction → ℤ → NodeTree P → NodeTree P
   attached id action target tree = stepped 1 (attaching id action target) (attaching id action target) tree
 
-  abbrev pub moved : ℤ → Action → ℤ → NodeTree P → NodeTree P
+  abbrev pub moved : ℤ → AddAction → ℤ → NodeTree P → NodeTree P
   moved id action target tree = stepped 1 (moving id action target) (moving id action target) tree
 
   abbrev pub running : ℤ → Bool → NodeTree P → NodeTree P

@@ -9,7 +9,7 @@ use Rattle.sn_forest.specs.declared.place.Place.{Place}
 use Rattle.sn_forest.specs.declared.place.Place.TheVariants.{First, Last, Before, After}
 use Rattle.sn_ids.specs.Pairs.{Table}
 use Rattle.sn_tree.specs.declared.node.NodeKind.TheVariants.{Group}
-use Rattle.sn_tree.specs.declared.node.Action.{Action}
+use Rattle.sn_tree.specs.declared.node.AddAction.{AddAction}
 use Rattle.sn_tree.specs.Trees.{Label, has_top, last_top, without_last}
 use Rattle.sn_tree.specs.Order.{Key}
 use Rattle.sn_tree.specs.Model.{label_code}
@@ -90,18 +90,18 @@ pub record IsLastTop (trees : Trees Item) (id : ℤ) (key : ℕ) : Type 0 where
   pub rest : without_last id (labels (behind_tree trees)) ≡ labels (behind_tree (without key trees))
 
 -- a place by its spot
-pub record IsSpot (trees : Trees Item) (action : Action) (target : ℤ) (place : Place) : Type 0 where
+pub record IsSpot (trees : Trees Item) (action : AddAction) (target : ℤ) (place : Place) : Type 0 where
   pub key : ℕ
   pub is : place ≡ placed action key
   pub there : 1 ≤ named target key (front trees)
 
 -- a node that moves, and a place that is there without it
-pub record IsMovable (trees : Trees Item) (id : ℤ) (action : Action) (target : ℤ) (key : ℕ) (place : Place) : Type 0 where
+pub record IsMovable (trees : Trees Item) (id : ℤ) (action : AddAction) (target : ℤ) (key : ℕ) (place : Place) : Type 0 where
   pub node : 1 ≤ named id key (front trees)
   pub spot : IsSpot (without key trees) action target place
 
 -- a detached subtree, and a place for it
-pub record IsAttachable (trees : Trees Item) (id : ℤ) (action : Action) (target : ℤ) (key : ℕ) (place : Place) : Type 0 where
+pub record IsAttachable (trees : Trees Item) (id : ℤ) (action : AddAction) (target : ℤ) (key : ℕ) (place : Place) : Type 0 where
   pub node : IsLastTop trees id key
   pub spot : IsSpot trees action target place
 

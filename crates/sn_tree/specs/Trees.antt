@@ -4,8 +4,8 @@ use Rattle.std.specs.Prelude.{ℕ, ◌+◌, ℤ, negsuc, Bool, true, false, ◌|
 use Rattle.std.specs.Ordering.{int_eq}
 use Rattle.sn_tree.specs.declared.node.NodeKind.{NodeKind}
 use Rattle.sn_tree.specs.declared.node.NodeView.{NodeView}
-use Rattle.sn_tree.specs.declared.node.Action.{Action}
-use Rattle.sn_tree.specs.declared.node.Action.TheVariants.{Head, Tail, Before, After}
+use Rattle.sn_tree.specs.declared.node.AddAction.{AddAction}
+use Rattle.sn_tree.specs.declared.node.AddAction.TheVariants.{Head, Tail, Before, After}
 
 -- a node by itself
 pub record Label (P : Type 0) : Type 0 where
@@ -118,14 +118,14 @@ module _ {P : Type 0} where
   without_first (node label below after) = joined below after
 
   -- new nodes at the head or tail of a node's children, or just before or after the node
-  abbrev pub beside : Action → Nodes P → Label P → Nodes P → Nodes P → Nodes P
+  abbrev pub beside : AddAction → Nodes P → Label P → Nodes P → Nodes P → Nodes P
   beside Head new label below after = node label (joined new below) after
   beside Tail new label below after = node label (joined below new) after
   beside Before new label below after = joined new (node label below after)
   beside After new label below after = node label below (joined new after)
 
   -- new nodes put at a spot
-  abbrev pub put : Action → ℤ → Nodes P → Nodes P → Nodes P
+  abbrev pub put : AddAction → ℤ → Nodes P → Nodes P → Nodes P
   put action target new none = none
   put action target new (node label below after) =
       if int_eq label.id target then beside action new label below after

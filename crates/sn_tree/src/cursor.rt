@@ -1,6 +1,7 @@
 //! Walks over a node and all below it.
 ghost use Rattle.std.specs.Prelude.{◌≡◌, ◌≤◌, ℕ, IfOk};
 ghost use Rattle.std.specs.Option.{option_map};
+ghost use Rattle.sn_ports.specs.Limits.{most_nodes};
 ghost use Rattle.sn_forest.specs.Trees.{none, uses, count, subtree};
 ghost use Rattle.sn_forest.specs.Walking.{from, behind_node, behind_tree};
 ghost use Rattle.sn_tree.specs.Trees.{first_of, running_labels};
@@ -172,7 +173,7 @@ pub fn first_id(rest: &Cursor<'_>) -> Option<i32>
 
 /// How many nodes stand beside each other.
 pub fn count_tops(rest: Cursor<'_>) -> u32
-    requires { count rest ≤ 4096 }
+    requires { count rest ≤ most_nodes }
     ensures { result ≡ tops (labels rest.entry) }
 {
     let mut rest = rest;

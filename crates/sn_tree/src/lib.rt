@@ -25,7 +25,7 @@ mod views;
 mod walk;
 
 pub use members::{Member, Members};
-pub use node::{Action, NodeKind, NodeView, Spot, TreeFault, Uninserted};
+pub use node::{AddAction, NodeKind, NodeView, Spot, TreeFault, Uninserted};
 pub use payloads::ChangePayload;
 pub use tally::Tally;
 pub use tree::Tree;

@@ -38,6 +38,7 @@ pub struct Members<'a, P> {
 
 impl<'a, P> Model for Members<'a, P> {
     ghost use Rattle.std.specs.Prelude.{◌≤◌, List, ℕ};
+    ghost use Rattle.sn_ports.specs.Limits.{most_nodes};
     ghost use Rattle.sn_forest.specs.Trees.{count};
     ghost use Rattle.sn_tree.specs.Trees.{Label};
     ghost use Rattle.sn_tree.specs.Members.{members_code, members_of};
@@ -50,7 +51,7 @@ impl<'a, P> Model for Members<'a, P> {
 
     ghost view = { λ m. members_of m.root.now m.payloads.now.slots m.rest };
 
-    ghost invariant = { λ m. IsLeft m.payloads.now.slots m.rest × (count m.rest ≤ 4096) };
+    ghost invariant = { λ m. IsLeft m.payloads.now.slots m.rest × (count m.rest ≤ most_nodes) };
 }
 
 impl<'a, P> Iterator for Members<'a, P> {

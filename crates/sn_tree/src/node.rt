@@ -13,7 +13,7 @@ pub enum NodeKind {
 
 /// How a node is put, seen from the target of a [`Spot`]: the head or tail of its children, or just before or after it.
 #[derive(Clone, Copy, Debug, PartialEq, Eq)]
-pub enum Action {
+pub enum AddAction {
     /// The first of the target's children.
     Head,
     /// The last of the target's children.
@@ -28,7 +28,7 @@ pub enum Action {
 #[derive(Clone, Copy, Debug, PartialEq, Eq)]
 pub struct Spot {
     /// How the node is put, seen from the target.
-    pub action: Action,
+    pub action: AddAction,
     /// The target's node id.
     pub target: i32,
 }

@@ -1,6 +1,7 @@
 //! The nodes of a tree by the keys of their payloads, and the open journal.
 ghost use Rattle.std.specs.Prelude.{◌≡◌, ◌≤◌, None, Some, [], IfOk, OnOk, OnErr, pos, reverse, true};
 ghost use Rattle.std.specs.Option.{option_map};
+ghost use Rattle.sn_ports.specs.Limits.{most_nodes};
 ghost use Rattle.sn_tree.specs.declared.node.NodeKind.TheVariants.{Group};
 ghost use Rattle.sn_forest.specs.Trees.{count as count_trees};
 ghost use Rattle.sn_tree.specs.Trees.{none, count, ids, label_of, leaf, next_after, subtree, view_of, first_label, without_first};
@@ -113,7 +114,7 @@ impl Order {
     /// How many nodes are attached.
     pub fn len(&self) -> usize
         ensures value { result ≡ count self.now.now.attached }
-        ensures bound { result ≤ 4096 }
+        ensures bound { result ≤ most_nodes }
     {
         self.store.len()
     }
@@ -136,7 +137,7 @@ impl Order {
     /// The walk over an attached node and all below it. Where no such node is attached it is at its end.
     pub fn cursor(&self, id: i32) -> Cursor<'_>
         ensures nodes { labels result ≡ subtree id self.now.now.attached }
-        ensures few { count_trees result ≤ 4096 }
+        ensures few { count_trees result ≤ most_nodes }
     {
         self.store.cursor(id)
     }

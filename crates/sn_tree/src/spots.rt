@@ -6,9 +6,10 @@ ghost use Rattle.sn_tree.specs.Faults.{first_fault, spot_fault, insert_fault, re
 ghost use Rattle.sn_tree.specs.Keyed.{labels, front, named, placed};
 ghost use Rattle.sn_tree.specs.Stored.{IsSpot, IsMovable, IsAttachable};
 
-use crate::node::{Action, NodeKind, Spot, TreeFault};
+use crate::node::{AddAction, NodeKind, Spot, TreeFault};
 use crate::store::Store;
 use sn_forest::Place;
+use sn_ports::limits::MOST_NODES;
 
 /// Whether it is the kind of a synth.
 fn is_synth(kind: NodeKind) -> bool
@@ -20,12 +21,12 @@ fn is_synth(kind: NodeKind) -> bool
     }
 }
 
-fn is_inside(action: Action) -> bool
+fn is_inside(action: AddAction) -> bool
     ensures { result ≡ is_inside action }
 {
     match action {
-        Action::Head | Action::Tail => true,
-        Action::Before | Action::After => false,
+        AddAction::Head | AddAction::Tail => true,
+        AddAction::Before | AddAction::After => false,
     }
 }
 
@@ -44,14 +45,14 @@ fn fault_at(kind: NodeKind, spot: Spot) -> Option<TreeFault>
 }
 
 /// The place of a spot, by its target's key.
-fn place_at(action: Action, key: usize) -> Place
+fn place_at(action: AddAction, key: usize) -> Place
     ensures { result ≡ placed action key }
 {
     match action {
-        Action::Head => Place::First(key),
-        Action::Tail => Place::Last(key),
-        Action::Before => Place::Before(key),
-        Action::After => Place::After(key),
+        AddAction::Head => Place::First(key),
+        AddAction::Tail => Place::Last(key),
+        AddAction::Before => Place::Before(key),
+        AddAction::After => Place::After(key),
     }
 }
 
@@ -93,7 +94,7 @@ impl Store {
             Ok(place) => place,
             Err(fault) => return Err(fault),
         };
-        if self.len() >= 4096 {
+        if self.len() >= MOST_NODES {
             return Err(TreeFault::TooMany);
         }
         Ok(place)

@@ -7,6 +7,7 @@ ghost use Rattle.sn_tree.specs.Trees.{none, count, holds, ids, next_after, first
 ghost use Rattle.sn_tree.specs.Faults.{attach_fault, insert_fault, insert_fault_of, replace_fault, returned, detach_fault, move_fault, set_run_fault, fault_of};
 ghost use Rattle.std.specs.List.{All};
 ghost use Rattle.std.specs.Ordering.{int_eq};
+ghost use Rattle.sn_ports.specs.Limits.{most_nodes};
 ghost use Rattle.sn_tree.specs.declared.node.NodeView.{NodeView};
 ghost use Rattle.sn_tree.specs.Steps.{AllDistinct, HasRoom, IsOpen, IsOpened, inserted, replaced, detached, attached, moved, running, undone, committed, freed};
 ghost use Rattle.sn_tree.specs.Kept.{times};
@@ -423,7 +424,7 @@ impl<P: Drop> Tree<P> {
     pub fn len(&self) -> u32
         ensures value { result ≡ count self.now.attached }
         ensures some { 1 ≤ result }
-        ensures bound { result ≤ 4096 }
+        ensures bound { result ≤ most_nodes }
     {
         self.order.len() as u32
     }

@@ -3,6 +3,7 @@ use Rattle.std.specs.Prelude.{ℕ, ◌+◌, ◌==◌, Bool, true, ◌&&◌, cond
 use Rattle.std.specs.Option.{is_some, is_none, option_or}
 use Rattle.std.specs.List.{list_any}
 use Rattle.std.specs.Str.{bytes_eq}
+use Rattle.sn_ports.specs.Limits.{most_channels, most_workers, least_memory, most_memory, middle_rate}
 use Rattle.sn_ports.specs.Octets.{Octets}
 use Rattle.sn_fixed.specs.Natural.{natural}
 use Rattle.sn_pcm.specs.Allowed.{is_rate, is_width, is_within}
@@ -29,16 +30,16 @@ name Key.Blocks = codes "blocks"
 -- the values that a key may have, of the numbers of 32 bits
 abbrev pub allows : Key → ℕ → Bool
 allows Key.Rate n = is_rate n
-allows Key.Channels n = is_within 1 8 n
+allows Key.Channels n = is_within 1 most_channels n
 allows Key.Bits n = is_width n
-allows Key.Workers n = is_within 1 16 n
-allows Key.Memory n = is_within 65536 16777216 n
+allows Key.Workers n = is_within 1 most_workers n
+allows Key.Memory n = is_within least_memory most_memory n
 allows Key.Seed n = true
 allows Key.Blocks n = is_within 1 20000 n
 
 -- its value where no word gives one
 abbrev pub default_value : Key → ℕ
-default_value Key.Rate = 48000
+default_value Key.Rate = middle_rate
 default_value Key.Channels = 2
 default_value Key.Bits = 16
 default_value Key.Workers = 4

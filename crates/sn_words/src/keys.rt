@@ -3,6 +3,9 @@ ghost use Rattle.std.specs.Prelude.{◌≡◌, ◌==◌, position, IsTrue, IfSom
 ghost use Rattle.sn_words.specs.Keys.{setting_keys, drill_keys, name, allows, default_value, allowed, value_in};
 
 use sn_fixed::natural;
+use sn_ports::limits::{
+    HIGH_RATE, LEAST_MEMORY, LOW_RATE, MIDDLE_RATE, MOST_CHANNELS, MOST_MEMORY, MOST_WORKERS,
+};
 
 /// What a word may choose.
 #[derive(Clone, Copy, Debug)]
@@ -71,11 +74,11 @@ impl Key {
         ensures { result ≡ allows self value }
     {
         match self {
-            Key::Rate => value == 44_100 || value == 48_000 || value == 96_000,
-            Key::Channels => 1 <= value && value <= 8,
+            Key::Rate => value == LOW_RATE || value == MIDDLE_RATE || value == HIGH_RATE,
+            Key::Channels => 1 <= value && value <= MOST_CHANNELS,
             Key::Bits => value == 16 || value == 24,
-            Key::Workers => 1 <= value && value <= 16,
-            Key::Memory => 65_536 <= value && value <= 16_777_216,
+            Key::Workers => 1 <= value && value <= MOST_WORKERS,
+            Key::Memory => LEAST_MEMORY <= value && value <= MOST_MEMORY,
             Key::Seed => true,
             Key::Blocks => 1 <= value && value <= 20_000,
         }
@@ -87,7 +90,7 @@ impl Key {
         ensures allowed { IsTrue (allows self result) }
     {
         match self {
-            Key::Rate => 48_000,
+            Key::Rate => MIDDLE_RATE,
             Key::Channels => 2,
             Key::Bits => 16,
             Key::Workers => 4,

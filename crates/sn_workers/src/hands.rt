@@ -1,9 +1,8 @@
 //! Rounds whose jobs several threads share.
-ghost use Rattle.std.specs.Prelude.{◌≡◌, ◌<◌, ◌≤◌, ◌-◌, IfOk, length, All, true, false};
+ghost use Rattle.std.specs.Prelude.{◌≡◌, ◌<◌, ◌-◌, length, All, true, false};
 ghost use Rattle.std.specs.Thread.{IsSync};
 ghost use Rattle.sn_machine.specs.States.{IsIdle, jobs_in, memory_in};
-ghost use Rattle.sn_machine.specs.Steps.{last_list, split_worker};
-ghost use Rattle.sn_round.specs.Jobs.{AreJobs};
+ghost use Rattle.sn_machine.specs.Steps.{split_worker};
 ghost use Rattle.sn_round.specs.Scripts.{list_at, sequential};
 ghost use Rattle.sn_table.specs.Answers.{main_view, IsMainOf};
 ghost use Rattle.sn_table.specs.Rounds.{Suits, IsWorkOf};
@@ -11,11 +10,12 @@ ghost use Rattle.sn_table.specs.Seats.{IsReady, IsBack, Stands};
 ghost use Rattle.sn_table.specs.Sweeps.{Serves};
 ghost use Rattle.sn_workers.specs.Hands.{Seated};
 
+use sn_crew::finish;
 use sn_machine::ENDED;
 use sn_mem::Scratch;
 use sn_ports::Open;
 use sn_round::{Plan, Work};
-use sn_table::{Claim, MainSeat, Shared, WorkerSeat, run_one, sweep};
+use sn_table::{Claim, MainSeat, Shared, WorkerSeat, run_one};
 use std::thread::{Threads, for_each_mut};
 
 /// How often a worker goes over the jobs at most.
@@ -181,31 +181,6 @@ fn join_all(shared: &Shared, main: &mut MainSeat, hands: &mut [Hand])
     }
 }
 
-/// The seat of the sweep runs what is left, and the round ends.
-fn finish<W: Work>(
-    shared: &Shared,
-    main: &mut MainSeat,
-    work: &W,
-    plan: &Plan,
-    scratch: &mut Scratch,
-    _crew: usize,
-)
-    requires may { W.ready work.now }
-    requires main { IsMainOf shared.now main.old }
-    requires stands { Stands (main_view main.old) _crew 0 (main_view main.old) }
-    requires joined { (main_view main.old).main.joined ≡ true }
-    requires plan { plan.now ≡ jobs_in (main_view main.old).main.phase }
-    requires work { Serves (W.jobs work.now) (W.foot_of work.now) (W.outcome work.now) (split_worker (main_view main.old)) }
-    ensures main { IsMainOf shared.now main.new }
-    ensures idle { IsIdle (main_view main.new) }
-    ensures words { memory_in (main_view main.new).main.phase ≡ last_list (main_view main.old).main.phase }
-{
-    let mut last = shared.split(main);
-    sweep(shared, &mut last, work, plan, &Open, scratch);
-    shared.join(main, last);
-    shared.rest(main);
-}
-
 /// A round whose jobs the hands share in threads of their own. The words after it are those of one job after another.
 pub fn share<R: Threads + Sync, W: Work>(
     rt: &R,
@@ -233,5 +208,5 @@ pub fn share<R: Threads + Sync, W: Work>(
     join_all(shared, main, hands);
     let count = hands.len();
     let first = &mut hands[0];
-    finish(shared, main, work, plan, &mut first.scratch, count);
+    finish(shared, main, work, plan, &Open, &mut first.scratch, count);
 }

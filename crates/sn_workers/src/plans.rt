@@ -1,5 +1,6 @@
 //! Rows of rounds whose jobs several threads share.
 ghost use Rattle.std.specs.Prelude.{◌≡◌, ◌<◌, ◌≤◌, IsTrue, length};
+ghost use Rattle.sn_ports.specs.Limits.{most_workers};
 ghost use Rattle.sn_machine.specs.States.{IsIdle};
 ghost use Rattle.sn_round.specs.Jobs.{AreJobs, AreWithin, IsRaceFree};
 ghost use Rattle.sn_table.specs.Answers.{main_view, IsMainOf};
@@ -174,7 +175,7 @@ pub fn mixed_by_crew(
     gate: &impl Gate,
     rounds: u32,
 ) -> Result<Option<u64>, NoMemory>
-    requires { (1 ≤ workers) × (workers ≤ 16) }
+    requires { (1 ≤ workers) × (workers ≤ most_workers) }
 {
     let plan = mixing_plan(alloc)?;
     plan.is_well_formed();

@@ -18,8 +18,8 @@ use Rattle.sn_tree.specs.declared.node.NodeView.{NodeView}
 use Rattle.sn_tree.specs.Trees.{put, leaf, subtree, without, changed, with_running, children, view_of}
 use Rattle.sn_tree.specs.Below.{top_ids, synth_ids}
 use Rattle.sn_tree.specs.Reworking.{reworked}
-use Rattle.sn_world.specs.declared.command.BusCommand.{BusCommand}
-use Rattle.sn_world.specs.declared.command.BusCommand.TheVariants as buses
+use Rattle.sn_world.specs.declared.command.ServerCommand.{ServerCommand}
+use Rattle.sn_world.specs.declared.command.ServerCommand.TheVariants as server
 use Rattle.sn_world.specs.declared.command.NodeCommand.{NodeCommand}
 use Rattle.sn_world.specs.declared.command.NodeCommand.TheVariants as nodes
 use Rattle.sn_world.specs.declared.buffer_repetition.NewBuffer.{NewBuffer}
@@ -35,12 +35,12 @@ use Rattle.sn_world.specs.BufferNumbers.{number_refusal, buffer_refusal, at_numb
 use Rattle.sn_world.specs.BufferSamples as samples
 use Rattle.sn_world.specs.Buses.{judge_set, act_set, judge_fill, act_fill, judge_get, answer_get, sync_number, sync_outcome, bus_value, bus_fill, bus_number}
 use Rattle.sn_world.specs.Choosing.{AreChosen}
-use Rattle.sn_world.specs.Addresses.{bus_command_of, node_command_of}
-use Rattle.sn_world.specs.Commands.{bus_row, node_row, carrying_row, whole_row, with_completion, acceptable, with_arguments, bus_outcome, node_outcome, run_bus, run_node, either, or_unknown, answered, command}
+use Rattle.sn_world.specs.Addresses.{server_command_of, node_command_of}
+use Rattle.sn_world.specs.Commands.{server_row, node_row, carrying_row, whole_row, with_completion, acceptable, with_arguments, server_outcome, node_outcome, run_bus, run_node, either, or_unknown, answered, command}
 use Rattle.sn_world.specs.Completing.{carried, own, one_message}
 use Rattle.sn_world.specs.ControlRuns.{ForNode, ControlRun, in_synth, with_runs, judge_node, set_outcome, asked_of, asked_runs, value_run, values_run, fill_run}
 use Rattle.sn_world.specs.Emptying.{free_all, deep_free, judge_free_all, act_free_all, judge_deep_free, act_deep_free, freed_each}
-use Rattle.sn_world.specs.Free as forgetting
+use Rattle.sn_world.specs.Forgetting as forgetting
 use Rattle.sn_world.specs.Freeing.{node_id, judge_free, act_free, freed}
 use Rattle.sn_world.specs.Mappings.{Mapping, mapping, judge_map, map_outcome, with_buses}
 use Rattle.sn_world.specs.Moving.{move_from, judge_move, act_move}
@@ -56,7 +56,7 @@ use Rattle.sn_world.specs.Recv.{received_text, recv_read, recv_outcome}
 use Rattle.sn_world.specs.Rows.{row, steps, question, unless, first_refusal, some_of, another, singles, pairs, triples}
 use Rattle.sn_world.specs.RunFlags.{run_flag, judge_run, turning, is_flagged, with_flag, act_run}
 use Rattle.sn_world.specs.Runs.{number, value_runs, judge_setn, act_setn, judge_getn, answer_getn, asks_few, place_run}
-use Rattle.sn_world.specs.Settling.{paused_at, freed_at, acted_at, acted, all_acted, endings_in, triggers_in, told_all, with_settled, settled_nodes, settled}
+use Rattle.sn_world.specs.Settling.{paused_at, freed_at, acted_at, acted, all_acted, endings_in, triggers_in, told_all, with_nodes_settled, settled_nodes, settled}
 use Rattle.sn_world.specs.SynthQueries.{values_from, values_outcome, payload_at}
 use Rattle.sn_world.specs.TreeQueries.{tree_query, judge_tree, act_tree}
 use Rattle.sn_world.specs.BufferReading.{FilledBuffer, filled_buffer, is_path_form, read_outcome, samples_in}
@@ -163,48 +163,48 @@ module _ (from : ℕ) (t : Turn) (h : AreChosen t.world) where
   recv_keeps None = tt
   recv_keeps (Some text) = read_keeps (text_at text)
 
-  status_keeps : (xs : List Argument) → Keeps (bus_row buses.Status from xs t)
+  status_keeps : (xs : List Argument) → Keeps (server_row server.Status from xs t)
   status_keeps [] = h
   status_keeps (x ∷ xs) = tt
 
-  clear_keeps : (xs : List Argument) → Keeps (bus_row buses.ClearSched from xs t)
+  clear_keeps : (xs : List Argument) → Keeps (server_row server.ClearSched from xs t)
   clear_keeps [] = h
   clear_keeps (x ∷ xs) = tt
 
-  quit_keeps : (xs : List Argument) → Keeps (bus_row buses.Quit from xs t)
+  quit_keeps : (xs : List Argument) → Keeps (server_row server.Quit from xs t)
   quit_keeps [] = h
   quit_keeps (x ∷ xs) = tt
 
-  bus_row_keeps : (c : BusCommand) (xs : List Argument) → Keeps (bus_row c from xs t)
-  bus_row_keeps buses.Set xs = row_keeps judge_set act_set (λ r u k. k) (some_of (pairs bus_value xs)) t h
-  bus_row_keeps buses.SetRuns xs = row_keeps judge_setn act_setn (λ r u k. k) (some_of (value_runs xs)) t h
-  bus_row_keeps buses.Fill xs = row_keeps judge_fill act_fill (λ r u k. k) (some_of (triples bus_fill xs)) t h
-  bus_row_keeps buses.Get xs = question_keeps judge_get (λ w. answer_get w.control_buses) from (some_of (singles bus_number xs)) t h
-  bus_row_keeps buses.GetRuns xs = question_keeps judge_getn (λ w. answer_getn w.control_buses) from (asks_few (some_of (pairs place_run xs))) t h
-  bus_row_keeps buses.AllocBuffer xs = alloc_keeps (buffers.new_buffer xs)
-  bus_row_keeps buses.ReadBuffer xs = path_keeps (is_path_form xs) (read_outcome from (filled_buffer xs) t) (filled_keeps (filled_buffer xs))
-  bus_row_keeps buses.FreeBuffer xs = give_keeps (buffers.one_number xs)
-  bus_row_keeps buses.ZeroBuffer xs = zero_keeps (buffers.one_number xs)
-  bus_row_keeps buses.QueryBuffers xs = question_keeps buffers.judge_query buffers.answer_query from (some_of (singles buffers.buffer_number xs)) t h
-  bus_row_keeps buses.SetSamples xs = changing_keeps from samples.value_refusal (pairs samples.sample_value) samples.set_value xs t h
-  bus_row_keeps buses.SetSampleRuns xs = changing_keeps from samples.values_refusal (λ ys. samples.right_runs (value_runs ys)) samples.set_values xs t h
-  bus_row_keeps buses.FillSamples xs = changing_keeps from samples.fill_refusal (triples samples.sample_fill) samples.fill_values xs t h
-  bus_row_keeps buses.GetSamples xs = asking_keeps from samples.index_refusal (singles samples.sample_index) samples.index_and_value _ xs t h
-  bus_row_keeps buses.GetSampleRuns xs = asking_keeps from samples.place_refusal (λ ys. samples.few_asked (pairs samples.sample_run ys)) samples.run_and_values _ xs t h
-  bus_row_keeps buses.Sync xs = sync_keeps (sync_number xs)
-  bus_row_keeps buses.Receive xs = recv_keeps (received_text xs)
-  bus_row_keeps buses.Free xs = row_keeps forgetting.judge_free forgetting.act_free (λ r u k. k) (some_of (singles forgetting.name_of xs)) t h
-  bus_row_keeps buses.Status xs = status_keeps xs
-  bus_row_keeps buses.ClearSched xs = clear_keeps xs
-  bus_row_keeps buses.Quit xs = quit_keeps xs
+  server_row_keeps : (c : ServerCommand) (xs : List Argument) → Keeps (server_row c from xs t)
+  server_row_keeps server.Set xs = row_keeps judge_set act_set (λ r u k. k) (some_of (pairs bus_value xs)) t h
+  server_row_keeps server.SetRuns xs = row_keeps judge_setn act_setn (λ r u k. k) (some_of (value_runs xs)) t h
+  server_row_keeps server.Fill xs = row_keeps judge_fill act_fill (λ r u k. k) (some_of (triples bus_fill xs)) t h
+  server_row_keeps server.Get xs = question_keeps judge_get (λ w. answer_get w.control_buses) from (some_of (singles bus_number xs)) t h
+  server_row_keeps server.GetRuns xs = question_keeps judge_getn (λ w. answer_getn w.control_buses) from (asks_few (some_of (pairs place_run xs))) t h
+  server_row_keeps server.AllocBuffer xs = alloc_keeps (buffers.new_buffer xs)
+  server_row_keeps server.ReadBuffer xs = path_keeps (is_path_form xs) (read_outcome from (filled_buffer xs) t) (filled_keeps (filled_buffer xs))
+  server_row_keeps server.FreeBuffer xs = give_keeps (buffers.one_number xs)
+  server_row_keeps server.ZeroBuffer xs = zero_keeps (buffers.one_number xs)
+  server_row_keeps server.QueryBuffers xs = question_keeps buffers.judge_query buffers.answer_query from (some_of (singles buffers.buffer_number xs)) t h
+  server_row_keeps server.SetSamples xs = changing_keeps from samples.value_refusal (pairs samples.sample_value) samples.set_value xs t h
+  server_row_keeps server.SetSampleRuns xs = changing_keeps from samples.values_refusal (λ ys. samples.right_runs (value_runs ys)) samples.set_values xs t h
+  server_row_keeps server.FillSamples xs = changing_keeps from samples.fill_refusal (triples samples.sample_fill) samples.fill_values xs t h
+  server_row_keeps server.GetSamples xs = asking_keeps from samples.index_refusal (singles samples.sample_index) samples.index_and_value _ xs t h
+  server_row_keeps server.GetSampleRuns xs = asking_keeps from samples.place_refusal (λ ys. samples.few_asked (pairs samples.sample_run ys)) samples.run_and_values _ xs t h
+  server_row_keeps server.Sync xs = sync_keeps (sync_number xs)
+  server_row_keeps server.Receive xs = recv_keeps (received_text xs)
+  server_row_keeps server.Free xs = row_keeps forgetting.judge_forget forgetting.act_forget (λ r u k. k) (some_of (singles forgetting.name_of xs)) t h
+  server_row_keeps server.Status xs = status_keeps xs
+  server_row_keeps server.ClearSched xs = clear_keeps xs
+  server_row_keeps server.Quit xs = quit_keeps xs
 
   completion_keeps : (m : Option MessageShape) (r : Result Turn Reason) → Keeps r → Keeps (with_completion m r)
   completion_keeps None r k = tt
   completion_keeps (Some m) r k = k
 
-  carrying_keeps : (c : BusCommand) (b : Option (List ℕ)) (xs : List Argument) → Keeps (carrying_row c b from xs t)
-  carrying_keeps c None xs = bus_row_keeps c xs
-  carrying_keeps c (Some b) xs = completion_keeps (acceptable (one_message (read b))) (bus_row c from (own xs) t) (bus_row_keeps c (own xs))
+  carrying_keeps : (c : ServerCommand) (b : Option (List ℕ)) (xs : List Argument) → Keeps (carrying_row c b from xs t)
+  carrying_keeps c None xs = server_row_keeps c xs
+  carrying_keeps c (Some b) xs = completion_keeps (acceptable (one_message (read b))) (server_row c from (own xs) t) (server_row_keeps c (own xs))
 
 -- ---- what is done with nodes
 
@@ -399,7 +399,7 @@ node_keeps : (c : Option NodeCommand) (from : ℕ) (body : BodyShape) (t : Turn)
 node_keeps None from body t h = tt
 node_keeps (Some c) from body t h = arguments_keep body (node_row c from) t (λ xs. node_row_keeps from t h c xs)
 
-bus_keeps : (c : Option BusCommand) (from : ℕ) (body : BodyShape) (t : Turn) → AreChosen t.world → KeepsIf (bus_outcome c from body t)
+bus_keeps : (c : Option ServerCommand) (from : ℕ) (body : BodyShape) (t : Turn) → AreChosen t.world → KeepsIf (server_outcome c from body t)
 bus_keeps None from body t h = tt
 bus_keeps (Some c) from body t h = arguments_keep body (whole_row c from) t (λ xs. carrying_keeps from t h c (carried c xs) xs)
 
@@ -415,7 +415,7 @@ answered_chosen from address t (Err reason) h k = h
 pub command_chosen : (from : ℕ) (m : MessageShape) (t : Turn) → AreChosen t.world → AreChosen (command from m t).world
 command_chosen from m t h =
     answered_chosen from m.address t (or_unknown (either (run_node from m t) (run_bus from m t))) h
-    (either_keeps (run_node from m t) (run_bus from m t) (node_keeps (node_command_of m.address) from m.body t h) (bus_keeps (bus_command_of m.address) from m.body t h))
+    (either_keeps (run_node from m t) (run_bus from m t) (node_keeps (node_command_of m.address) from m.body t h) (bus_keeps (server_command_of m.address) from m.body t h))
 
 -- ---- blocks, and what happens after them
 
@@ -441,5 +441,5 @@ all_chosen (e ∷ es) t h = all_chosen es (acted e t) (acted_chosen e (view_of e
 
 pub settled_chosen : (b : ℕ) (t : Turn) → AreChosen t.world → AreChosen (settled b t).world
 settled_chosen b t h =
-    all_chosen (endings_in t.world.rate t.world.nodes) (with_settled (told_all (triggers_in t.world.rate b t.world.nodes) t))
+    all_chosen (endings_in t.world.rate t.world.nodes) (with_nodes_settled (told_all (triggers_in t.world.rate b t.world.nodes) t))
     (chosen_within t.world.nodes (settled_nodes t.world.rate t.world.nodes) (λ x k. sym (held_settled x t.world.rate t.world.nodes) ∙ k) t.world.next_id h)

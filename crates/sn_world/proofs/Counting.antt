@@ -8,8 +8,8 @@ use Rattle.sn_mem.specs.Words.{covers, has}
 use Rattle.sn_pool.specs.Pools.{same_extent, times}
 use Rattle.sn_pool.proofs.Counts.{same_itself, same_is}
 use Rattle.sn_tree.specs.declared.node.NodeKind.{NodeKind}
-use Rattle.sn_tree.specs.declared.node.Action.{Action}
-use Rattle.sn_tree.specs.declared.node.Action.TheVariants.{Head, Tail, Before, After}
+use Rattle.sn_tree.specs.declared.node.AddAction.{AddAction}
+use Rattle.sn_tree.specs.declared.node.AddAction.TheVariants.{Head, Tail, Before, After}
 use Rattle.sn_tree.specs.Trees.{Label, Nodes, none, node, count, holds, joined, beside, put, leaf, subtree, without}
 use Rattle.sn_world.specs.declared.stage.Held.{Held}
 use Rattle.sn_world.specs.declared.stage.Held.TheVariants as held
@@ -43,14 +43,14 @@ module _ (weight : Extent → ℕ) where
   pub amount-leaf : (id : ℤ) (kind : NodeKind) (h : Held) → amount weight (live_held (leaf id kind h)) ≡ amount weight (held_extents h)
   amount-leaf id kind h = omega (arith, amount-parts (record { id = id; kind = kind; running = true; payload = h }) none none, amount-none)
 
-  amount-beside : (action : Action) (new : Nodes Held) (l : Label Held) (below after : Nodes Held) → amount weight (live_held (beside action new l below after)) ≡ amount weight (live_held new) + amount weight (live_held (node l below after))
+  amount-beside : (action : AddAction) (new : Nodes Held) (l : Label Held) (below after : Nodes Held) → amount weight (live_held (beside action new l below after)) ≡ amount weight (live_held new) + amount weight (live_held (node l below after))
   amount-beside Head new l below after = omega (arith, amount-parts l (joined new below) after, amount-joined new below, amount-parts l below after)
   amount-beside Tail new l below after = omega (arith, amount-parts l (joined below new) after, amount-joined below new, amount-parts l below after)
   amount-beside Before new l below after = amount-joined new (node l below after)
   amount-beside After new l below after = omega (arith, amount-parts l below (joined new after), amount-joined new after, amount-parts l below after)
 
   -- a node that is put
-  pub amount-put : (action : Action) (target : ℤ) (new t : Nodes Held) → holds target t ≡ true → amount weight (live_held (put action target new t)) ≡ amount weight (live_held new) + amount weight (live_held t)
+  pub amount-put : (action : AddAction) (target : ℤ) (new t : Nodes Held) → holds target t ≡ true → amount weight (live_held (put action target new t)) ≡ amount weight (live_held new) + amount weight (live_held t)
   amount-put action target new none there = absurd cc
   amount-put action target new (node l below after) there =
       let parts = amount-parts l below after in

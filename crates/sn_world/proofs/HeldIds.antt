@@ -5,7 +5,7 @@ use Rattle.std.specs.Ordering.{int_eq}
 use Rattle.std.proofs.lemmas.Bool.{cases_Bool, or_cases, true_from_ne_false}
 use Rattle.std.proofs.lemmas.Bool.Decides.{Decides-int_eq}
 use Rattle.sn_mem.specs.Buffers.{Resources}
-use Rattle.sn_tree.specs.declared.node.Action.{Action}
+use Rattle.sn_tree.specs.declared.node.AddAction.{AddAction}
 use Rattle.sn_tree.specs.declared.node.NodeKind.{NodeKind}
 use Rattle.sn_tree.specs.Trees.{Label, Nodes, none, node, holds, ids, put, leaf, subtree, without, changed, with_running, with_payload, with_payloads}
 use Rattle.sn_tree.specs.Reworking.{reworked}
@@ -33,7 +33,7 @@ module _ {P : Type 0} (x : ℤ) where
   held_from : (t : Nodes P) → 1 ≤ occurrences int_eq x (ids t) → holds x t ≡ true
   held_from t more = true_from_ne_false (holds x t) (λ (n : holds x t ≡ false). omega (arith, not_held x t n, more))
 
-  pub held_put : (action : Action) (target : ℤ) (new t : Nodes P) → holds x (put action target new t) ≡ true → (holds x t ≡ true) ⊎ (holds x new ≡ true)
+  pub held_put : (action : AddAction) (target : ℤ) (new t : Nodes P) → holds x (put action target new t) ≡ true → (holds x t ≡ true) ⊎ (holds x new ≡ true)
   held_put action target new t h =
       ⊎_elim
       (λ (k : holds x t ≡ true). inl k)
@@ -49,7 +49,7 @@ module _ {P : Type 0} (x : ℤ) where
   pub held_turned : (id : ℤ) (on : Bool) (t : Nodes P) → holds x (changed id (with_running on) t) ≡ true → holds x t ≡ true
   held_turned id on t h = held_from t (omega (arith, held_occurs (changed id (with_running on) t) h, occurs-set x id on t))
 
-  pub held_moved : (action : Action) (target id : ℤ) (t : Nodes P) → holds x (put action target (subtree id t) (without id t)) ≡ true → holds x t ≡ true
+  pub held_moved : (action : AddAction) (target id : ℤ) (t : Nodes P) → holds x (put action target (subtree id t) (without id t)) ≡ true → holds x t ≡ true
   held_moved action target id t h =
       ⊎_elim
       (λ (k : holds x (without id t) ≡ true). held_without id t k)

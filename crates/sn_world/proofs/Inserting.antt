@@ -11,8 +11,8 @@ use Rattle.sn_mem.specs.declared.buffers.BufferPlace.{BufferPlace}
 use Rattle.sn_pool.specs.Pools.{times}
 use Rattle.sn_pool.specs.Regions.{are_free, first_free, least_place}
 use Rattle.sn_tree.specs.declared.node.NodeKind.{NodeKind}
-use Rattle.sn_tree.specs.declared.node.Action.{Action}
-use Rattle.sn_tree.specs.declared.node.Action.TheVariants.{Head, Tail, Before, After}
+use Rattle.sn_tree.specs.declared.node.AddAction.{AddAction}
+use Rattle.sn_tree.specs.declared.node.AddAction.TheVariants.{Head, Tail, Before, After}
 use Rattle.sn_tree.specs.Faults.{is_inside, is_synth, labels_synth}
 use Rattle.sn_tree.specs.Trees.{Label, Nodes, none, node, holds, joined, beside, put, leaf, label_of, with_payloads}
 use Rattle.sn_tree.specs.Model.{NodeTree}
@@ -70,14 +70,14 @@ module _ (rate : ℕ) (region : Extent) where
   held-joined none t hs ht = ht
   held-joined (node l below after) t hs ht = (hs.0, (hs.1.0, held-joined after t hs.1.1 ht), hs.2)
 
-  held-beside : (action : Action) (new : Nodes Held) (l : Label Held) (below after : Nodes Held) → (is_inside action ≡ true → is_synth l.kind ≡ false) → AreHeld rate region new → AreHeld rate region (node l below after) → AreHeld rate region (beside action new l below after)
+  held-beside : (action : AddAction) (new : Nodes Held) (l : Label Held) (below after : Nodes Held) → (is_inside action ≡ true → is_synth l.kind ≡ false) → AreHeld rate region new → AreHeld rate region (node l below after) → AreHeld rate region (beside action new l below after)
   held-beside Head new l below after group hn h = (h.0, (held-joined new below hn h.1.0, h.1.1), kind-inside l.kind l.payload below (joined new below) (group refl) h.2)
   held-beside Tail new l below after group hn h = (h.0, (held-joined below new h.1.0 hn, h.1.1), kind-inside l.kind l.payload below (joined below new) (group refl) h.2)
   held-beside Before new l below after group hn h = held-joined new (node l below after) hn h
   held-beside After new l below after group hn h = (h.0, (h.1.0, held-joined new after hn h.1.1), h.2)
 
   -- inside no synth
-  pub held-put : (action : Action) (target : ℤ) (new t : Nodes Held) → (is_inside action ≡ true → labels_synth (label_of target t) ≡ false) → AreHeld rate region new → AreHeld rate region t → AreHeld rate region (put action target new t)
+  pub held-put : (action : AddAction) (target : ℤ) (new t : Nodes Held) → (is_inside action ≡ true → labels_synth (label_of target t) ≡ false) → AreHeld rate region new → AreHeld rate region t → AreHeld rate region (put action target new t)
   held-put action target new none group hn h = h
   held-put action target new (node l below after) group hn h =
       let found : Bool → Bool → Bool = λ here inner. labels_synth (if here then Some l else if inner then label_of target below else label_of target after) in
@@ -97,7 +97,7 @@ left_live b target s = live_held (left_by b target s.tree.attached) ++ live_plac
 
 -- Where the node takes the place of its target, that one is gone with all below it. The node's words were free then, no other word has
 -- changed, and its words are live.
-pub record IsPut (b : Bool) (id : ℤ) (kind : NodeKind) (action : Action) (target : ℤ) (h : Held) (old : Stage) (ws : List ℕ) (new : Stage) (us : List ℕ) : Type 0 where
+pub record IsPut (b : Bool) (id : ℤ) (kind : NodeKind) (action : AddAction) (target : ℤ) (h : Held) (old : Stage) (ws : List ℕ) (new : Stage) (us : List ℕ) : Type 0 where
   pub before : b ≡ true → action ≡ Before
   pub there : holds target old.tree.attached ≡ true
   pub other : int_eq id target ≡ false
@@ -132,7 +132,7 @@ own_of_leaf id kind h x = omega (arith, parts_of (record { id = id; kind = kind;
 moved : (r r' : ℕ) (g g' : Extent) (t t' : Nodes Held) → r' ≡ r → g' ≡ g → t' ≡ t → AreHeld r g t → AreHeld r' g' t'
 moved r r' g g' t t' p q s h = subst (λ n. AreHeld n g' t') (sym p) (subst (λ e. AreHeld r e t') (sym q) (subst (AreHeld r g) (sym s) h))
 
-module _ (b : Bool) (id : ℤ) (kind : NodeKind) (action : Action) (target : ℤ) (h : Held) (old : Stage) (ws : List ℕ) (new : Stage) (us : List ℕ) (is : IsPut b id kind action target h old ws new us) (before : Pictures old ws) where
+module _ (b : Bool) (id : ℤ) (kind : NodeKind) (action : AddAction) (target : ℤ) (h : Held) (old : Stage) (ws : List ℕ) (new : Stage) (us : List ℕ) (is : IsPut b id kind action target h old ws new us) (before : Pictures old ws) where
   attached : new.tree.attached ≡ left_by b target (put action target (leaf id kind h) old.tree.attached)
   attached = ap (λ (t : NodeTree Held). t.attached) is.tree
 

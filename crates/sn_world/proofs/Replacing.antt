@@ -8,8 +8,8 @@ use Rattle.sn_mem.specs.declared.extents.Extent.{Extent}
 use Rattle.sn_pool.specs.Pools.{same_extent, times}
 use Rattle.sn_mem.specs.Words.{covers}
 use Rattle.sn_tree.specs.declared.node.NodeKind.{NodeKind}
-use Rattle.sn_tree.specs.declared.node.Action.{Action}
-use Rattle.sn_tree.specs.declared.node.Action.TheVariants.{Before}
+use Rattle.sn_tree.specs.declared.node.AddAction.{AddAction}
+use Rattle.sn_tree.specs.declared.node.AddAction.TheVariants.{Before}
 use Rattle.sn_tree.specs.Trees.{Nodes, none, node, holds, count, joined, put, leaf, subtree, without, with_payloads}
 use Rattle.sn_tree.proofs.PayloadLaws.{holds-payloads, put-payloads, without-payloads, count-payloads}
 use Rattle.sn_tree.proofs.Replacing.{still_held, subtree-before}
@@ -74,14 +74,14 @@ amount-left weight true target t = amount-without weight target t
 amount-left weight false target t = omega (arith, amount-none weight)
 
 -- with a new node, whose id is not that of the target
-pub amount-placed : (weight : Extent → ℕ) (b : Bool) (action : Action) (target id : ℤ) (kind : NodeKind) (h : Held) (t : Nodes Held) → (b ≡ true → action ≡ Before) → holds target t ≡ true → int_eq id target ≡ false
+pub amount-placed : (weight : Extent → ℕ) (b : Bool) (action : AddAction) (target id : ℤ) (kind : NodeKind) (h : Held) (t : Nodes Held) → (b ≡ true → action ≡ Before) → holds target t ≡ true → int_eq id target ≡ false
     → amount weight (live_held (left_by b target (put action target (leaf id kind h) t))) ≡ amount weight (held_extents h) + amount weight (live_held (left_by b target t))
 amount-placed weight false action target id kind h t before there other = omega (arith, amount-put weight action target (leaf id kind h) t there, amount-leaf weight id kind h)
 amount-placed weight true action target id kind h t before there other =
     omega (arith, amount-put weight action target (leaf id kind h) t there, amount-leaf weight id kind h, amount-without weight target (put action target (leaf id kind h) t), amount-without weight target t, ap (λ (s : Nodes Held). amount weight (live_held s)) same)
   where
     same : subtree target (put action target (leaf id kind h) t) ≡ subtree target t
-    same = subst (λ (a : Action). subtree target (put a target (leaf id kind h) t) ≡ subtree target t) (sym (before refl)) (subtree-before id target kind h other t there)
+    same = subst (λ (a : AddAction). subtree target (put a target (leaf id kind h) t) ≡ subtree target t) (sym (before refl)) (subtree-before id target kind h other t there)
 
 pub overlaps-left : (x : ℕ) (b : Bool) (target : ℤ) (t : Nodes Held) → overlaps x (live_held (left_by b target t)) + overlaps x (live_held (gone_by b target t)) ≡ overlaps x (live_held t)
 overlaps-left x b target t = omega (arith, amount-left (λ e. if covers e x then 1 else 0) b target t, overlaps-amount x (live_held (left_by b target t)), overlaps-amount x (live_held (gone_by b target t)), overlaps-amount x (live_held t))
@@ -89,7 +89,7 @@ overlaps-left x b target t = omega (arith, amount-left (λ e. if covers e x then
 pub times-left : (e : Extent) (b : Bool) (target : ℤ) (t : Nodes Held) → times e (live_held (left_by b target t)) + times e (live_held (gone_by b target t)) ≡ times e (live_held t)
 times-left e b target t = omega (arith, amount-left (λ y. if same_extent e y then 1 else 0) b target t, times-amount e (live_held (left_by b target t)), times-amount e (live_held (gone_by b target t)), times-amount e (live_held t))
 
-module _ (b : Bool) (action : Action) (target id : ℤ) (kind : NodeKind) (h : Held) (t : Nodes Held) (before : b ≡ true → action ≡ Before) (there : holds target t ≡ true) (other : int_eq id target ≡ false) where
+module _ (b : Bool) (action : AddAction) (target id : ℤ) (kind : NodeKind) (h : Held) (t : Nodes Held) (before : b ≡ true → action ≡ Before) (there : holds target t ≡ true) (other : int_eq id target ≡ false) where
   pub overlaps-placed : (x : ℕ) → overlaps x (live_held (left_by b target (put action target (leaf id kind h) t))) ≡ overlaps x (held_extents h) + overlaps x (live_held (left_by b target t))
   overlaps-placed x =
       omega (arith, amount-placed (λ e. if covers e x then 1 else 0) b action target id kind h t before there other, overlaps-amount x (live_held (left_by b target (put action target (leaf id kind h) t))), overlaps-amount x (held_extents h), overlaps-amount x (live_held (left_by b target t)))
@@ -153,14 +153,14 @@ module _ (us ws : List ℕ) (id target : ℤ) (kind : NodeKind) (h : Held) where
       (cases_Bool (holds target below)))
       (cases_Bool (int_eq l.id target))
 
-  pub same_placed : (b : Bool) (action : Action) (t : Nodes Held) → (b ≡ true → action ≡ Before) → holds target t ≡ true → int_eq id target ≡ false → AgreesOn (live_held (left_by b target t)) us ws
+  pub same_placed : (b : Bool) (action : AddAction) (t : Nodes Held) → (b ≡ true → action ≡ Before) → holds target t ≡ true → int_eq id target ≡ false → AgreesOn (live_held (left_by b target t)) us ws
       → with_payloads (content_of us) (left_by b target (put action target (leaf id kind h) t)) ≡ left_by b target (put action target (leaf id kind (content_of us h)) (with_payloads (content_of ws) t))
   same_placed false action t before there other agree =
       sym (put-payloads (content_of us) action target (leaf id kind h) t)
       ∙ ap (put action target (leaf id kind (content_of us h))) (same_nodes t us ws agree)
   same_placed true action t before there other agree =
       subst
-      (λ (a : Action). with_payloads (content_of us) (without target (put a target (leaf id kind h) t)) ≡ without target (put a target (leaf id kind (content_of us h)) (with_payloads (content_of ws) t)))
+      (λ (a : AddAction). with_payloads (content_of us) (without target (put a target (leaf id kind h) t)) ≡ without target (put a target (leaf id kind (content_of us h)) (with_payloads (content_of ws) t)))
       (sym (before refl))
       (ap (with_payloads (content_of us)) (instead_is id target kind h other t there)
       ∙ same_instead t agree

@@ -2,9 +2,9 @@
 use Rattle.std.specs.Prelude.{ℕ, Bool, List, [], ◌∷◌, find, Option, Some, None, codes}
 use Rattle.std.specs.Str.{bytes_eq}
 use Rattle.std.specs.Option.{option_map}
-use Rattle.sn_tree.specs.declared.node.Action.TheVariants.{Head, Tail, Before, After}
-use Rattle.sn_world.specs.declared.command.BusCommand.{BusCommand}
-use Rattle.sn_world.specs.declared.command.BusCommand.TheVariants as buses
+use Rattle.sn_tree.specs.declared.node.AddAction.TheVariants.{Head, Tail, Before, After}
+use Rattle.sn_world.specs.declared.command.ServerCommand.{ServerCommand}
+use Rattle.sn_world.specs.declared.command.ServerCommand.TheVariants as server
 use Rattle.sn_world.specs.declared.command.NodeCommand.{NodeCommand}
 use Rattle.sn_world.specs.declared.command.NodeCommand.TheVariants as nodes
 use Rattle.sn_world.specs.declared.command.Command.{Command}
@@ -23,7 +23,7 @@ called_of a = record { address = a.address.now; command = a.command }
 abbrev pub on_nodes : List ℕ → NodeCommand → Called
 on_nodes address command = record { address = address; command = OnNodes command }
 
-abbrev pub on_server : List ℕ → BusCommand → Called
+abbrev pub on_server : List ℕ → ServerCommand → Called
 on_server address command = record { address = address; command = OnServer command }
 
 -- all commands
@@ -49,27 +49,27 @@ every_command =
     ∷ on_nodes (codes "/g_head") (nodes.Move Head)
     ∷ on_nodes (codes "/g_tail") (nodes.Move Tail)
     ∷ on_nodes (codes "/n_order") nodes.Order
-    ∷ on_server (codes "/c_set") buses.Set
-    ∷ on_server (codes "/c_setn") buses.SetRuns
-    ∷ on_server (codes "/c_fill") buses.Fill
-    ∷ on_server (codes "/c_get") buses.Get
-    ∷ on_server (codes "/c_getn") buses.GetRuns
-    ∷ on_server (codes "/b_alloc") buses.AllocBuffer
-    ∷ on_server (codes "/b_allocRead") buses.ReadBuffer
-    ∷ on_server (codes "/b_free") buses.FreeBuffer
-    ∷ on_server (codes "/b_zero") buses.ZeroBuffer
-    ∷ on_server (codes "/b_query") buses.QueryBuffers
-    ∷ on_server (codes "/b_set") buses.SetSamples
-    ∷ on_server (codes "/b_setn") buses.SetSampleRuns
-    ∷ on_server (codes "/b_fill") buses.FillSamples
-    ∷ on_server (codes "/b_get") buses.GetSamples
-    ∷ on_server (codes "/b_getn") buses.GetSampleRuns
-    ∷ on_server (codes "/sync") buses.Sync
-    ∷ on_server (codes "/d_recv") buses.Receive
-    ∷ on_server (codes "/d_free") buses.Free
-    ∷ on_server (codes "/status") buses.Status
-    ∷ on_server (codes "/clearSched") buses.ClearSched
-    ∷ on_server (codes "/quit") buses.Quit
+    ∷ on_server (codes "/c_set") server.Set
+    ∷ on_server (codes "/c_setn") server.SetRuns
+    ∷ on_server (codes "/c_fill") server.Fill
+    ∷ on_server (codes "/c_get") server.Get
+    ∷ on_server (codes "/c_getn") server.GetRuns
+    ∷ on_server (codes "/b_alloc") server.AllocBuffer
+    ∷ on_server (codes "/b_allocRead") server.ReadBuffer
+    ∷ on_server (codes "/b_free") server.FreeBuffer
+    ∷ on_server (codes "/b_zero") server.ZeroBuffer
+    ∷ on_server (codes "/b_query") server.QueryBuffers
+    ∷ on_server (codes "/b_set") server.SetSamples
+    ∷ on_server (codes "/b_setn") server.SetSampleRuns
+    ∷ on_server (codes "/b_fill") server.FillSamples
+    ∷ on_server (codes "/b_get") server.GetSamples
+    ∷ on_server (codes "/b_getn") server.GetSampleRuns
+    ∷ on_server (codes "/sync") server.Sync
+    ∷ on_server (codes "/d_recv") server.Receive
+    ∷ on_server (codes "/d_free") server.Free
+    ∷ on_server (codes "/status") server.Status
+    ∷ on_server (codes "/clearSched") server.ClearSched
+    ∷ on_server (codes "/quit") server.Quit
     ∷ []
 
 abbrev pub has_address : List ℕ → Called → Bool
@@ -89,7 +89,7 @@ on_nodes_alone (Some (OnNodes command)) = Some command
 on_nodes_alone (Some (OnServer command)) = None
 
 -- if it is one on buses, buffers, definitions or the server itself
-abbrev pub on_server_alone : Option Command → Option BusCommand
+abbrev pub on_server_alone : Option Command → Option ServerCommand
 on_server_alone None = None
 on_server_alone (Some (OnNodes command)) = None
 on_server_alone (Some (OnServer command)) = Some command
@@ -97,5 +97,5 @@ on_server_alone (Some (OnServer command)) = Some command
 abbrev pub node_command_of : List ℕ → Option NodeCommand
 node_command_of address = on_nodes_alone (command_of address)
 
-abbrev pub bus_command_of : List ℕ → Option BusCommand
-bus_command_of address = on_server_alone (command_of address)
+abbrev pub server_command_of : List ℕ → Option ServerCommand
+server_command_of address = on_server_alone (command_of address)

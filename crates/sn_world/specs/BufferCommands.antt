@@ -1,5 +1,6 @@
 -- `/b_alloc`, `/b_free`, `/b_zero` and `/b_query`.
 use Rattle.std.specs.Prelude.{ℕ, ◌*◌, ℤ, pos, nat_abs, ◌&&◌, int_le, if◌then◌else◌, List, [], ◌∷◌, ◌++◌, length, replicate, Option, Some, None, Result, Ok, Err, codes}
+use Rattle.sn_ports.specs.Limits.{most_channels}
 use Rattle.sn_osc.specs.Shape.{Argument, int, string, blob, arguments, MessageShape}
 use Rattle.sn_pool.specs.Regions.{least_place}
 use Rattle.sn_reply.specs.declared.reason.Reason.{Reason}
@@ -7,7 +8,7 @@ use Rattle.sn_reply.specs.declared.reason.Reason.TheVariants as Reasons
 use Rattle.sn_world.specs.declared.buffer_repetition.NewBuffer.{NewBuffer}
 use Rattle.sn_world.specs.declared.buffer_repetition.BufferNumber.{BufferNumber}
 use Rattle.sn_mem.specs.Buffers.{Buffer}
-use Rattle.sn_world.specs.BufferNumbers.{at_number, put_at, with_samples, number_refusal, buffer_refusal, done_with}
+use Rattle.sn_world.specs.BufferNumbers.{at_number, put_at, with_samples, number_refusal, buffer_refusal, done_message}
 use Rattle.sn_world.specs.Runs.{number}
 use Rattle.sn_world.specs.World.{World, Turn, live_of, replied}
 use Rattle.sn_world.specs.Rows.{unless, question, singles, some_of}
@@ -21,7 +22,7 @@ frame_count (string s) = None
 frame_count (blob b) = None
 
 abbrev pub channel_count : Argument → Option ℕ
-channel_count (int n) = if int_le (pos 1) n && int_le n (pos 8) then Some (nat_abs n) else None
+channel_count (int n) = if int_le (pos 1) n && int_le n (pos most_channels) then Some (nat_abs n) else None
 channel_count (string s) = None
 channel_count (blob b) = None
 
@@ -58,7 +59,7 @@ zeros_of r = replicate (r.frames * r.channels) (pos 0)
 -- it has the place that was found, and it is told that the command was carried out
 abbrev pub hold_at : List ℕ → List ℤ → ℕ → NewBuffer → Option ℕ → Turn → Result Turn Reason
 hold_at command samples from r None t = Err Reasons.PoolFull
-hold_at command samples from r (Some at) t = Ok (replied from (done_with command r.number) (record t { world = record t.world { buffers = put_at r.number (Some (holding samples r at)) t.world.buffers } }))
+hold_at command samples from r (Some at) t = Ok (replied from (done_message command r.number) (record t { world = record t.world { buffers = put_at r.number (Some (holding samples r at)) t.world.buffers } }))
 
 abbrev pub hold : List ℕ → List ℤ → ℕ → NewBuffer → Turn → Result Turn Reason
 hold command samples from r t = unless (number_refusal r.number) (hold_at command samples from r (place_for t.world r) t)
@@ -78,10 +79,10 @@ one_number _ = None
 
 abbrev pub free_outcome : ℕ → Option ℤ → Turn → Result Turn Reason
 free_outcome from None t = Err Reasons.Arguments
-free_outcome from (Some n) t = unless (buffer_refusal n t.world) (Ok (replied from (done_with (codes "/b_free") n) (record t { world = without_buffer n t.world })))
+free_outcome from (Some n) t = unless (buffer_refusal n t.world) (Ok (replied from (done_message (codes "/b_free") n) (record t { world = without_buffer n t.world })))
 
-abbrev pub free_row : ℕ → List Argument → Turn → Result Turn Reason
-free_row from xs t = free_outcome from (one_number xs) t
+abbrev pub free_buffer_row : ℕ → List Argument → Turn → Result Turn Reason
+free_buffer_row from xs t = free_outcome from (one_number xs) t
 
 -- ---- `/b_zero` number
 
@@ -90,7 +91,7 @@ zeros samples = replicate (length samples) (pos 0)
 
 abbrev pub zero_outcome : ℕ → Option ℤ → Turn → Result Turn Reason
 zero_outcome from None t = Err Reasons.Arguments
-zero_outcome from (Some n) t = unless (buffer_refusal n t.world) (Ok (replied from (done_with (codes "/b_zero") n) (record t { world = with_samples n zeros t.world })))
+zero_outcome from (Some n) t = unless (buffer_refusal n t.world) (Ok (replied from (done_message (codes "/b_zero") n) (record t { world = with_samples n zeros t.world })))
 
 abbrev pub zero_row : ℕ → List Argument → Turn → Result Turn Reason
 zero_row from xs t = zero_outcome from (one_number xs) t

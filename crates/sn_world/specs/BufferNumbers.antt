@@ -1,5 +1,6 @@
 -- Buffers by the numbers that commands name.
 use Rattle.std.specs.Prelude.{ℕ, ◌+◌, ℤ, pos, negsuc, Bool, false, not, is_none, nat_lt, List, [], ◌∷◌, Option, Some, None, slice_index_or, slice_set, codes}
+use Rattle.sn_ports.specs.Limits.{buffer_count}
 use Rattle.sn_osc.specs.Shape.{int, string, arguments, MessageShape}
 use Rattle.sn_reply.specs.declared.reason.Reason.{Reason}
 use Rattle.sn_reply.specs.declared.reason.Reason.TheVariants as Reasons
@@ -9,7 +10,7 @@ use Rattle.sn_world.specs.Rows.{first_of}
 
 -- There are 1,024 numbers of buffers.
 abbrev pub is_number : ℤ → Bool
-is_number (pos n) = nat_lt n 1024
+is_number (pos n) = nat_lt n buffer_count
 is_number (negsuc n) = false
 
 -- what is at a number, if anything is
@@ -44,5 +45,5 @@ abbrev pub buffer_refusal : ℤ → World → Option Reason
 buffer_refusal n w = first_of ((is_none (at_number w.buffers n), Reasons.Buffer) ∷ [])
 
 -- `/done` with the address of a command and the number of a buffer
-abbrev pub done_with : List ℕ → ℤ → MessageShape
-done_with address n = record { address = codes "/done"; body = arguments (string address ∷ int n ∷ []) }
+abbrev pub done_message : List ℕ → ℤ → MessageShape
+done_message address n = record { address = codes "/done"; body = arguments (string address ∷ int n ∷ []) }

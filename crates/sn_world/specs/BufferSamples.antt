@@ -1,5 +1,6 @@
 -- `/b_set`, `/b_setn`, `/b_fill`, `/b_get` and `/b_getn`.
 use Rattle.std.specs.Prelude.{ℕ, zero, suc, ◌+◌, ◌*◌, ℤ, pos, negsuc, nat_abs, Bool, true, false, not, ◌&&◌, nat_lt, nat_le, if◌then◌else◌, List, [], ◌∷◌, ◌++◌, length, replicate, slice_index_or, slice_set, Option, Some, None, Result, Ok, Err, codes}
+use Rattle.sn_ports.specs.Limits.{most_values}
 use Rattle.sn_osc.specs.Shape.{Argument, int, arguments, MessageShape}
 use Rattle.sn_reply.specs.declared.reason.Reason.{Reason}
 use Rattle.sn_reply.specs.declared.reason.Reason.TheVariants as Reasons
@@ -9,7 +10,7 @@ use Rattle.sn_world.specs.declared.buffer_repetition.SampleRun.{SampleRun}
 use Rattle.sn_world.specs.declared.buffer_repetition.SampleFill.{SampleFill}
 use Rattle.sn_mem.specs.Buffers.{Buffer}
 use Rattle.sn_world.specs.BufferNumbers.{at_number, set_from, buffer_refusal, with_samples}
-use Rattle.sn_world.specs.Runs.{ValuesAt, number, value_runs, most_values, total_of}
+use Rattle.sn_world.specs.Runs.{ValuesAt, number, value_runs, total_of}
 use Rattle.sn_world.specs.World.{Turn, replied}
 use Rattle.sn_world.specs.Rows.{first_of, unless, first_refusal, singles, pairs, triples, some_of}
 

@@ -1,5 +1,6 @@
 -- Where the words of the buffers are.
 use Rattle.std.specs.Prelude.{◌≡◌, ◌≤◌, ◌<◌, ◌*◌, ◌++◌, List, [], ◌∷◌, length, Option, Some, None}
+use Rattle.sn_ports.specs.Limits.{buffer_count, most_channels}
 use Rattle.sn_mem.specs.declared.extents.Extent.{Extent}
 use Rattle.sn_mem.specs.Buffers.{Buffer}
 use Rattle.sn_mem.specs.declared.buffers.BufferPlace.{BufferPlace}
@@ -19,7 +20,7 @@ pub record IsBuffer (region : Extent) (p : BufferPlace) : Type 0 where
   pub frames : 1 ≤ p.frames
   pub short : p.frames < 2147483648
   pub channels : 1 ≤ p.channels
-  pub few : p.channels ≤ 8
+  pub few : p.channels ≤ most_channels
   pub size : p.extent.len ≡ p.frames * p.channels
   pub within : LiesIn region p.extent
 
@@ -33,5 +34,5 @@ AreEach region (p ∷ ps) = MayBeBuffer region p × AreEach region ps
 
 -- at each of the 1,024 numbers there is a buffer or none
 pub record AreBuffers (region : Extent) (places : List (Option BufferPlace)) : Type 0 where
-  pub number : length places ≡ 1024
+  pub number : length places ≡ buffer_count
   pub each : AreEach region places

@@ -1,5 +1,6 @@
 -- The commands on control buses, and `/sync`.
 use Rattle.std.specs.Prelude.{ℕ, suc, zero, ◌+◌, ℤ, pos, negsuc, Bool, false, not, ◌&&◌, List, [], ◌∷◌, replicate, Option, Some, None, Result, Ok, Err, nat_lt, nat_le, codes}
+use Rattle.sn_ports.specs.Limits.{control_bus_count}
 use Rattle.sn_osc.specs.Shape.{Argument, int, string, blob, arguments, MessageShape}
 use Rattle.sn_reply.specs.declared.reason.Reason.{Reason}
 use Rattle.sn_reply.specs.declared.reason.Reason.TheVariants.{Bus, Arguments}
@@ -12,12 +13,12 @@ use Rattle.sn_world.specs.Rows.{first_of, row, question, singles, pairs, triples
 
 -- There are 1,024 control buses.
 abbrev pub is_bus : ℤ → Bool
-is_bus (pos n) = nat_lt n 1024
+is_bus (pos n) = nat_lt n control_bus_count
 is_bus (negsuc n) = false
 
 -- The first bus of a run is one, also where the run is empty, and so is the last bus of a run that is not empty.
 abbrev pub is_run : ℤ → ℕ → Bool
-is_run (pos n) count = nat_lt n 1024 && nat_le (n + count) 1024
+is_run (pos n) count = nat_lt n control_bus_count && nat_le (n + count) control_bus_count
 is_run (negsuc n) count = false
 
 -- the reason against a bus, and that against a run

@@ -5,11 +5,11 @@ use Rattle.sn_osc.specs.Reading.{read}
 use Rattle.sn_reply.specs.declared.reason.Reason.{Reason}
 use Rattle.sn_reply.specs.declared.reason.Reason.TheVariants.{UnknownCommand, ArgumentType, Arguments}
 use Rattle.sn_reply.specs.Failing.{fail_message}
-use Rattle.sn_world.specs.declared.command.BusCommand.{BusCommand}
-use Rattle.sn_world.specs.declared.command.BusCommand.TheVariants as buses
+use Rattle.sn_world.specs.declared.command.ServerCommand.{ServerCommand}
+use Rattle.sn_world.specs.declared.command.ServerCommand.TheVariants as server
 use Rattle.sn_world.specs.declared.command.NodeCommand.{NodeCommand}
 use Rattle.sn_world.specs.declared.command.NodeCommand.TheVariants as nodes
-use Rattle.sn_world.specs.Addresses.{node_command_of, bus_command_of}
+use Rattle.sn_world.specs.Addresses.{node_command_of, server_command_of}
 use Rattle.sn_world.specs.World.{Turn, replied}
 use Rattle.sn_world.specs.Buses.{set_row, fill_row, get_row, sync_row}
 use Rattle.sn_world.specs.Runs.{setn_row, getn_row}
@@ -17,7 +17,7 @@ use Rattle.sn_world.specs.BufferCommands as buffers
 use Rattle.sn_world.specs.BufferReading.{read_row}
 use Rattle.sn_world.specs.BufferSamples as samples
 use Rattle.sn_world.specs.Recv.{recv_row}
-use Rattle.sn_world.specs.Free.{free_row as forget_row}
+use Rattle.sn_world.specs.Forgetting.{forget_row}
 use Rattle.sn_world.specs.Status.{status_row}
 use Rattle.sn_world.specs.Ending.{quit_row, clear_row, Next, nothing, quitting, clearing, completing}
 use Rattle.sn_world.specs.Completing.{carried, own, one_message, message_in}
@@ -38,28 +38,28 @@ use Rattle.sn_world.specs.Moving.{move_row}
 use Rattle.sn_world.specs.NodeOrder.{order_row}
 
 -- the row of a command on buses, buffers, definitions or the server itself
-abbrev pub bus_row : BusCommand → ℕ → List Argument → Turn → Result Turn Reason
-bus_row buses.Set = set_row
-bus_row buses.SetRuns = setn_row
-bus_row buses.Fill = fill_row
-bus_row buses.Get = get_row
-bus_row buses.GetRuns = getn_row
-bus_row buses.AllocBuffer = buffers.alloc_row
-bus_row buses.ReadBuffer = read_row
-bus_row buses.FreeBuffer = buffers.free_row
-bus_row buses.ZeroBuffer = buffers.zero_row
-bus_row buses.QueryBuffers = buffers.query_row
-bus_row buses.SetSamples = samples.set_row
-bus_row buses.SetSampleRuns = samples.setn_row
-bus_row buses.FillSamples = samples.fill_row
-bus_row buses.GetSamples = samples.get_row
-bus_row buses.GetSampleRuns = samples.getn_row
-bus_row buses.Sync = sync_row
-bus_row buses.Receive = recv_row
-bus_row buses.Free = forget_row
-bus_row buses.Status = status_row
-bus_row buses.ClearSched = clear_row
-bus_row buses.Quit = quit_row
+abbrev pub server_row : ServerCommand → ℕ → List Argument → Turn → Result Turn Reason
+server_row server.Set = set_row
+server_row server.SetRuns = setn_row
+server_row server.Fill = fill_row
+server_row server.Get = get_row
+server_row server.GetRuns = getn_row
+server_row server.AllocBuffer = buffers.alloc_row
+server_row server.ReadBuffer = read_row
+server_row server.FreeBuffer = buffers.free_buffer_row
+server_row server.ZeroBuffer = buffers.zero_row
+server_row server.QueryBuffers = buffers.query_row
+server_row server.SetSamples = samples.set_row
+server_row server.SetSampleRuns = samples.setn_row
+server_row server.FillSamples = samples.fill_row
+server_row server.GetSamples = samples.get_row
+server_row server.GetSampleRuns = samples.getn_row
+server_row server.Sync = sync_row
+server_row server.Receive = recv_row
+server_row server.Free = forget_row
+server_row server.Status = status_row
+server_row server.ClearSched = clear_row
+server_row server.Quit = quit_row
 
 -- ---- arguments
 
@@ -72,14 +72,14 @@ ArgumentsOf (foreign tags rest) found = found ≡ None
 -- ---- completion messages
 
 -- the completion message that a message carries, if it carries one
-abbrev pub completion_in : Option BusCommand → BodyShape → Option MessageShape
+abbrev pub completion_in : Option ServerCommand → BodyShape → Option MessageShape
 completion_in None body = None
 completion_in (Some command) bare = message_in (carried command [])
 completion_in (Some command) (arguments xs) = message_in (carried command xs)
 completion_in (Some command) (foreign tags rest) = None
 
 abbrev pub completion_of : MessageShape → Option MessageShape
-completion_of m = completion_in (bus_command_of m.address) m.body
+completion_of m = completion_in (server_command_of m.address) m.body
 
 abbrev pub each_within : (MessageShape → Bool) → Option MessageShape → Bool
 each_within test None = true
@@ -105,18 +105,18 @@ with_completion None r = Err Arguments
 with_completion (Some m) r = r
 
 -- the row of a command with the blob that it carries, if it carries one
-abbrev pub carrying_row : BusCommand → Option (List ℕ) → ℕ → List Argument → Turn → Result Turn Reason
-carrying_row command None from xs t = bus_row command from xs t
-carrying_row command (Some b) from xs t = with_completion (acceptable (one_message (read b))) (bus_row command from (own xs) t)
+abbrev pub carrying_row : ServerCommand → Option (List ℕ) → ℕ → List Argument → Turn → Result Turn Reason
+carrying_row command None from xs t = server_row command from xs t
+carrying_row command (Some b) from xs t = with_completion (acceptable (one_message (read b))) (server_row command from (own xs) t)
 
-abbrev pub whole_row : BusCommand → ℕ → List Argument → Turn → Result Turn Reason
+abbrev pub whole_row : ServerCommand → ℕ → List Argument → Turn → Result Turn Reason
 whole_row command from xs t = carrying_row command (carried command xs) from xs t
 
 -- how it is told that a command was carried out that carries no completion message
-abbrev pub done_with : BusCommand → Handled
-done_with buses.ClearSched = answers.ClearSched
-done_with buses.Quit = answers.Quit
-done_with _ = answers.Done
+abbrev pub handled_as : ServerCommand → Handled
+handled_as server.ClearSched = answers.ClearSched
+handled_as server.Quit = answers.Quit
+handled_as _ = answers.Done
 
 -- ---- what is done besides where a command is accepted
 
@@ -126,14 +126,14 @@ ending_of answers.ClearSched = clearing
 ending_of answers.Quit = quitting
 ending_of _ = nothing
 
-abbrev pub next_alone : BusCommand → Next
-next_alone command = ending_of (done_with command)
+abbrev pub next_alone : ServerCommand → Next
+next_alone command = ending_of (handled_as command)
 
-abbrev pub next_with : BusCommand → Option MessageShape → Next
+abbrev pub next_with : ServerCommand → Option MessageShape → Next
 next_with command None = next_alone command
 next_with command (Some m) = completing m
 
-abbrev pub next_of : Option BusCommand → BodyShape → Next
+abbrev pub next_of : Option ServerCommand → BodyShape → Next
 next_of None body = nothing
 next_of (Some command) body = next_with command (completion_in (Some command) body)
 
@@ -163,13 +163,13 @@ with_arguments bare run t = run [] t
 with_arguments (arguments xs) run t = run xs t
 with_arguments (foreign tags rest) run t = Err ArgumentType
 
-abbrev pub bus_outcome : Option BusCommand → ℕ → BodyShape → Turn → Option (Result Turn Reason)
-bus_outcome None from body t = None
-bus_outcome (Some command) from body t = Some (with_arguments body (whole_row command from) t)
+abbrev pub server_outcome : Option ServerCommand → ℕ → BodyShape → Turn → Option (Result Turn Reason)
+server_outcome None from body t = None
+server_outcome (Some command) from body t = Some (with_arguments body (whole_row command from) t)
 
 -- what a message from a client does where it is such a command
 abbrev pub run_bus : ℕ → MessageShape → Turn → Option (Result Turn Reason)
-run_bus from m t = bus_outcome (bus_command_of m.address) from m.body t
+run_bus from m t = server_outcome (server_command_of m.address) from m.body t
 
 abbrev pub node_outcome : Option NodeCommand → ℕ → BodyShape → Turn → Option (Result Turn Reason)
 node_outcome None from body t = None
@@ -205,4 +205,4 @@ next_in None (Some (Err reason)) n = nothing
 next_in None (Some (Ok t)) n = n
 
 abbrev pub next_after : ℕ → MessageShape → Turn → Next
-next_after from m t = next_in (run_node from m t) (run_bus from m t) (next_of (bus_command_of m.address) m.body)
+next_after from m t = next_in (run_node from m t) (run_bus from m t) (next_of (server_command_of m.address) m.body)

@@ -3,8 +3,8 @@ use Rattle.std.specs.Prelude.{ℕ, ◌-◌, List, [], ◌∷◌, length, take, O
 use Rattle.sn_osc.specs.Shape.{Argument, int, blob, MessageShape, Shape, message, bundle}
 use Rattle.sn_osc.specs.Reading.{read}
 use Rattle.sn_osc.specs.declared.fault.PacketFault.{PacketFault}
-use Rattle.sn_world.specs.declared.command.BusCommand.{BusCommand}
-use Rattle.sn_world.specs.declared.command.BusCommand.TheVariants as buses
+use Rattle.sn_world.specs.declared.command.ServerCommand.{ServerCommand}
+use Rattle.sn_world.specs.declared.command.ServerCommand.TheVariants as server
 
 -- ---- the blob behind the arguments of a command, which their kinds tell
 
@@ -27,12 +27,12 @@ behind_text (blob text ∷ blob b ∷ []) = Some b
 behind_text _ = None
 
 -- `/b_alloc`, `/b_allocRead`, `/b_free`, `/b_zero` and `/d_recv` may carry one; not `/b_allocRead` with a path
-abbrev pub carried : BusCommand → List Argument → Option (List ℕ)
-carried buses.AllocBuffer = behind_frames
-carried buses.ReadBuffer = behind_samples
-carried buses.FreeBuffer = behind_number
-carried buses.ZeroBuffer = behind_number
-carried buses.Receive = behind_text
+abbrev pub carried : ServerCommand → List Argument → Option (List ℕ)
+carried server.AllocBuffer = behind_frames
+carried server.ReadBuffer = behind_samples
+carried server.FreeBuffer = behind_number
+carried server.ZeroBuffer = behind_number
+carried server.Receive = behind_text
 carried _ = λ xs. None
 
 -- the arguments in front of it

@@ -13,7 +13,7 @@ pub mod Buses
 pub mod Runs
 pub mod Recv
 pub mod Names
-pub mod Free
+pub mod Forgetting
 pub mod Status
 pub mod BufferNumbers
 pub mod BufferCommands

@@ -1,5 +1,6 @@
 -- `/n_map`: controls of synths follow control buses.
 use Rattle.std.specs.Prelude.{ℕ, ℤ, pos, negsuc, Bool, false, not, ◌||◌, nat_lt, nat_eq, List, [], ◌∷◌, slice_index_or, slice_set, Option, Some, None, Result, Ok, Err}
+use Rattle.sn_ports.specs.Limits.{control_bus_count}
 use Rattle.sn_osc.specs.Shape.{Argument}
 use Rattle.sn_def.specs.declared.control.Control.{Control}
 use Rattle.sn_def.specs.Definition.{Definition}
@@ -31,7 +32,7 @@ mapping c bus = mapping_of (control_name c) (number bus)
 
 -- a control bus, or -1 for none
 abbrev pub is_followable : ℤ → Bool
-is_followable (pos n) = nat_lt n 1024
+is_followable (pos n) = nat_lt n control_bus_count
 is_followable (negsuc n) = nat_eq n 0
 
 abbrev pub followed_bus : ℤ → Option ℕ

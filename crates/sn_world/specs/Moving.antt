@@ -4,8 +4,8 @@ use Rattle.std.specs.Ordering.{int_eq}
 use Rattle.sn_osc.specs.Shape.{Argument, int, string, blob}
 use Rattle.sn_reply.specs.declared.reason.Reason.{Reason}
 use Rattle.sn_reply.specs.declared.reason.Reason.TheVariants as Reasons
-use Rattle.sn_tree.specs.declared.node.Action.{Action}
-use Rattle.sn_tree.specs.declared.node.Action.TheVariants.{Head, Tail, Before, After}
+use Rattle.sn_tree.specs.declared.node.AddAction.{AddAction}
+use Rattle.sn_tree.specs.declared.node.AddAction.TheVariants.{Head, Tail, Before, After}
 use Rattle.sn_tree.specs.Trees.{Nodes, put, subtree, without, holds}
 use Rattle.sn_tree.specs.Faults.{is_missing, is_in_synth, is_beside_root}
 use Rattle.sn_world.specs.declared.node_repetition.NodeMove.{NodeMove}
@@ -41,18 +41,18 @@ act_move m t = told Moved m.id (record t { world = with_move m t.world })
 -- ---- `/n_before`, `/n_after` (id target).. and `/g_head`, `/g_tail` (group id)..
 
 -- which of two nodes is moved
-abbrev pub node_move : Action → ℤ → ℤ → NodeMove
+abbrev pub node_move : AddAction → ℤ → ℤ → NodeMove
 node_move Before id target = record { action = Before; id = id; target = target }
 node_move After id target = record { action = After; id = id; target = target }
 node_move Head group id = record { action = Head; id = id; target = group }
 node_move Tail group id = record { action = Tail; id = id; target = group }
 
-abbrev pub move_from : Action → Argument → Argument → Option NodeMove
+abbrev pub move_from : AddAction → Argument → Argument → Option NodeMove
 move_from action (int x) (int y) = Some (node_move action x y)
 move_from action (int x) (string s) = None
 move_from action (int x) (blob b) = None
 move_from action (string s) y = None
 move_from action (blob b) y = None
 
-abbrev pub move_row : Action → ℕ → List Argument → Turn → Result Turn Reason
+abbrev pub move_row : AddAction → ℕ → List Argument → Turn → Result Turn Reason
 move_row action from xs = row judge_move act_move (some_of (pairs (move_from action) xs))

@@ -1,13 +1,14 @@
 -- What commands that make nodes have in common, and those that make groups.
 use Rattle.std.specs.Prelude.{ℕ, ◌+◌, ℤ, pos, negsuc, Bool, true, false, not, if◌then◌else◌, nat_lt, List, [], ◌∷◌, Option, Some, None, is_some, unwrap_or, Result}
 use Rattle.std.specs.Ordering.{int_eq}
+use Rattle.sn_ports.specs.Limits.{most_nodes}
 use Rattle.sn_osc.specs.Shape.{Argument, int, string, blob}
 use Rattle.sn_reply.specs.declared.reason.Reason.{Reason}
 use Rattle.sn_reply.specs.declared.reason.Reason.TheVariants as Reasons
 use Rattle.sn_tree.specs.declared.node.NodeKind.{NodeKind}
 use Rattle.sn_tree.specs.declared.node.NodeKind.TheVariants as kinds
-use Rattle.sn_tree.specs.declared.node.Action.{Action}
-use Rattle.sn_tree.specs.declared.node.Action.TheVariants.{Head, Tail, Before, After}
+use Rattle.sn_tree.specs.declared.node.AddAction.{AddAction}
+use Rattle.sn_tree.specs.declared.node.AddAction.TheVariants.{Head, Tail, Before, After}
 use Rattle.sn_tree.specs.declared.node.NodeView.{NodeView}
 use Rattle.sn_tree.specs.Trees.{Nodes, none, put, leaf, subtree, without, holds, count}
 use Rattle.sn_tree.specs.Views.{views_below}
@@ -45,7 +46,7 @@ next_after next id = if int_eq id (negsuc 0) then one_below next else next
 -- ---- places
 
 -- Action 4 puts the node just before its target, which is freed then: the node takes its place.
-abbrev pub add_action : ℤ → Option Action
+abbrev pub add_action : ℤ → Option AddAction
 add_action n =
     if int_eq n (pos 0) then Some Head
     else if int_eq n (pos 1) then Some Tail
@@ -54,7 +55,7 @@ add_action n =
     else if int_eq n (pos 4) then Some Before
     else None
 
-abbrev pub action_for : ℤ → Action
+abbrev pub action_for : ℤ → AddAction
 action_for action = unwrap_or (add_action action) Head
 
 abbrev pub replaces : ℤ → Bool
@@ -90,7 +91,7 @@ node_refusal id action target nodes = first_of (
     ∷ (is_missing target nodes, Reasons.NoSuchNode)
     ∷ (is_in_synth (action_for action) target nodes, Reasons.NotGroup)
     ∷ (is_beside_root (action_for action) target, Reasons.Root)
-    ∷ (nat_lt 4096 (count (left_by (replaces action) target nodes) + 1), Reasons.TooManyNodes)
+    ∷ (nat_lt most_nodes (count (left_by (replaces action) target nodes) + 1), Reasons.TooManyNodes)
     ∷ [])
 
 -- ---- `/g_new`, `/p_new` (id action target)..

@@ -5,8 +5,8 @@ use Rattle.std.specs.Ordering.{int_eq}
 use Rattle.sn_osc.specs.Shape.{Argument, int, string, blob}
 use Rattle.sn_reply.specs.declared.reason.Reason.{Reason}
 use Rattle.sn_reply.specs.declared.reason.Reason.TheVariants as Reasons
-use Rattle.sn_tree.specs.declared.node.Action.{Action}
-use Rattle.sn_tree.specs.declared.node.Action.TheVariants.{After}
+use Rattle.sn_tree.specs.declared.node.AddAction.{AddAction}
+use Rattle.sn_tree.specs.declared.node.AddAction.TheVariants.{After}
 use Rattle.sn_tree.specs.Trees.{Nodes, holds}
 use Rattle.sn_tree.specs.Faults.{is_missing, is_in_synth, is_beside_root}
 use Rattle.sn_world.specs.declared.node_repetition.NodeMove.{NodeMove}
@@ -64,7 +64,7 @@ abbrev pub listed : {P : Type 0} → List NodeId → Nodes P → List NodeId
 listed ids nodes = dedup is_same (filter (λ n. holds n.id nodes) ids)
 
 -- the first goes to a place, and each further one just after the one before it
-abbrev pub in_a_row : Action → ℤ → List NodeId → List NodeMove
+abbrev pub in_a_row : AddAction → ℤ → List NodeId → List NodeMove
 in_a_row action target [] = []
 in_a_row action target (n ∷ ns) = record { action = action; id = n.id; target = target } ∷ in_a_row After n.id ns
 

@@ -1,6 +1,8 @@
 -- The world before anything happened.
 use Rattle.std.specs.Prelude.{◌≡◌, ℕ, pos, negsuc, false, [], replicate, Some, None}
 use Rattle.std.specs.FinMap as finite
+use Rattle.sn_mem.specs.Layout.{bus_words}
+use Rattle.sn_ports.specs.Limits.{block_frames, audio_bus_count, control_bus_count, buffer_count}
 use Rattle.sn_mem.specs.Buses.{AudioBus, ControlBus}
 use Rattle.sn_tree.specs.declared.node.NodeKind.TheVariants as kinds
 use Rattle.sn_tree.specs.Trees.{none, leaf}
@@ -12,7 +14,7 @@ use Rattle.sn_world.specs.World.{World}
 
 -- no block wrote the bus, and it holds 0
 abbrev pub silent_audio : AudioBus
-silent_audio = record { written = 0; samples = replicate 64 (pos 0) }
+silent_audio = record { written = 0; samples = replicate block_frames (pos 0) }
 
 abbrev pub silent_control : ControlBus
 silent_control = record { written = 0; value = pos 0 }
@@ -23,21 +25,21 @@ unfoldable pub opening : ℕ → ℕ → ℕ → World
 opening rate memory clients = record {
   nodes = leaf (pos 0) kinds.Group group;
   definitions = finite.empty;
-  audio_buses = replicate 128 silent_audio;
-  control_buses = replicate 1024 silent_control;
-  buffers = replicate 1024 None;
+  audio_buses = replicate audio_bus_count silent_audio;
+  control_buses = replicate control_bus_count silent_control;
+  buffers = replicate buffer_count None;
   notify = replicate clients false;
   next_id = Some (negsuc 1);
   rate = rate;
-  region = record { at = 10368; len = memory };
+  region = record { at = bus_words; len = memory };
 }
 
 -- a stage that stands for it, where all words are 0
 pub record IsOpening (rate memory clients : ℕ) (stage : Stage) : Type 0 where
   pub tree : stage.tree ≡ record { attached = leaf (pos 0) kinds.Group held.Group; detached = none; journal = None }
   pub definitions : definitions_of stage.defs ≡ finite.empty
-  pub pool : stage.pool ≡ record { region = record { at = 10368; len = memory }; live = []; journal = None }
-  pub buffers : stage.buffers ≡ replicate 1024 None
+  pub pool : stage.pool ≡ record { region = record { at = bus_words; len = memory }; live = []; journal = None }
+  pub buffers : stage.buffers ≡ replicate buffer_count None
   pub notify : stage.notify ≡ replicate clients false
   pub next : stage.next_id ≡ Some (negsuc 1)
   pub frames : stage.rate ≡ rate

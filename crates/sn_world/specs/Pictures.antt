@@ -1,5 +1,7 @@
 -- When a stage and its words stand for a world.
 use Rattle.std.specs.Prelude.{◌≡◌, ◌≤◌, ◌<◌, ◌+◌, ℕ, Bool, true, false, ◌++◌, List, [], ◌∷◌, length, slice_index, Option, None}
+use Rattle.sn_mem.specs.Layout.{bus_words}
+use Rattle.sn_ports.specs.Limits.{high_rate}
 use Rattle.sn_mem.specs.declared.extents.Extent.{Extent}
 use Rattle.sn_mem.specs.declared.extents.Foot.{Foot}
 use Rattle.sn_mem.specs.Words.{writes}
@@ -66,10 +68,10 @@ AreHeld rate region (node label below after) = IsHeld rate region label.payload 
 -- and no word is that of two of them.
 pub record Pictures (stage : Stage) (words : List ℕ) : Type 0 where
   pub rate : 0 < stage.rate
-  pub rate_fits : stage.rate ≤ 96000
-  pub base : stage.pool.region.at ≡ 10368
-  pub bounded : 10368 + stage.pool.region.len < 4294967296
-  pub fits : 10368 + stage.pool.region.len ≤ length words
+  pub rate_fits : stage.rate ≤ high_rate
+  pub base : stage.pool.region.at ≡ bus_words
+  pub bounded : bus_words + stage.pool.region.len < 4294967296
+  pub fits : bus_words + stage.pool.region.len ≤ length words
   pub synths : AreHeld stage.rate stage.pool.region stage.tree.attached
   pub buffers : AreBuffers stage.pool.region stage.buffers
   pub live : (e : Extent) → 1 ≤ e.len → times e stage.pool.live ≡ times e (live_held stage.tree.attached) + times e (live_places stage.buffers)
@@ -80,7 +82,7 @@ pub record Pictures (stage : Stage) (words : List ℕ) : Type 0 where
 
 -- the words of the buses may be written
 abbrev pub WritesBuses : Foot → Type 0
-WritesBuses foot = (k : ℕ) → k < 10368 → writes foot k ≡ true
+WritesBuses foot = (k : ℕ) → k < bus_words → writes foot k ≡ true
 
 -- the words of the buses and of the pool's region may be written
 pub record WritesWorld (foot : Foot) (region : Extent) : Type 0 where
@@ -89,4 +91,4 @@ pub record WritesWorld (foot : Foot) (region : Extent) : Type 0 where
 
 -- each word behind the buses and the pool's region is as before
 abbrev pub KeepsOutside : Extent → List ℕ → List ℕ → Type 0
-KeepsOutside region old new = (k : ℕ) → 10368 ≤ k → region.at + region.len ≤ k → slice_index new k ≡ slice_index old k
+KeepsOutside region old new = (k : ℕ) → bus_words ≤ k → region.at + region.len ≤ k → slice_index new k ≡ slice_index old k

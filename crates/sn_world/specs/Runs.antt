@@ -1,6 +1,7 @@
 -- Runs of places, as buses or samples in a row, and of values for them.
 use Rattle.std.specs.Prelude.{ℕ, suc, zero, ◌+◌, ℤ, pos, negsuc, nat_abs, List, [], ◌∷◌, ◌++◌, length, map, Option, Some, None, Result, if◌then◌else◌, nat_le, codes}
 use Rattle.std.specs.Option.{option_map}
+use Rattle.sn_ports.specs.Limits.{most_values}
 use Rattle.sn_osc.specs.Shape.{Argument, int, string, blob, arguments, MessageShape}
 use Rattle.sn_mem.specs.Buses.{ControlBus}
 use Rattle.sn_reply.specs.declared.reason.Reason.{Reason}
@@ -27,10 +28,6 @@ total_of count (r ∷ rs) = count r + total_of count rs
 
 abbrev pub total_count : List Run → ℕ
 total_count rs = total_of (λ r. r.count) rs
-
--- a message asks for no more values than this
-abbrev pub most_values : ℕ
-most_values = 8192
 
 abbrev pub asks_few : Option (List Run) → Option (List Run)
 asks_few None = None

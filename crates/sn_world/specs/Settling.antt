@@ -5,7 +5,7 @@ use Rattle.sn_mem.specs.Blocks.{sample_in}
 use Rattle.sn_def.specs.declared.unit.Unit.{Unit as UnitLine}
 use Rattle.sn_def.specs.StateWords.{unit_words}
 use Rattle.sn_def.specs.Facts.{sends, done_action}
-use Rattle.sn_reply.specs.declared.events.Place.{Place}
+use Rattle.sn_reply.specs.declared.events.Neighbours.{Neighbours}
 use Rattle.sn_reply.specs.declared.events.Notice.{Notice}
 use Rattle.sn_reply.specs.declared.events.Notice.TheVariants as notice
 use Rattle.sn_reply.specs.Replies.{ReplyShape}
@@ -104,19 +104,19 @@ told_all events t = record t { replies = t.replies ++ notices_of t.world.notify 
 
 -- ---- what is done with a synth
 
-abbrev pub place_of : ℤ → NodeView → Place
-place_of id view = record { id = id; parent = view.parent; previous = view.previous; next = view.next }
+abbrev pub neighbours_of : ℤ → NodeView → Neighbours
+neighbours_of id view = record { id = id; parent = view.parent; previous = view.previous; next = view.next }
 
 -- Where it runs it is paused, and clients are told.
 abbrev pub paused_at : ℤ → NodeView → Turn → Turn
 paused_at id view t =
     if view.running
-    then told_all (notice.Off (place_of id view) ∷ []) (record t { world = record t.world { nodes = changed id (with_running false) t.world.nodes } })
+    then told_all (notice.Off (neighbours_of id view) ∷ []) (record t { world = record t.world { nodes = changed id (with_running false) t.world.nodes } })
     else t
 
 -- It is freed, and clients are told where it stood. Its words go back to the pool.
 abbrev pub freed_at : ℤ → NodeView → Turn → Turn
-freed_at id view t = told_all (notice.End (place_of id view) ∷ []) (record t { world = record t.world { nodes = without id t.world.nodes } })
+freed_at id view t = told_all (notice.End (neighbours_of id view) ∷ []) (record t { world = record t.world { nodes = without id t.world.nodes } })
 
 -- Action 1 pauses and action 2 frees. Nothing is done with a synth that is there no more.
 abbrev pub acted_at : Ending → Option NodeView → Turn → Turn
@@ -135,9 +135,9 @@ all_acted (e ∷ es) t = all_acted es (acted e t)
 
 -- ---- after block b
 
-abbrev pub with_settled : Turn → Turn
-with_settled t = record t { world = record t.world { nodes = settled_nodes t.world.rate t.world.nodes } }
+abbrev pub with_nodes_settled : Turn → Turn
+with_nodes_settled t = record t { world = record t.world { nodes = settled_nodes t.world.rate t.world.nodes } }
 
 -- First the triggers are told. Then each done word 1 becomes 2, and its action takes place.
 abbrev pub settled : ℕ → Turn → Turn
-settled b t = all_acted (endings_in t.world.rate t.world.nodes) (with_settled (told_all (triggers_in t.world.rate b t.world.nodes) t))
+settled b t = all_acted (endings_in t.world.rate t.world.nodes) (with_nodes_settled (told_all (triggers_in t.world.rate b t.world.nodes) t))

@@ -12,7 +12,7 @@ use Rattle.sn_world.specs.Nodes.{Content, content_of, live_in}
 use Rattle.sn_mem.specs.Buffers.{Buffer, buffers_of}
 use Rattle.sn_world.specs.Buffers.{live_buffers}
 
--- The tree of nodes, the definitions, the 128 audio buses, the 1,024 control buses, and what is at each of the 1,024 numbers of buffers.
+-- The tree of nodes, the definitions, the audio buses, the control buses, and what is at each number of a buffer.
 -- `notify` tells of each client whether it is told what happens to nodes. `next_id` is the id that is chosen next, if one is left.
 -- Nothing changes the last two: the frames a second, and the words from which the pool gives.
 pub record World : Type 0 where

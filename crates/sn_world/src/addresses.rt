@@ -2,8 +2,8 @@
 ghost use Rattle.std.specs.Prelude.{◌≡◌, find, map};
 ghost use Rattle.sn_world.specs.Addresses.{has_address, called_of, every_command, command_of};
 
-use crate::command::{BusCommand, Command, NodeCommand};
-use sn_tree::Action;
+use crate::command::{Command, NodeCommand, ServerCommand};
+use sn_tree::AddAction;
 
 /// A command with its address.
 #[derive(Clone, Copy, Debug)]
@@ -18,7 +18,7 @@ macro_rules! on_nodes {
     ($address:literal $command:ident$(($action:ident))?) => {
         Addressed {
             address: $address,
-            command: Command::OnNodes(NodeCommand::$command$((Action::$action))?),
+            command: Command::OnNodes(NodeCommand::$command$((AddAction::$action))?),
         }
     };
 }
@@ -27,7 +27,7 @@ macro_rules! on_server {
     ($address:literal $command:ident) => {
         Addressed {
             address: $address,
-            command: Command::OnServer(BusCommand::$command),
+            command: Command::OnServer(ServerCommand::$command),
         }
     };
 }

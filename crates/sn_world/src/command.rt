@@ -1,10 +1,10 @@
 use sn_osc::Message;
 use sn_reply::Reason;
-use sn_tree::Action;
+use sn_tree::AddAction;
 
 /// A command on control buses, on buffers, on definitions or on the server itself.
 #[derive(Clone, Copy, Debug, PartialEq, Eq)]
-pub enum BusCommand {
+pub enum ServerCommand {
     /// `/c_set`
     Set,
     /// `/c_setn`
@@ -83,7 +83,7 @@ pub enum NodeCommand {
     /// `/s_get`
     GetControls,
     /// `/n_before`, `/n_after`, `/g_head`, `/g_tail`
-    Move(Action),
+    Move(AddAction),
     /// `/n_order`
     Order,
 }
@@ -94,7 +94,7 @@ pub enum Command {
     /// On nodes, and `/notify`.
     OnNodes(NodeCommand),
     /// On buses, buffers, definitions or the server itself.
-    OnServer(BusCommand),
+    OnServer(ServerCommand),
 }
 
 /// How deep completion messages may nest.

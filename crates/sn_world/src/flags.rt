@@ -1,5 +1,6 @@
 //! Which clients are notified.
 ghost use Rattle.std.specs.Prelude.{◌≡◌, ◌<◌, ◌≤◌, false, length, replicate, slice_index_or, slice_set, IfOk};
+ghost use Rattle.sn_ports.specs.Limits.{most_clients};
 
 use sn_ports::NoMemory;
 use std::alloc::Global;
@@ -13,18 +14,19 @@ pub struct Flags {
 
 impl Model for Flags {
     ghost use Rattle.std.specs.Prelude.{List, Bool, length, ◌≤◌};
+    ghost use Rattle.sn_ports.specs.Limits.{most_clients};
 
     ghost Value = { List Bool };
 
     ghost view = { λ f. f.items.items };
 
-    ghost invariant = { λ f. length f.items.items ≤ 4 };
+    ghost invariant = { λ f. length f.items.items ≤ most_clients };
 }
 
 impl Flags {
     /// So many flags, all off.
     pub fn new(alloc: Global, clients: u32) -> Result<Flags, NoMemory>
-        requires few { clients ≤ 4 }
+        requires few { clients ≤ most_clients }
         ensures { IfOk result (λ f. f ≡ replicate clients false) }
     {
         Ok(Flags {
@@ -35,7 +37,7 @@ impl Flags {
     /// How many clients there are.
     pub fn len(&self) -> usize
         ensures value { result ≡ length self.now }
-        ensures bound { result ≤ 4 }
+        ensures bound { result ≤ most_clients }
     {
         self.items.len()
     }
@@ -43,7 +45,7 @@ impl Flags {
     /// The flags, by the numbers of the clients.
     pub fn as_slice(&self) -> &[bool]
         ensures value { result.now ≡ self.now }
-        ensures bound { length result.now ≤ 4 }
+        ensures bound { length result.now ≤ most_clients }
     {
         &self.items
     }

@@ -3,6 +3,7 @@
 
 mod addresses;
 mod arguments;
+mod bodies;
 mod buffer_repetition;
 mod choosing;
 mod command;
@@ -23,11 +24,12 @@ mod tree_query;
 
 pub use addresses::command_of;
 pub use arguments::{Pair, Single, Triple, pairs, singles, some_of, triples};
+pub use bodies::arguments_of;
 pub use buffer_repetition::{
     BufferNumber, NewBuffer, SampleFill, SampleIndex, SampleRun, SampleValue,
 };
 pub use choosing::{chosen_ids_are_free, chosen_ids_stay_below};
-pub use command::{BusCommand, Command, Handled, MOST_COMPLETIONS, NodeCommand};
+pub use command::{Command, Handled, MOST_COMPLETIONS, NodeCommand, ServerCommand};
 pub use defs::Defs;
 pub use emptying::{DeepFree, FreeAll};
 pub use endings::{Ending, Endings};

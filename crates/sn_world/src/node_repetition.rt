@@ -4,7 +4,7 @@ ghost use Rattle.sn_world.specs.Queries.{node_query};
 
 use crate::arguments::{Pair, Single};
 use sn_osc::Arg;
-use sn_tree::Action;
+use sn_tree::AddAction;
 
 /// A node and its run flag.
 #[derive(Clone, Copy, Debug, PartialEq, Eq)]
@@ -16,7 +16,7 @@ pub struct RunFlag {
 /// A node that is moved, and where it goes, seen from a target.
 #[derive(Clone, Copy, Debug, PartialEq, Eq)]
 pub struct NodeMove {
-    pub action: Action,
+    pub action: AddAction,
     pub id: i32,
     pub target: i32,
 }

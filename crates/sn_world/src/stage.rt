@@ -1,5 +1,6 @@
 //! What the server holds besides its words: the nodes, the definitions, and the pool.
 ghost use Rattle.std.specs.Prelude.{◌≤◌, IfOk};
+ghost use Rattle.sn_ports.specs.Limits.{most_memory, most_clients};
 ghost use Rattle.sn_world.specs.Opening.{IsOpening};
 
 use crate::defs::Defs;
@@ -48,8 +49,8 @@ impl Stage {
     /// The root group alone, no definitions, no buffers, a pool of `memory` words behind those of the buses, and `clients` clients, none of
     /// them notified.
     pub fn new(alloc: Global, rate: u32, memory: u32, clients: u32) -> Result<Stage, NoMemory>
-        requires memory { memory ≤ 16777216 }
-        requires clients { clients ≤ 4 }
+        requires memory { memory ≤ most_memory }
+        requires clients { clients ≤ most_clients }
         ensures { IfOk result (IsOpening rate memory clients) }
     {
         Ok(Stage {

@@ -1,6 +1,7 @@
 -- What comes of a conversion between texts and streams.
-use Rattle.std.specs.Prelude.{◌≡◌, ◌⊎◌, ◌<◌, ◌≤◌, ℕ, List, length, Option, Result, Ok, Err, IfSome, ⊤}
+use Rattle.std.specs.Prelude.{◌+◌, ◌≡◌, ◌⊎◌, ◌<◌, ◌≤◌, ℕ, List, length, Option, Result, Ok, Err, IfSome, ⊤}
 use Rattle.std.specs.Io.KnownBytes.{Appends, Consumes, IsAtEnd, Keeps}
+use Rattle.sn_ports.specs.Limits.{most_stream}
 use Rattle.sn_osc.specs.declared.fault.StreamFault.{StreamFault}
 use Rattle.sn_osc.specs.Shape.{Shape}
 use Rattle.sn_osc.specs.Frames.{Frames, StreamFaultAt}
@@ -32,10 +33,10 @@ HasBadScore conversions.Dump given line = ⊥
 
 -- The answer that the bytes of a source have: they are too many, have a first fault, or are so many packets.
 abbrev pub HasAnswer : Conversion → List ℕ → Converted → Type 0
-HasAnswer c given (LongStream n) = (n ≡ 16777217) × (16777216 < length given)
-HasAnswer c given (BadStream packet place fault) = (length given ≤ 16777216) × HasBadStream c given packet place fault
-HasAnswer c given (BadScore line) = (length given ≤ 16777216) × HasBadScore c given line
-HasAnswer c given (Done n) = (length given ≤ 16777216) × ((packets : List Shape) × (made : List ℕ) × AreForms c given packets made × (n ≡ length packets))
+HasAnswer c given (LongStream n) = (n ≡ most_stream + 1) × (most_stream < length given)
+HasAnswer c given (BadStream packet place fault) = (length given ≤ most_stream) × HasBadStream c given packet place fault
+HasAnswer c given (BadScore line) = (length given ≤ most_stream) × HasBadScore c given line
+HasAnswer c given (Done n) = (length given ≤ most_stream) × ((packets : List Shape) × (made : List ℕ) × AreForms c given packets made × (n ≡ length packets))
 HasAnswer c given NoMemory = ⊥
 HasAnswer c given (BadWords i) = ⊥
 HasAnswer c given ReadFault = ⊥
@@ -57,7 +58,7 @@ pub record Forms (c : Conversion) (source : Option (List ℕ)) (count : ℕ) (ma
   pub given : List ℕ
   pub packets : List Shape
   pub told : IfSome source (λ bytes. given ≡ bytes)
-  pub size : length given ≤ 16777216
+  pub size : length given ≤ most_stream
   pub forms : AreForms c given packets made
   pub count_is : count ≡ length packets
 
@@ -84,8 +85,8 @@ TakesSource (BadStream packet place fault) old new = IsAtEnd new
 TakesSource (BadScore line) old new = IsAtEnd new
 TakesSource OutFault old new = IsAtEnd new
 TakesSource (LongStream n) old new = Takes n old new
-TakesSource ReadFault old new = (front : List ℕ) × Consumes old new front × (length front ≤ 16777216)
-TakesSource NoMemory old new = Keeps old new ⊎ (IsAtEnd new × IfSome old (λ bytes. length bytes ≤ 16777216))
+TakesSource ReadFault old new = (front : List ℕ) × Consumes old new front × (length front ≤ most_stream)
+TakesSource NoMemory old new = Keeps old new ⊎ (IsAtEnd new × IfSome old (λ bytes. length bytes ≤ most_stream))
 TakesSource (BadWords i) old new = Keeps old new
 
 -- What the sink took at each answer but `Done`: a front of the other form where it failed, and else nothing.

@@ -2,7 +2,7 @@
 ghost use Rattle.std.specs.Prelude.{◌≡◌, ◌<◌, ◌^◌, length, Ok, IfOk};
 ghost use Rattle.std.specs.Duration.{as_nanos};
 ghost use Rattle.sn_pcm.specs.declared.settings.Settings.{Settings};
-ghost use Rattle.sn_server.specs.Served.{Served as GivesEnd};
+ghost use Rattle.sn_server.specs.Served.{GivesEnd};
 ghost use Rattle.sn_server.specs.declared.ended.Ended.{Ended};
 ghost use Rattle.sn_words.specs.Choices.{numbers};
 ghost use Rattle.sn_words.specs.Serving.{serve_words_of};

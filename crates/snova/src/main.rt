@@ -10,7 +10,7 @@ mod files;
 mod forms;
 mod listening;
 mod progress;
-mod running;
+mod rendering;
 mod serving;
 mod shelving;
 mod usage;

@@ -1,11 +1,12 @@
 ghost use Rattle.std.specs.Prelude.{◌≡◌, ◌⊎◌, ◌<◌, ◌^◌, ◌↔◌, ℕ, List, Some, Err, length};
 ghost use Rattle.std.specs.Io.KnownBytes.{Keeps};
+ghost use Rattle.sn_ports.specs.Limits.{most_count};
 ghost use Rattle.sn_ports.specs.Causes.{Rose};
 ghost use Rattle.sn_ports.specs.Links.{LinkEvent, KeepsEvents};
 ghost use Rattle.sn_pcm.specs.declared.settings.Settings.{Settings};
 ghost use Rattle.sn_render.specs.Faults.{NothingFailed};
 ghost use Rattle.sn_server.specs.PlayEvents.{bytes_in, play_events};
-ghost use Rattle.sn_server.specs.Served.{AtClose, Served as GivesEnd};
+ghost use Rattle.sn_server.specs.Served.{AtClose, GivesEnd};
 ghost use Rattle.sn_server.specs.declared.ended.Ended.{Ended};
 ghost use Rattle.sn_words.specs.Serving.{serve_words_of};
 ghost use Rattle.snova.specs.Connection.{AreServed, ByServeWords, served_status};
@@ -66,7 +67,7 @@ pub fn serve<H: Threads + Sync, L: Link, O: Sink, G: Gate>(
     ensures sound_unfailed { (result ≡ Served.Ran Ended.SoundFault) ⊎ (O.faults sound.new ≡ O.faults sound.old) }
 
     // Where the words choose settings and no count rises, the end is the one that all events give, or want of memory.
-    ensures complete { ByServeWords words.now (λ s. (events : List LinkEvent) → L.left link.old ≡ Some events → bytes_in events < 2 ^ 62
+    ensures complete { ByServeWords words.now (λ s. (events : List LinkEvent) → L.left link.old ≡ Some events → bytes_in events < most_count
         → (Rose (L.faults link.old) (L.faults link.new) → ⊥) → (Rose (O.faults sound.old) (O.faults sound.new) → ⊥)
         → (result ≡ Served.Ran (play_events s base events).ending) ⊎ (result ≡ Served.Ran Ended.NoMemory)) }
 

@@ -4,7 +4,7 @@ use crate::clock::now;
 use crate::drilling::drill;
 use crate::exit::Exit;
 use crate::files::render_files;
-use crate::running::run;
+use crate::rendering::run;
 use crate::serving::{Served, serve};
 use crate::shelving::{ShelfOutcome, run_shelf};
 use sn_ports::{Calls, Event, MemorySink, MemorySource, NoMemory, Open, PlayedLink, Text, Word};

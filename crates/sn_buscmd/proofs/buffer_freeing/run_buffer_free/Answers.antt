@@ -7,7 +7,7 @@ use Rattle.sn_osc.specs.Shape.{argument_of}
 use Rattle.sn_pool.specs.Pools.{PoolState, times, without_extent}
 use Rattle.sn_reply.specs.declared.replies.To.TheVariants.{Client}
 use Rattle.sn_world.specs.declared.stage.Stage.{Stage}
-use Rattle.sn_world.specs.BufferNumbers.{at_number, done_with}
+use Rattle.sn_world.specs.BufferNumbers.{at_number, done_message}
 use Rattle.sn_buscmd.proofs.BufferLemmas.{free_missing, live_there, freed_row, freed_pictures}
 use Rattle.sn_buscmd.proofs.buffer_freeing.run_buffer_free.Goals as goal
 
@@ -35,7 +35,7 @@ returns-in-Ok-clause-row c = λ words pictures.
     (λ x. omega (arith, c.in-Ok.ensures.counted x, ap (λ (p : PoolState). times x p.live) c.in-Ok.ensures.ok))
     (λ i. record { tree = stage.tree; defs = stage.defs; pool = c.in-Ok.ensures.ok i; buffers = buffers i; notify = stage.notify; next_id = stage.next_id; rate = stage.rate })
     words pictures c.args.from (map argument_of c.args.arguments.now) c.args.replies.now c.tell_done.new.replies c.in-Some.ensures
-    (c.in_ok-tell_done.ensures.ok ∙ ap (λ m. c.args.replies.now ++ (record { to = Client c.args.from; message = done_with (codes "/b_free") m }) ∷ []) same)
+    (c.in_ok-tell_done.ensures.ok ∙ ap (λ m. c.args.replies.now ++ (record { to = Client c.args.from; message = done_message (codes "/b_free") m }) ∷ []) same)
 
 pub returns-in-Ok-clause-pictures : goal.returns-in-Ok-clause-pictures
 returns-in-Ok-clause-pictures c = λ words pictures.

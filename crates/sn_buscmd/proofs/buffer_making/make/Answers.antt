@@ -6,7 +6,7 @@ use Rattle.sn_reply.specs.declared.replies.To.TheVariants.{Client}
 use Rattle.sn_world.specs.declared.stage.Stage.{Stage}
 use Rattle.sn_mem.specs.Buffers.{samples_of}
 use Rattle.sn_world.specs.BufferCommands.{zeros_of}
-use Rattle.sn_world.specs.BufferNumbers.{at_number, done_with}
+use Rattle.sn_world.specs.BufferNumbers.{at_number, done_message}
 use Rattle.sn_mem.specs.declared.buffers.BufferPlace.{BufferPlace}
 use Rattle.sn_buscmd.specs.Samples.{Places}
 use Rattle.sn_buscmd.proofs.MakingLemmas.{live_if, full_row, made_pictures, made_row}
@@ -56,4 +56,4 @@ returns-in-Ok-Some-clause-row g c =
     c.fill_samples.ensures.others (codes "/b_alloc") (zeros_of c.args.new.now)
     (c.fill_samples.ensures.samples ∙ filled-entirely (samples_of words p.extent) p.extent.len (pos 0) long ∙ ap (λ n. replicate n (pos 0)) (long ∙ placed.size))
     c.args.from c.args.replies.now c.tell_done.new.replies
-    (c.in_ok-tell_done.ensures.ok ∙ ap (λ m. c.args.replies.now ++ (record { to = Client c.args.from; message = done_with (codes "/b_alloc") m }) ∷ []) same)
+    (c.in_ok-tell_done.ensures.ok ∙ ap (λ m. c.args.replies.now ++ (record { to = Client c.args.from; message = done_message (codes "/b_alloc") m }) ∷ []) same)

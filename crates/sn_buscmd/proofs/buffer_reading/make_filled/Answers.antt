@@ -5,7 +5,7 @@ use Rattle.std.proofs.lemmas.Int.{to_z-of_z}
 use Rattle.sn_reply.specs.declared.replies.To.TheVariants.{Client}
 use Rattle.sn_world.specs.declared.stage.Stage.{Stage}
 use Rattle.sn_world.specs.BufferReading.{ints_in, samples_in}
-use Rattle.sn_world.specs.BufferNumbers.{at_number, done_with}
+use Rattle.sn_world.specs.BufferNumbers.{at_number, done_message}
 use Rattle.sn_mem.specs.declared.buffers.BufferPlace.{BufferPlace}
 use Rattle.sn_buscmd.specs.Samples.{Places}
 use Rattle.sn_buscmd.proofs.MakingLemmas.{live_if, full_row, made_pictures, made_row}
@@ -54,4 +54,4 @@ returns-in-Ok-Some-clause-row g c =
     c.set_all.ensures.others (codes "/b_allocRead") (samples_in (filled c.args.buffer.now))
     (c.set_all.ensures.samples ∙ ap (λ n. ints_in n c.args.buffer.now.bytes.now) placed.size)
     c.args.from c.args.replies.now c.tell_done.new.replies
-    (c.in_ok-tell_done.ensures.ok ∙ ap (λ m. c.args.replies.now ++ (record { to = Client c.args.from; message = done_with (codes "/b_allocRead") m }) ∷ []) same)
+    (c.in_ok-tell_done.ensures.ok ∙ ap (λ m. c.args.replies.now ++ (record { to = Client c.args.from; message = done_message (codes "/b_allocRead") m }) ∷ []) same)

@@ -5,7 +5,7 @@ use Rattle.std.proofs.lemmas.Int.{to_z-of_z}
 use Rattle.sn_osc.specs.Shape.{argument_of}
 use Rattle.sn_reply.specs.declared.replies.To.TheVariants.{Client}
 use Rattle.sn_mem.specs.Buffers.{samples_of}
-use Rattle.sn_world.specs.BufferNumbers.{at_number, done_with}
+use Rattle.sn_world.specs.BufferNumbers.{at_number, done_message}
 use Rattle.sn_world.specs.BufferCommands.{zeros}
 use Rattle.sn_buscmd.proofs.SampleLemmas.{filled-entirely, length-samples}
 use Rattle.sn_buscmd.proofs.ResamplingLemmas.{may_write, resampled_pictures, kept_outside, zeroed_row, zero_missing}
@@ -34,7 +34,7 @@ returns-clause-row g c =
     zeroed_row c.args.stage.now words n p (c.in-Some-find.ensures ∙ ap (at_number c.args.stage.now.buffers) same) c.requires.pictures
     (g.P.Port.words c.fill_samples.new.port) c.fill_samples.ensures.others zeroed
     c.args.from (map argument_of c.args.arguments.now) c.args.replies.now c.tell_done.new.replies c.in-Some.ensures
-    (c.in_ok-tell_done.ensures.ok ∙ ap (λ m. c.args.replies.now ++ (record { to = Client c.args.from; message = done_with (codes "/b_zero") m }) ∷ []) same)
+    (c.in_ok-tell_done.ensures.ok ∙ ap (λ m. c.args.replies.now ++ (record { to = Client c.args.from; message = done_message (codes "/b_zero") m }) ∷ []) same)
 
 pub returns-clause-pictures : goal.returns-clause-pictures
 returns-clause-pictures g c =

@@ -3,7 +3,7 @@ use Rattle.std.specs.FinMap as finite
 use Rattle.sn_def.specs.Defs.{definition_of}
 use Rattle.sn_world.specs.Definitions.{definitions_of}
 use Rattle.sn_world.specs.Names.{names_in}
-use Rattle.sn_world.specs.Free.{are_known}
+use Rattle.sn_world.specs.Forgetting.{are_known}
 use Rattle.sn_world.proofs.DefsLemmas.{is_some-map}
 use Rattle.sn_ports.specs.Octets.{bytes_of}
 use Rattle.sn_buscmd.proofs.FreeingLemmas.{less, less-none, next-known}

@@ -1,7 +1,7 @@
 use Rattle.std.proofs.Common.{◌≡◌, map, drop}
 use Rattle.sn_world.specs.Definitions.{definitions_of}
 use Rattle.sn_world.specs.Names.{names_in}
-use Rattle.sn_world.specs.Free.{are_known}
+use Rattle.sn_world.specs.Forgetting.{are_known}
 use Rattle.sn_ports.specs.Octets.{bytes_of}
 use Rattle.sn_buscmd.proofs.FreeingLemmas.{less}
 use Rattle.sn_buscmd.proofs.freeing.are_known.Given as goal

@@ -1,6 +1,6 @@
 use Rattle.std.proofs.Common.{◌≡◌, map, drop}
 use Rattle.sn_world.specs.Definitions.{definitions_of}
-use Rattle.sn_world.specs.Free.{without_names}
+use Rattle.sn_world.specs.Forgetting.{without_names}
 use Rattle.sn_ports.specs.Octets.{bytes_of}
 use Rattle.sn_buscmd.proofs.freeing.forget.Given as goal
 

@@ -1,7 +1,7 @@
 use Rattle.std.proofs.Common.{◌≡◌, map, drop}
 use Rattle.sn_osc.specs.Shape.{argument_of}
 use Rattle.sn_world.specs.Rows.{singles}
-use Rattle.sn_world.specs.Free.{name_of}
+use Rattle.sn_world.specs.Forgetting.{name_of}
 use Rattle.sn_world.proofs.Parsing.{after}
 use Rattle.sn_ports.specs.Octets.{bytes_of}
 use Rattle.sn_buscmd.proofs.freeing.names.Given as goal

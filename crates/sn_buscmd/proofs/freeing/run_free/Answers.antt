@@ -4,7 +4,7 @@ use Rattle.sn_osc.specs.Shape.{argument_of}
 use Rattle.sn_world.specs.Definitions.{Definitions}
 use Rattle.sn_world.specs.World.{turn_of}
 use Rattle.sn_world.specs.Rows.{singles}
-use Rattle.sn_world.specs.Free.{name_of, without_names}
+use Rattle.sn_world.specs.Forgetting.{name_of, without_names}
 use Rattle.sn_ports.specs.Octets.{bytes_of}
 use Rattle.sn_buscmd.proofs.FreeingLemmas.{some-of_test, names_unknown, names_known, with_definitions}
 use Rattle.sn_buscmd.proofs.freeing.run_free.Goals as goal

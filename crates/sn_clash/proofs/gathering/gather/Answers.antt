@@ -10,8 +10,8 @@ loop-passed-preserved c =
     let new = c.pop.new.self.items in
     let more : c.args.kept < length old = omega (arith, c.loop-passed-test.true, c.len.ensures, c.loop-passed.passed.ok.0) in
     record {
-      uses = λ there. last_gathered there c.args.kept old new c.in-Some.entry c.loop-passed.uses.items c.in_ok-uses-in-Some.uses.items c.in-Some.ensures.items more (c.in_ok-uses-in-Some.ensures there) ∙ i.uses there;
-      left = last_left c.args.kept old new c.in-Some.entry c.in-Some.ensures.items more ∙ i.left;
+      uses = λ there. last_gathered there c.args.kept old new c.in-Some.subtree c.loop-passed.uses.items c.in_ok-uses-in-Some.uses.items c.in-Some.ensures.items more (c.in_ok-uses-in-Some.ensures there) ∙ i.uses there;
+      left = last_left c.args.kept old new c.in-Some.subtree c.in-Some.ensures.items more ∙ i.left;
     }
 
 pub returns-clause-uses : goal.returns-clause-uses

@@ -6,7 +6,7 @@ use Rattle.sn_foot.specs.declared.resource.Resource.{Resource}
 use Rattle.sn_foot.specs.Footprints.{Footprint, clash_on, is_there}
 use Rattle.sn_clash.specs.declared.clash.Clash.{Clash}
 use Rattle.sn_foot.specs.declared.uses.Use.{Use}
-use Rattle.sn_clash.specs.declared.entry.Entry.{Entry}
+use Rattle.sn_clash.specs.declared.subtree.Subtree.{Subtree}
 use Rattle.sn_clash.specs.Clashing.{Member, clashes_with, resources}
 use Rattle.sn_foot.specs.Uses.{footprint_in}
 use Rattle.sn_clash.specs.Marking.{marked_in}
@@ -19,7 +19,7 @@ returns-in-Some c =
     let there : Resource → Bool = is_there c.args.buffers.now in
     let es = c.args.later.now in
     let a : Member = member_of there c.args.first.now in
-    let x : Entry = c.index-later-later.result in
+    let x : Subtree = c.index-later-later.result in
     let fits : FitsSigned w32 c.args.group = search rules in
     let same : to_z w32 (of_z w32 c.args.group) ≡ c.args.group = to_z-of_z w32 c.args.group fits in
     let clash : c.clash_between.result ≡ record { group = c.args.group; first = a.id; second = x.id; resource = c.in-Some.resource } =
@@ -38,7 +38,7 @@ loop-back-preserved c =
     let there : Resource → Bool = is_there c.args.buffers.now in
     let es = c.args.later.now in
     let a : Member = member_of there c.args.first.now in
-    let x : Entry = c.index-later-later.result in
+    let x : Subtree = c.index-later-later.result in
     let next : length es - (c.loop-back.back + 1) ≡ length es - 1 - c.loop-back.back = omega (arith, c.loop-back-test.true) in
     let g : ℤ = to_z w32 (of_z w32 c.args.group) in
     let marked : marked_in there c.in_ok-marks.marks ≡ a.uses = c.in_ok-marks.ensures c.args.buffers.now ∙ ap (λ (us : List Use). footprint_in there us) c.deref.ensures.value in

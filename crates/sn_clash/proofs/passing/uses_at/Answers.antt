@@ -8,13 +8,13 @@ use Rattle.sn_foot.specs.declared.resource.Resource.{Resource}
 use Rattle.sn_foot.specs.declared.uses.Use.{Use}
 use Rattle.sn_foot.specs.Footprints.{Footprint, is_there}
 use Rattle.sn_foot.specs.Uses.{footprint_in}
-use Rattle.sn_clash.specs.declared.entry.Entry.{Entry}
+use Rattle.sn_clash.specs.declared.subtree.Subtree.{Subtree}
 use Rattle.sn_clash.specs.Passing.{gathered, members_of, no_use, used_by}
 use Rattle.sn_clash.proofs.passing.uses_at.Goals as goal
 
 pub returns-clause-uses : goal.returns-clause-uses
 returns-clause-uses c =
-    let below : List Entry = drop c.args.kept c.args.passed.now.items in
+    let below : List Subtree = drop c.args.kept c.args.passed.now.items in
     IfOk-weaker c.gather.result
     (λ (u : Vec Use). (there : Resource → Bool) → footprint_in there u.items ≡ gathered (footprint_in there c.in_ok-uses.uses.items) (members_of there below))
     (λ (u : Vec Use). (buffers : List (Option BufferPlace)) → footprint_in (is_there buffers) u.items ≡ (if c.args.running then gathered (used_by (is_there buffers) c.args.held.now) (members_of (is_there buffers) below) else no_use))

@@ -15,7 +15,7 @@ loop-init g c =
       client = refl;
       read = subst (λ (p : List (List ℕ) × Framing). IsReading left left p.0 p.1) (λ k. (sym c.requires.nothing k, sym c.requires.unfed k)) (starts left);
       whole = ap (λ (f : Framing). first_frame f.kept) c.requires.unfed;
-      room = c.requires.room;
+      piece = c.requires.piece;
       faults = refl;
     }
 
@@ -28,7 +28,7 @@ loop-preserved g c =
       client = e.client ∙ i.client;
       read = e.read (g.S.Source.left c.args.source.now) i.read;
       whole = e.whole;
-      room = (omega (arith, i.room.0, c.read_on.auto.room), omega (arith, i.room.1, c.read_on.auto.room));
+      piece = (omega (arith, i.piece.0, c.read_on.auto.piece), omega (arith, i.piece.1, c.read_on.auto.piece));
       faults = e.unfailed ∙ i.faults;
     }
 

@@ -10,6 +10,6 @@ invariant-loop g l = record {
   client : (sender_of l.inlet).client ≡ (sender_of l.fn.inlet).client;
   read : IsReading (g.S.Source.left l.fn.source) (g.S.Source.left l.source) (sender_of l.inlet).frames l.framer;
   whole : first_frame l.framer.kept ≡ cut;
-  room : (0 < length l.room) × (length l.room ≤ 65536);
+  piece : (0 < length l.piece) × (length l.piece ≤ 65536);
   faults : g.S.Source.faults l.source ≡ g.S.Source.faults l.fn.source;
 }

@@ -10,7 +10,7 @@ use Rattle.sn_filt.proofs.rings.run_echo.Goals as goal
 pub loop-frame-init : goal.loop-frame-init
 loop-frame-init g c =
     let ws : List ℕ = g.P.Port.words c.load.new.self in
-    let room = c.from.ensures in
+    let places = c.from.ensures in
     record {
       place = let some : 0 < c.from.result = omega arith in let low : c.load.result % c.from.result < c.from.result = omega arith in omega (arith, low);
       long = refl;

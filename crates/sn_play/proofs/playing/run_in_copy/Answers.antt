@@ -2,7 +2,7 @@ use Rattle.std.proofs.Common.{◌≡◌, ℕ, List, ap, subst, sym, ◌∙◌}
 use Rattle.std.specs.List.{All}
 use Rattle.sn_mem.specs.declared.extents.Foot.{Foot}
 use Rattle.sn_mem.specs.declared.local.LocalRest.{LocalRest}
-use Rattle.sn_mem.specs.Frames.{outside}
+use Rattle.sn_mem.specs.ThroughFoot.{outside}
 use Rattle.sn_mem.specs.Copies.{localized}
 use Rattle.sn_play.specs.Named.{CanRun, held_at, words_by_ids}
 use Rattle.sn_play.proofs.Copied.{seen_outside}

@@ -16,7 +16,7 @@ returns-in-Tr-clause-frame c =
     ∙ ap (λ (n : Notice). c.args.out.now.bytes ++ frame_bytes (message_bytes (notice_message n))) (sym c.in-Tr.is)
 
 pub returns-in-End-clause-frame : goal.returns-in-End-clause-frame
-returns-in-End-clause-frame c = c.put_place.ensures.bytes ∙ ap (λ (n : Notice). c.args.out.now.bytes ++ frame_bytes (message_bytes (notice_message n))) (sym c.in-End.is)
+returns-in-End-clause-frame c = c.put_neighbours.ensures.bytes ∙ ap (λ (n : Notice). c.args.out.now.bytes ++ frame_bytes (message_bytes (notice_message n))) (sym c.in-End.is)
 
 pub returns-in-Off-clause-frame : goal.returns-in-Off-clause-frame
-returns-in-Off-clause-frame c = c.put_place-in-Off.ensures.bytes ∙ ap (λ (n : Notice). c.args.out.now.bytes ++ frame_bytes (message_bytes (notice_message n))) (sym c.in-Off.is)
+returns-in-Off-clause-frame c = c.put_neighbours-in-Off.ensures.bytes ∙ ap (λ (n : Notice). c.args.out.now.bytes ++ frame_bytes (message_bytes (notice_message n))) (sym c.in-Off.is)

@@ -20,5 +20,5 @@ end_freed-requires-clause-room c = subst (HasRoomFor (amount (λ (e : Extent). 1
 
 pub returns : goal.returns
 returns c =
-    freed_acted c.args.stage.now c.args.ending.now.node c.args.view.now c.take_out.new.tree c.end_freed.new.tree c.end_freed.new.pool (End c.place_of.result) c.args.outs.now c.tell.new.outs
-    c.take_out.ensures c.end_freed.ensures.tree c.end_freed.ensures.live (none_open c.end_freed.new.pool.journal (c.end_freed.ensures.mark ∙ ap mark_of c.requires.pictures.1.closed)) c.end_freed.ensures.region (ap End c.place_of.ensures) c.tell.ensures
+    freed_acted c.args.stage.now c.args.ending.now.node c.args.view.now c.take_out.new.tree c.end_freed.new.tree c.end_freed.new.pool (End c.neighbours_of.result) c.args.outs.now c.tell.new.outs
+    c.take_out.ensures c.end_freed.ensures.tree c.end_freed.ensures.live (none_open c.end_freed.new.pool.journal (c.end_freed.ensures.mark ∙ ap mark_of c.requires.pictures.1.closed)) c.end_freed.ensures.region (ap End c.neighbours_of.ensures) c.tell.ensures

@@ -10,4 +10,4 @@ stop-requires-clause-there c = is_there c.args.ending.now.node c.args.stage.now.
 pub returns : goal.returns
 returns c =
     let on : c.args.view.now.running ≡ true = cc in
-    paused_acted c.args.stage.now c.args.ending.now.node c.args.view.now c.stop.new.tree (Off c.place_of.result) c.args.outs.now c.tell.new.outs on c.stop.ensures (ap Off c.place_of.ensures) c.tell.ensures
+    paused_acted c.args.stage.now c.args.ending.now.node c.args.view.now c.stop.new.tree (Off c.neighbours_of.result) c.args.outs.now c.tell.new.outs on c.stop.ensures (ap Off c.neighbours_of.ensures) c.tell.ensures

@@ -1,9 +1,10 @@
 use Rattle.std.proofs.Common.{rules, ◌≡◌, ◌≤◌, ◌+◌, ◌-◌, ◌*◌, ◌^◌, ◌++◌, ◌∷◌, [], List, length, map, ◌∙◌, ap, sym, subst, arith}
 use Rattle.std.specs.Prelude.{IfSome}
 use Rattle.std.proofs.lemmas.List.{length-append}
+use Rattle.sn_ports.specs.Limits.{most_samples}
 use Rattle.sn_osc.specs.Shape.{shape}
 use Rattle.sn_osc.specs.declared.packet.Packet.{Packet}
-use Rattle.sn_shelf.specs.Expanded.{expanded_list, most_samples}
+use Rattle.sn_shelf.specs.Expanded.{expanded_list}
 use Rattle.sn_shelf.specs.Growth.{AllSpelledWithin, IsSpelledWithin}
 use Rattle.sn_shelf.proofs.StreamLemmas.{more_spelled, more_told, within_most}
 use Rattle.sn_shelf.proofs.expanding.expand_all.Goals as goal

@@ -1,8 +1,9 @@
 -- The packets so far are what is made of those that were taken.
 use Rattle.std.proofs.Common.{◌≡◌, ◌≤◌, ◌^◌, length, map}
 use Rattle.std.specs.Prelude.{IfSome}
+use Rattle.sn_ports.specs.Limits.{most_samples}
 use Rattle.sn_osc.specs.Shape.{shape}
-use Rattle.sn_shelf.specs.Expanded.{expanded_list, most_samples}
+use Rattle.sn_shelf.specs.Expanded.{expanded_list}
 use Rattle.sn_shelf.specs.Growth.{AllSpelledWithin}
 use Rattle.sn_shelf.proofs.expanding.expand_all.Given as goal
 

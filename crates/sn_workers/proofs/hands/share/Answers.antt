@@ -30,12 +30,15 @@ finish-requires-clause-work g c κs within =
     let e = main_view c.join_all.new.main in
     serves_on n feet f b e _ _ c.join_all.ensures.stands (serves_on n feet f a b _ _ c.seat_all.ensures.stands first)
 
+pub returns-clause-idle : goal.returns-clause-idle
+returns-clause-idle g c = c.finish.ensures.round.idle
+
 pub returns-clause-words : goal.returns-clause-words
 returns-clause-words g c =
     let f = g.W.Work.outcome c.args.work.now in
     let n = length c.args.plan.now in
     let last = λ (v : View). last_list v.main.phase in
-    c.finish.ensures.words
+    c.finish.ensures.round.memory_is
     ∙ (ap last_list c.join_all.ensures.stands.phase
     ∙ (ap last_list c.seat_all.ensures.stands.phase
     ∙ (ap last c.go.ensures.step

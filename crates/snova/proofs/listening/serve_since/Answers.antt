@@ -1,6 +1,6 @@
 use Rattle.std.proofs.Common.{◌≡◌, ℕ, subst}
 use Rattle.sn_pcm.specs.declared.settings.Settings.{Settings}
-use Rattle.sn_server.specs.Served.{Served as GivesEnd}
+use Rattle.sn_server.specs.Served.{GivesEnd}
 use Rattle.snova.specs.Connection.{AreServed}
 use Rattle.snova.proofs.listening.serve_since.Goals as goal
 

@@ -1,6 +1,6 @@
 use Rattle.std.proofs.Common.{◌≡◌, inr, refl}
 use Rattle.sn_pcm.specs.declared.settings.Settings.{Settings}
-use Rattle.sn_server.specs.Served.{AtClose, Served}
+use Rattle.sn_server.specs.Served.{AtClose, GivesEnd}
 use Rattle.sn_server.specs.declared.ended.Ended.{Ended}
 use Rattle.sn_server.specs.declared.ended.Ended.TheVariants.{LinkFault, SoundFault}
 use Rattle.snova.proofs.ServeLemmas.{of_end, chosen_end, by_chosen, either_end, or_end}
@@ -9,7 +9,7 @@ use Rattle.snova.proofs.serving.serve.Goals as goal
 pub returns-in-Ok-clause-served : goal.returns-in-Ok-clause-served
 returns-in-Ok-clause-served g c = λ how e.
     chosen_end c.args.words.now
-    (λ (s : Settings) (h : Ended). Served s c.args.base (g.L.Link.left c.args.link.now) (g.L.Link.left c.serve_one-how.new.link) (g.O.Sink.taken c.args.sound.now) (g.O.Sink.taken c.serve_one-how.new.sound) (g.L.Link.sent c.args.link.now) (g.L.Link.sent c.serve_one-how.new.link) h)
+    (λ (s : Settings) (h : Ended). GivesEnd s c.args.base (g.L.Link.left c.args.link.now) (g.L.Link.left c.serve_one-how.new.link) (g.O.Sink.taken c.args.sound.now) (g.O.Sink.taken c.serve_one-how.new.sound) (g.L.Link.sent c.args.link.now) (g.L.Link.sent c.serve_one-how.new.link) h)
     c.in-Ok.chosen.settings c.in-Ok.chosen.port c.serve_one-how.result how c.in-Ok.ensures.ok c.serve_one-how.ensures.served e
 
 pub returns-in-Ok-clause-close : goal.returns-in-Ok-clause-close

@@ -1,6 +1,6 @@
 use Rattle.std.proofs.Common.{◌≡◌, take, length}
 use Rattle.sn_mem.specs.declared.local.LocalRest.{LocalRest}
-use Rattle.sn_mem.specs.Frames.{outside}
+use Rattle.sn_mem.specs.ThroughFoot.{outside}
 use Rattle.sn_mem.specs.Blocks.{window}
 use Rattle.sn_mem.specs.Copies.{localized}
 use Rattle.sn_mem.proofs.local.LocalPortPort.load_run.Given as goal

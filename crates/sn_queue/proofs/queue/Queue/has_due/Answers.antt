@@ -8,9 +8,9 @@ use Rattle.sn_queue.proofs.queue.Queue.has_due.Goals as goal
 
 pub due-requires : goal.due-requires
 due-requires c =
-    All-entry (λ w. IsInReach w.key c.self.inside.clock.base c.self.inside.clock.rate) c.self.inside.waiting.entries 0 (c.in-Some.place.now, c.in-Some.field-0-1.now) c.self.invariant.keys c.in-Some.ensures.first
+    All-entry (λ w. IsInReach w.key c.self.inside.clock.base c.self.inside.clock.rate) c.self.inside.waiting.entries 0 (c.in-Some.rank.now, c.in-Some.field-0-1.now) c.self.invariant.keys c.in-Some.ensures.first
 
 pub returns-in-Some : goal.returns-in-Some
 returns-in-Some c =
-    let here = any-entry (meaning c.self.inside) c.args.now c.self.inside.waiting.entries (c.in-Some.place.now, c.in-Some.field-0-1.now) c.self.invariant.order c.in-Some.ensures.first in
+    let here = any-entry (meaning c.self.inside) c.args.now c.self.inside.waiting.entries (c.in-Some.rank.now, c.in-Some.field-0-1.now) c.self.invariant.order c.in-Some.ensures.first in
     ap (λ n. leb n c.args.now) c.due.ensures.value ∙ sym here ∙ ap (λ q. list_any (is_due q c.args.now) q.waiting) c.self.view_is

@@ -26,13 +26,13 @@ returns-then-not-has_due-clause-none c =
 pub returns-clause-taken : goal.returns-clause-taken
 returns-clause-taken c =
     let some = ap (λ q. list_any (is_due q c.args.now) q.waiting) c.self.view_is ∙ sym c.has_due.ensures ∙ c.if-not-has_due.false in
-    let popped = first_due-popped c.self.inside c.pop_first.new.self c.args.now (c.in_ok-place.place, c.in_ok-place.held) c.self.invariant c.in_ok-place.ensures.removal some in
+    let popped = first_due-popped c.self.inside c.pop_first.new.self c.args.now (c.in_ok-rank.rank, c.in_ok-rank.batch) c.self.invariant c.in_ok-rank.ensures.removal some in
     ap Some c.of.ensures ∙ sym popped ∙ ap (λ q. first_due q c.args.now) c.self.view_is
 
 pub returns-clause-left : goal.returns-clause-left
 returns-clause-left c =
     let some = ap (λ q. list_any (is_due q c.args.now) q.waiting) c.self.view_is ∙ sym c.has_due.ensures ∙ c.if-not-has_due.false in
-    let popped = without_first_due-popped c.self.inside c.pop_first.new.self c.args.now (c.in_ok-place.place, c.in_ok-place.held) c.self.invariant c.in_ok-place.ensures.removal some in
+    let popped = without_first_due-popped c.self.inside c.pop_first.new.self c.args.now (c.in_ok-rank.rank, c.in_ok-rank.batch) c.self.invariant c.in_ok-rank.ensures.removal some in
     popped ∙ ap (λ q. without_first_due q c.args.now) c.self.view_is
 
 pub returns-clause-none : goal.returns-clause-none

@@ -20,18 +20,18 @@ returns-in-Err c =
     let told : is_some c.find.result ≡ holds c.args.id (labels (front c.args.self.now)) = found_held c.args.self.now c.args.id c.find.result (simp to_z-of_z at c.find.ensures) in
     refused_too c.args.id c.args.spot.action c.args.spot.target (labels (front c.args.self.now)) c.in-Err.fault (sym told ∙ (sym c.is_some.ensures ∙ c.if-is_some.false)) c.in-Err.ensures
 
-pub returns-then-len-ge4096 : goal.returns-then-len-ge4096
-returns-then-len-ge4096 c =
+pub returns-then-len-ge-MOST_NODES : goal.returns-then-len-ge-MOST_NODES
+returns-then-len-ge-MOST_NODES c =
     let fit : SFits w32 c.args.id = c.ranges.id in
     let told : is_some c.find.result ≡ holds c.args.id (labels (front c.args.self.now)) = found_held c.args.self.now c.args.id c.find.result (simp to_z-of_z at c.find.ensures) in
     too_many c.args.id c.args.spot.action c.args.spot.target (labels (front c.args.self.now)) (sym told ∙ (sym c.is_some.ensures ∙ c.if-is_some.false)) c.in-Ok.ensures.0
-    (omega (arith, c.if-len-ge4096.true, c.len.ensures, count-labels (front c.args.self.now)))
+    (omega (arith, c.if-len-ge-MOST_NODES.true, c.len.ensures, count-labels (front c.args.self.now)))
 
 pub returns : goal.returns
 returns c =
     let fit : SFits w32 c.args.id = c.ranges.id in
     let told : is_some c.find.result ≡ holds c.args.id (labels (front c.args.self.now)) = found_held c.args.self.now c.args.id c.find.result (simp to_z-of_z at c.find.ensures) in (
       no_fault c.args.id c.args.spot.action c.args.spot.target (labels (front c.args.self.now)) (sym told ∙ (sym c.is_some.ensures ∙ c.if-is_some.false)) c.in-Ok.ensures.0
-          (omega (arith, c.if-len-ge4096.false, c.len.ensures, count-labels (front c.args.self.now))),
+          (omega (arith, c.if-len-ge-MOST_NODES.false, c.len.ensures, count-labels (front c.args.self.now))),
       c.in-Ok.ensures.1,
     )

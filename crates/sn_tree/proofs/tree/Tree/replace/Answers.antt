@@ -1,7 +1,7 @@
 use Rattle.std.proofs.Common.{◌∙◌, ap, refl, sym, w32}
 use mir.Val.{SFits}
 use Rattle.std.proofs.lemmas.Int.{to_z-of_z}
-use Rattle.sn_tree.specs.declared.node.Action.TheVariants.{Before}
+use Rattle.sn_tree.specs.declared.node.AddAction.TheVariants.{Before}
 use Rattle.sn_tree.specs.Saving.{noted}
 use Rattle.sn_tree.specs.Ordered.{Ordered}
 use Rattle.sn_tree.proofs.Showing.{replace_fault_shown}

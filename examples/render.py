@@ -3,9 +3,10 @@
 
     python3 examples/render.py [--unproved] NAME..
 
-If `snova` isn't built yet, the kit's `rt run` proves and builds it first, which takes long. It runs in this directory, where pieces find
-the files in sounds/. With --unproved the kit's `rt try` builds it for each piece, which takes a minute or two and proves nothing; it runs
-where no piece finds a file. It exits with 1 if a piece isn't rendered to its end, or if a command of it is refused.
+If `snova` isn't built yet, the kit's `rt ci snova` proves and builds it first, which takes about an hour on four processors; it is said
+before it begins. It runs in this directory, where pieces find the files in sounds/. With --unproved the kit's `rt try` builds it for each
+piece, which takes a minute or two and proves nothing; it runs where no piece finds a file. It exits with 1 if a piece isn't rendered to its
+end, or if a command of it is refused.
 """
 import subprocess
 import sys
@@ -15,15 +16,23 @@ import replies
 
 CRATE = make.HERE.parent / "crates" / "snova"
 BUILT = CRATE / "out" / "snova"
+TAKES = "the proof takes about an hour on four processors"
+
+
+def is_built():
+    """Whether the proved program stands there, after its proof if it wasn't there yet."""
+    if BUILT.exists():
+        return True
+    print(f"render: snova isn't built yet. `rt ci snova` proves and builds it now: {TAKES}; with --unproved a build takes a minute or two", flush=True)
+    return subprocess.run(["rt", "ci", "snova"], cwd=make.HERE.parent).returncode == 0
 
 
 def run(words, is_proved):
     """The status of `snova` after these words."""
     if not is_proved:
+        print(f"render: built for this piece without a proof. `rt ci` proves and builds snova: {TAKES}", flush=True)
         return subprocess.run(["rt", "try", "--", *words], cwd=CRATE).returncode
-    if not BUILT.exists() and (failed := subprocess.run(["rt", "run", "--", "--version"], cwd=CRATE).returncode):
-        return failed
-    return subprocess.run([str(BUILT), *words], cwd=make.HERE).returncode
+    return subprocess.run([str(BUILT), *words], cwd=make.HERE).returncode if is_built() else 1
 
 
 def render(name, is_proved):

@@ -1,5 +1,5 @@
 -- Runs of control buses that are set to one value.
-use Rattle.std.proofs.Common.{◌≡◌, ◌≤◌, ◌<◌, ◌+◌, ◌-◌, ℕ, suc, ℤ, pos, negsuc, nat_abs, Bool, true, false, not, List, [], ◌∷◌, replicate, None, refl, ap, ◌∙◌, arith}
+use Rattle.std.proofs.Common.{◌≡◌, ◌≤◌, ◌<◌, ◌+◌, ◌-◌, ℕ, suc, ℤ, pos, negsuc, nat_abs, Bool, true, false, not, List, [], ◌∷◌, replicate, None, refl, ap, arith}
 use Rattle.std.proofs.lemmas.Bool.{ltb-true, leb-true}
 use Rattle.std.specs.Prelude.{nat_lt, nat_le}
 use Rattle.sn_mem.specs.Buses.{ControlBus}
@@ -47,8 +47,3 @@ pub filled-all : (bs : List ControlBus) (n end : ℕ) (v : ℤ) → end ≤ n �
 filled-all bs n end v le =
     let none : end - n ≡ 0 = omega arith in
     ap (λ k. with_values bs n (replicate k v)) none
-
-pub filled-whole : (bs : List ControlBus) (first n count : ℕ) (v : ℤ) → first ≡ n → with_values bs first (replicate (first + count - first) v) ≡ with_values bs n (replicate count v)
-filled-whole bs first n count v is =
-    let whole : first + count - first ≡ count = omega arith in
-    ap (λ k. with_values bs first (replicate k v)) whole ∙ ap (λ m. with_values bs m (replicate count v)) is

@@ -16,3 +16,4 @@ pub mod QueryLemmas
 pub mod SampleRowLemmas
 pub mod SampleAnswerLemmas
 pub mod ReadingLemmas
+pub mod FillsLemmas

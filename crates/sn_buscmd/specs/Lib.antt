@@ -4,3 +4,4 @@ pub mod Census
 pub mod Samples
 pub mod SampleCommands
 pub mod Reading
+pub mod Fills

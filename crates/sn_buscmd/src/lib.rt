@@ -14,6 +14,7 @@ mod counting;
 mod dispatch;
 mod ending;
 mod filling;
+mod fills;
 mod freeing;
 mod judging;
 mod receiving;

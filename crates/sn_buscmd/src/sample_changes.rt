@@ -1,5 +1,6 @@
 //! `/b_set`, `/b_setn` and `/b_fill`: samples of a buffer that are changed.
-ghost use Rattle.std.specs.Prelude.{◌≡◌, ℕ, ℤ, List, None, length, map};
+ghost use Rattle.std.specs.Prelude.{◌≡◌, ◌≤◌, ◌+◌, ℕ, ℤ, List, None, length, map};
+ghost use Rattle.std.specs.List.{All};
 ghost use Rattle.sn_osc.specs.Shape.{argument_of};
 ghost use Rattle.sn_mem.specs.Words.{MayWrite};
 ghost use Rattle.sn_reply.specs.Replies.{ReplyShape};
@@ -9,12 +10,15 @@ ghost use Rattle.sn_world.specs.Rows.{first_refusal};
 ghost use Rattle.sn_world.specs.World.{turn_of};
 ghost use Rattle.sn_world.specs.Pictures.{Pictures, WritesWorld, KeepsOutside};
 ghost use Rattle.sn_world.specs.Answers.{Follows, UnlessFollowed};
+ghost use Rattle.sn_buscmd.specs.Fills.{fill_samples};
 ghost use Rattle.sn_buscmd.specs.Samples.{KeepsAround};
 
 use crate::buffers::find;
-use crate::judging::first_refusal;
+use crate::fills::fills_of;
+use crate::judging::{Judged, first_refusal};
 use crate::repeating::{Repeated, number_and_all};
 use crate::samples::{fill_samples, set_sample, set_samples};
+use sn_fills::{Fill, once_each};
 use sn_mem::{Extent, Port};
 use sn_osc::Arg;
 use sn_ports::NoMemory;
@@ -24,6 +28,33 @@ use std::alloc::Global;
 
 /// What changes samples of a buffer.
 pub trait SampleChange: Repeated {
+    ghost use Rattle.std.specs.Prelude.{◌≡◌, List, ℤ, None, OnErr, OnOk};
+    ghost use Rattle.sn_mem.specs.Words.{MayWrite};
+    ghost use Rattle.sn_mem.specs.Buffers.{samples_of};
+    ghost use Rattle.sn_world.specs.BufferSamples.{change_all};
+    ghost use Rattle.sn_world.specs.Rows.{first_refusal};
+    ghost use Rattle.sn_buscmd.specs.Samples.{KeepsAround};
+
+    ghost change: { Self → List ℤ → List ℤ };
+
+    /// Changes samples, in the words that hold those of a buffer, as all repetitions do one after the other.
+    fn change_all<P: Port>(
+        alloc: Global,
+        port: &mut P,
+        words: Extent,
+        all: &[Self],
+    ) -> Result<(), NoMemory>
+        requires foot { MayWrite (P.foot port.old) words.at words.len }
+        requires free { first_refusal (Self.judge words.len) all.now ≡ None }
+        ensures samples { OnOk result (samples_of (P.words port.new) words ≡ change_all change all.now (samples_of (P.words port.old) words)) }
+        ensures unchanged { OnErr result (P.words port.new ≡ P.words port.old) }
+        ensures others { KeepsAround words (P.words port.old) (P.words port.new) }
+        ensures foot { P.foot port.new ≡ P.foot port.old }
+        ensures rest { P.rest port.new ≡ P.rest port.old };
+}
+
+/// A change of no more samples than it has values.
+trait ShortChange: Judged<u32> {
     ghost use Rattle.std.specs.Prelude.{◌≡◌, List, ℤ, None};
     ghost use Rattle.sn_mem.specs.Words.{MayWrite};
     ghost use Rattle.sn_mem.specs.Buffers.{samples_of};
@@ -41,7 +72,7 @@ pub trait SampleChange: Repeated {
         ensures rest { P.rest port.new ≡ P.rest port.old };
 }
 
-impl SampleChange for SampleValue {
+impl ShortChange for SampleValue {
     ghost change = { set_value };
 
     fn change<P: Port>(&self, port: &mut P, words: Extent) {
@@ -49,7 +80,7 @@ impl SampleChange for SampleValue {
     }
 }
 
-impl SampleChange for ValueRun {
+impl ShortChange for ValueRun {
     ghost change = { set_values };
 
     fn change<P: Port>(&self, port: &mut P, words: Extent) {
@@ -57,16 +88,8 @@ impl SampleChange for ValueRun {
     }
 }
 
-impl SampleChange for SampleFill {
-    ghost change = { fill_values };
-
-    fn change<P: Port>(&self, port: &mut P, words: Extent) {
-        fill_samples(port, words, self.first as u32, self.count, self.value);
-    }
-}
-
 /// Changes samples of a buffer, one repetition after the other.
-fn change_samples<R: SampleChange, P: Port>(port: &mut P, words: Extent, all: &[R])
+fn change_each<R: ShortChange, P: Port>(port: &mut P, words: Extent, all: &[R])
     requires foot { MayWrite (P.foot port.old) words.at words.len }
     requires free { first_refusal (R.judge words.len) all.now ≡ None }
     ensures samples { samples_of (P.words port.new) words ≡ change_all R.change all.now (samples_of (P.words port.old) words) }
@@ -76,6 +99,65 @@ fn change_samples<R: SampleChange, P: Port>(port: &mut P, words: Extent, all: &[
 {
     for repetition in all {
         repetition.change(port, words);
+    }
+}
+
+/// Fills samples of a buffer, one fill after the other.
+fn fill_each<P: Port>(port: &mut P, words: Extent, fills: &[Fill])
+    requires foot { MayWrite (P.foot port.old) words.at words.len }
+    requires within { All (λ f. f.first + f.count ≤ words.len) fills.now }
+    ensures samples { samples_of (P.words port.new) words ≡ change_all fill_samples fills.now (samples_of (P.words port.old) words) }
+    ensures others { KeepsAround words (P.words port.old) (P.words port.new) }
+    ensures foot { P.foot port.new ≡ P.foot port.old }
+    ensures rest { P.rest port.new ≡ P.rest port.old }
+{
+    for fill in fills {
+        fill_samples(port, words, fill.first, fill.count, fill.value);
+    }
+}
+
+impl SampleChange for SampleValue {
+    ghost change = { set_value };
+
+    fn change_all<P: Port>(
+        _alloc: Global,
+        port: &mut P,
+        words: Extent,
+        all: &[SampleValue],
+    ) -> Result<(), NoMemory> {
+        change_each(port, words, all);
+        Ok(())
+    }
+}
+
+impl SampleChange for ValueRun {
+    ghost change = { set_values };
+
+    fn change_all<P: Port>(
+        _alloc: Global,
+        port: &mut P,
+        words: Extent,
+        all: &[ValueRun],
+    ) -> Result<(), NoMemory> {
+        change_each(port, words, all);
+        Ok(())
+    }
+}
+
+impl SampleChange for SampleFill {
+    ghost change = { fill_values };
+
+    /// Each sample is set once.
+    fn change_all<P: Port>(
+        alloc: Global,
+        port: &mut P,
+        words: Extent,
+        all: &[SampleFill],
+    ) -> Result<(), NoMemory> {
+        let fills = fills_of(alloc, all)?;
+        let once = once_each(alloc, &fills)?;
+        fill_each(port, words, &once);
+        Ok(())
     }
 }
 
@@ -107,7 +189,7 @@ fn run_sample_change<R: SampleChange, P: Port>(
     if let Some(reason) = first_refusal(&all, place.extent.len) {
         return Ok(Some(reason));
     }
-    change_samples(port, place.extent, &all);
+    R::change_all(alloc, port, place.extent, &all)?;
     Ok(None)
 }
 

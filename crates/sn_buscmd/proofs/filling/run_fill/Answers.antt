@@ -16,4 +16,4 @@ pub returns-clause-row : goal.returns-clause-row
 returns-clause-row g c = λ from stage replies pictures.
     let read : Some c.deref-2.result.now ≡ some_of (triples bus_fill (map argument_of c.args.arguments.now)) = ap Some c.deref-2.ensures.value ∙ c.in-Some.ensures ∙ ap some_of c.in_ok-triples.ensures in
     let free : first_refusal fill_refusal c.deref-2.result.now ≡ None = ap (first_refusal fill_refusal) (c.deref-2.ensures.value ∙ sym c.deref.ensures.value) ∙ sym c.first_refusal.ensures ∙ c.in_default-first_refusal.is in
-    changed fill_refusal fill_run _ c.deref-2.result.now stage (g.P.Port.words c.args.port.now) (g.P.Port.words c.fill_runs.new.port) replies read free pictures c.fill_runs.ensures.others c.fill_runs.ensures.buses
+    changed fill_refusal fill_run _ c.deref-2.result.now stage (g.P.Port.words c.args.port.now) (g.P.Port.words c.fill_runs.new.port) replies read free pictures c.fill_runs.ensures.others c.in_ok-fill_runs.ensures.buses

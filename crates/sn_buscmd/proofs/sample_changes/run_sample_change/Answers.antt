@@ -1,4 +1,4 @@
-use Rattle.std.proofs.Common.{◌≡◌, ℤ, Option, Some, None, map, sym, ap, ◌∙◌, rules}
+use Rattle.std.proofs.Common.{◌≡◌, ℤ, Some, None, map, sym, ap, ◌∙◌, rules}
 use Rattle.std.specs.Prelude.{FitsSigned}
 use Rattle.std.specs.Int.{w32}
 use Rattle.std.specs.Option.{option_map}
@@ -42,8 +42,8 @@ returns-in-Some-first_refusal-clause-row g c = λ replies.
     asked_of g.R.Repeated.read (changing g.R.Judged.judge g.R.SampleChange.change) (map argument_of c.args.arguments.now) n all (turn_of stage words replies) read
     ∙ refused g.R.Judged.judge n all stage words replies p found c.requires.pictures _ c.in-Some-first_refusal.reason why
 
-pub change_samples-requires-clause-foot : goal.change_samples-requires-clause-foot
-change_samples-requires-clause-foot g c =
+pub change_all-requires-clause-foot : goal.change_all-requires-clause-foot
+change_all-requires-clause-foot g c =
     let stage = c.args.stage.now in
     let words = g.P.Port.words c.args.port.now in
     let n : ℤ = c.in-Some.number in
@@ -65,10 +65,10 @@ returns-clause-row g c = λ replies.
     let p : BufferPlace = c.in-Some-find.place in
     let found : Some p ≡ at_number stage.buffers n = c.in-Some-find.ensures ∙ ap (at_number stage.buffers) same in
     let free : first_refusal (g.R.Judged.judge p.extent.len) all ≡ None = ap (first_refusal (g.R.Judged.judge p.extent.len)) (sym c.deref.ensures.value) ∙ sym c.first_refusal.ensures ∙ c.in_default-first_refusal.is in
-    let us = g.P.Port.words c.change_samples.new.port in
-    let samples : samples_of us p.extent ≡ change_all g.R.SampleChange.change all (samples_of words p.extent) = c.change_samples.ensures.samples ∙ ap (λ rs. change_all g.R.SampleChange.change rs (samples_of words p.extent)) c.deref-2.ensures.value in
+    let us = g.P.Port.words c.change_all.new.port in
+    let samples : samples_of us p.extent ≡ change_all g.R.SampleChange.change all (samples_of words p.extent) = c.in_ok-change_all.ensures.samples ∙ ap (λ rs. change_all g.R.SampleChange.change rs (samples_of words p.extent)) c.deref-2.ensures.value in
     asked_of g.R.Repeated.read (changing g.R.Judged.judge g.R.SampleChange.change) (map argument_of c.args.arguments.now) n all (turn_of stage words replies) read
-    ∙ changed g.R.Judged.judge n all stage words replies p found c.requires.pictures g.R.SampleChange.change us free c.change_samples.ensures.others samples
+    ∙ changed g.R.Judged.judge n all stage words replies p found c.requires.pictures g.R.SampleChange.change us free c.change_all.ensures.others samples
 
 pub returns-clause-pictures : goal.returns-clause-pictures
 returns-clause-pictures g c =
@@ -80,9 +80,9 @@ returns-clause-pictures g c =
     let all = c.in-Some.all.items in
     let p : BufferPlace = c.in-Some-find.place in
     let found : Some p ≡ at_number stage.buffers n = c.in-Some-find.ensures ∙ ap (at_number stage.buffers) same in
-    let us = g.P.Port.words c.change_samples.new.port in
-    let samples : samples_of us p.extent ≡ change_all g.R.SampleChange.change all (samples_of words p.extent) = c.change_samples.ensures.samples ∙ ap (λ rs. change_all g.R.SampleChange.change rs (samples_of words p.extent)) c.deref-2.ensures.value in
-    resampled_pictures stage words n p found c.requires.pictures us (change_all g.R.SampleChange.change all) c.change_samples.ensures.others samples
+    let us = g.P.Port.words c.change_all.new.port in
+    let samples : samples_of us p.extent ≡ change_all g.R.SampleChange.change all (samples_of words p.extent) = c.in_ok-change_all.ensures.samples ∙ ap (λ rs. change_all g.R.SampleChange.change rs (samples_of words p.extent)) c.deref-2.ensures.value in
+    resampled_pictures stage words n p found c.requires.pictures us (change_all g.R.SampleChange.change all) c.change_all.ensures.others samples
 
 pub returns-clause-others : goal.returns-clause-others
 returns-clause-others g c =
@@ -94,6 +94,6 @@ returns-clause-others g c =
     let all = c.in-Some.all.items in
     let p : BufferPlace = c.in-Some-find.place in
     let found : Some p ≡ at_number stage.buffers n = c.in-Some-find.ensures ∙ ap (at_number stage.buffers) same in
-    let us = g.P.Port.words c.change_samples.new.port in
-    let samples : samples_of us p.extent ≡ change_all g.R.SampleChange.change all (samples_of words p.extent) = c.change_samples.ensures.samples ∙ ap (λ rs. change_all g.R.SampleChange.change rs (samples_of words p.extent)) c.deref-2.ensures.value in
-    kept_outside stage words n p found c.requires.pictures us (change_all g.R.SampleChange.change all) c.change_samples.ensures.others samples
+    let us = g.P.Port.words c.change_all.new.port in
+    let samples : samples_of us p.extent ≡ change_all g.R.SampleChange.change all (samples_of words p.extent) = c.in_ok-change_all.ensures.samples ∙ ap (λ rs. change_all g.R.SampleChange.change rs (samples_of words p.extent)) c.deref-2.ensures.value in
+    kept_outside stage words n p found c.requires.pictures us (change_all g.R.SampleChange.change all) c.change_all.ensures.others samples

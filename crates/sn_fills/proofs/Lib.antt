@@ -1,0 +1,5 @@
+pub mod Alike
+mod Lying
+mod Overlaying
+mod Putting
+mod Within

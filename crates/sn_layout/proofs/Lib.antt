@@ -4,4 +4,5 @@ pub mod Mapped
 pub mod Voices
 pub mod Rows
 pub mod Settings
+pub mod Runs
 pub mod Messages

@@ -21,7 +21,7 @@ use Rattle.sn_world.specs.declared.stage.Stage.{Stage}
 use Rattle.sn_world.specs.Addresses.{command_of, on_nodes_alone, on_server_alone}
 use Rattle.sn_world.specs.Commands.{answered, server_outcome, carrying_row, handled_as, either, ending_of, next_in, next_of, next_with, node_outcome, node_row, or_unknown, whole_row}
 use Rattle.sn_world.specs.Completing.{behind_number, behind_text, carried, message_in}
-use Rattle.sn_world.specs.ControlRuns.{asked_of}
+use Rattle.sn_world.specs.ControlRuns.{ControlRun, ForNode, asked_of, asked_runs, fill_run, value_run, values_run}
 use Rattle.sn_world.specs.Ending.{Next, is_completing}
 use Rattle.sn_world.specs.Mappings.{any_node}
 use Rattle.sn_world.specs.NewSynth.{ControlName, control_name}
@@ -30,9 +30,9 @@ use Rattle.sn_world.specs.Notifying.{notify_flag}
 use Rattle.sn_world.specs.Rows.{singles}
 use Rattle.sn_world.specs.World.{Turn, turn_of}
 use Rattle.sn_layout.specs.Layout.{layout_of}
-use Rattle.sn_layout.specs.Leaving.{LeavesLayout, asked_leaves, holds_laid, lays, node_leaves, server_leaves, sets_laid, sets_plain}
+use Rattle.sn_layout.specs.Leaving.{LeavesLayout, asked_leaves, holds_laid, lays, node_leaves, runs_laid, runs_plain, server_leaves, sets_plain}
 use Rattle.sn_layout.proofs.Rows.{Leaves, get_leaves, notify_leaves, query_leaves, server_row_leaves, tree_leaves}
-use Rattle.sn_layout.proofs.Settings.{set_row_leaves}
+use Rattle.sn_layout.proofs.Settings.{set_outcome_leaves}
 
 -- ---- no completion message is carried
 
@@ -93,7 +93,9 @@ none_with c o absent = ap (λ (b : Option (List ℕ)). is_completing (next_with 
 
 node_row_leaves : (c : NodeCommand) (from : ℕ) (xs : List Argument) (t : Turn) → node_leaves (sets_plain lays t.world.nodes xs) c ≡ true → Leaves t (node_row c from xs t)
 node_row_leaves calls.Notify from xs t h = notify_leaves from (notify_flag xs) t
-node_row_leaves calls.SetControls from xs t h = set_row_leaves from xs t h
+node_row_leaves calls.SetControls from xs t h = set_outcome_leaves (asked_runs value_run xs) t h
+node_row_leaves calls.SetRuns from xs t h = set_outcome_leaves (asked_runs values_run xs) t h
+node_row_leaves calls.FillRuns from xs t h = set_outcome_leaves (asked_runs fill_run xs) t h
 node_row_leaves calls.Query from xs t h = query_leaves from xs t
 node_row_leaves calls.QueryTree from xs t h = tree_leaves from xs t
 node_row_leaves calls.GetControls from xs t h = get_leaves from (asked_of (singles control_name) xs) t
@@ -125,7 +127,7 @@ outcome_leaves from (Some (OnServer c)) bare t h = whole_leaves c from [] t h
 outcome_leaves from (Some (OnServer c)) (arguments xs) t h = whole_leaves c from xs t h
 outcome_leaves from (Some (OnServer c)) (foreign tags rest) t h = tt
 
-next_alone_after : (plain : List Argument → Bool) (from : ℕ) (o : Option Command) (body : BodyShape) (t : Turn) → asked_leaves plain o body ≡ true
+next_alone_after : (plain : List Argument → (List Argument → Option (ControlRun × List Argument)) → Bool) (from : ℕ) (o : Option Command) (body : BodyShape) (t : Turn) → asked_leaves plain o body ≡ true
     → is_completing (next_in (node_outcome (on_nodes_alone o) from body t) (server_outcome (on_server_alone o) from body t) (next_of (on_server_alone o) body)) ≡ false
 next_alone_after plain from None body t h = refl
 next_alone_after plain from (Some (OnNodes c)) body t h = refl
@@ -141,26 +143,23 @@ leaves_turn m t h = record {
 
 -- ---- what a stage holds
 
-holds_seen : (words : List ℕ) (c : Option ControlName) (h : Held) → lays c (content_of words h) ≡ holds_laid c h
-holds_seen words c held.Group = refl
-holds_seen words c (held.Synth def controls state) = refl
+holds_seen : (words : List ℕ) (c : ControlName) (n : ℕ) (h : Held) → lays c n (content_of words h) ≡ holds_laid c n h
+holds_seen words c n held.Group = refl
+holds_seen words c n (held.Synth def controls state) = refl
 
-any_seen : (words : List ℕ) (c : Option ControlName) (t : Nodes Held) → any_node (lays c) (with_payloads (content_of words) t) ≡ any_node (holds_laid c) t
-any_seen words c none = refl
-any_seen words c (node label below after) = λ i. holds_seen words c label.payload i || (any_seen words c below i || any_seen words c after i)
+any_seen : (words : List ℕ) (c : ControlName) (n : ℕ) (t : Nodes Held) → any_node (lays c n) (with_payloads (content_of words) t) ≡ any_node (holds_laid c n) t
+any_seen words c n none = refl
+any_seen words c n (node label below after) = λ i. holds_seen words c n label.payload i || (any_seen words c n below i || any_seen words c n after i)
 
-sets_seen : (words : List ℕ) (t : Nodes Held) (xs : List Argument) → sets_laid lays (with_payloads (content_of words) t) xs ≡ sets_laid holds_laid t xs
-sets_seen words t [] = refl
-sets_seen words t (c ∷ []) = refl
-sets_seen words t (c ∷ v ∷ rest) = λ i. any_seen words (control_name c) t i || sets_seen words t rest i
+runs_seen : (words : List ℕ) (t : Nodes Held) (rs : List ControlRun) → runs_laid lays (with_payloads (content_of words) t) rs ≡ runs_laid holds_laid t rs
+runs_seen words t [] = refl
+runs_seen words t (r ∷ rs) = λ i. any_seen words r.control (length r.values) t i || runs_seen words t rs i
 
-plain_seen : (words : List ℕ) (t : Nodes Held) (xs : List Argument) → sets_plain lays (with_payloads (content_of words) t) xs ≡ sets_plain holds_laid t xs
-plain_seen words t [] = refl
-plain_seen words t (int id ∷ xs) = ap not (ap (λ (u : Nodes Content). sets_laid lays u xs) (subtree-payloads (content_of words) id t) ∙ sets_seen words (subtree id t) xs)
-plain_seen words t (string s ∷ xs) = refl
-plain_seen words t (blob b ∷ xs) = refl
+plain_seen : (words : List ℕ) (t : Nodes Held) (o : Option (ForNode ControlRun)) → runs_plain lays (with_payloads (content_of words) t) o ≡ runs_plain holds_laid t o
+plain_seen words t None = refl
+plain_seen words t (Some r) = ap not (ap (λ (u : Nodes Content). runs_laid lays u r.all) (subtree-payloads (content_of words) r.id t) ∙ runs_seen words (subtree r.id t) r.all)
 
 pub leaves : (stage : Stage) (words : List ℕ) (replies : List ReplyShape) (m : MessageShape) → asked_leaves (sets_plain holds_laid stage.tree.attached) (command_of m.address) m.body ≡ true → LeavesLayout m (turn_of stage words replies)
 leaves stage words replies m h =
     leaves_turn m (turn_of stage words replies)
-    ((λ i. asked_leaves (λ xs. plain_seen words stage.tree.attached xs i) (command_of m.address) m.body) ∙ h)
+    ((λ i. asked_leaves (λ xs read. plain_seen words stage.tree.attached (asked_runs read xs) i) (command_of m.address) m.body) ∙ h)

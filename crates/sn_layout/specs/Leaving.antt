@@ -1,6 +1,6 @@
 -- Commands that leave the layout of a world.
-use Rattle.std.specs.Prelude.{◌≡◌, ℕ, Bool, true, false, not, ◌||◌, nat_lt, List, [], ◌∷◌, length, slice_index_or, Option, Some, None, is_some}
-use Rattle.sn_osc.specs.Shape.{Argument, int, string, blob, BodyShape, bare, arguments, foreign, MessageShape}
+use Rattle.std.specs.Prelude.{◌≡◌, ℕ, zero, suc, ◌+◌, Bool, true, false, not, ◌||◌, nat_lt, List, [], ◌∷◌, length, slice_index_or, Option, Some, None, is_some}
+use Rattle.sn_osc.specs.Shape.{Argument, BodyShape, bare, arguments, foreign, MessageShape}
 use Rattle.sn_def.specs.declared.control.Control.{Control}
 use Rattle.sn_def.specs.Definition.{Definition}
 use Rattle.sn_def.specs.Defs.{definition_of}
@@ -16,9 +16,10 @@ use Rattle.sn_world.specs.declared.command.Command.TheVariants.{OnNodes, OnServe
 use Rattle.sn_world.specs.declared.stage.Held.{Held}
 use Rattle.sn_world.specs.declared.stage.Held.TheVariants as held
 use Rattle.sn_world.specs.Commands.{command, next_after}
+use Rattle.sn_world.specs.ControlRuns.{ControlRun, ForNode, asked_runs, fill_run, value_run, values_run}
 use Rattle.sn_world.specs.Ending.{is_completing}
 use Rattle.sn_world.specs.Mappings.{any_node}
-use Rattle.sn_world.specs.NewSynth.{ControlName, control_name, control_of}
+use Rattle.sn_world.specs.NewSynth.{ControlName, control_of}
 use Rattle.sn_world.specs.Nodes.{Content, group, synth}
 use Rattle.sn_world.specs.World.{Turn}
 use Rattle.sn_layout.specs.Layout.{layout_of}
@@ -36,45 +37,49 @@ pub record LeavesLayout (m : MessageShape) (t : Turn) : Type 0 where
 abbrev pub is_laid : Definition → List Control → ℕ → Bool
 is_laid d controls k = is_index d k || is_some (slice_index_or controls k no_control).bus
 
-abbrev pub is_laid_at : Definition → List Control → Option ℕ → Bool
-is_laid_at d controls None = false
-is_laid_at d controls (Some k) = is_laid d controls k
+-- one of so many controls from a number on
+abbrev pub any_laid : Definition → List Control → ℕ → ℕ → Bool
+any_laid d controls k zero = false
+any_laid d controls k (suc n) = is_laid d controls k || any_laid d controls (k + 1) n
 
--- the number of a control that is named, where there is a name
-abbrev pub number_for : Definition → Option ControlName → Option ℕ
-number_for d None = None
-number_for d (Some c) = control_of d c
+abbrev pub any_laid_at : Definition → List Control → Option ℕ → ℕ → Bool
+any_laid_at d controls None n = false
+any_laid_at d controls (Some k) n = any_laid d controls k n
 
-abbrev pub lays : Option ControlName → Content → Bool
-lays c group = false
-lays c (synth s) = is_laid_at s.definition s.controls (number_for s.definition c)
+-- so many controls from one on that is named
+abbrev pub lays : ControlName → ℕ → Content → Bool
+lays c n group = false
+lays c n (synth s) = any_laid_at s.definition s.controls (control_of s.definition c) n
 
 -- the same of what a node of a stage holds
-abbrev pub holds_laid : Option ControlName → Held → Bool
-holds_laid c held.Group = false
-holds_laid c (held.Synth def controls state) = is_laid_at (definition_of def.value) controls (number_for (definition_of def.value) c)
+abbrev pub holds_laid : ControlName → ℕ → Held → Bool
+holds_laid c n held.Group = false
+holds_laid c n (held.Synth def controls state) = any_laid_at (definition_of def.value) controls (control_of (definition_of def.value) c) n
 
--- ---- `/n_set` id (control value)..
+-- ---- `/n_set`, `/n_setn` and `/n_fill`
 
-module _ {P : Type 0} (test : Option ControlName → P → Bool) where
-  -- one of the controls that are set is laid in one of these nodes
-  abbrev pub sets_laid : Nodes P → List Argument → Bool
-  sets_laid reached [] = false
-  sets_laid reached (c ∷ []) = false
-  sets_laid reached (c ∷ v ∷ rest) = any_node (test (control_name c)) reached || sets_laid reached rest
+module _ {P : Type 0} (test : ControlName → ℕ → P → Bool) where
+  -- one of the controls that runs set is laid in one of these nodes
+  abbrev pub runs_laid : Nodes P → List ControlRun → Bool
+  runs_laid reached [] = false
+  runs_laid reached (r ∷ rs) = any_node (test r.control (length r.values)) reached || runs_laid reached rs
 
-  -- none is, in the node that is named and in all nodes below it
-  abbrev pub sets_plain : Nodes P → List Argument → Bool
-  sets_plain all [] = true
-  sets_plain all (int id ∷ xs) = not (sets_laid (subtree id all) xs)
-  sets_plain all (string s ∷ xs) = true
-  sets_plain all (blob b ∷ xs) = true
+  -- None is, in the node that is named and in all nodes below it. Where no runs are named the command is refused.
+  abbrev pub runs_plain : Nodes P → Option (ForNode ControlRun) → Bool
+  runs_plain all None = true
+  runs_plain all (Some r) = not (runs_laid (subtree r.id all) r.all)
+
+  -- arguments, of which a run is read so
+  abbrev pub sets_plain : Nodes P → List Argument → (List Argument → Option (ControlRun × List Argument)) → Bool
+  sets_plain all xs read = runs_plain all (asked_runs read xs)
 
 -- ---- commands
 
--- where the controls that `/n_set` sets are told to be plain, or not
-abbrev pub node_leaves : Bool → NodeCommand → Bool
-node_leaves plain nodes.SetControls = plain
+-- where the controls that runs set are told to be plain, or not, by how a run is read
+abbrev pub node_leaves : ((List Argument → Option (ControlRun × List Argument)) → Bool) → NodeCommand → Bool
+node_leaves plain nodes.SetControls = plain value_run
+node_leaves plain nodes.SetRuns = plain values_run
+node_leaves plain nodes.FillRuns = plain fill_run
 node_leaves plain nodes.Notify = true
 node_leaves plain nodes.Query = true
 node_leaves plain nodes.QueryTree = true
@@ -103,7 +108,7 @@ server_leaves n server.ClearSched = true
 server_leaves n server.Quit = true
 server_leaves n _ = false
 
-module _ (plain : List Argument → Bool) where
+module _ (plain : List Argument → (List Argument → Option (ControlRun × List Argument)) → Bool) where
   abbrev pub command_leaves : Command → List Argument → Bool
   command_leaves (OnNodes c) xs = node_leaves (plain xs) c
   command_leaves (OnServer c) xs = server_leaves (length xs) c

@@ -5,6 +5,7 @@ ghost use Rattle.sn_world.specs.Addresses.{command_of};
 ghost use Rattle.sn_layout.specs.Leaving.{asked_leaves, command_leaves, holds_laid, node_leaves, server_leaves, sets_plain};
 
 use crate::controls::sets_plain;
+use sn_nodecmd::RunForm;
 use sn_osc::{Arg, Body, Message};
 use sn_tree::Tree;
 use sn_world::{Command, Held, NodeCommand, ServerCommand, Stage, command_of};
@@ -13,7 +14,9 @@ fn node_leaves(tree: &Tree<Held>, command: NodeCommand, arguments: &[Arg], looks
     ensures { result ≡ true → node_leaves (sets_plain holds_laid tree.now.attached (map argument_of arguments.now)) command ≡ true }
 {
     match command {
-        NodeCommand::SetControls => sets_plain(tree, arguments, looks),
+        NodeCommand::SetControls => sets_plain(tree, RunForm::Value, arguments, looks),
+        NodeCommand::SetRuns => sets_plain(tree, RunForm::Values, arguments, looks),
+        NodeCommand::FillRuns => sets_plain(tree, RunForm::Fill, arguments, looks),
         NodeCommand::Notify
         | NodeCommand::Query
         | NodeCommand::QueryTree
@@ -58,7 +61,7 @@ fn command_leaves(stage: &Stage, command: Command, arguments: &[Arg], looks: &mu
 }
 
 /// Whether a message surely leaves the layout, and no completion message acts after it. It is judged by the
-/// address, and at `/n_set` by the controls too, as long as a look at them is left.
+/// address, and where it sets controls by these too, as long as a look at them is left.
 pub fn leaves_layout(stage: &Stage, message: &Message, looks: &mut u32) -> bool
     ensures { result ≡ true → asked_leaves (sets_plain holds_laid stage.now.tree.attached) (command_of message.now.address.bytes) (body_of message.now.body) ≡ true }
 {

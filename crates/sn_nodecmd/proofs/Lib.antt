@@ -5,6 +5,9 @@ pub mod Clearing
 pub mod MakingLemmas
 pub mod RunLemmas
 pub mod LatestLemmas
+pub mod LayingLemmas
+pub mod ResolvingLemmas
+pub mod IndexingLemmas
 pub mod RunningLemmas
 pub mod CoveringLemmas
 pub mod TurningLemmas
@@ -18,6 +21,7 @@ pub mod ToldLemmas
 pub mod QueryLemmas
 pub mod MappingLemmas
 pub mod NeededLemmas
+pub mod RefusalLemmas
 pub mod OrderLemmas
 pub mod Replacing
 pub mod NameLemmas

@@ -1,10 +1,9 @@
 -- `/n_map`: what is against it, and controls that follow buses.
-use Rattle.std.proofs.Common.{◌≡◌, ◌<◌, ◌≤◌, ◌||◌, ℕ, zero, suc, ℤ, pos, negsuc, Bool, true, false, not, List, [], ◌∷◌, length, map, drop, get_or, set, drop-cons, Option, Some, None, Result, Ok, Err, refl, ap, sym, subst, ◌∙◌, length-set}
+use Rattle.std.proofs.Common.{◌≡◌, ◌||◌, ℕ, zero, suc, ℤ, pos, negsuc, Bool, true, false, not, List, [], ◌∷◌, get_or, set, Option, Some, None, Result, Ok, Err, refl, ap, sym, subst, ◌∙◌, length-set}
 use Rattle.std.specs.Prelude.{if◌then◌else◌}
 use Rattle.std.specs.List.{list_any}
 use Rattle.std.specs.Ordering.{int_eq}
 use Rattle.std.proofs.lemmas.Bool.{cond_both, ltb-true}
-use Rattle.std.proofs.lemmas.List.{drop_all}
 use Rattle.std.proofs.lemmas.List.Elements.{All-set}
 use Rattle.std.proofs.lemmas.List.Folds.{list_any-append}
 use Rattle.sn_mem.specs.declared.extents.Extent.{Extent}
@@ -13,11 +12,13 @@ use Rattle.sn_def.specs.Definition.{Definition}
 use Rattle.sn_def.specs.Defs.{definition_of}
 use Rattle.sn_def.specs.Asked.{is_index}
 use Rattle.sn_synth.specs.Conditions.{AreControlsOf, IsFollowed, no_control}
+use Rattle.sn_ports.specs.declared.failed.NoMemory.{NoMemory}
 use Rattle.sn_reply.specs.declared.reason.Reason.{Reason}
 use Rattle.sn_reply.specs.declared.reason.Reason.TheVariants.{Bus, IndexControl}
 use Rattle.sn_reply.specs.Replies.{ReplyShape}
 use Rattle.sn_tree.specs.Trees.{Label, Nodes, none, node, holds, subtree, with_payload, with_payloads}
 use Rattle.sn_tree.specs.Members.{members}
+use Rattle.sn_tree.specs.Model.{NodeTree}
 use Rattle.sn_tree.specs.Reworking.{reworked, changed_below}
 use Rattle.sn_tree.proofs.PayloadLaws.{subtree-payloads}
 use Rattle.sn_world.specs.declared.stage.Held.{Held}
@@ -30,11 +31,11 @@ use Rattle.sn_world.specs.Rows.{unless, or_else, first_of, first_refusal}
 use Rattle.sn_world.specs.NewSynth.{ControlName, control_of}
 use Rattle.sn_world.specs.ControlRuns.{ForNode, judge_node}
 use Rattle.sn_world.specs.Mappings.{Mapping, is_followable, followed_bus, with_bus, with_buses, is_index_of, is_index_in, any_node, judge_mapping, map_buses, map_outcome}
+use Rattle.sn_world.specs.Answers.{Follows, UnlessFollowed}
 use Rattle.sn_nodecmd.specs.Reworks.{held_with}
-use Rattle.sn_nodecmd.specs.Mapped.{mapping_of, takes_index, refusal_in}
-use Rattle.sn_nodecmd.specs.declared.mappings.Mapping.{Mapping as Read}
+use Rattle.sn_nodecmd.specs.Mapped.{takes_index, refusal_in, IsMapped}
 use Rattle.sn_world.proofs.HeldKinds.{kind-below}
-use Rattle.sn_world.proofs.Turning.{pictures-tree}
+use Rattle.sn_world.proofs.Turning.{with_tree, pictures-tree}
 use Rattle.sn_nodecmd.proofs.ReworkLemmas.{kind-held, live-reworked, world-reworked}
 
 -- ---- the walk over a node and all nodes below it
@@ -49,17 +50,6 @@ module _ (test : Held → Bool) where
 
   pub any-found : (ms : List (Label Held × ℕ)) (m : Label Held × ℕ) (rest : List (Label Held × ℕ)) → ms ≡ m ∷ rest → true ≡ test m.0.payload → true ≡ any_member ms
   any-found ms m rest e h = ap (λ (b : Bool). b || any_member rest) h ∙ sym (ap any_member e)
-
--- ---- the first reason against any mapping
-
-module _ (refusal : Mapping → Option Reason) where
-  pub refusal-some : (ms : List Read) (i : ℕ) (d : Read) (reason : Reason) → i < length ms → Some reason ≡ refusal (mapping_of (get_or ms i d)) → Some reason ≡ first_refusal refusal (map mapping_of (drop i ms))
-  refusal-some ms i d reason within h =
-      ap (λ (o : Option Reason). or_else o (first_refusal refusal (map mapping_of (drop (suc i) ms)))) h
-      ∙ ap (λ (rs : List Read). first_refusal refusal (map mapping_of rs)) (sym (drop-cons ms i d within))
-
-  pub refusal-past : (ms : List Read) (i : ℕ) → length ms ≤ i → None ≡ first_refusal refusal (map mapping_of (drop i ms))
-  refusal-past ms i past = ap (λ (rs : List Read). first_refusal refusal (map mapping_of rs)) (sym (drop_all i ms past))
 
 -- ---- the reasons as the world has them
 
@@ -226,3 +216,22 @@ pub pictures-mapped : (ms : List Mapping) (stage : Stage) (words : List ℕ) (id
     → Pictures stage words → Pictures (record stage { tree = changed_below (held_with (with_buses ms)) id stage.tree }) words
 pictures-mapped ms stage words id is p =
     pictures-tree stage (changed_below (held_with (with_buses ms)) id stage.tree) words (λ rate region h. held-mapped ms rate region id stage.tree.attached (all-fine (subtree id stage.tree.attached) ms is) h) (live-reworked (with_buses ms) id stage.tree.attached) refl p.settled p
+
+-- ---- a tree that is mapped
+
+module _ (stage : Stage) (words : List ℕ) (tree : NodeTree Held) where
+  pub mapped-row : (replies : List ReplyShape) (r : ForNode Mapping) (result : Result (Option Reason) NoMemory) → judge_node (world_of stage words) r.id ≡ None → IsMapped result r.all r.id stage.tree tree
+      → Follows result (map_outcome (Some r) (turn_of stage words replies)) (turn_of (with_tree tree stage) words replies)
+  mapped-row replies r (Ok None) there is = map-done stage words replies r there is.0 ∙ ap (λ (t : NodeTree Held). let o : Result Turn Reason = Ok (turn_of (with_tree t stage) words replies) in o) (sym is.1)
+  mapped-row replies r (Ok (Some reason)) there is = map-refused stage words replies r reason there is.0
+  mapped-row replies r (Err e) there is = tt
+
+  pub mapped-unchanged : (ms : List Mapping) (id : ℤ) (result : Result (Option Reason) NoMemory) → IsMapped result ms id stage.tree tree → UnlessFollowed result (with_tree tree stage ≡ stage)
+  mapped-unchanged ms id (Ok None) is = tt
+  mapped-unchanged ms id (Ok (Some reason)) is = ap (λ (t : NodeTree Held). with_tree t stage) is.1
+  mapped-unchanged ms id (Err e) is = ap (λ (t : NodeTree Held). with_tree t stage) is
+
+  pub mapped-pictures : (ms : List Mapping) (id : ℤ) (result : Result (Option Reason) NoMemory) → IsMapped result ms id stage.tree tree → Pictures stage words → Pictures (with_tree tree stage) words
+  mapped-pictures ms id (Ok None) is p = subst (λ (t : NodeTree Held). Pictures (with_tree t stage) words) (sym is.1) (pictures-mapped ms stage words id is.0 p)
+  mapped-pictures ms id (Ok (Some reason)) is p = subst (λ (t : NodeTree Held). Pictures (with_tree t stage) words) (sym is.1) p
+  mapped-pictures ms id (Err e) is p = subst (λ (t : NodeTree Held). Pictures (with_tree t stage) words) (sym is) p

@@ -36,19 +36,19 @@ AreFollowable (m ∷ ms) = (is_followable m.bus ≡ true) × AreFollowable ms
 -- ---- reasons
 
 module _ (t : Nodes Held) where
-  abbrev refuses : Read → Option Reason
+  abbrev pub refuses : Read → Option Reason
   refuses m = refusal_in t (mapping_of m)
 
-  abbrev all_refuse : List Read → Option Reason
+  abbrev pub all_refuse : List Read → Option Reason
   all_refuse ms = first_refusal (refusal_in t) (map mapping_of ms)
 
-  abbrev takes : Read → Bool
+  abbrev pub takes : Read → Bool
   takes m = any_node (takes_index (name_of m.control)) t
 
-  abbrev by_index : Bool → Option Reason
+  abbrev pub by_index : Bool → Option Reason
   by_index b = if b then Some IndexControl else None
 
-  followed : (m : Read) → is_followable m.bus ≡ true → refuses m ≡ by_index (takes m)
+  pub followed : (m : Read) → is_followable m.bus ≡ true → refuses m ≡ by_index (takes m)
   followed m f = ap (λ b. first_of ((not b, Bus) ∷ (takes m, IndexControl) ∷ [])) f
 
   or_index : (b : Bool) → or_else (by_index b) (Some IndexControl) ≡ Some IndexControl
@@ -76,7 +76,7 @@ module _ (t : Nodes Held) where
   left_refused (m ∷ ms) left more f (inr l) = left_refused ms left more f.1 l.1 ∙ sym (without_covered m ms more f.0 f.1 l.0)
 
   -- none behind a refused one is asked
-  bus_refused : (b : Read) → is_followable b.bus ≡ false → refuses b ≡ Some Bus
+  pub bus_refused : (b : Read) → is_followable b.bus ≡ false → refuses b ≡ Some Bus
   bus_refused b f = ap (λ g. first_of ((not g, Bus) ∷ (takes b, IndexControl) ∷ [])) f
 
   bad_last : (ms : List Read) (b : Read) (rest : List Read) → is_followable b.bus ≡ false → all_refuse (ms ++ b ∷ []) ≡ all_refuse (ms ++ b ∷ rest)
@@ -140,11 +140,11 @@ left_mapped (m ∷ ms) left (inr l) d cs = left_mapped ms left l.1 d cs ∙ sym 
 abbrev pub is_bad : Read → Bool
 is_bad m = not (is_followable m.bus)
 
-not_bad : (b : Bool) → not b ≡ false → b ≡ true
+pub not_bad : (b : Bool) → not b ≡ false → b ≡ true
 not_bad true e = refl
 not_bad false e = absurd cc
 
-bad : (b : Bool) → not b ≡ true → b ≡ false
+pub bad : (b : Bool) → not b ≡ true → b ≡ false
 bad true e = absurd cc
 bad false e = refl
 
@@ -162,7 +162,7 @@ followable_all (m ∷ ms) h = at (is_bad m) refl h (followable_all ms)
     at true e l others = absurd (omega (arith, l))
     at false e l others = (not_bad (is_followable m.bus) e, others (omega (arith, l)))
 
-none_bad : (ms : List Read) → position is_bad ms ≡ None → length ms ≤ position_or_len is_bad ms
+pub none_bad : (ms : List Read) → position is_bad ms ≡ None → length ms ≤ position_or_len is_bad ms
 none_bad ms none =
     ⊎_elim
     (λ (l : position_or_len is_bad ms < length ms). let c : true ≡ false = sym (lt-ltb (position_or_len is_bad ms) (length ms) l) ∙ off (nat_lt (position_or_len is_bad ms) (length ms)) none in cc)

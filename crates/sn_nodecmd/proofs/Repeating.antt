@@ -1,14 +1,16 @@
 -- Repetitions, one after the other.
-use Rattle.std.proofs.Common.{◌≡◌, ◌≤◌, ◌<◌, ◌-◌, ◌+◌, ℕ, suc, List, ◌∷◌, drop, length, get_or, drop-cons, Option, Some, None, Result, Ok, Err, refl, ap, sym, subst, ◌∙◌, arith}
+use Rattle.std.proofs.Common.{◌≡◌, ◌≤◌, ◌<◌, ◌-◌, ◌+◌, ℕ, suc, List, [], ◌∷◌, drop, length, get_or, drop-cons, Option, Some, None, Result, Ok, Err, refl, ap, sym, subst, ◌∙◌, arith}
 use Rattle.std.specs.Prelude.{◌*◌, ◌^◌, IfSome}
 use Rattle.std.proofs.lemmas.List.{drop_all}
 use Rattle.sn_ports.specs.declared.failed.NoMemory.{NoMemory}
+use Rattle.sn_osc.specs.Shape.{Argument}
 use Rattle.sn_pool.specs.declared.pool.Mark.{Mark}
 use Rattle.sn_reply.specs.declared.reason.Reason.{Reason}
 use Rattle.sn_world.specs.declared.stage.Stage.{Stage}
 use Rattle.sn_world.specs.World.{World, Turn}
-use Rattle.sn_world.specs.Rows.{unless, steps, row, some_of}
+use Rattle.sn_world.specs.Rows.{another, singles, pairs, unless, steps, row, some_of}
 use Rattle.sn_world.specs.Answers.{Follows, UnlessFollowed}
+use Rattle.sn_nodecmd.specs.Alone.{single, pair}
 use Rattle.sn_nodecmd.specs.Folding.{Steps, Keeps, IsUnderway}
 use Rattle.sn_nodecmd.proofs.Underway.{underway_more}
 
@@ -43,6 +45,19 @@ underway_next rs i {mark} {old} {now} {new} lt is keeps =
 pub row_read : {R : Type 0} (judge : World → R → Option Reason) (act : R → Turn → Turn) (o : Option (List R)) (rs : List R) (result : Result (Option Reason) NoMemory) (t after : Turn) → Some rs ≡ o
     → Follows result (steps judge act rs t) after → Follows result (row judge act o t) after
 row_read {R} judge act o rs result t after is follows = subst (λ (q : Option (List R)). Follows result (row judge act q t) after) is follows
+
+-- ---- one repetition alone
+
+pub single_read : {R : Type 0} (p : Argument → Option R) (xs : List Argument) (one : R) → Some one ≡ single p xs → Some (one ∷ []) ≡ some_of (singles p xs)
+single_read p [] one is = absurd cc
+single_read {R} p (x ∷ []) one is = ap (λ (o : Option R). some_of (another o (Some []))) is
+single_read p (x ∷ y ∷ rest) one is = absurd cc
+
+pub pair_read : {R : Type 0} (p : Argument → Argument → Option R) (xs : List Argument) (one : R) → Some one ≡ pair p xs → Some (one ∷ []) ≡ some_of (pairs p xs)
+pair_read p [] one is = absurd cc
+pair_read p (x ∷ []) one is = absurd cc
+pair_read {R} p (x ∷ y ∷ []) one is = ap (λ (o : Option R). some_of (another o (Some []))) is
+pair_read p (x ∷ y ∷ z ∷ rest) one is = absurd cc
 
 -- ---- repetitions as they are read
 

@@ -1,16 +1,15 @@
 -- Runs of controls.
-use Rattle.std.proofs.Common.{◌≡◌, ◌≤◌, ◌<◌, ◌-◌, ◌+◌, ℕ, zero, suc, ℤ, Bool, true, false, List, [], ◌∷◌, ◌++◌, map, length, take, drop, set, Option, Some, None, refl, ap, sym, ◌∙◌, arith, length-drop, append_assoc}
+use Rattle.std.proofs.Common.{◌≡◌, ◌≤◌, ◌<◌, ◌-◌, ◌+◌, ℕ, zero, suc, ℤ, Bool, true, false, List, [], ◌∷◌, ◌++◌, map, length, take, drop, Option, Some, None, refl, ap, sym, ◌∙◌, arith, length-drop, append_assoc}
 use Rattle.std.specs.Prelude.{if◌then◌else◌}
 use Rattle.std.specs.List.{list_all}
 use Rattle.std.specs.Option.{option_map}
 use Rattle.std.proofs.lemmas.Bool.{le-leb}
-use Rattle.std.proofs.lemmas.List.{length-map, take-map, drop-map, take_all, set_past, append-nil}
+use Rattle.std.proofs.lemmas.List.{length-map, take-map, drop-map, take_all, append-nil}
 use Rattle.sn_osc.specs.declared.packet.Arg.{Arg}
 use Rattle.sn_osc.specs.declared.packet.Arg.TheVariants as args
 use Rattle.sn_osc.specs.Shape.{Argument, argument_of}
-use Rattle.sn_def.specs.declared.control.Control.{Control}
 use Rattle.sn_world.specs.Rows.{another}
-use Rattle.sn_world.specs.ControlRuns.{ControlRun, ints, first_values, and_more, repeated, with_values_from}
+use Rattle.sn_world.specs.ControlRuns.{ControlRun, ints, first_values, and_more, repeated}
 use Rattle.sn_nodecmd.specs.Runs.{is_int, value_in}
 
 -- ---- arguments that are numbers
@@ -83,13 +82,3 @@ module _ (read : List Argument → Option (ControlRun × List Argument)) (args :
       at [] zero is none = ap Some (sym (append-nil found)) ∙ is
       at [] (suc fuel) is none = ap Some (sym (append-nil found)) ∙ is
       at (x ∷ xs) fuel is none = absurd (omega arith)
-
--- ---- values of controls
-
-pub values-past : (k : ℕ) (vs : List ℤ) (cs : List Control) → length cs ≤ k → with_values_from k vs cs ≡ cs
-values-past k [] cs past = refl
-values-past k (v ∷ vs) cs past =
-    ap (with_values_from (k + 1) vs) (set_past cs k (record { value = v; bus = None }) past) ∙ values-past (k + 1) vs cs (omega arith)
-
-pub values-step : (k : ℕ) (all rest : List ℤ) (v : ℤ) (cs : List Control) → all ≡ v ∷ rest → with_values_from k all cs ≡ with_values_from (k + 1) rest (set cs k (record { value = v; bus = None }))
-values-step k all rest v cs is = ap (λ vs. with_values_from k vs cs) is

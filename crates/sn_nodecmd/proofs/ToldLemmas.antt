@@ -49,6 +49,10 @@ unheard client [] message off = refl
 unheard client (true ∷ flags) message off = absurd cc
 unheard client (false ∷ flags) message off = unheard (client + 1) flags message off
 
+pub unheard_replies : (event : NodeEvent) (id : ℤ) (o : Option NodeView) (flags : List Bool) (replies : List ReplyShape) → list_any (λ (on : Bool). on) flags ≡ false → told_replies event id o flags replies ≡ replies
+unheard_replies event id None flags replies off = refl
+unheard_replies event id (Some view) flags replies off = ap (λ (l : List ReplyShape). replies ++ l) (unheard 0 flags (event_message event id view) off) ∙ append-nil replies
+
 unheard_notice : (w : World) (replies : List ReplyShape) (message : MessageShape) → list_any (λ (on : Bool). on) w.notify ≡ false
     → notified message (record { world = w; replies = replies }) ≡ record { world = w; replies = replies }
 unheard_notice w replies message off = λ i. let t : Turn = record { world = w; replies = (ap (λ (l : List ReplyShape). replies ++ l) (unheard 0 w.notify message off) ∙ append-nil replies) i } in t

@@ -4,8 +4,12 @@ pub mod Judging
 pub mod Placing
 pub mod Runs
 pub mod Covering
+pub mod Resolving
+pub mod Laying
 pub mod Reworks
 pub mod Mapped
+pub mod Indexing
+pub mod Alone
 pub mod Folding
 pub mod Sparing
 pub mod Relocating

@@ -11,11 +11,12 @@ ghost use Rattle.sn_world.specs.Answers.{Follows, UnlessFollowed, Handles, Unles
 
 use crate::describing::run_tree_query;
 use crate::folding::run;
+use crate::freeing::run_free;
 use crate::getting::run_get;
 use crate::groups::groups_of;
 use crate::making::run_new;
 use crate::mappings::run_map;
-use crate::moving::moves;
+use crate::moving::run_moves;
 use crate::notifying::run_notify;
 use crate::ordering::run_order;
 use crate::querying::run_query;
@@ -26,8 +27,8 @@ use sn_osc::{Arg, Message};
 use sn_ports::NoMemory;
 use sn_reply::{Reason, Replies};
 use sn_world::{
-    Command, DeepFree, FreeAll, Handled, NodeCommand, NodeId, RunFlag, Stage, arguments_of,
-    command_of, pairs, singles,
+    Command, DeepFree, FreeAll, Handled, NodeCommand, RunFlag, Stage, arguments_of, command_of,
+    pairs, singles,
 };
 use std::alloc::Global;
 
@@ -84,13 +85,13 @@ fn run_row<P: Port>(
             let groups = groups_of(alloc, true, arguments)?;
             run(alloc, stage, groups, replies)
         }
-        NodeCommand::Free => run::<NodeId>(alloc, stage, singles(alloc, arguments)?, replies),
+        NodeCommand::Free => run_free(alloc, stage, arguments, replies),
         NodeCommand::FreeAll => run::<FreeAll>(alloc, stage, singles(alloc, arguments)?, replies),
         NodeCommand::DeepFree => run::<DeepFree>(alloc, stage, singles(alloc, arguments)?, replies),
         NodeCommand::Query => run_query(alloc, stage, arguments, from, replies),
         NodeCommand::QueryTree => run_tree_query(alloc, stage, arguments, from, replies),
         NodeCommand::GetControls => run_get(alloc, stage, port, arguments, from, replies),
-        NodeCommand::Move(action) => run(alloc, stage, moves(alloc, action, arguments)?, replies),
+        NodeCommand::Move(action) => run_moves(alloc, stage, action, arguments, replies),
         NodeCommand::Order => run_order(alloc, stage, arguments, replies),
     }
 }

@@ -1,19 +1,24 @@
 //! Nodes that are freed.
-ghost use Rattle.std.specs.Prelude.{◌≡◌, OnOk, None, List, ℕ};
+ghost use Rattle.std.specs.Prelude.{◌≡◌, ◌<◌, ◌+◌, ◌*◌, ◌^◌, length, map, OnOk, None, List, ℕ};
+ghost use Rattle.sn_osc.specs.Shape.{argument_of};
 ghost use Rattle.sn_tree.specs.Trees.{holds};
 ghost use Rattle.sn_tree.specs.Steps.{HasRoom, detached};
 ghost use Rattle.sn_world.specs.World.{turn_of};
-ghost use Rattle.sn_world.specs.Freeing.{free_refusal, freed};
-ghost use Rattle.sn_world.specs.Answers.{Continues};
-ghost use Rattle.sn_nodecmd.specs.Folding.{Keeps};
+ghost use Rattle.sn_world.specs.Pictures.{Pictures};
+ghost use Rattle.sn_world.specs.Rows.{row, singles, some_of};
+ghost use Rattle.sn_world.specs.Freeing.{node_id, free_refusal, freed, judge_free, act_free};
+ghost use Rattle.sn_world.specs.Answers.{Continues, Follows, UnlessFollowed};
+ghost use Rattle.sn_nodecmd.specs.Alone.{single};
+ghost use Rattle.sn_nodecmd.specs.Folding.{IsAtRest, Keeps};
 ghost use Rattle.sn_nodecmd.specs.Sparing.{SparesRoom};
 
-use crate::folding::Repetition;
+use crate::folding::{Repetition, each, run};
 use crate::telling::{tell_all_end, view_of};
+use sn_osc::Arg;
 use sn_ports::NoMemory;
 use sn_reply::{Reason, Replies};
 use sn_tree::Tree;
-use sn_world::{Held, NodeId, Stage};
+use sn_world::{Held, NodeId, Single, Stage, singles};
 use std::alloc::Global;
 
 /// Whether a node is in the tree.
@@ -87,4 +92,37 @@ impl Repetition for NodeId {
         free_node(alloc, stage, self, replies)?;
         Ok(None)
     }
+}
+
+/// The node of an `/n_free` of one node.
+fn alone(arguments: &[Arg]) -> Option<NodeId>
+    ensures { result ≡ single node_id (map argument_of arguments.now) }
+{
+    match arguments {
+        [id] => NodeId::from_one(id),
+        _ => None,
+    }
+}
+
+/// `/n_free` id.. One node takes no memory for a list.
+pub fn run_free(
+    alloc: Global,
+    stage: &mut Stage,
+    arguments: &[Arg],
+    replies: &mut Replies,
+) -> Result<Option<Reason>, NoMemory>
+    requires rest { IsAtRest stage.old }
+    requires few { 16 * length arguments.now + 2 ^ 20 < 2 ^ 31 }
+    ensures row { (words : List ℕ) → Follows result (row judge_free act_free (some_of (singles node_id (map argument_of arguments.now))) (turn_of stage.old words replies.old)) (turn_of stage.new words replies.new) }
+    ensures unchanged { UnlessFollowed result (stage.new ≡ stage.old) }
+    ensures untold { UnlessFollowed result (replies.new ≡ replies.old) }
+    ensures pictures { (words : List ℕ) → Pictures stage.old words → Pictures stage.new words }
+    ensures clients { stage.new.notify ≡ stage.old.notify }
+    ensures region { stage.new.pool.region ≡ stage.old.pool.region }
+{
+    if let Some(one) = alone(arguments) {
+        return each(alloc, stage, &[one], replies);
+    }
+    let found = singles::<NodeId>(alloc, arguments)?;
+    run(alloc, stage, found, replies)
 }

@@ -1,28 +1,31 @@
 //! `/n_map`.
-ghost use Rattle.std.specs.Prelude.{◌≡◌, List, ℕ, None, Ok, Some, map, IfOk};
+ghost use Rattle.std.specs.Prelude.{◌≡◌, List, ℕ, None, Some, not, map, take, IfOk};
+ghost use Rattle.std.specs.List.{position_or_len};
 ghost use Rattle.std.specs.Option.{option_map};
 ghost use Rattle.sn_osc.specs.Shape.{argument_of};
-ghost use Rattle.sn_def.specs.Defs.{definition_of};
 ghost use Rattle.sn_reply.specs.Replies.{ReplyShape};
 ghost use Rattle.sn_tree.specs.Trees.{subtree};
 ghost use Rattle.sn_world.specs.World.{turn_of};
 ghost use Rattle.sn_world.specs.Pictures.{Pictures};
 ghost use Rattle.sn_world.specs.Rows.{pairs, first_refusal};
-ghost use Rattle.sn_world.specs.NewSynth.{control_of};
 ghost use Rattle.sn_world.specs.ControlRuns.{asked_of};
-ghost use Rattle.sn_world.specs.Mappings.{mapping, is_followable, followed_bus, with_bus, with_buses, is_index_of, any_node, map_outcome};
+ghost use Rattle.sn_world.specs.Mappings.{mapping, is_followable, map_outcome};
 ghost use Rattle.sn_world.specs.Answers.{Follows, UnlessFollowed};
-ghost use Rattle.sn_nodecmd.specs.Runs.{name_of};
-ghost use Rattle.sn_nodecmd.specs.Mapped.{mapping_of, request_of, takes_index, refusal_in};
+ghost use Rattle.sn_nodecmd.specs.Runs.{run_of};
+ghost use Rattle.sn_nodecmd.specs.Mapped.{mapping_of, run_for, request_of, refusal_in, IsMapped};
 
-use crate::names::{NamedControl, control_name, number_of};
-use crate::needed::needed;
-use sn_def::{Control, Controls, Def};
+use crate::indexing::take_index_below;
+use crate::laying::Field;
+use crate::names::{NamedControl, control_name};
+use crate::needed::{first_bad, needed};
+use crate::resolved::{Resolved, resolve_below};
+use crate::runs::{Run, RunValues};
+use crate::setting::RunsToSet;
 use sn_osc::Arg;
 use sn_ports::NoMemory;
 use sn_ports::limits::CONTROL_BUS_COUNT;
 use sn_reply::Reason;
-use sn_tree::{ChangePayload, Tree};
+use sn_tree::Tree;
 use sn_world::{Held, Stage, some_of};
 use std::alloc::Global;
 
@@ -38,66 +41,6 @@ pub struct Mapping<'a> {
 pub struct AskedMappings<'a> {
     pub id: i32,
     pub mappings: Vec<Mapping<'a>>,
-}
-
-/// The mappings of a synth's controls.
-#[derive(Clone, Copy)]
-pub struct Following<'a> {
-    pub mappings: &'a [Mapping<'a>],
-}
-
-impl ChangePayload<Held> for Following<'_> {
-    ghost use Rattle.std.specs.Prelude.{map};
-    ghost use Rattle.sn_world.specs.Mappings.{with_buses};
-    ghost use Rattle.sn_nodecmd.specs.Mapped.{mapping_of};
-    ghost use Rattle.sn_nodecmd.specs.Reworks.{held_with};
-
-    ghost changed = { λ s. held_with (with_buses (map mapping_of s.mappings.now)) };
-
-    fn change(&self, payload: &mut Held) {
-        match payload {
-            Held::Group => {}
-            Held::Synth { def, controls, .. } => set_buses(def, self.mappings, controls),
-        }
-    }
-}
-
-fn followed_bus(bus: i32) -> Option<u32>
-    ensures { result ≡ followed_bus bus }
-{
-    if bus >= 0 { Some(bus as u32) } else { None }
-}
-
-/// A control follows a bus, or none, and keeps its own value.
-fn set_bus(controls: &mut Controls, number: u32, bus: i32)
-    ensures { controls.new ≡ with_bus (Some number) bus controls.old }
-{
-    let number = number as usize;
-    let Some(control) = controls.as_slice().get(number) else {
-        return;
-    };
-    let value = control.value;
-    let bus = followed_bus(bus);
-    controls.set(number, Control { value, bus });
-}
-
-/// A control that is none of the definition's is ignored.
-fn set_mapping(def: &Def, mapping: &Mapping<'_>, controls: &mut Controls)
-    ensures { controls.new ≡ with_bus (control_of (definition_of def.now) (name_of mapping.now.control)) mapping.now.bus controls.old }
-{
-    let Some(number) = number_of(def, mapping.control) else {
-        return;
-    };
-    set_bus(controls, number, mapping.bus);
-}
-
-/// Maps controls one after the other.
-fn set_buses(def: &Def, mappings: &[Mapping<'_>], controls: &mut Controls)
-    ensures { controls.new ≡ with_buses (map mapping_of mappings.now) (definition_of def.now) controls.old }
-{
-    for mapping in mappings {
-        set_mapping(def, mapping, controls);
-    }
 }
 
 fn read_mapping<'a>(control: &'a Arg, bus: &Arg) -> Option<Mapping<'a>>
@@ -155,81 +98,106 @@ pub fn is_followable(bus: i32) -> bool
     -1 <= bus && bus < BUSES
 }
 
-/// Whether it is an index control of a definition.
-fn is_index_of(def: &Def, control: NamedControl<'_>) -> bool
-    ensures { result ≡ is_index_of (definition_of def.now) (control_of (definition_of def.now) (name_of control.entry)) }
+/// The mappings before the first one whose bus can't be followed.
+fn followable<'a, 'b>(mappings: &'b [Mapping<'a>]) -> &'b [Mapping<'a>]
+    ensures { result.now ≡ take (position_or_len (λ m. not (is_followable m.bus)) mappings.now) mappings.now }
 {
-    match number_of(def, control) {
-        Some(number) => def.is_index(number),
-        None => false,
+    match first_bad(mappings) {
+        Some(place) => &mappings[..place],
+        None => mappings,
     }
 }
 
-fn takes_index(held: &Held, control: NamedControl<'_>) -> bool
-    ensures { result ≡ takes_index (name_of control.entry) held.now }
+fn run_for<'a>(mapping: &Mapping<'a>) -> Run<'a>
+    ensures { run_of result ≡ run_for (mapping_of mapping.now) }
 {
-    match held {
-        Held::Group => false,
-        Held::Synth { def, .. } => is_index_of(def, control),
+    Run {
+        control: mapping.control,
+        values: RunValues::Same {
+            value: mapping.bus,
+            count: 1,
+        },
     }
 }
 
-/// Whether it is an index control of a synth, which is a node or below it.
-fn has_index(tree: &Tree<Held>, id: i32, control: NamedControl<'_>) -> bool
-    ensures { result ≡ any_node (takes_index (name_of control.entry)) (subtree id tree.now.attached) }
+/// Mappings as runs, whose numbers are buses.
+fn runs_for<'a>(alloc: Global, mappings: &[Mapping<'a>]) -> Result<Vec<Run<'a>>, NoMemory>
+    ensures { IfOk result (λ runs. map run_of runs.items ≡ map run_for (map mapping_of mappings.now)) }
 {
-    for member in tree.members(id) {
-        if takes_index(member.payload, control) {
-            return true;
-        }
+    let mut runs = Vec::new(alloc);
+    for mapping in mappings {
+        let run = run_for(mapping);
+        runs.push(run)?;
     }
-    false
+    Ok(runs)
 }
 
-/// The first reason against a mapping in a node and in all nodes below it.
-fn refusal(tree: &Tree<Held>, id: i32, mapping: &Mapping<'_>) -> Option<Reason>
-    ensures { result ≡ refusal_in (subtree id tree.now.attached) (mapping_of mapping.now) }
+/// The first reason against mappings in a node and in all nodes below it. Those before the first one whose bus can't be
+/// followed are sound.
+fn refusal(
+    tree: &Tree<Held>,
+    id: i32,
+    mappings: &[Mapping<'_>],
+    sound: &[Mapping<'_>],
+    resolved: &Resolved<'_>,
+) -> Option<Reason>
+    requires sound { sound.now ≡ take (position_or_len (λ m. not (is_followable m.bus)) mappings.now) mappings.now }
+    requires alike { map run_of resolved.now.runs.now ≡ map run_for (map mapping_of sound.now) }
+    ensures reason { result ≡ first_refusal (refusal_in (subtree id tree.now.attached)) (map mapping_of mappings.now) }
+    ensures all { result ≡ None → sound.now ≡ mappings.now }
 {
-    if !is_followable(mapping.bus) {
-        return Some(Reason::Bus);
-    }
-    if has_index(tree, id, mapping.control) {
+    if take_index_below(tree, id, sound, resolved) {
         return Some(Reason::IndexControl);
     }
-    None
-}
-
-/// The first reason against any of these mappings.
-fn first_refusal(tree: &Tree<Held>, id: i32, mappings: &[Mapping<'_>]) -> Option<Reason>
-    ensures { result ≡ first_refusal (refusal_in (subtree id tree.now.attached)) (map mapping_of mappings.now) }
-{
-    for mapping in mappings {
-        if let Some(reason) = refusal(tree, id, mapping) {
-            return Some(reason);
-        }
+    if sound.len() < mappings.len() {
+        return Some(Reason::Bus);
     }
     None
 }
 
-/// Maps controls in a node and in all nodes below it.
-fn map_all(stage: &mut Stage, asked: &AskedMappings<'_>) -> Option<Reason>
+/// Maps controls in a node and in all nodes below it, if nothing is against it.
+fn map_below(
+    alloc: Global,
+    tree: &mut Tree<Held>,
+    id: i32,
+    mappings: &[Mapping<'_>],
+) -> Result<Option<Reason>, NoMemory>
+    requires settled { tree.old.journal ≡ None }
+    ensures { IsMapped result (map mapping_of mappings.now) id tree.old tree.new }
+{
+    let sound = followable(mappings);
+    let runs = runs_for(alloc, sound)?;
+    let runs = runs.as_slice();
+    let found = resolve_below(alloc, tree, id, runs)?;
+    let found = found.as_slice();
+    let resolved = Resolved { runs, found };
+    if let Some(reason) = refusal(tree, id, mappings, sound, &resolved) {
+        return Ok(Some(reason));
+    }
+    let settings = RunsToSet {
+        field: Field::Bus,
+        resolved,
+    };
+    tree.change_below(id, &settings);
+    Ok(None)
+}
+
+/// Maps the controls that are asked for, if the node is there.
+fn map_all(
+    alloc: Global,
+    stage: &mut Stage,
+    asked: &AskedMappings<'_>,
+) -> Result<Option<Reason>, NoMemory>
     requires settled { stage.old.tree.journal ≡ None }
-    ensures row { (words : List ℕ) (replies : List ReplyShape) → Follows (Ok result) (map_outcome (Some (request_of asked.now)) (turn_of stage.old words replies)) (turn_of stage.new words replies) }
-    ensures unchanged { UnlessFollowed (Ok result) (stage.new ≡ stage.old) }
+    ensures row { (words : List ℕ) (replies : List ReplyShape) → Follows result (map_outcome (Some (request_of asked.now)) (turn_of stage.old words replies)) (turn_of stage.new words replies) }
+    ensures unchanged { UnlessFollowed result (stage.new ≡ stage.old) }
     ensures others { stage.new ≡ record stage.old { tree = stage.new.tree } }
     ensures pictures { (words : List ℕ) → Pictures stage.old words → Pictures stage.new words }
 {
     let Some(_) = stage.tree.node(asked.id) else {
-        return Some(Reason::NoSuchNode);
+        return Ok(Some(Reason::NoSuchNode));
     };
-    if let Some(reason) = first_refusal(&stage.tree, asked.id, &asked.mappings) {
-        return Some(reason);
-    }
-    let following = Following {
-        mappings: &asked.mappings,
-    };
-    stage.tree.change_below(asked.id, &following);
-    None
+    map_below(alloc, &mut stage.tree, asked.id, &asked.mappings)
 }
 
 /// `/n_map` id (control bus)..
@@ -249,5 +217,5 @@ pub fn run_map(
     };
     let AskedMappings { id, mappings } = asked;
     let mappings = needed(alloc, mappings)?;
-    Ok(map_all(stage, &AskedMappings { id, mappings }))
+    map_all(alloc, stage, &AskedMappings { id, mappings })
 }

@@ -1,5 +1,5 @@
 //! Nodes that are moved.
-ghost use Rattle.std.specs.Prelude.{◌≡◌, map, OnOk, OnErr, IfOk, List, ℕ};
+ghost use Rattle.std.specs.Prelude.{◌≡◌, ◌<◌, ◌+◌, ◌*◌, ◌^◌, length, map, OnOk, OnErr, IfOk, List, ℕ};
 ghost use Rattle.std.specs.Option.{option_map};
 ghost use Rattle.sn_tree.specs.Faults.{fault_of, move_fault};
 ghost use Rattle.sn_tree.specs.Steps.{HasRoom, moved};
@@ -7,12 +7,15 @@ ghost use Rattle.sn_world.specs.Notices.{told};
 ghost use Rattle.sn_world.specs.declared.notices.NodeEvent.TheVariants.{Moved};
 ghost use Rattle.sn_osc.specs.Shape.{argument_of};
 ghost use Rattle.sn_world.specs.World.{turn_of};
-ghost use Rattle.sn_world.specs.Rows.{pairs};
-ghost use Rattle.sn_world.specs.Moving.{move_refusal, node_move, move_from};
-ghost use Rattle.sn_world.specs.Answers.{Continues};
+ghost use Rattle.sn_world.specs.Pictures.{Pictures};
+ghost use Rattle.sn_world.specs.Rows.{row, pairs, some_of};
+ghost use Rattle.sn_world.specs.Moving.{move_refusal, node_move, move_from, judge_move, act_move};
+ghost use Rattle.sn_world.specs.Answers.{Continues, Follows, UnlessFollowed};
+ghost use Rattle.sn_nodecmd.specs.Alone.{pair};
+ghost use Rattle.sn_nodecmd.specs.Folding.{IsAtRest};
 ghost use Rattle.sn_nodecmd.specs.Relocating.{reason_against_move, refused_by};
 
-use crate::folding::Repetition;
+use crate::folding::{Repetition, each, run};
 use crate::telling::tell;
 use sn_osc::Arg;
 use sn_ports::NoMemory;
@@ -48,7 +51,7 @@ fn move_from(action: AddAction, first: &Arg, second: &Arg) -> Option<NodeMove>
 }
 
 /// Moves with an action, each of two arguments: (id target).. for `/n_before` and `/n_after`, (group id).. for `/g_head` and `/g_tail`.
-pub fn moves(
+fn moves(
     alloc: Global,
     action: AddAction,
     arguments: &[Arg],
@@ -152,4 +155,38 @@ impl Repetition for NodeMove {
         tell_move(alloc, stage, self, replies)?;
         Ok(None)
     }
+}
+
+/// The move of a message that asks for one.
+fn alone(action: AddAction, arguments: &[Arg]) -> Option<NodeMove>
+    ensures { result ≡ pair (move_from action) (map argument_of arguments.now) }
+{
+    match arguments {
+        [first, second] => move_from(action, first, second),
+        _ => None,
+    }
+}
+
+/// `/n_before` and `/n_after` (id target).., `/g_head` and `/g_tail` (group id).. One move takes no memory for a list.
+pub fn run_moves(
+    alloc: Global,
+    stage: &mut Stage,
+    action: AddAction,
+    arguments: &[Arg],
+    replies: &mut Replies,
+) -> Result<Option<Reason>, NoMemory>
+    requires rest { IsAtRest stage.old }
+    requires few { 16 * length arguments.now + 2 ^ 20 < 2 ^ 31 }
+    ensures row { (words : List ℕ) → Follows result (row judge_move act_move (some_of (pairs (move_from action) (map argument_of arguments.now))) (turn_of stage.old words replies.old)) (turn_of stage.new words replies.new) }
+    ensures unchanged { UnlessFollowed result (stage.new ≡ stage.old) }
+    ensures untold { UnlessFollowed result (replies.new ≡ replies.old) }
+    ensures pictures { (words : List ℕ) → Pictures stage.old words → Pictures stage.new words }
+    ensures clients { stage.new.notify ≡ stage.old.notify }
+    ensures region { stage.new.pool.region ≡ stage.old.pool.region }
+{
+    if let Some(one) = alone(action, arguments) {
+        return each(alloc, stage, &[one], replies);
+    }
+    let found = moves(alloc, action, arguments)?;
+    run(alloc, stage, found, replies)
 }

@@ -33,7 +33,7 @@ fn is_bad(mapping: &Mapping<'_>) -> bool
 }
 
 /// The place of the first mapping whose bus can't be followed.
-fn first_bad(mappings: &[Mapping<'_>]) -> Option<usize>
+pub fn first_bad(mappings: &[Mapping<'_>]) -> Option<usize>
     ensures { result ≡ position (λ m. not (is_followable m.bus)) mappings.now }
 {
     mappings.iter().position(|mapping| is_bad(mapping))

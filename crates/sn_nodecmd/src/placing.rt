@@ -22,7 +22,7 @@ ghost use Rattle.sn_nodecmd.specs.Telling.{Tells, TellsOf};
 
 use crate::adding::{add, tell_replaced};
 use crate::judging::replaces;
-use crate::telling::{tell_of, view_of};
+use crate::telling::{is_heard, tell_of, view_of};
 use sn_def::{Controls, Def};
 use sn_mem::{Extent, Port};
 use sn_pool::{POOL_BASE, Pool, Untaken};
@@ -99,6 +99,9 @@ fn add_and_tell(
 {
     tell_replaced(alloc, tree, flags, new, replies)?;
     add(tree, node, NodeKind::Synth, new, held)?;
+    if !is_heard(flags) {
+        return Ok(());
+    }
     let Some(view) = view_of(tree, node) else {
         return Ok(());
     };

@@ -1,18 +1,16 @@
-//! Runs of controls that are set: how they are read, and what they do to the controls of a synth.
+//! Runs of controls: how they are read.
 ghost use Rattle.std.specs.Prelude.{◌≡◌, ◌<◌, ◌≤◌, ◌∷◌, [], map, drop, replicate, length, Some, IfOk, IfSome, MatchOption, FitsSigned};
 ghost use Rattle.std.specs.Int.{w32};
 ghost use Rattle.std.specs.Option.{option_map};
 ghost use Rattle.std.specs.List.{list_all};
 ghost use Rattle.sn_osc.specs.Shape.{argument_of};
-ghost use Rattle.sn_def.specs.Defs.{definition_of};
-ghost use Rattle.sn_world.specs.NewSynth.{control_of, control_name};
+ghost use Rattle.sn_world.specs.NewSynth.{control_name};
 ghost use Rattle.sn_world.specs.Runs as given;
-ghost use Rattle.sn_world.specs.ControlRuns.{count_of, one_value, first_values, same_values, left_after, run_with, value_run, values_run, fill_run, repeated, with_values_from, with_run, with_runs};
-ghost use Rattle.sn_nodecmd.specs.Runs.{name_of, is_int, value_in, values_of, run_of, read_of, reader};
+ghost use Rattle.sn_world.specs.ControlRuns.{count_of, one_value, first_values, same_values, left_after, run_with, value_run, values_run, fill_run, repeated};
+ghost use Rattle.sn_nodecmd.specs.Runs.{is_int, value_in, values_of, run_of, read_of, reader};
 
 use crate::latest::{Covering, is_same};
-use crate::names::{NamedControl, control_name, number_of};
-use sn_def::{Control, Controls, Def};
+use crate::names::{NamedControl, control_name};
 use sn_osc::Arg;
 use sn_ports::NoMemory;
 use std::alloc::Global;
@@ -44,12 +42,13 @@ impl Covering for Run<'_> {
     }
 
     fn is_covered_by(&self, later: &Self) -> bool {
-        is_same(self.control, later.control) && count(self.values) <= count(later.values)
+        is_same(self.control, later.control)
+            && value_count(self.values) <= value_count(later.values)
     }
 }
 
 /// How many values these are.
-fn count(values: RunValues<'_>) -> usize
+pub fn value_count(values: RunValues<'_>) -> usize
     ensures { result ≡ length (values_of values.entry) }
 {
     match values {
@@ -232,7 +231,8 @@ fn fill_run(arguments: &[Arg]) -> Option<ReadRun<'_>>
     read_fill(control, count, value, rest)
 }
 
-fn read_run(form: RunForm, arguments: &[Arg]) -> Option<ReadRun<'_>>
+/// The run that arguments begin with, and the arguments after it.
+pub fn read_run(form: RunForm, arguments: &[Arg]) -> Option<ReadRun<'_>>
     ensures read { option_map read_of result ≡ reader form (map argument_of arguments.now) }
     ensures fewer { IfSome result (λ r. length r.rest.now < length arguments.now) }
 {
@@ -264,7 +264,7 @@ pub fn runs_of(
 }
 
 /// The first of the values, and the others.
-fn split_first(values: RunValues<'_>) -> Option<(i32, RunValues<'_>)>
+pub fn split_first(values: RunValues<'_>) -> Option<(i32, RunValues<'_>)>
     ensures split { MatchOption result (values_of values.entry ≡ []) (λ v. values_of values.entry ≡ v.0 ∷ values_of v.1) }
     ensures fits { IfSome result (λ v. FitsSigned w32 v.0) }
 {
@@ -306,39 +306,4 @@ fn split_same<'a>(value: i32, count: u32) -> Option<(i32, RunValues<'a>)>
             count: count - 1,
         },
     ))
-}
-
-/// Sets the controls from one with a number on, up to the last control.
-fn put_run(controls: &mut Controls, number: u32, values: RunValues<'_>)
-    ensures { controls.new ≡ with_values_from number (values_of values.entry) controls.old }
-{
-    let mut number = number as usize;
-    let mut left = values;
-    while number < controls.as_slice().len() {
-        let Some((value, rest)) = split_first(left) else {
-            return;
-        };
-        controls.set(number, Control { value, bus: None });
-        number += 1;
-        left = rest;
-    }
-}
-
-/// Sets the controls of a run. A control that is none of the definition's is ignored.
-fn set_run(def: &Def, run: &Run<'_>, controls: &mut Controls)
-    ensures { controls.new ≡ with_run (control_of (definition_of def.now) (name_of run.now.control)) (values_of run.now.values) controls.old }
-{
-    let Some(number) = number_of(def, run.control) else {
-        return;
-    };
-    put_run(controls, number, run.values);
-}
-
-/// Sets the controls of runs, one after the other.
-pub fn set_runs(def: &Def, runs: &[Run<'_>], controls: &mut Controls)
-    ensures { controls.new ≡ with_runs (map run_of runs.now) (definition_of def.now) controls.old }
-{
-    for run in runs {
-        set_run(def, run, controls);
-    }
 }

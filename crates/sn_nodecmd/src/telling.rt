@@ -15,7 +15,7 @@ use sn_world::{Flags, Held, NodeEvent, NodeId, Stage, notify};
 use std::alloc::Global;
 
 /// Whether any client is told of events of nodes.
-fn is_heard(flags: &Flags) -> bool
+pub fn is_heard(flags: &Flags) -> bool
     ensures { result ≡ list_any (λ on. on) flags.now }
 {
     flags.as_slice().iter().any(|on| *on)

@@ -1,22 +1,16 @@
-use Rattle.std.proofs.Common.{◌≡◌, ◌∙◌, ap, List, ℕ, ℤ, w32, to_z, of_z, rules}
-use Rattle.std.specs.Prelude.{FitsSigned}
-use Rattle.std.proofs.lemmas.Int.{to_z-of_z}
-use Rattle.sn_osc.specs.Shape.{argument_of}
-use Rattle.sn_tree.specs.Trees.{Label, subtree}
-use Rattle.sn_tree.specs.Members.{members}
-use Rattle.sn_world.specs.declared.stage.Held.{Held}
-use Rattle.sn_world.specs.Mappings.{any_node}
-use Rattle.sn_world.specs.NewSynth.{control_name}
-use Rattle.sn_layout.specs.Leaving.{holds_laid}
-use Rattle.sn_layout.proofs.Settings.{any_member, any_walked}
+use Rattle.std.proofs.Common.{◌-◌, ◌∙◌, ℕ, ap, sym, arith}
+use Rattle.sn_def.specs.Defs.{definition_of}
+use Rattle.sn_layout.specs.Leaving.{any_laid}
+use Rattle.sn_layout.proofs.Runs.{next_laid, none_laid}
 use Rattle.sn_layout.proofs.controls.any_laid.Goals as goal
 
-pub loop-member-init : goal.loop-member-init
-loop-member-init c =
-    let id : ℤ = to_z w32 (of_z w32 c.args.node.now.id) in
-    let fits : FitsSigned w32 c.args.node.now.id = search rules in
-    let same = to_z-of_z w32 c.args.node.now.id fits in
-    let all : c.into_iter-member-iterator.result ≡ members (subtree id c.args.tree.now.attached) = c.into_iter-member-iterator.ensures.into_iter_gives ∙ c.members-member-items.ensures in
-    ap (λ (ms : List (Label Held × ℕ)). any_member (holds_laid (control_name (argument_of c.args.control.now))) ms) all
-    ∙ any_walked (holds_laid (control_name (argument_of c.args.control.now))) (subtree id c.args.tree.now.attached)
-    ∙ ap (λ (n : ℤ). any_node (holds_laid (control_name (argument_of c.args.control.now))) (subtree n c.args.tree.now.attached)) same
+pub loop-left-preserved : goal.loop-left-preserved
+loop-left-preserved c =
+    let d = definition_of c.args.def.now in
+    let cs = c.args.controls.now in
+    ap (λ (k : ℕ). any_laid d cs k (c.loop-left.left - 1)) c.in-Some.ensures.1
+    ∙ sym (next_laid d cs c.loop-left.number c.loop-left.left c.loop-left-test.true (sym c.is_laid.ensures ∙ c.if-is_laid.false))
+    ∙ c.loop-left.invariant
+
+pub returns : goal.returns
+returns c = λ _. sym c.loop-left.invariant ∙ none_laid (definition_of c.args.def.now) c.args.controls.now c.loop-left.number c.loop-left.left (omega (arith, c.loop-left-test.false))

@@ -1,11 +1,10 @@
 use Rattle.std.proofs.Common.{◌≡◌}
-use Rattle.sn_osc.specs.Shape.{argument_of}
-use Rattle.sn_tree.specs.Trees.{subtree}
-use Rattle.sn_world.specs.Mappings.{any_node}
-use Rattle.sn_world.specs.NewSynth.{control_name}
-use Rattle.sn_layout.specs.Leaving.{holds_laid}
-use Rattle.sn_layout.proofs.Settings.{any_member}
+use Rattle.sn_def.specs.Defs.{definition_of}
+use Rattle.sn_layout.specs.Leaving.{any_laid}
 use Rattle.sn_layout.proofs.controls.any_laid.Given as goal
 
-abbrev pub invariant-loop-member : goal.invariant-loop-member
-invariant-loop-member l = any_member (holds_laid (control_name (argument_of l.control))) l.member-iterator ≡ any_node (holds_laid (control_name (argument_of l.control))) (subtree l.node.id l.tree.attached)
+abbrev pub invariant-loop-left : goal.invariant-loop-left
+invariant-loop-left l = any_laid (definition_of l.def) l.controls l.number l.left ≡ any_laid (definition_of l.def) l.controls l.fn.number l.count
+
+abbrev pub decreases-loop-left : goal.decreases-loop-left
+decreases-loop-left l = l.left

@@ -8,9 +8,7 @@ use Rattle.sn_world.specs.Commands.{node_row}
 use Rattle.sn_world.specs.Answers.{Follows}
 use Rattle.sn_world.specs.RunFlags.{run_flag, judge_run, act_run}
 use Rattle.sn_world.specs.NewNodes.{new_group, judge_group, act_group}
-use Rattle.sn_world.specs.Freeing.{node_id, judge_free, act_free}
 use Rattle.sn_world.specs.Emptying.{free_all, judge_free_all, act_free_all, deep_free, judge_deep_free, act_deep_free}
-use Rattle.sn_world.specs.Moving.{move_from, judge_move, act_move}
 use Rattle.sn_world.proofs.Parsing.{singles-few_of, pairs-few_of, triples-few_of}
 use Rattle.sn_nodecmd.proofs.Repeating.{row_by, few_read}
 use Rattle.sn_nodecmd.proofs.dispatch.run_row.Goals as goal
@@ -64,14 +62,11 @@ returns-in_ok-groups-in-NewParallel-clause-pictures g c = c.run-in-NewParallel.e
 pub run-requires-in-NewParallel-clause-few : goal.run-requires-in-NewParallel-clause-few
 run-requires-in-NewParallel-clause-few g c = few_read _ _ _ c.in_ok-groups-in-NewParallel.ensures (triples-few_of (new_group true) c.args.arguments.now) c.requires.few
 
-pub returns-in_ok-singles-in-Free-clause-row : goal.returns-in_ok-singles-in-Free-clause-row
-returns-in_ok-singles-in-Free-clause-row g c = for_arm _ _ _ _ c.run-in-Free.result c.in-Free.is (row_by judge_free act_free _ _ c.run-in-Free.result _ _ c.in_ok-singles-in-Free.ensures (c.run-in-Free.ensures.row (g.P.Port.words c.args.port.now)))
+pub returns-in-Free-clause-row : goal.returns-in-Free-clause-row
+returns-in-Free-clause-row g c = for_arm _ _ _ _ c.run_free.result c.in-Free.is (c.run_free.ensures.row (g.P.Port.words c.args.port.now))
 
-pub returns-in_ok-singles-in-Free-clause-pictures : goal.returns-in_ok-singles-in-Free-clause-pictures
-returns-in_ok-singles-in-Free-clause-pictures g c = c.run-in-Free.ensures.pictures (g.P.Port.words c.args.port.now) c.requires.pictures
-
-pub run-requires-in-Free-clause-few : goal.run-requires-in-Free-clause-few
-run-requires-in-Free-clause-few g c = few_read _ _ _ c.in_ok-singles-in-Free.ensures (singles-few_of node_id c.args.arguments.now) c.requires.few
+pub returns-in-Free-clause-pictures : goal.returns-in-Free-clause-pictures
+returns-in-Free-clause-pictures g c = c.run_free.ensures.pictures (g.P.Port.words c.args.port.now) c.requires.pictures
 
 pub returns-in_ok-singles-in-FreeAll-clause-row : goal.returns-in_ok-singles-in-FreeAll-clause-row
 returns-in_ok-singles-in-FreeAll-clause-row g c = for_arm _ _ _ _ c.run-in-FreeAll.result c.in-FreeAll.is (row_by judge_free_all act_free_all _ _ c.run-in-FreeAll.result _ _ c.in_ok-singles-in-FreeAll.ensures (c.run-in-FreeAll.ensures.row (g.P.Port.words c.args.port.now)))
@@ -100,14 +95,11 @@ returns-in-QueryTree-clause-row g c = for_arm _ _ _ _ c.run_tree_query.result c.
 pub returns-in-GetControls-clause-row : goal.returns-in-GetControls-clause-row
 returns-in-GetControls-clause-row g c = for_arm _ _ _ _ c.run_get.result c.in-GetControls.is c.run_get.ensures.row
 
-pub returns-in_ok-moves-in-Move-clause-row : goal.returns-in_ok-moves-in-Move-clause-row
-returns-in_ok-moves-in-Move-clause-row g c = for_arm _ _ _ _ c.run-in-Move.result c.in-Move.is (row_by judge_move act_move _ _ c.run-in-Move.result _ _ c.in_ok-moves-in-Move.ensures (c.run-in-Move.ensures.row (g.P.Port.words c.args.port.now)))
+pub returns-in-Move-clause-row : goal.returns-in-Move-clause-row
+returns-in-Move-clause-row g c = for_arm _ _ _ _ c.run_moves.result c.in-Move.is (c.run_moves.ensures.row (g.P.Port.words c.args.port.now))
 
-pub returns-in_ok-moves-in-Move-clause-pictures : goal.returns-in_ok-moves-in-Move-clause-pictures
-returns-in_ok-moves-in-Move-clause-pictures g c = c.run-in-Move.ensures.pictures (g.P.Port.words c.args.port.now) c.requires.pictures
-
-pub run-requires-in-Move-clause-few : goal.run-requires-in-Move-clause-few
-run-requires-in-Move-clause-few g c = few_read _ _ _ c.in_ok-moves-in-Move.ensures (pairs-few_of (move_from c.in-Move.action) c.args.arguments.now) c.requires.few
+pub returns-in-Move-clause-pictures : goal.returns-in-Move-clause-pictures
+returns-in-Move-clause-pictures g c = c.run_moves.ensures.pictures (g.P.Port.words c.args.port.now) c.requires.pictures
 
 pub returns-in-Order-clause-row : goal.returns-in-Order-clause-row
 returns-in-Order-clause-row g c = for_arm _ _ _ _ c.run_order.result c.in-Order.is (c.run_order.ensures.row c.args.from (g.P.Port.words c.args.port.now))

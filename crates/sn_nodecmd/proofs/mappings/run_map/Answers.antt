@@ -1,4 +1,4 @@
-use Rattle.std.proofs.Common.{ap, sym, subst, ◌∙◌, ℤ, map, Option, Some, Ok, Result, w32, rules}
+use Rattle.std.proofs.Common.{ap, sym, subst, ◌∙◌, ℤ, map, Option, Some, Result, w32, rules}
 use Rattle.std.specs.Prelude.{FitsSigned}
 use Rattle.std.specs.Option.{option_map}
 use Rattle.std.proofs.lemmas.Int.{to_z-of_z}
@@ -20,8 +20,8 @@ returns-clause-row c =
     λ words replies.
     let before = turn_of c.args.stage.now words replies in
     let after = turn_of c.map_all.new.stage words replies in
-    let mapped : Follows (Ok c.map_all.result) (map_outcome (Some (record { id = asked.id; all = left })) before) after =
-    subst (λ (n : ℤ). Follows (Ok c.map_all.result) (map_outcome (Some (record { id = n; all = left })) before) after) same (c.map_all.ensures.row words replies) in
-    let all : Follows (Ok c.map_all.result) (map_outcome (Some (request_of asked)) before) after =
-    subst (λ (o : Result Turn Reason). Follows (Ok c.map_all.result) o after) (same_mapped c.args.stage.now words replies asked.id (map mapping_of asked.mappings.items) left c.in_ok-mappings.ensures) mapped in
-    subst (λ (o : Option (ForNode Mapping)). Follows (Ok c.map_all.result) (map_outcome o before) after) (sym (ap (option_map request_of) c.in-Some.is) ∙ c.in_ok-asked.ensures) all
+    let mapped : Follows c.map_all.result (map_outcome (Some (record { id = asked.id; all = left })) before) after =
+    subst (λ (n : ℤ). Follows c.map_all.result (map_outcome (Some (record { id = n; all = left })) before) after) same (c.map_all.ensures.row words replies) in
+    let all : Follows c.map_all.result (map_outcome (Some (request_of asked)) before) after =
+    subst (λ (o : Result Turn Reason). Follows c.map_all.result o after) (same_mapped c.args.stage.now words replies asked.id (map mapping_of asked.mappings.items) left c.in_ok-mappings.ensures) mapped in
+    subst (λ (o : Option (ForNode Mapping)). Follows c.map_all.result (map_outcome o before) after) (sym (ap (option_map request_of) c.in-Some.is) ∙ c.in_ok-asked.ensures) all

@@ -1,10 +1,11 @@
 """Measures a live connection to snova over loopback: round trips of `/c_get`, and pairs of `/c_set` and `/c_get`.
 
-    python3 live.py SNOVA [ROUND_TRIPS [PAIRS]]
+    python3 live.py SNOVA [ROUND_TRIPS [PAIRS [CLIENTS]]]
 
 SNOVA is the built program, which is started on a free port, or the port of one that listens. ROUND_TRIPS (2000) times a `/c_get` is sent at
 a random moment once the last one was answered. Then PAIRS (200000) pairs are sent, 1,000 at a time, of which at most 4,000 are not
 answered yet. It prints the median, the 99th percentile and the greatest of the round trips, and the pairs that are answered in a second.
+CLIENTS (1) connections are served at once; each does the round trips at the same time as the others, and the first sends the pairs.
 """
 import random
 import socket
@@ -67,6 +68,19 @@ def round_trips(connection, count):
     return taken
 
 
+def all_round_trips(connections, count):
+    """The seconds of all connections together, in order."""
+    taken = []
+    threads = [threading.Thread(target=lambda link=link: taken.extend(round_trips(link, count))) for link in connections]
+    for thread in threads:
+        thread.start()
+    for thread in threads:
+        thread.join()
+    if len(taken) != count * len(connections):
+        raise SystemExit("a connection failed")
+    return sorted(taken)
+
+
 def pairs(connection, count):
     """Seconds for so many pairs."""
     chunks = count // CHUNK
@@ -94,16 +108,18 @@ def main():
     snova = sys.argv[1]
     trips = int(sys.argv[2]) if len(sys.argv) > 2 else 2000
     count = int(sys.argv[3]) if len(sys.argv) > 3 else 200000
+    clients = int(sys.argv[4]) if len(sys.argv) > 4 else 1
     program = None
     port = int(snova) if snova.isdigit() else free_port()
     if not snova.isdigit():
-        program = subprocess.Popen([snova, "serve", str(port), "/dev/null"], stdout=subprocess.PIPE, text=True)
-    connection = connect(port)
-    taken = sorted(round_trips(connection, trips))
-    seconds = pairs(connection, count)
-    connection.sendall(frame(msg("/quit")))
-    exactly(connection, len(frame(msg("/done", "/quit"))))
-    connection.close()
+        program = subprocess.Popen([snova, "serve", f"clients={clients}", str(port), "/dev/null"], stdout=subprocess.PIPE, text=True)
+    connections = [connect(port) for _ in range(clients)]
+    taken = all_round_trips(connections, trips)
+    seconds = pairs(connections[0], count)
+    connections[0].sendall(frame(msg("/quit")))
+    exactly(connections[0], len(frame(msg("/done", "/quit"))))
+    for connection in connections:
+        connection.close()
     if program and program.communicate(timeout=10)[0] != "quit\n":
         raise SystemExit("the program did not end by /quit")
     milliseconds = [1000 * t for t in taken]

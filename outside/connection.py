@@ -9,7 +9,7 @@ MOST_WAITING = 65536
 class Connection(server.Run):
     def __init__(self, settings, base):
         super().__init__(settings, [])
-        self.base, self.rate, self.kept = base, settings["rate"], b""
+        self.base, self.rate, self.kept, self.frames = base, settings["rate"], b"", 0
 
     def time_of(self, block):
         """The time of a boundary."""
@@ -46,7 +46,7 @@ class Connection(server.Run):
                 return size
             if len(self.kept) - 4 < size:
                 return None
-            packet, self.kept = self.kept[4:4 + size], self.kept[4 + size:]
+            packet, self.kept, self.frames = self.kept[4:4 + size], self.kept[4 + size:], self.frames + 1
             try:
                 self.offer(osc.decode(packet))
             except osc.Fault:
@@ -76,3 +76,22 @@ def serve(settings, base, events):
     line = connection.play_events(events)
     sound = b"".join(server.pcm(sample, settings["bits"]) for sample in connection.sound)
     return line, sound, b"".join(osc.frame(osc.message(*reply)) for reply in connection.replies)
+
+
+def together(settings, numbers, streams):
+    """A session of several clients, each played by itself: no client's commands may change what another is told, and nothing may sound.
+
+    The line of its end, the sound, and what is sent, client 0's first."""
+    turns, ends, sent, sound = len(numbers), [], b"", b""
+    for stream in streams:
+        client = Connection(settings, 0)
+        size = client.take(stream)
+        ends.append(f"bad frame size {size}" if size is not None else f"cut after {len(client.kept)} bytes" if client.kept else "closed")
+        turns += client.frames
+        for _ in range(sum(numbers)):
+            client.boundary(client.world.block)
+            client.block()
+        client.boundary(client.world.block)
+        sound = b"".join(server.pcm(sample, settings["bits"]) for sample in client.sound)
+        sent += b"".join(osc.frame(osc.message(*reply)) for reply in client.replies)
+    return ", ".join(["over", f"{turns} turns", *ends]), sound, sent

@@ -19,6 +19,7 @@ class Case:
         self.name, self.words, self.ending, self.blocks, self.same, self.sum, self.base = name, [], None, 0, None, None, None
         self.items, self.replies, self.sound, self.events = [], b"", b"", []
         self.piece, self.fails, self.length, self.left = 4096, [], 0, None
+        self.numbers = None
 
     def stream(self):
         """What was put in up to here: packets, bundles with their tags, and bytes without a size."""
@@ -88,6 +89,10 @@ def case_line(case, line, blobs):
     elif word == "ticks":
         case.send()
         case.events.append(int(rest))
+    elif word == "several":
+        case.numbers = [int(number) for number in rest.split()][1:]
+    elif word == "client":
+        case.events.append(case.stream())
     elif word == ">":
         case.replies += osc.frame(message(rest, blobs))
     elif word not in ("sound", "replies", "meet", "apart", "again"):
@@ -140,6 +145,11 @@ def model_of(case):
     if case.base is not None:
         case.send()
         line, sound, replies = connection.serve(server.settings_of(case.words), case.base, case.events)
+        return line, sound, sound, replies
+    if case.numbers is not None:
+        # A pulse gives its numbers up to the first 0.
+        numbers = case.numbers[:case.numbers.index(0)] if 0 in case.numbers else case.numbers
+        line, sound, replies = connection.together(server.settings_of(case.words), numbers, [*case.events, case.stream()])
         return line, sound, sound, replies
     bad = server.bad_word(case.words)
     if bad is not None:

@@ -19,6 +19,14 @@ pub struct Connection {
     pub steps: Vec<Step>,
 }
 
+/// A session of several clients: the most turns, the numbers that its pulse gives, and what comes of each client.
+#[derive(Drop)]
+pub struct Session {
+    pub most: u32,
+    pub numbers: Vec<u32>,
+    pub streams: Vec<Text>,
+}
+
 /// How many bytes a call moves at most, and the numbers of the calls that fail, from 0.
 #[derive(Drop)]
 pub struct Port {
@@ -86,6 +94,8 @@ pub struct Case {
     pub same: Option<String>,
     /// The connection that is served, where the stream is not rendered.
     pub connection: Option<Connection>,
+    /// The session that is served in its place.
+    pub session: Option<Session>,
     /// The gate that the jobs pass, where two are held at it.
     pub hold: Option<Hold>,
     pub again: Option<Again>,
@@ -112,6 +122,7 @@ impl Case {
             ending: None,
             same: None,
             connection: None,
+            session: None,
             hold: None,
             again: None,
             source_port: Port::new(alloc, 4096),
@@ -136,14 +147,21 @@ impl Case {
         }
     }
 
-    /// What was put into the stream comes over the connection.
+    /// What was put into the stream comes over the connection, or of the next client of the session.
     pub fn send_stream(&mut self, alloc: Global) -> Result<(), NoMemory> {
         self.close_bundle()?;
-        let Some(connection) = &mut self.connection else {
-            return Ok(());
-        };
-        let bytes = mem::replace(&mut self.stream, Text::new(alloc));
-        connection.steps.push(Step::Bytes(bytes))?;
+        if let Some(connection) = &mut self.connection {
+            let bytes = mem::replace(&mut self.stream, Text::new(alloc));
+            connection.steps.push(Step::Bytes(bytes))?;
+        } else if let Some(session) = &mut self.session {
+            let bytes = mem::replace(&mut self.stream, Text::new(alloc));
+            session.streams.push(bytes)?;
+        }
         Ok(())
+    }
+
+    /// Its stream is rendered.
+    pub fn is_rendered(&self) -> bool {
+        self.connection.is_none() && self.session.is_none()
     }
 }

@@ -31,12 +31,12 @@ fn number_of(fault: StreamFault) -> u32 {
     }
 }
 
-fn said(alloc: Global, line: &str) -> Result<String, NoMemory> {
+pub fn said(alloc: Global, line: &str) -> Result<String, NoMemory> {
     Ok(String::from_str(alloc, line)?)
 }
 
 /// A line with a number in it.
-fn counted(alloc: Global, before: &str, number: i128, after: &str) -> Result<String, NoMemory> {
+pub fn counted(alloc: Global, before: &str, number: i128, after: &str) -> Result<String, NoMemory> {
     Ok(format!(in alloc; "{before}{number}{after}")?)
 }
 

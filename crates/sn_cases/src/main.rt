@@ -1,4 +1,4 @@
-//! Renders scripts of commands or serves them as a connection, and compares all that comes of each with what the script says.
+//! Renders scripts of commands, or serves them as a connection or as several, and compares all that comes of each with what the script says.
 #![tactic(auto)]
 
 mod bytes;
@@ -8,12 +8,14 @@ mod ending;
 mod engine;
 mod script;
 mod serving;
+mod session;
 mod trial;
 
 use engine::engine_tells;
 use script::read_cases;
 use std::process::ExitCode;
 use std::rt::Files;
+use std::sync::Wait;
 use std::thread::Threads;
 use std::{env, fs, io};
 use trial::{Difference, Verdict, try_case};
@@ -39,7 +41,7 @@ fn print_verdict(rt: &impl Print, name: &str, verdict: &Verdict) -> io::Result<b
 }
 
 /// Reads the cases of one file and prints a line for each. It answers whether all came out as they should.
-fn run_file<H: Files + Print + AllocGlobal + Threads + Sync>(
+fn run_file<H: Files + Print + AllocGlobal + Threads + Wait + Sync>(
     rt: &H,
     path: &str,
 ) -> io::Result<bool> {

@@ -19,8 +19,13 @@
 //!
 //! `over TAG` makes a case a connection whose block 0 begins at a time, without a header of its sound: `ticks N` lets come what stands
 //! above it, and then N blocks are due. The calls of `replies` are then those of the link.
+//!
+//! `several MOST N ..` makes a case a session whose pulse gives these numbers, in MOST turns at most, without a header of its sound. What
+//! stands above a line `client`, or above the end, comes of one client, client 0 first. The replies are those of client 0, then those of
+//! client 1, and so on; the calls of `source` and `replies` are those of each client. It ends with how it ended, the number of its turns
+//! and how each client ended.
 use crate::bytes::{Given, bundle_head, message, put_sized};
-use crate::case::{Again, Case, Connection, Hold, Port, Step};
+use crate::case::{Again, Case, Connection, Hold, Port, Session, Step};
 use sn_ports::{NoMemory, Text};
 use std::alloc::Global;
 
@@ -231,6 +236,33 @@ fn put_hold(alloc: Global, case: &mut Case, line: &str, meets: bool) -> Result<b
     }
 }
 
+/// A session by the numbers of a line.
+fn session(alloc: Global, numbers: &[u32]) -> Result<Option<Session>, NoMemory> {
+    match numbers {
+        [most, numbers @ ..] => Ok(Some(Session {
+            most: *most,
+            numbers: Vec::from_slice(alloc, numbers)?,
+            streams: Vec::new(alloc),
+        })),
+        _ => Ok(None),
+    }
+}
+
+/// Makes a case a session of several clients.
+fn put_session(alloc: Global, case: &mut Case, line: &str) -> Result<bool, NoMemory> {
+    let Some(numbers) = numbers(alloc, line)? else {
+        return Ok(false);
+    };
+    case.session = session(alloc, &numbers)?;
+    Ok(case.session.is_some())
+}
+
+/// What stands above comes of one client of the session.
+fn put_client(alloc: Global, case: &mut Case) -> Result<bool, NoMemory> {
+    case.send_stream(alloc)?;
+    Ok(case.session.is_some())
+}
+
 /// How a case is rendered again by the numbers of a line.
 fn again(alloc: Global, numbers: &[u32]) -> Result<Option<Again>, NoMemory> {
     match numbers {
@@ -353,6 +385,8 @@ fn trial_line(
 ) -> Result<bool, NoMemory> {
     match line.word {
         "over" => Ok(put_connection(alloc, case, line.rest)),
+        "several" => put_session(alloc, case, line.rest),
+        "client" => put_client(alloc, case),
         "ticks" => put_ticks(alloc, case, line.rest),
         "again" => put_again(alloc, case, line.rest),
         "meet" => put_hold(alloc, case, line.rest, true),

@@ -4,12 +4,14 @@ use crate::case::{Again, Case, Hold, Port};
 use crate::drawn::DrawnGate;
 use crate::ending::{Written, outcome_line, outcome_writes};
 use crate::serving::served;
+use crate::session::served_together;
 use sn_crew::HoldGate;
 use sn_pcm::Settings;
 use sn_ports::{Gate, MemorySink, MemorySource, NoMemory, Open, Source, Text, Word};
 use sn_server::{Outcome, render};
 use sn_words::settings;
 use std::alloc::Global;
+use std::sync::Wait;
 use std::thread::Threads;
 
 /// How many bytes of sound and of replies a case may give.
@@ -190,15 +192,16 @@ fn refused(alloc: Global, index: u32) -> Result<Came, NoMemory> {
 }
 
 /// What comes of a case.
-fn run_case<H: AllocGlobal + Threads + Sync>(rt: &H, case: &Case) -> Result<Came, NoMemory> {
+fn run_case<H: AllocGlobal + Threads + Wait + Sync>(rt: &H, case: &Case) -> Result<Came, NoMemory> {
     if u32::try_from(case.words.len()).is_err() {
         return Err(NoMemory);
     }
     match settings(&case.words) {
         Err(bad) => refused(rt.alloc(), bad.index),
-        Ok(settings) => match &case.connection {
-            Some(connection) => served(rt, case, connection, &settings),
-            None => rendered(rt, case, &settings),
+        Ok(settings) => match (&case.connection, &case.session) {
+            (Some(connection), _) => served(rt, case, connection, &settings),
+            (None, Some(session)) => served_together(rt, case, session, &settings),
+            (None, None) => rendered(rt, case, &settings),
         },
     }
 }
@@ -223,7 +226,7 @@ fn chosen(words: &[Word]) -> Option<Settings> {
 /// The header of the sound of a case, where it has one.
 fn wanted_header(alloc: Global, case: &Case) -> Result<Text, NoMemory> {
     match chosen(&case.words) {
-        Some(settings) if case.connection.is_none() => header(alloc, &settings, case.blocks),
+        Some(settings) if case.is_rendered() => header(alloc, &settings, case.blocks),
         _ => Ok(Text::new(alloc)),
     }
 }
@@ -363,7 +366,7 @@ fn try_again<H: AllocGlobal + Threads + Sync>(
 }
 
 /// Tries one of the cases of a script.
-pub fn try_case<H: AllocGlobal + Threads + Sync>(
+pub fn try_case<H: AllocGlobal + Threads + Wait + Sync>(
     rt: &H,
     cases: &[Case],
     case: &Case,

@@ -4,3 +4,11 @@ pub mod Moves
 pub mod StopMoves
 pub mod Opening
 pub mod ReadLemmas
+pub mod EachLemmas
+pub mod WrittenLemmas
+pub mod SendLemmas
+pub mod TickLemmas
+pub mod ActLemmas
+pub mod LoopLemmas
+pub mod ClientLemmas
+pub mod ServingLemmas

@@ -137,6 +137,8 @@ takes_out x items ends c t g h =
         end = refl;
         client = dite (dec_le c x.client) (λ le. absurd (has_frame t items x (h.others x.client le))) (λ n. lt_of_not-le n);
         number = h.numbered (length t) x (get_seam t items x) ∙ ap (λ (ns : List Note). length (frames_of x.client ns)) (take-append_seam t (x ∷ items));
+        fronts = All-weaker (Gives (t ++ x ∷ items) ends) (λ (s : Sender). IsFront (frames_of s.client (t ++ x ∷ [])) s.frames)
+            (λ s gives. (frames_of s.client items, gives.0 ∙ ap (frames_of s.client) (sym (append_assoc t (x ∷ []) items)) ∙ frames-append s.client (t ++ x ∷ []) items)) g h.ended;
       },
     )
 

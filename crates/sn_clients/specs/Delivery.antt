@@ -6,7 +6,7 @@ use Rattle.sn_clients.specs.declared.notes.Note.{Note}
 use Rattle.sn_clients.specs.declared.ends.Sender.{Sender}
 use Rattle.sn_clients.specs.declared.ends.End.{End}
 use Rattle.sn_clients.specs.declared.ends.End.TheVariants.{Out, In, Gone}
-use Rattle.sn_clients.specs.Notes.{frames_of, AreNumbered}
+use Rattle.sn_clients.specs.Notes.{frames_of, AreNumbered, IsFront}
 use Rattle.sn_clients.specs.Ends.{clients_in, gathered_in, taken_in, with_put, with_taken}
 
 -- what was put is the client's frames among the notes
@@ -43,11 +43,16 @@ Put e note f = f ≡ with_put e note.frame.bytes
 abbrev pub PutAll : Sender → List Note → Type 0
 PutAll s waiting = (taken : List Note) × HasPut (taken ++ waiting) s
 
+-- of each client that was gathered, the frames that were taken are the first of those that it put
+abbrev pub AreFronts : End → Type 0
+AreFronts e = All (λ (s : Sender). IsFront (frames_of s.client (taken_in e)) s.frames) (gathered_in e)
+
 -- the outlet took a note, whose number is how many of its client were taken before
 pub record Taken (e : End) (note : Note) (f : End) : Type 0 where
   pub end : f ≡ with_taken e note
   pub client : note.client < clients_in e
   pub number : note.number ≡ length (frames_of note.client (taken_in e))
+  pub fronts : AreFronts f
 
 -- the frames of each client that was gathered are those that were taken of it and those that wait
 abbrev pub GatheredAre : End → List Note → Type 0

@@ -5,3 +5,9 @@ pub mod StopWord
 pub mod Answers
 pub mod Reading
 pub mod Clients
+pub mod PlayMany
+pub mod Written
+pub mod Pulses
+pub mod Looping
+pub mod Seating
+pub mod Serving

@@ -65,7 +65,7 @@ impl<S: Source> Client<S> {
     }
 
     /// Gives the client an inlet, for a session that has not begun.
-    pub fn seat(&mut self, inlet: Inlet)
+    pub(crate) fn seat(&mut self, inlet: Inlet)
         ensures { self.new ≡ record self.old { end = client_ends.Stopped; read = client_ends.Stopped; inlet = Some inlet } }
     {
         self.end = ClientEnd::Stopped;
@@ -73,8 +73,16 @@ impl<S: Source> Client<S> {
         self.inlet = Some(inlet);
     }
 
+    /// Its session has ended before it began.
+    pub(crate) fn stop(&mut self)
+        ensures { self.new ≡ record self.old { end = client_ends.Stopped; read = client_ends.Stopped } }
+    {
+        self.end = ClientEnd::Stopped;
+        self.read = ClientEnd::Stopped;
+    }
+
     /// Takes the inlet back.
-    pub fn leave(&mut self) -> Option<Inlet>
+    pub(crate) fn leave(&mut self) -> Option<Inlet>
         ensures inlet { result ≡ self.old.inlet }
         ensures rest { self.new ≡ record self.old { inlet = None } }
     {

@@ -5,20 +5,24 @@ ghost use Rattle.sn_clients.specs.Clients.{HasInlet, IsRead};
 ghost use Rattle.sn_clients.specs.declared.clients.Client.{Client};
 
 use crate::clients::Client;
+use crate::presence::Presence;
 use crate::reading::read_all;
 use crate::seats::Relay;
+use crate::watching::Watcher;
 use sn_ports::Source;
 use std::alloc::Global;
 use std::sync::Wait;
 use std::thread::{Threads, for_each_mut};
 
 /// Reads one client's source.
-fn read_client<H: Wait, S: Source>(
+fn read_client<H: Wait, S: Source, U: Watcher>(
     rt: &H,
     alloc: Global,
     relay: &Relay,
     client: &mut Client<S>,
     _number: usize,
+    readers: &Presence,
+    watcher: &U,
 )
     requires inlet { HasInlet relay.now _number client.old }
     ensures read { IsRead relay.now S.left S.faults _number client.old client.new }
@@ -29,14 +33,18 @@ fn read_client<H: Wait, S: Source>(
     client.read = read_all(rt, alloc, relay, &mut inlet, &mut client.source);
     client.end = client.read;
     client.inlet = Some(inlet);
+    readers.leave();
+    watcher.client_ended();
 }
 
 /// Reads the sources of all clients, each in a thread of its own where one can be had.
-pub fn read_clients<H: Threads + Wait + Sync, S: Source + Send>(
+pub(crate) fn read_clients<H: Threads + Wait + Sync, S: Source + Send, U: Watcher>(
     rt: &H,
     alloc: Global,
     relay: &Relay,
     clients: &mut [Client<S>],
+    readers: &Presence,
+    watcher: &U,
 )
     requires some { 0 < length clients.old }
     requires inlets { (k : ℕ) (d : Client S) → k < length clients.old → HasInlet relay.now k (slice_index_or clients.old k d) }
@@ -49,8 +57,8 @@ pub fn read_clients<H: Threads + Wait + Sync, S: Source + Send>(
         clients,
         threads,
         &|i, client: &mut Client<S>|
-            requires { IsSync H.row × HasInlet relay.now i client.old }
+            requires { IsSync H.row × IsSync U.row × HasInlet relay.now i client.old }
             ensures { IsRead relay.entry.now S.left S.faults i client.old client.new }
-        { read_client(rt, alloc, relay, client, i) },
+        { read_client(rt, alloc, relay, client, i, readers, watcher) },
     );
 }

@@ -8,3 +8,4 @@ mod pace;
 
 pub use laws::blocks_come_due;
 pub use link::TcpLink;
+pub use pace::Pace;

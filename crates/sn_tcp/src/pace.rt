@@ -13,7 +13,7 @@ const MOST_DUE: u128 = MOST_TICKS as u128;
 
 /// Blocks of 64 frames at a rate, of which the first were asked for.
 #[derive(Clone, Copy, Debug)]
-pub(crate) struct Pace {
+pub struct Pace {
     /// Frames a second.
     pub(crate) rate: u32,
     /// How many blocks were asked for.
@@ -31,7 +31,7 @@ fn blocks_due(rate: u32, nanos: u128) -> u128
 
 impl Pace {
     /// The pace at which no block was asked for.
-    pub(crate) fn new(rate: u32) -> Self
+    pub fn new(rate: u32) -> Self
         requires { 0 < rate }
         ensures rate { result.rate ≡ rate }
         ensures given { result.given ≡ 0 }
@@ -40,7 +40,7 @@ impl Pace {
     }
 
     /// Asks for the blocks that are due so long after the start and were not asked for, up to the most at once. Answers how many.
-    pub(crate) fn take_due(&mut self, nanos: u128) -> u32
+    pub fn take_due(&mut self, nanos: u128) -> u32
         requires { nanos < 2 ^ 94 }
         ensures count { result ≡ min (blocks_due self.old.rate nanos - self.old.given) most_ticks }
         ensures given { self.new.given ≡ self.old.given + result }
@@ -53,7 +53,7 @@ impl Pace {
     }
 
     /// Nanoseconds until one more block is due.
-    pub(crate) fn until_next(&self, nanos: u128) -> u64
+    pub fn until_next(&self, nanos: u128) -> u64
         requires { nanos < 2 ^ 94 }
         ensures wait { IsUntilNext self.now.rate nanos result }
         ensures bound { result ≤ 64000000000 }

@@ -3,7 +3,7 @@ use Rattle.std.specs.Prelude.{ℕ, ◌+◌, ◌==◌, Bool, true, ◌&&◌, cond
 use Rattle.std.specs.Option.{is_some, is_none, option_or}
 use Rattle.std.specs.List.{list_any}
 use Rattle.std.specs.Str.{bytes_eq}
-use Rattle.sn_ports.specs.Limits.{most_channels, most_workers, least_memory, most_memory, middle_rate}
+use Rattle.sn_ports.specs.Limits.{most_channels, most_clients, most_workers, least_memory, most_memory, middle_rate}
 use Rattle.sn_ports.specs.Octets.{Octets}
 use Rattle.sn_fixed.specs.Natural.{natural}
 use Rattle.sn_pcm.specs.Allowed.{is_rate, is_width, is_within}
@@ -13,6 +13,10 @@ use Rattle.sn_words.specs.Choices.{Choices}
 -- the keys of settings
 abbrev pub setting_keys : List Key
 setting_keys = Key.Rate ∷ Key.Channels ∷ Key.Bits ∷ Key.Workers ∷ Key.Memory ∷ []
+
+-- those of `serve`
+abbrev pub serve_keys : List Key
+serve_keys = Key.Clients ∷ setting_keys
 
 -- and those of a drill
 abbrev pub drill_keys : List Key
@@ -24,6 +28,7 @@ name Key.Channels = codes "channels"
 name Key.Bits = codes "bits"
 name Key.Workers = codes "workers"
 name Key.Memory = codes "memory"
+name Key.Clients = codes "clients"
 name Key.Seed = codes "seed"
 name Key.Blocks = codes "blocks"
 
@@ -34,6 +39,7 @@ allows Key.Channels n = is_within 1 most_channels n
 allows Key.Bits n = is_width n
 allows Key.Workers n = is_within 1 most_workers n
 allows Key.Memory n = is_within least_memory most_memory n
+allows Key.Clients n = is_within 1 most_clients n
 allows Key.Seed n = true
 allows Key.Blocks n = is_within 1 20000 n
 
@@ -44,6 +50,7 @@ default_value Key.Channels = 2
 default_value Key.Bits = 16
 default_value Key.Workers = 4
 default_value Key.Memory = 1048576
+default_value Key.Clients = 1
 default_value Key.Seed = 1
 default_value Key.Blocks = 1000
 

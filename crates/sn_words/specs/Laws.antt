@@ -6,7 +6,7 @@ use Rattle.sn_pcm.specs.Opening.{opening}
 use Rattle.sn_words.specs.Choices.{Choices, numbers}
 use Rattle.sn_words.specs.declared.keys.Key.{Key}
 use Rattle.sn_words.specs.Drilling.{DrillChoices, drill_words_of, given_words}
-use Rattle.sn_words.specs.Keys.{setting_keys, drill_keys, is_good, first_bad, choices, value_of}
+use Rattle.sn_words.specs.Keys.{setting_keys, serve_keys, drill_keys, is_good, first_bad, choices, value_of}
 use Rattle.sn_words.specs.Serving.{ServeChoices, between, port_word, serve_words_of}
 use Rattle.sn_words.specs.Words.{begins_with, no_word, settings_of, between as settings_between}
 
@@ -45,8 +45,9 @@ RendersBy words chosen = (settings_of words ≡ Ok chosen) ↔ IsRenderLine word
 pub record IsServeLine (words : List Octets) (chosen : ServeChoices) : Type 0 where
   pub first : begins_with (codes "serve") words ≡ true
   pub enough : 3 ≤ length words
-  pub good : AreGood setting_keys (between words) (length (between words))
+  pub good : AreGood serve_keys (between words) (length (between words))
   pub settings : chosen.settings ≡ choices (between words)
+  pub clients : chosen.clients ≡ value_of (between words) Key.Clients
   pub port : natural (port_word words) ≡ Some chosen.port
   pub least : 1 ≤ chosen.port
   pub greatest : chosen.port ≤ 65535

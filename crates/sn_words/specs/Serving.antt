@@ -4,14 +4,16 @@ use Rattle.std.specs.List.{slice_range}
 use Rattle.sn_fixed.specs.Natural.{natural}
 use Rattle.sn_pcm.specs.Allowed.{is_within}
 use Rattle.sn_ports.specs.Octets.{Octets}
+use Rattle.sn_words.specs.declared.keys.Key.{Key}
 use Rattle.sn_words.specs.Choices.{Choices}
-use Rattle.sn_words.specs.Keys.{setting_keys, first_bad, choices}
+use Rattle.sn_words.specs.Keys.{serve_keys, first_bad, choices, value_of}
 use Rattle.sn_words.specs.Words.{begins_with, no_word}
 
--- settings, and the port to listen on
+-- settings, the port to listen on, and how many clients are served at once
 pub record ServeChoices : Type 0 where
   pub settings : Choices
   pub port : ℕ
+  pub clients : ℕ
 
 -- The words between the first one and the last two, which are a port and a path.
 abbrev pub between : List Octets → List Octets
@@ -28,7 +30,7 @@ port_of None = None
 
 -- the settings are good, and there is a port, or its word is bad
 abbrev pub by_port : List Octets → Option ℕ → Result ServeChoices ℕ
-by_port words (Some port) = Ok (record { settings = choices (between words); port = port })
+by_port words (Some port) = Ok (record { settings = choices (between words); port = port; clients = value_of (between words) Key.Clients })
 by_port words None = Err (length words - 2)
 
 -- a word between is bad, or none is
@@ -41,4 +43,4 @@ unfoldable pub serve_words_of : List Octets → Result ServeChoices ℕ
 serve_words_of words =
     cond (not (begins_with (codes "serve") words)) (Err 0)
     (cond (nat_lt (length words) 3) (Err (length words))
-    (by_settings words (first_bad setting_keys [] (between words))))
+    (by_settings words (first_bad serve_keys [] (between words))))

@@ -1,10 +1,11 @@
-//! The settings, the numbers of a drill, and words `key=value`.
+//! The settings, the numbers of a drill and of connections, and words `key=value`.
 ghost use Rattle.std.specs.Prelude.{◌≡◌, ◌==◌, position, IsTrue, IfSome};
-ghost use Rattle.sn_words.specs.Keys.{setting_keys, drill_keys, name, allows, default_value, allowed, value_in};
+ghost use Rattle.sn_words.specs.Keys.{setting_keys, serve_keys, drill_keys, name, allows, default_value, allowed, value_in};
 
 use sn_fixed::natural;
 use sn_ports::limits::{
-    HIGH_RATE, LEAST_MEMORY, LOW_RATE, MIDDLE_RATE, MOST_CHANNELS, MOST_MEMORY, MOST_WORKERS,
+    HIGH_RATE, LEAST_MEMORY, LOW_RATE, MIDDLE_RATE, MOST_CHANNELS, MOST_CLIENTS, MOST_MEMORY,
+    MOST_WORKERS,
 };
 
 /// What a word may choose.
@@ -20,6 +21,8 @@ pub(crate) enum Key {
     Workers,
     /// Words of 8 bytes in the pool.
     Memory,
+    /// How many clients are served at once.
+    Clients,
     /// The seed of a drill.
     Seed,
     /// The blocks of a drill.
@@ -31,6 +34,20 @@ pub(crate) fn setting_keys() -> [Key; 5]
     ensures { result ≡ setting_keys }
 {
     [
+        Key::Rate,
+        Key::Channels,
+        Key::Bits,
+        Key::Workers,
+        Key::Memory,
+    ]
+}
+
+/// The keys of `serve`.
+pub(crate) fn serve_keys() -> [Key; 6]
+    ensures { result ≡ serve_keys }
+{
+    [
+        Key::Clients,
         Key::Rate,
         Key::Channels,
         Key::Bits,
@@ -65,6 +82,7 @@ impl Key {
             Key::Bits => b"bits",
             Key::Workers => b"workers",
             Key::Memory => b"memory",
+            Key::Clients => b"clients",
             Key::Seed => b"seed",
             Key::Blocks => b"blocks",
         }
@@ -79,6 +97,7 @@ impl Key {
             Key::Bits => value == 16 || value == 24,
             Key::Workers => 1 <= value && value <= MOST_WORKERS,
             Key::Memory => LEAST_MEMORY <= value && value <= MOST_MEMORY,
+            Key::Clients => 1 <= value && value <= MOST_CLIENTS,
             Key::Seed => true,
             Key::Blocks => 1 <= value && value <= 20_000,
         }
@@ -95,6 +114,7 @@ impl Key {
             Key::Bits => 16,
             Key::Workers => 4,
             Key::Memory => 1_048_576,
+            Key::Clients => 1,
             Key::Seed => 1,
             Key::Blocks => 1_000,
         }

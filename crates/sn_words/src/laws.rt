@@ -23,7 +23,7 @@ pub fn chosen_settings()
     ensures { (words : List Octets) (chosen : Choices) → RendersBy words chosen }
 {}
 
-/// Words choose settings and a port exactly where they are `serve`, good words, a port from 1 to 65535 and one more word.
+/// Words choose settings, a port and a number of clients exactly where they are `serve`, good words, a port from 1 to 65535 and one more word.
 pub fn chosen_port()
     ensures { (words : List Octets) (chosen : ServeChoices) → ServesBy words chosen }
 {}

@@ -1,11 +1,13 @@
 //! The words `serve [key=value ..] PORT SOUND`.
-ghost use Rattle.std.specs.Prelude.{◌≡◌, ◌≤◌, ◌<◌, ◌^◌, length, Ok, Err, IfOk, IfErr, IfSome};
+ghost use Rattle.std.specs.Prelude.{◌≡◌, ◌≤◌, ◌<◌, ◌^◌, length, Ok, Err, IsTrue, IfOk, IfErr, IfSome};
+ghost use Rattle.sn_ports.specs.Limits.{most_clients};
+ghost use Rattle.sn_pcm.specs.Allowed.{is_within};
 ghost use Rattle.sn_fixed.specs.Natural.{natural};
 ghost use Rattle.sn_words.specs.Choices.{numbers};
 ghost use Rattle.sn_words.specs.Serving.{between, port_word, port_of, serve_words_of};
 
-use crate::choices::{chosen, first_bad};
-use crate::keys::setting_keys;
+use crate::choices::{chosen, first_bad, value_of};
+use crate::keys::{Key, serve_keys};
 use crate::lines::{BadWord, begins_with};
 use sn_fixed::natural;
 use sn_pcm::Settings;
@@ -18,6 +20,9 @@ pub struct ServeWords {
     pub settings: Settings,
     /// Where to listen: 1 to 65,535.
     pub port: u16,
+    /// How many clients are served at once: 1 to 4.
+    pub clients: u32,
+    pub ghost clients_are: { IsTrue (is_within 1 most_clients clients) },
 }
 
 /// The words between the first one and the last two.
@@ -47,9 +52,9 @@ fn port_of(word: &[u8]) -> Option<u16>
     }
 }
 
-/// The settings and the port that the words `serve [key=value ..] PORT SOUND` choose.
+/// The settings, the port and the number of clients that the words `serve [key=value ..] PORT SOUND` choose.
 ///
-/// The keys are those of [`settings`](crate::settings). A port is 1 to 65535, in decimal digits without a leading zero.
+/// `clients` is 1 to 4 (1 where no word gives it). The other keys are those of [`settings`](crate::settings). A port is 1 to 65535, in decimal digits without a leading zero.
 ///
 /// # Errors
 ///
@@ -58,7 +63,7 @@ fn port_of(word: &[u8]) -> Option<u16>
 #[tactic(auto, unfolding(crate::specs::Serving::serve_words_of))]
 pub fn serve_words(words: &[Word]) -> Result<ServeWords, BadWord>
     requires { length words.now < 2 ^ 32 }
-    ensures ok { IfOk result (λ s. serve_words_of words.now ≡ Ok (record { settings = numbers s.settings; port = s.port })) }
+    ensures ok { IfOk result (λ s. serve_words_of words.now ≡ Ok (record { settings = numbers s.settings; port = s.port; clients = s.clients })) }
     ensures err { IfErr result (λ b. serve_words_of words.now ≡ Err b.index) }
     ensures port { IfOk result (λ s. 0 < s.port) }
 {
@@ -69,7 +74,7 @@ pub fn serve_words(words: &[Word]) -> Result<ServeWords, BadWord>
     if count < 3 {
         return Err(BadWord { index: count });
     }
-    if let Some(at) = first_bad(&setting_keys(), between(words)) {
+    if let Some(at) = first_bad(&serve_keys(), between(words)) {
         return Err(BadWord {
             index: at as u32 + 1,
         });
@@ -78,6 +83,7 @@ pub fn serve_words(words: &[Word]) -> Result<ServeWords, BadWord>
         Some(port) => Ok(ServeWords {
             settings: chosen(between(words)),
             port,
+            clients: value_of(between(words), Key::Clients),
         }),
         None => Err(BadWord { index: count - 2 }),
     }

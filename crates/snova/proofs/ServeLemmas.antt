@@ -1,6 +1,9 @@
 -- What serving by the settings that the words choose says.
-use Rattle.std.proofs.Common.{◌≡◌, ℕ, List, Ok, ◌⊎◌, inl, inr, sym, ap, subst}
+use Rattle.std.proofs.Common.{◌≡◌, ◌≤◌, ℕ, IsTrue, List, Ok, ◌⊎◌, inl, inr, sym, ap, subst, arith}
+use Rattle.std.proofs.lemmas.Bool.Decides.{nat_tests}
+use Rattle.sn_ports.specs.Limits.{most_clients}
 use Rattle.sn_ports.specs.Octets.{Octets}
+use Rattle.sn_pcm.specs.Allowed.{is_within}
 use Rattle.sn_pcm.specs.declared.settings.Settings.{Settings}
 use Rattle.sn_server.specs.declared.ended.Ended.{Ended}
 use Rattle.sn_words.specs.Choices.{numbers}
@@ -9,17 +12,21 @@ use Rattle.snova.specs.Connection.{AreServed, ForServed, ByServeWords}
 use Rattle.snova.specs.declared.serving.Served.{Served}
 use Rattle.snova.specs.declared.serving.Served.TheVariants.{Ran}
 
+-- how many connections words choose
+pub clients_fit : (clients : ℕ) → IsTrue (is_within 1 most_clients clients) → (1 ≤ clients) × (clients ≤ most_clients)
+clients_fit clients h = (grind (arith, nat_tests), grind (arith, nat_tests))
+
 same_end : (ran how : Ended) → Ran ran ≡ Ran how → ran ≡ how
 same_end ran how e = cc
 
 pub of_end : (P : Ended → Type 0) (ran how : Ended) → P ran → Ran ran ≡ Ran how → P how
 of_end P ran how holds e = subst P (same_end ran how e) holds
 
-pub chosen_end : (words : List Octets) (P : Settings → Ended → Type 0) (s : Settings) (port : ℕ) (ran how : Ended) → serve_words_of words ≡ Ok (record { settings = numbers s; port = port }) → P s ran → Ran ran ≡ Ran how → (t : Settings) × AreServed words t × P t how
-chosen_end words P s port ran how chosen holds e = (s, (port, chosen), of_end (P s) ran how holds e)
+pub chosen_end : (words : List Octets) (P : Settings → Ended → Type 0) (s : Settings) (port clients : ℕ) (ran how : Ended) → serve_words_of words ≡ Ok (record { settings = numbers s; port = port; clients = clients }) → P s ran → Ran ran ≡ Ran how → (t : Settings) × AreServed words t × P t how
+chosen_end words P s port clients ran how chosen holds e = (s, (port, clients, chosen), of_end (P s) ran how holds e)
 
-pub by_chosen : (words : List Octets) (P : Settings → Type 0) (s : Settings) (port : ℕ) → serve_words_of words ≡ Ok (record { settings = numbers s; port = port }) → P s → ByServeWords words P
-by_chosen words P s port chosen holds = subst (λ r. ForServed words r P) (sym chosen) (s, (port, chosen), holds)
+pub by_chosen : (words : List Octets) (P : Settings → Type 0) (s : Settings) (port clients : ℕ) → serve_words_of words ≡ Ok (record { settings = numbers s; port = port; clients = clients }) → P s → ByServeWords words P
+by_chosen words P s port clients chosen holds = subst (λ r. ForServed words r P) (sym chosen) (s, (port, clients, chosen), holds)
 
 pub or_end : (ran end : Ended) (P : Type 0) → (ran ≡ end) ⊎ P → (Ran ran ≡ Ran end) ⊎ P
 or_end ran end P (inl e) = inl (ap Ran e)

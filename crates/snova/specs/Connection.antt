@@ -8,9 +8,9 @@ use Rattle.sn_words.specs.Serving.{ServeChoices, serve_words_of}
 use Rattle.snova.specs.declared.serving.Served.{Served}
 use Rattle.snova.specs.declared.serving.Served.TheVariants.{BadWords, Ran}
 
--- the words choose these settings, and some port
+-- the words choose these settings, some port and some number of clients
 abbrev pub AreServed : List Octets → Settings → Type 0
-AreServed words s = (port : ℕ) × (serve_words_of words ≡ Ok (record { settings = numbers s; port = port }))
+AreServed words s = (port : ℕ) × (clients : ℕ) × (serve_words_of words ≡ Ok (record { settings = numbers s; port = port; clients = clients }))
 
 -- A fact about the settings that the words choose, where they choose some.
 abbrev pub ForServed : List Octets → Result ServeChoices ℕ → (Settings → Type 0) → Type 0

@@ -10,6 +10,8 @@ use Rattle.sn_render.specs.declared.outcome.Outcome.TheVariants as outcome
 use Rattle.sn_render.specs.Statuses.{outcome_status}
 use Rattle.sn_server.specs.declared.ended.Ended.{Ended}
 use Rattle.sn_server.specs.declared.ended.Ended.TheVariants as ends
+use Rattle.sn_clients.specs.declared.turns.How.{How}
+use Rattle.sn_clients.specs.declared.turns.How.TheVariants as hows
 use Rattle.snova.specs.Connection.{served_status}
 use Rattle.snova.specs.Converting.{converted_status}
 use Rattle.snova.specs.declared.converting.Converted.{Converted}
@@ -78,6 +80,21 @@ end_line ends.LinkFault = codes "link fault"
 end_line ends.SoundFault = codes "sound fault"
 end_line (ends.Worn bytes blocks) = codes "worn out"
 
+-- what is printed of a session of several connections
+abbrev pub session_line : How → List ℕ
+session_line hows.Quit = codes "quit"
+session_line hows.Over = codes "over"
+session_line hows.NoMemory = codes "no memory"
+session_line hows.SoundFault = codes "sound fault"
+session_line hows.TurnsFull = codes "turns full"
+
+abbrev pub session_status : How → ℕ
+session_status hows.Quit = 0
+session_status hows.Over = 0
+session_status hows.NoMemory = 1
+session_status hows.SoundFault = 7
+session_status hows.TurnsFull = 15
+
 abbrev pub served_line : Served → List ℕ
 served_line (served.BadWords index) = bad_word_line index
 served_line (served.Ran how) = end_line how
@@ -99,6 +116,7 @@ exit_line exit.Help = None
 exit_line exit.Version = Some (codes "snova 0.1.0")
 exit_line (exit.Rendered outcome) = Some (shelf_line outcome)
 exit_line (exit.Served served) = Some (served_line served)
+exit_line (exit.Session how) = Some (session_line how)
 exit_line (exit.Converted converted) = Some (converted_line converted)
 exit_line (exit.Drilled outcome) = Some (outcome_line outcome)
 exit_line exit.NotOpened = Some (codes "cannot open")
@@ -121,6 +139,7 @@ has_line exit.Help = true
 has_line exit.Version = true
 has_line (exit.Rendered outcome) = true
 has_line (exit.Served served) = true
+has_line (exit.Session how) = true
 has_line (exit.Converted converted) = true
 has_line (exit.Drilled outcome) = is_unfinished outcome
 has_line exit.NotOpened = true
@@ -130,6 +149,7 @@ exit_status exit.Help = 0
 exit_status exit.Version = 0
 exit_status (exit.Rendered outcome) = shelf_status outcome
 exit_status (exit.Served served) = served_status served
+exit_status (exit.Session how) = session_status how
 exit_status (exit.Converted converted) = converted_status converted
 exit_status (exit.Drilled outcome) = outcome_status outcome
 exit_status exit.NotOpened = 9

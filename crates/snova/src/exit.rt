@@ -1,12 +1,13 @@
 //! What came of the words: the line that is printed, and the status of the program.
 ghost use Rattle.std.specs.Prelude.{◌≡◌, Some};
 ghost use Rattle.std.specs.Fmt.{DisplaysOnOk};
-ghost use Rattle.snova.specs.Lines.{bad_stream_line, converted_line, end_line, exit_line, exit_status, fault_number, has_line, outcome_line, shelf_line};
+ghost use Rattle.snova.specs.Lines.{bad_stream_line, converted_line, end_line, exit_line, exit_status, fault_number, has_line, outcome_line, session_line, session_status, shelf_line};
 
 use crate::converting::Converted;
 use crate::serving::Served;
 use crate::shelving::ShelfOutcome;
 use crate::usage::{USAGE, VERSION};
+use sn_clients::How;
 use sn_osc::PacketKind;
 use sn_server::{Ended, Outcome, StreamFault};
 use std::fmt;
@@ -28,6 +29,8 @@ pub(crate) enum Exit {
     Rendered(ShelfOutcome),
     /// A connection was served.
     Served(Served),
+    /// Several connections were served at once.
+    Session(How),
     /// A text was made a stream, or a stream a text.
     Converted(Converted),
     /// A drill was played.
@@ -46,6 +49,7 @@ impl Exit {
             Exit::Help | Exit::Version => 0,
             Exit::Rendered(outcome) => outcome.status(),
             Exit::Served(served) => served.status(),
+            Exit::Session(how) => session_status(*how),
             Exit::Converted(converted) => converted.status(),
             Exit::Drilled(outcome) => outcome.status(),
             Exit::NotOpened => CANNOT_OPEN,
@@ -60,6 +64,18 @@ impl Exit {
             Exit::Drilled(Outcome::Done { .. }) => false,
             _ => true,
         }
+    }
+}
+
+/// The status of the program after a session of several connections.
+fn session_status(how: How) -> u8
+    ensures { result ≡ session_status how }
+{
+    match how {
+        How::Quit | How::Over => 0,
+        How::NoMemory => 1,
+        How::SoundFault => 7,
+        How::TurnsFull => 15,
     }
 }
 
@@ -154,6 +170,19 @@ fn write_end<W: fmt::Write>(f: &mut fmt::Formatter<W>, how: Ended) -> fmt::Resul
     }
 }
 
+/// Writes how a session of several connections ended.
+fn write_session<W: fmt::Write>(f: &mut fmt::Formatter<W>, how: How) -> fmt::Result
+    ensures { DisplaysOnOk W.write_str_gives f.old result (Some (session_line how)) f.new }
+{
+    match how {
+        How::Quit => f.write_str("quit"),
+        How::Over => f.write_str("over"),
+        How::NoMemory => f.write_str("no memory"),
+        How::SoundFault => f.write_str("sound fault"),
+        How::TurnsFull => f.write_str("turns full"),
+    }
+}
+
 /// Writes what came of a conversion.
 fn write_converted<W: fmt::Write>(f: &mut fmt::Formatter<W>, converted: Converted) -> fmt::Result
     ensures { DisplaysOnOk W.write_str_gives f.old result (Some (converted_line converted)) f.new }
@@ -184,6 +213,7 @@ impl fmt::Display for Exit {
             Exit::Rendered(outcome) => write_shelf_outcome(f, *outcome),
             Exit::Served(Served::BadWords { index }) => write!(f, "bad word {index}"),
             Exit::Served(Served::Ran(how)) => write_end(f, *how),
+            Exit::Session(how) => write_session(f, *how),
             Exit::Converted(converted) => write_converted(f, *converted),
             Exit::Drilled(outcome) => write_outcome(f, *outcome),
             Exit::NotOpened => f.write_str("cannot open"),

@@ -1,4 +1,4 @@
-//! A connection at a port is served.
+//! The connection at a port is served, or several of them.
 ghost use Rattle.std.specs.Prelude.{◌≡◌, ◌<◌, ◌^◌, length, Ok, IfOk};
 ghost use Rattle.std.specs.Duration.{as_nanos};
 ghost use Rattle.sn_pcm.specs.declared.settings.Settings.{Settings};
@@ -12,13 +12,15 @@ ghost use Rattle.snova.specs.Connection.{AreServed};
 use crate::clock::{Reading, now};
 use crate::exit::Exit;
 use crate::serving::{Served, serve};
+use crate::several::serve_several;
 use sn_ports::{Calls, FileSink, Link, MemorySink, NoMemory, Open, PlayedLink, Sink, Word};
 use sn_tcp::TcpLink;
 use sn_words::{ServeWords, serve_words};
 use std::io::{Read, Write};
-use std::net::{Ipv4Addr, Net, OpenListener, OpenStream, TcpListener};
+use std::net::{Ipv4Addr, Net, OpenListener, OpenStream, TcpListener, TcpStream};
 use std::os::fd::AsRawFd;
 use std::rt::{Clock, Files};
+use std::sync::Wait;
 use std::thread::Threads;
 use std::{fs, io};
 
@@ -57,7 +59,7 @@ fn serve_on_port<H: Files + Clock + Net + AllocGlobal + Threads + Sync>(
     sound: &str,
 ) -> io::Result<Served>
     requires room { length words.now < 2 ^ 32 }
-    requires accepted { serve_words_of words.now ≡ Ok (record { settings = numbers chosen.now.settings; port = chosen.now.port }) }
+    requires accepted { serve_words_of words.now ≡ Ok (record { settings = numbers chosen.now.settings; port = chosen.now.port; clients = chosen.now.clients }) }
 {
     let listener = TcpListener::bind(rt, (Ipv4Addr::LOCALHOST, chosen.port))?;
     let mut sound = FileSink::new(fs::create(rt, sound)?);
@@ -80,17 +82,40 @@ fn serve_on_nothing<H: AllocGlobal + Threads + Sync>(
     Ok(serve(rt, alloc, words, 0, &mut link, &mut sound, &Open))
 }
 
-/// Serves a connection at the port that the words name. Where they are refused nothing is opened.
-pub(crate) fn serve_port<H: Files + Clock + Net + AllocGlobal + Threads + Sync>(
-    rt: &H,
-    args: &[String],
-    words: &[Word],
-) -> Result<Exit, NoMemory>
+/// Serves the one connection, or the several at once, that the words choose.
+fn serve_chosen<
+    H: Files
+        + Clock
+        + Net<Listener = TcpListener, Stream = TcpStream>
+        + AllocGlobal
+        + Threads
+        + Wait
+        + Sync,
+>(rt: &H, words: &[Word], chosen: &ServeWords, sound: &str) -> io::Result<Exit>
+    requires room { length words.now < 2 ^ 32 }
+    requires accepted { serve_words_of words.now ≡ Ok (record { settings = numbers chosen.now.settings; port = chosen.now.port; clients = chosen.now.clients }) }
+{
+    if chosen.clients == 1 {
+        return Ok(Exit::Served(serve_on_port(rt, words, chosen, sound)?));
+    }
+    Ok(Exit::Session(serve_several(rt, chosen, sound)?))
+}
+
+/// Serves what comes to the port that the words name. Where they are refused nothing is opened.
+pub(crate) fn serve_port<
+    H: Files
+        + Clock
+        + Net<Listener = TcpListener, Stream = TcpStream>
+        + AllocGlobal
+        + Threads
+        + Wait
+        + Sync,
+>(rt: &H, args: &[String], words: &[Word]) -> Result<Exit, NoMemory>
     requires { length words.now < 2 ^ 32 }
 {
     match (serve_words(words), args) {
-        (Ok(chosen), [.., sound]) => match serve_on_port(rt, words, &chosen, sound.as_str()) {
-            Ok(served) => Ok(Exit::Served(served)),
+        (Ok(chosen), [.., sound]) => match serve_chosen(rt, words, &chosen, sound.as_str()) {
+            Ok(exit) => Ok(exit),
             Err(_) => Ok(Exit::NotOpened),
         },
         _ => Ok(Exit::Served(serve_on_nothing(rt, words)?)),

@@ -12,6 +12,7 @@ mod listening;
 mod progress;
 mod rendering;
 mod serving;
+mod several;
 mod shelving;
 mod usage;
 
@@ -24,9 +25,10 @@ use shelving::ShelfOutcome;
 use sn_ports::{NoMemory, Text, Word};
 use sn_server::Outcome;
 use std::io::{Eprint, IsTerminal, Print};
-use std::net::Net;
+use std::net::{Net, TcpListener, TcpStream};
 use std::process::ExitCode;
 use std::rt::{Clock, Env, Files};
+use std::sync::Wait;
 use std::thread::Threads;
 use std::{env, io};
 use usage::{Call, USAGE, call_of};
@@ -54,10 +56,18 @@ fn as_words<H: AllocGlobal>(rt: &H, args: &[String]) -> Result<Vec<Word>, NoMemo
 }
 
 /// Does what the words of the command line say, and tells how far it is if somebody watches.
-fn carry_out<H: Env + Files + Clock + Print + Eprint + Net + AllocGlobal + Threads + Sync>(
-    rt: &H,
-    is_watched: bool,
-) -> Result<Exit, NoMemory> {
+fn carry_out<
+    H: Env
+        + Files
+        + Clock
+        + Print
+        + Eprint
+        + Net<Listener = TcpListener, Stream = TcpStream>
+        + AllocGlobal
+        + Threads
+        + Wait
+        + Sync,
+>(rt: &H, is_watched: bool) -> Result<Exit, NoMemory> {
     let args = given(rt)?;
     let words = as_words(rt, &args)?;
     if u32::try_from(words.len()).is_err() {

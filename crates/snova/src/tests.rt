@@ -6,11 +6,16 @@ use crate::exit::Exit;
 use crate::files::render_files;
 use crate::rendering::run;
 use crate::serving::{Served, serve};
+use crate::several::{Accepted, ClockPulse, Connections, accept_all};
 use crate::shelving::{ShelfOutcome, run_shelf};
-use sn_ports::{Calls, Event, MemorySink, MemorySource, NoMemory, Open, PlayedLink, Text, Word};
+use sn_clients::{Pulse, Watcher};
+use sn_ports::{
+    Calls, Event, MemorySink, MemorySource, NoMemory, Open, PlayedLink, Sink, Text, Word,
+};
 use sn_server::{Ended, Outcome};
 use sn_shelf::MemoryShelf;
-use std::io::Eprint;
+use std::io::{Eprint, Read};
+use std::net::{TcpListener, TcpStream};
 use std::rt::Files;
 use std::test::Fail;
 use std::thread::Threads;
@@ -170,6 +175,44 @@ fn a_port_that_is_refused(rt: HostRuntime) -> Result<(), Fail> {
     let talk = serve_words(&rt, &["serve", "0", "out"], &[0])?;
     assert_eq!(rt; talk.served, Served::BadWords { index: 1 });
     assert_eq!(rt; [talk.link.faults(), talk.sound.faults()], [0, 0]);
+    Ok(())
+}
+
+/// Blocks are due at once and again, and none once no connection is read.
+#[test]
+fn a_clock_says_what_is_due(rt: HostRuntime) -> Result<(), Fail> {
+    let connections = Connections::new(Vec::new(rt.alloc()), 1);
+    let mut pulse = ClockPulse::new(&rt, 48_000, &connections)?;
+    assert!(rt; pulse.next() > 0);
+    assert!(rt; pulse.next() > 0);
+    connections.client_ended();
+    assert_eq!(rt; pulse.next(), 0);
+    Ok(())
+}
+
+/// What a sink takes comes over its connection.
+#[test]
+fn connections_hear_their_sinks(rt: HostRuntime) -> Result<(), Fail> {
+    let listener = TcpListener::bind(&rt, "127.0.0.1:0")?;
+    let address = listener.local_addr()?;
+    let mut peers = vec![in rt.alloc();
+        TcpStream::connect(&rt, address)?,
+        TcpStream::connect(&rt, address)?,
+    ]?;
+    let Accepted {
+        clients: _,
+        sinks,
+        streams: _,
+    } = accept_all(rt.alloc(), &listener, 2)?;
+    let mut sinks = sinks;
+    for sink in sinks.iter_mut() {
+        assert!(rt; sink.write(SYNCED.as_slice()).is_ok());
+    }
+    for peer in peers.iter_mut() {
+        let mut heard = [0; 20];
+        peer.read_exact(&mut heard)?;
+        assert_eq!(rt; heard, SYNCED);
+    }
     Ok(())
 }
 

@@ -13,8 +13,9 @@ snova render [key=value ..] COMMANDS SOUND REPLIES
     reads the commands in the file COMMANDS, and writes the WAV file SOUND and
     the file REPLIES
 snova serve [key=value ..] PORT SOUND
-    takes one connection at the port PORT of this machine, 1 to 65535, and
-    writes the sound into the file SOUND, as PCM without a header
+    takes one connection, or as many as clients says, at the port PORT of this
+    machine, 1 to 65535, and writes the sound into the file SOUND, as PCM
+    without a header
 snova score IN OUT
     reads packets as text in the file IN, and writes them as commands into the
     file OUT
@@ -35,12 +36,14 @@ Keys, and the values where no word gives one:
     bits      16 or 24 in a sample                     16
     workers   1 to 16                                  4
     memory    65536 to 16777216 words of 8 bytes       1048576
+for serve alone:
+    clients   1 to 4, all at once                      1
 and for drill alone:
     seed      0 to 4294967295                          1
     blocks    1 to 20000                               1000
 
 Statuses, and the lines that are printed:
-    0   done B blocks, done N packets, quit, closed,
+    0   done B blocks, done N packets, quit, closed, over,
         drill blocks M sound S replies R sum T
     1   no memory
     2   bad word I
@@ -55,6 +58,7 @@ Statuses, and the lines that are printed:
     11  bad frame size S
     12  link fault
     14  shelf fault
+    15  turns full
     16  bad score: line L
     17  worn out";
 

@@ -1,0 +1,106 @@
+use Rattle.std.proofs.Common.{◌∙◌, ℕ, Ok, ap, refl, subst, sym, false, true}
+use Rattle.sn_ports.specs.Causes.{Rose}
+use Rattle.sn_clients.specs.declared.seats.Outlet.{Outlet}
+use Rattle.sn_clients.specs.Answers.{IsOutletOf, end_of, has_stopped}
+use Rattle.sn_clients.specs.Looping.{SameInlets}
+use Rattle.sn_clients.proofs.LoopLemmas.{asked_more, asked_zero, inlets_both, no_sound_fault, on_any_ok, runs_halted, runs_rest, same_inlets}
+use Rattle.sn_clients.proofs.desk.Desk.run.Goals as goal
+
+pub loop-init : goal.loop-init
+loop-init g c = record { outlet = c.requires.outlet; plays = λ first sinks_first sound_first left_first h. h; steady = c.requires.steady; inlets = same_inlets (end_of c.args.self.now.outlet); stopped = refl; zeros = refl; still = refl }
+
+pub loop-preserved : goal.loop-preserved
+loop-preserved g c =
+    let i = c.loop.invariant in
+    let e = c.in_ok-take_notes.ensures in
+    let a = c.in_ok-more.ensures in
+    let n = c.ask.new in
+    let sound = g.O.Sink.taken c.loop.sound in
+    let left = g.T.Pulse.left c.loop.pulse in
+    record {
+      outlet = subst (λ (o : Outlet). IsOutletOf c.args.relay.now o) (sym a.outlet) e.outlet;
+      plays = λ first sinks_first sound_first left_first h. asked_more g.R.Sink.taken g.R.Sink.faults first sinks_first n.sinks sound_first (g.O.Sink.taken n.sound) left_first (g.T.Pulse.left n.pulse) n.self c.in_ok-more.more
+          (a.plays first sinks_first sound_first left_first (e.plays first sinks_first sound_first sound left_first left false (i.plays first sinks_first sound_first left_first h))) c.if-not-more.false;
+      steady = a.steady;
+      inlets = subst (λ (o : Outlet). SameInlets (end_of c.args.self.now.outlet) (end_of o)) (sym a.outlet) (inlets_both (end_of c.args.self.now.outlet) (end_of c.loop.self.outlet) (end_of c.take_notes.new.self.outlet) i.inlets e.inlets);
+      stopped = ap has_stopped a.outlet ∙ e.stopped ∙ i.stopped;
+      zeros = a.others (ap Ok c.if-not-more.false) ∙ i.zeros;
+      still = a.unfailed ∙ i.still;
+    }
+
+-- ---- an end among the notes
+
+pub returns-in_err-take_notes-clause-plays : goal.returns-in_err-take_notes-clause-plays
+returns-in_err-take_notes-clause-plays g c = λ first sinks_first sound_first left_first h.
+    let n = c.take_notes.new in
+    let sound = g.O.Sink.taken c.loop.sound in
+    let left = g.T.Pulse.left c.loop.pulse in
+    runs_halted g.R.Sink.taken g.R.Sink.faults first sinks_first n.sinks sound_first sound false left_first left n.self c.from_residual.result c.in_err-take_notes.field-0.0 c.from_residual.ensures.1
+    (c.in_err-take_notes.ensures.plays first sinks_first sound_first sound left_first left false (c.loop.invariant.plays first sinks_first sound_first left_first h))
+
+pub returns-in_err-take_notes-clause-inlets : goal.returns-in_err-take_notes-clause-inlets
+returns-in_err-take_notes-clause-inlets g c = inlets_both (end_of c.args.self.now.outlet) (end_of c.loop.self.outlet) (end_of c.take_notes.new.self.outlet) c.loop.invariant.inlets c.take_notes.ensures.inlets
+
+-- ---- an end among the blocks
+
+pub returns-in_err-more-clause-plays : goal.returns-in_err-more-clause-plays
+returns-in_err-more-clause-plays g c = λ first sinks_first sound_first left_first h.
+    let e = c.in_ok-take_notes.ensures in
+    let n = c.ask.new in
+    let r = c.from_residual-in_err-more in
+    let sound = g.O.Sink.taken c.loop.sound in
+    let left = g.T.Pulse.left c.loop.pulse in
+    runs_halted g.R.Sink.taken g.R.Sink.faults first sinks_first n.sinks sound_first (g.O.Sink.taken n.sound) false left_first (g.T.Pulse.left n.pulse) n.self r.result c.in_err-more.field-0.0 r.ensures.1
+    (c.in_err-more.ensures.plays first sinks_first sound_first left_first (e.plays first sinks_first sound_first sound left_first left false (c.loop.invariant.plays first sinks_first sound_first left_first h)))
+
+pub returns-in_err-more-clause-outlet : goal.returns-in_err-more-clause-outlet
+returns-in_err-more-clause-outlet g c = subst (λ (o : Outlet). IsOutletOf c.args.relay.now o) (sym c.ask.ensures.outlet) c.take_notes.ensures.outlet
+
+pub returns-in_err-more-clause-inlets : goal.returns-in_err-more-clause-inlets
+returns-in_err-more-clause-inlets g c = subst (λ (o : Outlet). SameInlets (end_of c.args.self.now.outlet) (end_of o)) (sym c.ask.ensures.outlet)
+    (inlets_both (end_of c.args.self.now.outlet) (end_of c.loop.self.outlet) (end_of c.take_notes.new.self.outlet) c.loop.invariant.inlets c.take_notes.ensures.inlets)
+
+pub returns-in_err-more-clause-stopped : goal.returns-in_err-more-clause-stopped
+returns-in_err-more-clause-stopped g c = ap has_stopped c.ask.ensures.outlet ∙ c.take_notes.ensures.stopped ∙ c.loop.invariant.stopped
+
+-- ---- the 0 of the pulse
+
+pub take_rest-requires-clause-outlet : goal.take_rest-requires-clause-outlet
+take_rest-requires-clause-outlet g c = subst (λ (o : Outlet). IsOutletOf c.args.relay.now o) (sym c.ask.ensures.outlet) c.take_notes.ensures.outlet
+
+pub returns-then-not-more-clause-plays : goal.returns-then-not-more-clause-plays
+returns-then-not-more-clause-plays g c = λ first sinks_first sound_first left_first h.
+    let e = c.in_ok-take_notes.ensures in
+    let a = c.in_ok-more.ensures in
+    let m = c.ask.new in
+    let n = c.take_rest.new in
+    let sound = g.O.Sink.taken c.loop.sound in
+    let left = g.T.Pulse.left c.loop.pulse in
+    let later = g.O.Sink.taken m.sound in
+    let next = g.T.Pulse.left m.pulse in
+    runs_rest g.R.Sink.taken g.R.Sink.faults first sinks_first n.sinks sound_first later left_first next n.self c.take_rest.result
+    (c.take_rest.ensures.plays first sinks_first sound_first later left_first next true
+    (asked_zero g.R.Sink.taken g.R.Sink.faults first sinks_first m.sinks sound_first later left_first next m.self c.in_ok-more.more
+    (a.plays first sinks_first sound_first left_first (e.plays first sinks_first sound_first sound left_first left false (c.loop.invariant.plays first sinks_first sound_first left_first h))) c.if-not-more.true))
+
+pub returns-then-not-more-clause-zero : goal.returns-then-not-more-clause-zero
+returns-then-not-more-clause-zero g c =
+    let rose = subst (λ (n : ℕ). Rose n (g.T.Pulse.zeros c.ask.new.pulse)) c.loop.invariant.zeros (c.in_ok-more.ensures.zero (ap Ok c.if-not-more.true)) in
+    on_any_ok c.take_rest.result rose
+
+pub returns-then-not-more-clause-sound : goal.returns-then-not-more-clause-sound
+returns-then-not-more-clause-sound g c = λ e. absurd (no_sound_fault c.take_rest.result c.take_rest.ensures.only e)
+
+pub returns-then-not-more-clause-unfailed : goal.returns-then-not-more-clause-unfailed
+returns-then-not-more-clause-unfailed g c = on_any_ok c.take_rest.result (c.in_ok-more.ensures.unfailed ∙ c.loop.invariant.still)
+
+pub returns-then-not-more-clause-inlets : goal.returns-then-not-more-clause-inlets
+returns-then-not-more-clause-inlets g c =
+    let first = end_of c.args.self.now.outlet in
+    let mid = end_of c.take_notes.new.self.outlet in
+    let before = inlets_both first (end_of c.loop.self.outlet) mid c.loop.invariant.inlets c.take_notes.ensures.inlets in
+    inlets_both first (end_of c.ask.new.self.outlet) (end_of c.take_rest.new.self.outlet)
+    (subst (λ (o : Outlet). SameInlets first (end_of o)) (sym c.ask.ensures.outlet) before) c.take_rest.ensures.inlets
+
+pub returns-then-not-more-clause-stopped : goal.returns-then-not-more-clause-stopped
+returns-then-not-more-clause-stopped g c = c.take_rest.ensures.stopped ∙ ap has_stopped c.ask.ensures.outlet ∙ c.take_notes.ensures.stopped ∙ c.loop.invariant.stopped

@@ -1,0 +1,18 @@
+use Rattle.std.proofs.Common.{◌≡◌, ℕ, false, List, Option, length}
+use Rattle.sn_clients.specs.Answers.{IsOutletOf, end_of, has_stopped}
+use Rattle.sn_clients.specs.Looping.{IsPlaying, IsSteady, SameInlets}
+use Rattle.sn_clients.specs.PlayMany.{Played}
+use Rattle.sn_clients.proofs.desk.Desk.run.Given as goal
+
+abbrev pub invariant-loop : goal.invariant-loop
+invariant-loop g l = record {
+  outlet : IsOutletOf l.relay l.self.outlet;
+  plays : (first : Played) (sinks_first : List g.row.R.Denot) (sound_first left_first : Option (List ℕ))
+      → IsPlaying g.R.Sink.taken g.R.Sink.faults first sinks_first l.fn.sinks sound_first (g.O.Sink.taken l.fn.sound) false left_first (g.T.Pulse.left l.fn.pulse) l.fn.self
+      → IsPlaying g.R.Sink.taken g.R.Sink.faults first sinks_first l.sinks sound_first (g.O.Sink.taken l.sound) false left_first (g.T.Pulse.left l.pulse) l.self;
+  steady : IsSteady l.most (length l.sinks) l.self;
+  inlets : SameInlets (end_of l.fn.self.outlet) (end_of l.self.outlet);
+  stopped : has_stopped l.self.outlet ≡ has_stopped l.fn.self.outlet;
+  zeros : g.T.Pulse.zeros l.pulse ≡ g.T.Pulse.zeros l.fn.pulse;
+  still : g.O.Sink.faults l.sound ≡ g.O.Sink.faults l.fn.sound;
+}

@@ -1,0 +1,205 @@
+//! Several connections at a port are served at once.
+ghost use Rattle.std.specs.Prelude.{◌≡◌, ◌≤◌, ◌<◌, ◌^◌, IfOk, length};
+ghost use Rattle.sn_ports.specs.Limits.{most_ticks};
+
+use crate::clock::now;
+use sn_clients::{Client, Clients, How, Pulse, Sinks, Watcher, serve_many};
+use sn_ports::{FileSink, FileSource, Open};
+use sn_tcp::Pace;
+use sn_words::ServeWords;
+use std::alloc::Global;
+use std::net::{Ipv4Addr, Net, Shutdown, TcpListener, TcpStream};
+use std::rt::{Clock, Files};
+use std::sync::Wait;
+use std::sync::atomic::{AtomicU64, Ordering};
+use std::thread::Threads;
+use std::time::Duration;
+use std::{fs, io, thread};
+
+/// A peer that takes nothing for so many seconds is a failure.
+const PATIENCE: u64 = 10;
+
+/// The most turns of a session: 512 MiB of them, and about a day of turns of one block.
+const MOST_TURNS: u32 = 67_108_864;
+
+/// The connections of a session, as its readers and its pulse share them.
+#[derive(Drop)]
+pub(crate) struct Connections {
+    streams: Vec<TcpStream>,
+    /// How many are read.
+    open: AtomicU64,
+}
+
+impl Connections {
+    /// So many connections, each of which is read.
+    pub(crate) fn new(streams: Vec<TcpStream>, count: u32) -> Self {
+        Connections {
+            streams,
+            open: AtomicU64::new(u64::from(count)),
+        }
+    }
+
+    /// Whether one is still read.
+    fn are_read(&self) -> bool {
+        self.open.load(Ordering::SeqCst) > 0
+    }
+}
+
+impl Watcher for Connections {
+    fn client_ended(&self) {
+        self.open.fetch_sub(1, Ordering::SeqCst);
+    }
+
+    /// Nothing more is read of any connection, so that none is waited for.
+    fn session_ended(&self) {
+        for stream in &self.streams {
+            let _closed = stream.shutdown(Shutdown::Read);
+        }
+    }
+}
+
+/// Blocks as a clock says that they are due, while a connection is read.
+#[derive(Drop)]
+pub(crate) struct ClockPulse<'a, C: Clock> {
+    clock: &'a C,
+    start: Duration,
+    pace: Pace,
+    connections: &'a Connections,
+    zeros: u64,
+}
+
+impl<'a, C: Clock> ClockPulse<'a, C> {
+    /// Block 0 is due now.
+    pub(crate) fn new(clock: &'a C, rate: u32, connections: &'a Connections) -> io::Result<Self>
+        requires { 0 < rate }
+    {
+        Ok(ClockPulse {
+            clock,
+            start: clock.monotonic()?,
+            pace: Pace::new(rate),
+            connections,
+            zeros: 0,
+        })
+    }
+
+    /// Nanoseconds since the start, as the clock tells them.
+    fn nanos(&self) -> io::Result<u128>
+        ensures { IfOk result (λ nanos. nanos < 2 ^ 94) }
+    {
+        let now = self.clock.monotonic()?;
+        Ok(now.saturating_sub(self.start).as_nanos())
+    }
+
+    /// Waits until blocks are due, and takes them. Answers 0 if no connection is read any more, or if the clock
+    /// can't be read.
+    fn wait_due(&mut self) -> u32
+        ensures bound { result ≤ most_ticks }
+        ensures zeros { self.new.zeros ≡ self.old.zeros }
+    {
+        for _ in 0..u64::MAX {
+            if !self.connections.are_read() {
+                return 0;
+            }
+            let Ok(nanos) = self.nanos() else {
+                return 0;
+            };
+            let count = self.pace.take_due(nanos);
+            if count > 0 {
+                return count;
+            }
+            thread::sleep(
+                self.clock,
+                Duration::from_nanos(self.pace.until_next(nanos)),
+            );
+        }
+        0
+    }
+}
+
+impl<C: Clock> Pulse for ClockPulse<'_, C> {
+    ghost use Rattle.std.specs.Prelude.{None};
+
+    ghost left = { λ _. None };
+
+    ghost zeros = { λ p. p.zeros };
+
+    fn next(&mut self) -> u32 {
+        let count = self.wait_due();
+        if count == 0 {
+            self.zeros = self.zeros.saturating_add(1);
+        }
+        count
+    }
+}
+
+/// The connections that were taken: what comes over each, where its replies go, and the connection itself.
+#[derive(Drop)]
+pub(crate) struct Accepted {
+    pub(crate) clients: Clients<FileSource<TcpStream>>,
+    pub(crate) sinks: Sinks<FileSink<TcpStream>>,
+    pub(crate) streams: Vec<TcpStream>,
+}
+
+/// Takes so many connections.
+pub(crate) fn accept_all(alloc: Global, listener: &TcpListener, count: u32) -> io::Result<Accepted>
+    ensures clients { IfOk result (λ a. length a.clients.items ≡ count) }
+    ensures sinks { IfOk result (λ a. length a.sinks.items ≡ count) }
+{
+    let mut clients = Vec::new(alloc);
+    let mut sinks = Vec::new(alloc);
+    let mut streams = Vec::new(alloc);
+    for _ in 0..count {
+        let (stream, _) = listener.accept()?;
+        // What is sent is not held back.
+        stream.set_nodelay(true)?;
+        stream.set_write_timeout(Some(Duration::from_secs(PATIENCE)))?;
+        sinks.push(FileSink::new(stream.try_clone()?))?;
+        streams.push(stream.try_clone()?)?;
+        clients.push(Client::new(FileSource::new(stream)))?;
+    }
+    Ok(Accepted {
+        clients,
+        sinks,
+        streams,
+    })
+}
+
+/// Serves as many connections as the words choose at once, and writes the sound to a file.
+pub(crate) fn serve_several<
+    H: Files
+        + Clock
+        + Net<Listener = TcpListener, Stream = TcpStream>
+        + AllocGlobal
+        + Threads
+        + Wait
+        + Sync,
+>(rt: &H, chosen: &ServeWords, sound: &str) -> io::Result<How> {
+    let alloc = rt.alloc();
+    let listener = TcpListener::bind(rt, (Ipv4Addr::LOCALHOST, chosen.port))?;
+    let mut sound = FileSink::new(fs::create(rt, sound)?);
+    let accepted = accept_all(alloc, &listener, chosen.clients)?;
+    let Accepted {
+        clients,
+        sinks,
+        streams,
+    } = accepted;
+    let mut clients = clients;
+    let mut sinks = sinks;
+    let connections = Connections::new(streams, chosen.clients);
+    let start = now(rt)?;
+    let mut pulse = ClockPulse::new(rt, chosen.settings.rate, &connections)?;
+    let session = serve_many(
+        rt,
+        alloc,
+        &chosen.settings,
+        start.tag,
+        &mut clients,
+        &mut sinks,
+        &mut pulse,
+        MOST_TURNS,
+        &mut sound,
+        &Open,
+        &connections,
+    );
+    Ok(session.how)
+}

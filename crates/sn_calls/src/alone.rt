@@ -1,5 +1,6 @@
 //! Calls that neither rows nor scripts reach, each tried by a function of its own.
 use crate::line::Unanswered;
+use crate::texts::TONE;
 use crate::trees::{attached, attached_and_undone, walked, written_and_undone};
 use sn_def::{DefKind, Unread, print, read};
 use sn_mem::{Extent, Extents, Foot, FootPort, PlainPort, clash, load_words, store_words};
@@ -49,12 +50,17 @@ fn is_printed(alloc: Global, text: &[u8], printed: &[u8]) -> Result<bool, NoMemo
     }
 }
 
-/// A definition is printed with whole numbers, in version 1 if it has no array.
+/// A definition is printed with whole numbers, in version 1 if it has no array; what is printed so already stays as it is.
 fn printed(alloc: Global) -> Result<bool, Unanswered> {
+    let tone = TONE.as_bytes();
     let one = b"snova 1\ndef half\ncontrol x 0.5\na = SinOsc x -0.1\nend\n";
     let two = b"snova 2\ndef half\ncontrol x 0.5\na = SinOsc x -0.1\nend\n";
     let whole = b"snova 1\ndef half\ncontrol x 8388608\na = SinOsc x -1677722\nend\n";
-    Ok(is_printed(alloc, one, whole)? && is_printed(alloc, two, whole)?)
+    Ok(
+        is_printed(alloc, one, whole)?
+            && is_printed(alloc, two, whole)?
+            && is_printed(alloc, tone, tone)?,
+    )
 }
 
 /// A definition with arrays is printed in version 2, each array in its place.

@@ -6,7 +6,7 @@ use sn_def::{Unread, read};
 use std::alloc::Global;
 
 /// The text before a line of it is changed.
-const TONE: &str =
+pub(crate) const TONE: &str =
     "snova 1\ndef tone\ncontrol freq 440000\ncontrol out 0\na = SinOsc freq 0\nOut.ar out a\nend\n";
 
 /// What becomes of a line.

@@ -72,6 +72,12 @@ pub record HasCopies (channels : ℕ) (stage : Stage) (words : List ℕ) (output
 abbrev pub HoldsBounded : Standing → Bool → Type 0
 HoldsBounded standing hold = standing ≡ Bounded → hold ≡ true
 
+-- a stage stands for a world
+pub record IsStageOf (world : World) (stage : Stage) : Type 0 where
+  pub words : List ℕ
+  pub stands : world_of stage words ≡ world
+  pub pictures : Pictures stage words
+
 -- jobs are the plan of a stage that stands for a world
 pub record IsPlanOfWorld (world : World) (jobs : List Job) : Type 0 where
   pub stage : Stage

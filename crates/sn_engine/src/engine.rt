@@ -12,7 +12,7 @@ ghost use Rattle.sn_reply.specs.Frames.{EachBegins};
 ghost use Rattle.sn_engine.specs.Arriving.{IsSpelled, next_boundary, offered, with_offered, IsPartlyOffered, KeepsOthers};
 ghost use Rattle.sn_engine.specs.Entries.{entries_of};
 ghost use Rattle.sn_engine.specs.Refusing.{with_bad_packet};
-ghost use Rattle.sn_engine.specs.Planning.{IsPlanOfWorld};
+ghost use Rattle.sn_engine.specs.Planning.{IsPlanOfWorld, IsStageOf};
 ghost use Rattle.sn_engine.specs.Playing.{no_past, KeepsRounds, KeepsRested};
 ghost use Rattle.sn_engine.specs.Spans.{HasRounds, IsQuiet, in_turn, with_blocks};
 ghost use Rattle.sn_engine.specs.Running.{Running, opened, at_boundary, flow_at, KeepsRest, with_block, with_settled};
@@ -243,6 +243,13 @@ impl Engine {
         ensures { result ≡ self.now.running.standing }
     {
         self.standing
+    }
+
+    /// The stage that stands for its world.
+    pub fn stage(&self) -> &Stage
+        ensures { IsStageOf self.now.running.world result.now }
+    {
+        &self.stage
     }
 
     /// How many clients it has.

@@ -12,6 +12,7 @@ use Rattle.sn_pcm.specs.Pcm.{pcm}
 use Rattle.sn_pcm.specs.Sound.{data_len, header_bytes}
 use Rattle.sn_pcm.proofs.PcmLemmas.{pcm_length_is}
 use Rattle.sn_world.specs.Walk.{walk}
+use Rattle.sn_world.specs.World.{World}
 use Rattle.sn_engine.proofs.HearingLemmas.{frames_made}
 use Rattle.sn_engine.specs.Outputs.{outputs}
 use Rattle.sn_engine.specs.Running.{Running, at_boundary, opened}
@@ -40,6 +41,15 @@ pub ended : (first : Running) (total : ℕ) (sound_old sound_mid sound_new repli
     → TakeBoth sound_mid sound_new replies_mid replies_new (at_boundary r).sound (to_first (at_boundary r).replies) → TakeBoth sound_old sound_new replies_old replies_new (to_end total first).sound (to_first (to_end total first).replies)
 ended first total sound_old sound_mid sound_new replies_old replies_mid replies_new r g t =
     written_all sound_old sound_mid sound_new replies_old replies_mid replies_new (to_end total first) (at_boundary r) (last_written first total sound_old sound_mid replies_old replies_mid r g) (boundary_step.clients r ∙ g.stands.alone) t
+
+-- the world there is not touched by what was written
+end_world : (first : Running) (total : ℕ) (sound_old sound_new replies_old replies_new : Option (List ℕ)) (r : Running) → IsGoing first total 0 sound_old sound_new replies_old replies_new r
+    → (to_end total first).world ≡ (at_boundary r).world
+end_world first total sound_old sound_new replies_old replies_new r g = ap (λ (p : Running). p.world) (last_written first total sound_old sound_new replies_old replies_new r g).parts
+
+pub ended_world : (first : Running) (total : ℕ) (sound_old sound_new replies_old replies_new : Option (List ℕ)) (r : Running) (w : World) → IsGoing first total 0 sound_old sound_new replies_old replies_new r
+    → w ≡ (at_boundary r).world → w ≡ (to_end total first).world
+ended_world first total sound_old sound_new replies_old replies_new r w g e = subst (λ (v : World). w ≡ v) (sym (end_world first total sound_old sound_new replies_old replies_new r g)) e
 
 -- ---- a run that is cut short
 

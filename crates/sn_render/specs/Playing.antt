@@ -40,6 +40,18 @@ IsEnd s packets (BadStream packet place fault) = ⊥
 IsEnd s packets (LongStream n) = ⊥
 IsEnd s packets ReadFault = ⊥
 
+-- an outcome before any byte is written
+abbrev pub IsUnreached : Settings → List Shape → Outcome → Type 0
+IsUnreached s packets (LongSound n) = HasEnd s packets (LongSound n)
+IsUnreached s packets NoMemory = Unit {0}
+IsUnreached s packets (Done n) = ⊥
+IsUnreached s packets SoundFault = ⊥
+IsUnreached s packets ReplyFault = ⊥
+IsUnreached s packets (BadWords i) = ⊥
+IsUnreached s packets (BadStream packet place fault) = ⊥
+IsUnreached s packets (LongStream n) = ⊥
+IsUnreached s packets ReadFault = ⊥
+
 -- each sink took what the packets give, in so many blocks
 pub record PlayedPackets (s : Settings) (packets : List Shape) (blocks : ℕ) (sound_old sound_new replies_old replies_new : Option (List ℕ)) : Type 0 where
   pub blocks_are : blocks ≡ last_of s packets

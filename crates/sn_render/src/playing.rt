@@ -35,7 +35,11 @@ fn offer_all(alloc: Global, engine: &mut Engine, packets: Packets) -> Result<(),
 }
 
 /// An engine at boundary 0, at which all packets have arrived.
-fn opened(alloc: Global, settings: &Settings, packets: Packets) -> Result<Engine, NoMemory>
+pub(crate) fn opened(
+    alloc: Global,
+    settings: &Settings,
+    packets: Packets,
+) -> Result<Engine, NoMemory>
     requires { ArePut (map shape packets.items) 0 }
     ensures { IfOk result (λ e. e.running ≡ begun settings.now (map shape packets.items)) }
 {
@@ -67,7 +71,7 @@ fn write_run<H: Threads + Sync, O: Sink, R: Sink, G: Gate>(
     alloc: Global,
     settings: &Settings,
     blocks: u64,
-    engine: Engine,
+    mut engine: Engine,
     sound: &mut O,
     replies: &mut R,
     gate: &G,
@@ -84,7 +88,7 @@ fn write_run<H: Threads + Sync, O: Sink, R: Sink, G: Gate>(
     ensures unfailed { NoneElseFailed result (O.faults sound.old) (O.faults sound.new) (R.faults replies.old) (R.faults replies.new) }
 {
     write_header(settings, blocks, sound)?;
-    render_blocks(rt, alloc, blocks, engine, sound, replies, gate)
+    render_blocks(rt, alloc, blocks, &mut engine, sound, replies, gate)
 }
 
 /// Checks the length, and writes what the packets give.

@@ -149,6 +149,7 @@ fn render_end<O: Sink, R: Sink>(
     requires alone { length engine.old.running.replies ≡ 1 }
     ensures end { OnOk result (TakeBoth (O.taken sound.old) (O.taken sound.new) (R.taken replies.old) (R.taken replies.new) (at_boundary engine.old.running).sound (to_first (at_boundary engine.old.running).replies)) }
     ensures fronts { OnErr result (TakeFronts (O.taken sound.old) (O.taken sound.new) (R.taken replies.old) (R.taken replies.new) (at_boundary engine.old.running).sound (to_first (at_boundary engine.old.running).replies)) }
+    ensures world { OnOk result (engine.new.running.world ≡ (at_boundary engine.old.running).world) }
     ensures sound { result ≡ Err Stop.SoundFault → Rose (O.faults sound.old) (O.faults sound.new) }
     ensures reply { result ≡ Err Stop.ReplyFault → Rose (R.faults replies.old) (R.faults replies.new) }
     ensures sound_later { O.faults sound.old ≤ O.faults sound.new }
@@ -171,16 +172,17 @@ pub fn render_blocks<H: Threads + Sync, O: Sink, R: Sink, G: Gate>(
     rt: &H,
     alloc: Global,
     blocks: u64,
-    mut engine: Engine,
+    engine: &mut Engine,
     sound: &mut O,
     replies: &mut R,
     gate: &G,
 ) -> Result<(), Stop>
-    requires begun { engine.running.block ≡ 0 }
-    requires stands { IsAtBoundary engine.running }
+    requires begun { engine.old.running.block ≡ 0 }
+    requires stands { IsAtBoundary engine.old.running }
     requires blocks { blocks < most_count }
-    ensures ended { OnOk result (TakeBoth (O.taken sound.old) (O.taken sound.new) (R.taken replies.old) (R.taken replies.new) (to_end blocks engine.running).sound (to_first (to_end blocks engine.running).replies)) }
-    ensures fronts { OnErr result (TakeFronts (O.taken sound.old) (O.taken sound.new) (R.taken replies.old) (R.taken replies.new) (to_end blocks engine.running).sound (to_first (to_end blocks engine.running).replies)) }
+    ensures ended { OnOk result (TakeBoth (O.taken sound.old) (O.taken sound.new) (R.taken replies.old) (R.taken replies.new) (to_end blocks engine.old.running).sound (to_first (to_end blocks engine.old.running).replies)) }
+    ensures fronts { OnErr result (TakeFronts (O.taken sound.old) (O.taken sound.new) (R.taken replies.old) (R.taken replies.new) (to_end blocks engine.old.running).sound (to_first (to_end blocks engine.old.running).replies)) }
+    ensures world { OnOk result (engine.new.running.world ≡ (to_end blocks engine.old.running).world) }
     ensures sound { result ≡ Err Stop.SoundFault → Rose (O.faults sound.old) (O.faults sound.new) }
     ensures reply { result ≡ Err Stop.ReplyFault → Rose (R.faults replies.old) (R.faults replies.new) }
     ensures unfailed { NoneElseFailed result (O.faults sound.old) (O.faults sound.new) (R.faults replies.old) (R.faults replies.new) }
@@ -188,8 +190,8 @@ pub fn render_blocks<H: Threads + Sync, O: Sink, R: Sink, G: Gate>(
     let mut done = 0;
     while done < blocks {
         let most = (blocks - done).min(SPAN) as u32;
-        render_row(rt, alloc, most, &mut engine, sound, replies, gate)?;
+        render_row(rt, alloc, most, engine, sound, replies, gate)?;
         done = engine.block();
     }
-    render_end(alloc, &mut engine, sound, replies)
+    render_end(alloc, engine, sound, replies)
 }

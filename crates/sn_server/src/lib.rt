@@ -11,6 +11,6 @@ pub use ended::Ended;
 pub use joining::joined_pieces;
 pub use serving::serve_one;
 pub use sn_render::{
-    Outcome, Packets, StreamFault, TOO_MANY_BYTES, Ungathered, Unread, gather, play, read_packets,
-    read_stream, render,
+    Outcome, Packets, Reached, StreamFault, TOO_MANY_BYTES, Ungathered, Unread, gather, play,
+    reach, read_packets, read_stream, render,
 };

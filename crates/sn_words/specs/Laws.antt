@@ -1,5 +1,5 @@
--- Laws about the first bad word, about settings that no word chooses, and about the words of `render`, `serve` and `drill`.
-use Rattle.std.specs.Prelude.{◌≡◌, ◌<◌, ◌≤◌, ◌↔◌, ℕ, Bool, true, false, List, [], length, get_or, take, codes, Option, Some, MatchOption, Ok}
+-- Laws about the first bad word, about settings that no word chooses, and about the words of `render`, `plan`, `serve` and `drill`.
+use Rattle.std.specs.Prelude.{◌≡◌, ◌<◌, ◌≤◌, ◌+◌, ◌↔◌, ℕ, Bool, true, false, List, [], length, get_or, take, codes, Option, Some, MatchOption, Ok}
 use Rattle.sn_fixed.specs.Natural.{natural}
 use Rattle.sn_ports.specs.Octets.{Octets}
 use Rattle.sn_pcm.specs.Opening.{opening}
@@ -8,7 +8,7 @@ use Rattle.sn_words.specs.declared.keys.Key.{Key}
 use Rattle.sn_words.specs.Drilling.{DrillChoices, drill_words_of, given_words}
 use Rattle.sn_words.specs.Keys.{setting_keys, serve_keys, drill_keys, is_good, first_bad, choices, value_of}
 use Rattle.sn_words.specs.Serving.{ServeChoices, between, port_word, serve_words_of}
-use Rattle.sn_words.specs.Words.{begins_with, no_word, settings_of, between as settings_between}
+use Rattle.sn_words.specs.Words.{begins_with, no_word, plan_words_of, settings_of, between as settings_between}
 
 -- The word with this index is good after the words before it, where these are the keys.
 abbrev pub is_good_at : List Key → List Octets → ℕ → Bool
@@ -31,15 +31,20 @@ FindsFirstBad keys words = Tells keys words (first_bad keys [] words)
 abbrev pub HasOpeningDefaults : Type 0
 HasOpeningDefaults = choices [] ≡ numbers opening
 
--- `render`, good words and three more words
-pub record IsRenderLine (words : List Octets) (chosen : Choices) : Type 0 where
-  pub first : begins_with (codes "render") words ≡ true
-  pub enough : 4 ≤ length words
-  pub good : AreGood setting_keys (settings_between words) (length (settings_between words))
-  pub settings : chosen ≡ choices (settings_between words)
+-- a name, good words and so many more words
+pub record IsLine (name : List ℕ) (paths : ℕ) (words : List Octets) (chosen : Choices) : Type 0 where
+  pub first : begins_with name words ≡ true
+  pub enough : paths + 1 ≤ length words
+  pub good : AreGood setting_keys (settings_between paths words) (length (settings_between paths words))
+  pub settings : chosen ≡ choices (settings_between paths words)
 
+-- `render`, good words and three more words
 abbrev pub RendersBy : List Octets → Choices → Type 0
-RendersBy words chosen = (settings_of words ≡ Ok chosen) ↔ IsRenderLine words chosen
+RendersBy words chosen = (settings_of words ≡ Ok chosen) ↔ IsLine (codes "render") 3 words chosen
+
+-- `plan`, good words and two more words
+abbrev pub PlansBy : List Octets → Choices → Type 0
+PlansBy words chosen = (plan_words_of words ≡ Ok chosen) ↔ IsLine (codes "plan") 2 words chosen
 
 -- `serve`, good words, a port from 1 to 65535 and one more word
 pub record IsServeLine (words : List Octets) (chosen : ServeChoices) : Type 0 where

@@ -1,4 +1,4 @@
--- The words `render [key=value ..] COMMANDS SOUND REPLIES`.
+-- The words `render [key=value ..] COMMANDS SOUND REPLIES` and `plan [key=value ..] COMMANDS REPORT`.
 use Rattle.std.specs.Prelude.{ℕ, ◌+◌, ◌-◌, Bool, false, not, nat_lt, cond, List, [], ◌∷◌, length, codes, Option, Some, None, Result, Ok, Err, option_map}
 use Rattle.std.specs.List.{slice_range}
 use Rattle.std.specs.Str.{bytes_eq}
@@ -13,17 +13,25 @@ abbrev pub begins_with : List ℕ → List Octets → Bool
 begins_with name [] = false
 begins_with name (word ∷ words) = bytes_eq word.bytes name
 
--- The words between the first one and the last three, which are paths.
-abbrev pub between : List Octets → List Octets
-between words = slice_range words 1 (length words - 3)
+-- The words between the first one and the last so many, which are paths.
+abbrev pub between : ℕ → List Octets → List Octets
+between paths words = slice_range words 1 (length words - paths)
 
--- The index of the first bad word: of a missing word, the number of words.
-unfoldable pub bad_word : List Octets → Option ℕ
-bad_word words =
-    cond (not (begins_with (codes "render") words)) (Some 0)
-    (cond (nat_lt (length words) 4) (Some (length words))
-    (option_map (λ i. i + 1) (first_bad setting_keys [] (between words))))
+-- The index of the first bad word, where the first is a name and the last so many are paths: of a missing word, the number of words.
+unfoldable pub bad_word : List ℕ → ℕ → List Octets → Option ℕ
+bad_word name paths words =
+    cond (not (begins_with name words)) (Some 0)
+    (cond (nat_lt (length words) (paths + 1)) (Some (length words))
+    (option_map (λ i. i + 1) (first_bad setting_keys [] (between paths words))))
 
--- The settings that the words choose, or the index of the first bad word.
+-- The settings that the words between them choose, or the index of the first bad word.
+unfoldable pub choices_of : List ℕ → ℕ → List Octets → Result Choices ℕ
+choices_of name paths words = elim (bad_word name paths words) as (λ _. Result Choices ℕ) [ Some i ↦ Err i | None ↦ Ok (choices (between paths words)) ]
+
+-- those of the words `render [key=value ..] COMMANDS SOUND REPLIES`
 unfoldable pub settings_of : List Octets → Result Choices ℕ
-settings_of words = elim (bad_word words) as (λ _. Result Choices ℕ) [ Some i ↦ Err i | None ↦ Ok (choices (between words)) ]
+settings_of words = choices_of (codes "render") 3 words
+
+-- and of the words `plan [key=value ..] COMMANDS REPORT`
+unfoldable pub plan_words_of : List Octets → Result Choices ℕ
+plan_words_of words = choices_of (codes "plan") 2 words

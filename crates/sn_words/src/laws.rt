@@ -2,7 +2,7 @@
 ghost use Rattle.std.specs.Prelude.{List};
 ghost use Rattle.sn_ports.specs.Octets.{Octets};
 ghost use Rattle.sn_words.specs.Choices.{Choices};
-ghost use Rattle.sn_words.specs.Laws.{FindsFirstBad, DrillsBy, HasOpeningDefaults, RendersBy, ServesBy};
+ghost use Rattle.sn_words.specs.Laws.{FindsFirstBad, DrillsBy, HasOpeningDefaults, PlansBy, RendersBy, ServesBy};
 ghost use Rattle.sn_words.specs.Drilling.{DrillChoices};
 ghost use Rattle.sn_words.specs.Serving.{ServeChoices};
 ghost use Rattle.sn_words.specs.declared.keys.Key.{Key};
@@ -21,6 +21,11 @@ pub fn defaults_stand()
 /// Words choose settings exactly where they are `render`, good words and three more words.
 pub fn chosen_settings()
     ensures { (words : List Octets) (chosen : Choices) → RendersBy words chosen }
+{}
+
+/// Words choose the settings of a plan exactly where they are `plan`, good words and two more words.
+pub fn chosen_plan()
+    ensures { (words : List Octets) (chosen : Choices) → PlansBy words chosen }
 {}
 
 /// Words choose settings, a port and a number of clients exactly where they are `serve`, good words, a port from 1 to 65535 and one more word.

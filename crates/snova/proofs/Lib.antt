@@ -1,4 +1,5 @@
 pub mod ByWordsLemmas
+pub mod PlanLemmas
 pub mod ServeLemmas
 pub mod ConvertLemmas
 pub mod DrillLemmas

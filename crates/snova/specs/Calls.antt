@@ -13,13 +13,13 @@ is_conversion word = bytes_eq word (codes "score") || bytes_eq word (codes "dump
 -- a first word that others may follow
 abbrev pub by_name : List ℕ → Call
 by_name word =
-    cond (bytes_eq word (codes "serve")) Call.Serve (cond (is_conversion word) Call.Convert (cond (bytes_eq word (codes "drill")) Call.Drill Call.Render))
+    cond (bytes_eq word (codes "serve")) Call.Serve (cond (is_conversion word) Call.Convert (cond (bytes_eq word (codes "drill")) Call.Drill (cond (bytes_eq word (codes "plan")) Call.Plan Call.Render)))
 
 -- a word that stands alone
 abbrev pub alone : List ℕ → Call
 alone word = cond (is_help word) Call.Help (cond (bytes_eq word (codes "--version")) Call.Version (by_name word))
 
--- Help and the version are asked for by one word alone; all else is to serve, to convert, to drill or to render.
+-- Help and the version are asked for by one word alone; all else is to serve, to convert, to drill, to plan or to render.
 abbrev pub call_of : List Octets → Call
 call_of [] = Call.Render
 call_of (word ∷ []) = alone word.bytes

@@ -35,6 +35,8 @@ pub(crate) enum Exit {
     Converted(Converted),
     /// A drill was played.
     Drilled(Outcome),
+    /// A report was written.
+    Planned(Outcome),
     /// A file could not be opened, no connection be taken at the port, or the clock not be read, or one
     /// file would be written over another.
     NotOpened,
@@ -52,6 +54,7 @@ impl Exit {
             Exit::Session(how) => session_status(*how),
             Exit::Converted(converted) => converted.status(),
             Exit::Drilled(outcome) => outcome.status(),
+            Exit::Planned(outcome) => outcome.status(),
             Exit::NotOpened => CANNOT_OPEN,
         }
     }
@@ -216,6 +219,7 @@ impl fmt::Display for Exit {
             Exit::Session(how) => write_session(f, *how),
             Exit::Converted(converted) => write_converted(f, *converted),
             Exit::Drilled(outcome) => write_outcome(f, *outcome),
+            Exit::Planned(outcome) => write_outcome(f, *outcome),
             Exit::NotOpened => f.write_str("cannot open"),
         }
     }

@@ -11,7 +11,7 @@ use std::rt::Files;
 use std::{fs, io};
 
 /// Whether the two paths are not spelled alike.
-fn is_other(given: &str, made: &str) -> bool
+pub(crate) fn is_other(given: &str, made: &str) -> bool
     ensures { result ≡ is_other given.now made.now }
 {
     given != made

@@ -1,5 +1,6 @@
 //! A sound server: reads a file of commands, or serves a connection, and writes its sound and its replies.
-//! It also writes commands as text, makes commands of a text, and plays commands that a seed chooses.
+//! It also writes commands as text, makes commands of a text, plays commands that a seed chooses, and reports what may run
+//! beside what.
 #![tactic(auto)]
 
 mod clock;
@@ -9,8 +10,10 @@ mod exit;
 mod files;
 mod forms;
 mod listening;
+mod planning;
 mod progress;
 mod rendering;
+mod reports;
 mod serving;
 mod several;
 mod shelving;
@@ -21,6 +24,7 @@ use exit::{BAD_WORDS, Exit};
 use files::render_files;
 use forms::convert_files;
 use listening::serve_port;
+use reports::plan_files;
 use shelving::ShelfOutcome;
 use sn_ports::{NoMemory, Text, Word};
 use sn_server::Outcome;
@@ -79,6 +83,7 @@ fn carry_out<
         Call::Serve => serve_port(rt, &args, &words),
         Call::Convert => convert_files(rt, &args, &words),
         Call::Drill => Ok(drill_printed(rt, &words)),
+        Call::Plan => plan_files(rt, &args, &words),
         Call::Render => render_files(rt, &args, &words, is_watched),
     }
 }

@@ -25,6 +25,9 @@ snova dump IN OUT
 snova drill [seed=N] [blocks=M] [key=value ..]
     plays M blocks of notes that the seed N chooses, and prints what came of
     them
+snova plan [key=value ..] COMMANDS REPORT
+    plays the commands in the file COMMANDS, and writes into the file REPORT
+    what may run beside what at their end, and the longest chain
 snova help, snova --help, snova -h
     prints this text
 snova --version
@@ -75,6 +78,8 @@ pub(crate) enum Call {
     Convert,
     /// To play commands that a seed chooses.
     Drill,
+    /// To report what may run beside what.
+    Plan,
     /// To render a file of commands.
     Render,
 }
@@ -101,6 +106,8 @@ fn by_name(word: &[u8]) -> Call
         Call::Convert
     } else if word == b"drill".as_slice() {
         Call::Drill
+    } else if word == b"plan".as_slice() {
+        Call::Plan
     } else {
         Call::Render
     }

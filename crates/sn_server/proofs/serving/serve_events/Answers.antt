@@ -8,8 +8,8 @@ use Rattle.sn_server.proofs.serving.serve_events.Goals as goal
 pub returns-in_default-clause-served : goal.returns-in_default-clause-served
 returns-in_default-clause-served g c = serves_nothing c.args.settings.now c.args.base (g.L.Link.left c.args.link.now) (g.O.Sink.taken c.args.sound.now) (g.L.Link.sent c.args.link.now)
 
-pub returns-in_default-piece-clause-served : goal.returns-in_default-piece-clause-served
-returns-in_default-piece-clause-served g c = serves_nothing c.args.settings.now c.args.base (g.L.Link.left c.args.link.now) (g.O.Sink.taken c.args.sound.now) (g.L.Link.sent c.args.link.now)
+pub returns-in_default-zeroed-clause-served : goal.returns-in_default-zeroed-clause-served
+returns-in_default-zeroed-clause-served g c = serves_nothing c.args.settings.now c.args.base (g.L.Link.left c.args.link.now) (g.O.Sink.taken c.args.sound.now) (g.L.Link.sent c.args.link.now)
 
 pub loop-how-init : goal.loop-how-init
 loop-how-init g c =
@@ -17,7 +17,7 @@ loop-how-init g c =
     record {
       serving = begins_serving s c.args.base (g.L.Link.left c.args.link.now) (g.O.Sink.taken c.args.sound.now) (g.L.Link.sent c.args.link.now) c.in-Ok.engine.running c.new-framer.result c.in-Ok.ensures.running c.new-framer.ensures;
       ready = begins_ready s c.args.base c.in-Ok.engine.running c.new-framer.result c.in-Ok.ensures.running c.new-framer.ensures;
-      piece = c.in-Ok-piece.ensures;
+      piece = c.in-Ok-zeroed.ensures;
       link_later = le_refl _;
       sound_later = le_refl _;
       still = (refl, refl);

@@ -1,0 +1,9 @@
+pub mod Used
+pub mod LevelLemmas
+pub mod Certified
+pub mod Traced
+pub mod RowWeights
+pub mod NodeWeights
+pub mod InLine
+pub mod LongestLemmas
+pub mod Worlds

@@ -1,0 +1,164 @@
+//! The resources that a node uses, in their order.
+ghost use Rattle.std.specs.Prelude.{◌≡◌, ◌++◌, ◌∷◌, ◌&&◌, [], List, Option, IfOk, OnOk};
+ghost use Rattle.std.specs.List.{filter};
+ghost use Rattle.sn_mem.specs.Blocks.{table};
+ghost use Rattle.sn_mem.specs.declared.buffers.BufferPlace as buffer;
+ghost use Rattle.sn_def.specs.Facts.{is_access};
+ghost use Rattle.sn_foot.specs.declared.resource.Resource.TheVariants.{Buffer};
+ghost use Rattle.sn_foot.specs.Footprints.{is_there};
+ghost use Rattle.sn_foot.specs.Putting.{resource};
+ghost use Rattle.sn_foot.specs.Uses.{footprint_in, is_same, uses_in};
+ghost use Rattle.sn_clash.specs.Clashing.{resources};
+ghost use Rattle.sn_clash.specs.Passing.{used_by};
+ghost use Rattle.sn_report.specs.Visits.{used_so};
+
+use sn_def::{Access, Bank};
+use sn_foot::{Resource, Use, push_held};
+use sn_mem::Buffers;
+use sn_ports::NoMemory;
+use sn_ports::limits::{AUDIO_BUS_COUNT, BUFFER_COUNT, CONTROL_BUS_COUNT};
+use sn_world::Held;
+use std::alloc::Global;
+
+/// What a node uses by itself.
+pub fn used_by(alloc: Global, held: &Held) -> Result<Vec<Use>, NoMemory>
+    ensures { IfOk result (λ u. (buffers : List (Option buffer.BufferPlace)) → footprint_in (is_there buffers) u.items ≡ used_by (is_there buffers) held.now) }
+{
+    let mut uses = Vec::new(alloc);
+    push_held(&mut uses, held)?;
+    Ok(uses)
+}
+
+/// Whether there is a buffer of a number.
+fn is_allocated(buffers: &Buffers, number: u32) -> bool
+    ensures { result ≡ is_there buffers.now (Buffer number) }
+{
+    number < BUFFER_COUNT && buffers.place(number).is_some()
+}
+
+/// Whether there is such a resource.
+fn is_there(buffers: &Buffers, resource: Resource) -> bool
+    ensures { result ≡ is_there buffers.now resource }
+{
+    match resource {
+        Resource::Audio(number) => number < AUDIO_BUS_COUNT,
+        Resource::Control(number) => number < CONTROL_BUS_COUNT,
+        Resource::Buffer(number) => is_allocated(buffers, number),
+    }
+}
+
+fn is_access(access: Access, used: Access) -> bool
+    ensures { result ≡ is_access access used }
+{
+    match (access, used) {
+        (Access::Read, Access::Read) => true,
+        (Access::Write, Access::Write) => true,
+        _ => false,
+    }
+}
+
+fn is_same(a: Resource, b: Resource) -> bool
+    ensures { result ≡ is_same a b }
+{
+    match (a, b) {
+        (Resource::Audio(m), Resource::Audio(n)) => m == n,
+        (Resource::Control(m), Resource::Control(n)) => m == n,
+        (Resource::Buffer(m), Resource::Buffer(n)) => m == n,
+        _ => false,
+    }
+}
+
+/// Whether it is a use of a resource in this way.
+fn is_use(used: &Use, access: Access, resource: Resource) -> bool
+    ensures { result ≡ (is_access access used.now.access && is_same used.now.resource resource) }
+{
+    is_access(access, used.access) && is_same(used.resource, resource)
+}
+
+/// Whether some of them use a resource in this way.
+fn uses_in(uses: &[Use], access: Access, resource: Resource) -> bool
+    ensures { result ≡ uses_in access uses.now resource }
+{
+    uses.iter().any(|used| is_use(used, access, resource))
+}
+
+fn resource(bank: Bank, number: u32) -> Resource
+    ensures { result ≡ resource bank number }
+{
+    match bank {
+        Bank::Audio => Resource::Audio(number),
+        Bank::Control => Resource::Control(number),
+        Bank::Buffer => Resource::Buffer(number),
+    }
+}
+
+/// Whether a resource is there, and is used in this way.
+#[tactic(auto, using(crate::proofs::Used::used_is))]
+fn is_used(buffers: &Buffers, uses: &[Use], access: Access, resource: Resource) -> bool
+    ensures { result ≡ used_so access (footprint_in (is_there buffers.now) uses.now) resource }
+{
+    is_there(buffers, resource) && uses_in(uses, access, resource)
+}
+
+/// Puts a resource at the end, if it is used so.
+fn push_used(
+    used: &mut Vec<Resource>,
+    buffers: &Buffers,
+    uses: &[Use],
+    access: Access,
+    resource: Resource,
+) -> Result<(), NoMemory>
+    ensures { OnOk result (used.new.items ≡ used.old.items ++ filter (used_so access (footprint_in (is_there buffers.now) uses.now)) (resource ∷ [])) }
+{
+    if is_used(buffers, uses, access, resource) {
+        used.push(resource)?;
+    }
+    Ok(())
+}
+
+/// Puts those of a bank's first resources at the end that are used so.
+fn push_bank(
+    used: &mut Vec<Resource>,
+    buffers: &Buffers,
+    uses: &[Use],
+    access: Access,
+    bank: Bank,
+    count: u32,
+) -> Result<(), NoMemory>
+    ensures { OnOk result (used.new.items ≡ used.old.items ++ filter (used_so access (footprint_in (is_there buffers.now) uses.now)) (table (λ n. resource bank n) count)) }
+{
+    for number in 0..count {
+        push_used(used, buffers, uses, access, resource(bank, number))?;
+    }
+    Ok(())
+}
+
+/// The resources that are there and are used so: audio buses, control buses, and buffers, each by their numbers.
+pub fn used_resources(
+    alloc: Global,
+    buffers: &Buffers,
+    uses: &[Use],
+    access: Access,
+) -> Result<Vec<Resource>, NoMemory>
+    ensures { IfOk result (λ used. used.items ≡ filter (used_so access (footprint_in (is_there buffers.now) uses.now)) resources) }
+{
+    let mut used = Vec::new(alloc);
+    push_bank(
+        &mut used,
+        buffers,
+        uses,
+        access,
+        Bank::Audio,
+        AUDIO_BUS_COUNT,
+    )?;
+    push_bank(
+        &mut used,
+        buffers,
+        uses,
+        access,
+        Bank::Control,
+        CONTROL_BUS_COUNT,
+    )?;
+    push_bank(&mut used, buffers, uses, access, Bank::Buffer, BUFFER_COUNT)?;
+    Ok(used)
+}

@@ -21,7 +21,10 @@ LETTERS = "acb"
 
 def is_split(world, group):
     """Whether the members of a group may run beside each other."""
-    return group.kind == "parallel" and world.clash_of(group) is None
+    if group.kind != "parallel" or world.clash_of(group):
+        return False
+    mixed = [bus for child in group.children for bus in world.foot(child)[2]]
+    return len(mixed) == len(set(mixed))
 
 
 def weight(world, node):
@@ -49,8 +52,8 @@ def report(world):
     units = sum(len(synth.definition.units) for synth in synths)
     lines = [f"synths {len(synths)} units {units} cost {cost}"]
     for synth in synths:
-        reads, writes = world.foot(synth)
-        lines.append(f"node {synth.id} units {len(synth.definition.units)} reads {listed(reads)} writes {listed(writes)} mixes -")
+        reads, writes, mixes = (listed(used) for used in world.foot(synth))
+        lines.append(f"node {synth.id} units {len(synth.definition.units)} reads {reads} writes {writes} mixes {mixes}")
     lines.append("chain " + (" ".join(str(ident) for ident in chain) or "-"))
     return "".join(line + "\n" for line in lines)
 
@@ -119,28 +122,32 @@ ROWS = [
     ("an empty stream", stream(), EMPTY),
     ("groups alone", stream(("/g_new", 1, 0, 0), ("/p_new", 2, 0, 1)), EMPTY),
     ("two in a row", stream(*TWO, new("out0", 10, 1, 0), new("out1", 11, 1, 0)),
-     "synths 2 units 2 cost 2\nnode 10 units 1 reads - writes a0 mixes -\nnode 11 units 1 reads - writes a1 mixes -\nchain 10 11\n"),
+     "synths 2 units 2 cost 2\nnode 10 units 1 reads - writes - mixes a0\nnode 11 units 1 reads - writes - mixes a1\nchain 10 11\n"),
     ("two beside each other, the first of equals", stream(*TWO, ("/p_new", 1, 0, 0), new("out0", 10, 1, 1), new("out1", 11, 1, 1)),
-     "synths 2 units 2 cost 1\nnode 10 units 1 reads - writes a0 mixes -\nnode 11 units 1 reads - writes a1 mixes -\nchain 10\n"),
-    ("two that clash", stream(*TWO, ("/p_new", 1, 0, 0), new("out0", 10, 1, 1), new("out0", 11, 1, 1)),
-     "synths 2 units 2 cost 2\nnode 10 units 1 reads - writes a0 mixes -\nnode 11 units 1 reads - writes a0 mixes -\nchain 10 11\n"),
+     "synths 2 units 2 cost 1\nnode 10 units 1 reads - writes - mixes a0\nnode 11 units 1 reads - writes - mixes a1\nchain 10\n"),
+    ("two that mix one bus", stream(*TWO, ("/p_new", 1, 0, 0), new("out0", 10, 1, 1), new("out0", 11, 1, 1)),
+     "synths 2 units 2 cost 2\nnode 10 units 1 reads - writes - mixes a0\nnode 11 units 1 reads - writes - mixes a0\nchain 10 11\n"),
+    ("two that clash", stream(*TWO, ("/d_recv", copies("read0", 0, 3)), ("/p_new", 1, 0, 0), new("out0", 10, 1, 1), new("read0", 11, 1, 1)),
+     "synths 2 units 3 cost 3\nnode 10 units 1 reads - writes - mixes a0\nnode 11 units 2 reads a0 writes - mixes a3\nchain 10 11\n"),
+    ("one bus read and written", stream(("/d_recv", copies("wide", 4, 4, 5)), new("wide", 10, 1, 0)),
+     "synths 1 units 7 cost 7\nnode 10 units 7 reads a4 writes a4 mixes -\nchain 10\n"),
     ("the longer member", stream(*TWO, ("/p_new", 1, 0, 0), new("out0", 10, 1, 1), new("long", 11, 1, 1), new("out1", 12, 1, 0)),
-     "synths 3 units 6 cost 5\nnode 10 units 1 reads - writes a0 mixes -\nnode 11 units 4 reads a9 writes a2 mixes -\n"
-     "node 12 units 1 reads - writes a1 mixes -\nchain 11 12\n"),
+     "synths 3 units 6 cost 5\nnode 10 units 1 reads - writes - mixes a0\nnode 11 units 4 reads a9 writes - mixes a2\n"
+     "node 12 units 1 reads - writes - mixes a1\nchain 11 12\n"),
     ("a paused member", stream(*TWO, ("/p_new", 1, 0, 0), new("out0", 10, 1, 1), new("long", 11, 1, 1), ("/n_run", 11, 0)),
-     "synths 1 units 1 cost 1\nnode 10 units 1 reads - writes a0 mixes -\nchain 10\n"),
+     "synths 1 units 1 cost 1\nnode 10 units 1 reads - writes - mixes a0\nchain 10\n"),
     ("a mapped control", stream(("/d_recv", TEXTS["dc"]), new("dc", 10, 1, 0), ("/n_map", 10, "amp", 7)),
-     "synths 1 units 1 cost 1\nnode 10 units 1 reads c7 writes a0 mixes -\nchain 10\n"),
+     "synths 1 units 1 cost 1\nnode 10 units 1 reads c7 writes - mixes a0\nchain 10\n"),
     ("four tones beside each other, and one that hears the first",
      stream(*recv("tone"), ("/d_recv", copies("three", 16, 0, 1)), ("/p_new", 1, 0, 0), *[new("tone", 10 + i, 1, 1) + ("out", 16 + i) for i in range(4)], new("three", 20, 1, 0)),
-     "synths 5 units 11 cost 5\n" + "".join(f"node {10 + i} units 2 reads - writes a{16 + i} mixes -\n" for i in range(4))
-     + "node 20 units 3 reads a16 writes a0 mixes -\nchain 10 20\n"),
-    ("three on one bus, which are rendered in order, and one that hears them",
+     "synths 5 units 11 cost 5\n" + "".join(f"node {10 + i} units 2 reads - writes - mixes a{16 + i}\n" for i in range(4))
+     + "node 20 units 3 reads a16 writes - mixes a0\nchain 10 20\n"),
+    ("three that mix one bus, which are rendered in order, and one that hears them",
      stream(("/d_recv", TEXTS["dc"]), ("/d_recv", copies("three", 16, 0, 1)), ("/p_new", 1, 0, 0), *[new("dc", 10 + i, 1, 1) + ("out", 16) for i in range(3)], new("three", 20, 1, 0)),
-     "synths 4 units 6 cost 6\n" + "".join(f"node {10 + i} units 1 reads - writes a16 mixes -\n" for i in range(3))
-     + "node 20 units 3 reads a16 writes a0 mixes -\nchain 10 11 12 20\n"),
+     "synths 4 units 6 cost 6\n" + "".join(f"node {10 + i} units 1 reads - writes - mixes a16\n" for i in range(3))
+     + "node 20 units 3 reads a16 writes - mixes a0\nchain 10 11 12 20\n"),
     ("the last boundary acts", stream(*TWO, new("out0", 10, 1, 0), at(1, new("out1", 11, 1, 0))),
-     "synths 2 units 2 cost 2\nnode 10 units 1 reads - writes a0 mixes -\nnode 11 units 1 reads - writes a1 mixes -\nchain 10 11\n"),
+     "synths 2 units 2 cost 2\nnode 10 units 1 reads - writes - mixes a0\nnode 11 units 1 reads - writes - mixes a1\nchain 10 11\n"),
 ]
 TREES = 60
 BAD_WORDS = [("plan", 1), ("plan a", 2), ("plan rate=1 a b", 1), ("plan bits=16 bits=16 a b", 2), ("plan x a b", 1)]

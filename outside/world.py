@@ -4,6 +4,10 @@ from definitions import UNITS
 from units import FRAMES, sat
 
 
+# Units on buses and buffers that read, by the begin of their names; the others write.
+READERS = ("In", "PlayBuf", "BufRd")
+
+
 class Failed(Exception):
     """The reason for which a command is refused."""
 
@@ -268,33 +272,34 @@ class World:
     # Clashes.
 
     def foot(self, node):
-        """What the walk reads and writes at a node and below it."""
-        reads, writes = set(), set()
+        """What the walk reads, writes and only mixes at a node and below it."""
+        reads, writes, mixes = set(), set(), set()
         for synth in node.running():
             if not synth.is_group():
                 reads.update((1, bus) for bus in synth.buses if bus is not None)
-                for unit in synth.definition.units:
-                    self.unit_foot(synth, unit, reads, writes)
-        return reads, writes
+                uses = [(unit.name, use) for unit in synth.definition.units for use in self.unit_uses(synth, unit)]
+                for name, use in uses:
+                    alone = name == "Out.ar" and sum(use == other for _, other in uses) == 1
+                    (mixes if alone else reads if name.startswith(READERS) else writes).add(use)
+        return reads, writes, mixes
 
-    def unit_foot(self, synth, unit, reads, writes):
+    def unit_uses(self, synth, unit):
+        """The buses, or the buffer, that a unit reads or writes."""
         if unit.name == "BufFrames" or not UNITS[unit.name][0].startswith("#"):
-            return
+            return []
         number = synth.index(unit.inputs[0])
         if "Buf" in unit.name:
-            if number in self.buffers:
-                (writes if unit.name in ("RecordBuf", "BufWr") else reads).add((2, number))
-            return
+            return [(2, number)] if number in self.buffers else []
         kind, bound = (1, 1024) if unit.name.endswith(".kr") else (0, 128)
         channels = unit.outputs if unit.name.startswith("In") else len(unit.inputs) - 1
-        buses = {(kind, bus) for bus in range(number, number + channels) if 0 <= bus < bound}
-        (reads if unit.name.startswith("In") else writes).update(buses)
+        return [(kind, bus) for bus in range(number, number + channels) if 0 <= bus < bound]
 
     def clash_of(self, group):
         feet = [self.foot(child) for child in group.children]
-        for i, (reads, writes) in enumerate(feet):
+        for i, (reads, writes, mixes) in enumerate(feet):
             for j in range(i + 1, len(feet)):
-                shared = writes & (feet[j][0] | feet[j][1]) | feet[j][1] & reads
+                r, w, m = feet[j]
+                shared = writes & (r | w | m) | w & (reads | mixes) | mixes & r | m & reads
                 if shared:
                     kind, number = min(shared)
                     return group.id, group.children[i].id, group.children[j].id, ("audio", "control", "buffer")[kind], number

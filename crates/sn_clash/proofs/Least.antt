@@ -5,18 +5,18 @@ use Rattle.std.specs.List.{filter, list_any}
 use Rattle.std.proofs.lemmas.Bool.{and_parts, cases_eq, cases_lt, eq-eqb, eqb-true, ne_eqb, lt-ltb, ltb-true, ltb-false, and_from, or_cases, or_from, or_left, or_parts, or_right}
 use Rattle.std.proofs.Math.Bool.{or_assoc, or-false, and-false}
 use Rattle.sn_mem.specs.declared.buffers.BufferPlace.{BufferPlace}
-use Rattle.sn_def.specs.declared.table.Access.{Access}
-use Rattle.sn_def.specs.declared.table.Access.TheVariants.{Read, Write}
 use Rattle.sn_foot.specs.declared.resource.Resource.{Resource}
 use Rattle.sn_foot.specs.declared.resource.Resource.TheVariants.{Audio, Control, Buffer}
+use Rattle.sn_foot.specs.declared.uses.Role.{Role}
+use Rattle.sn_foot.specs.declared.uses.Role.TheVariants.{Read, Write, Mix}
 use Rattle.sn_foot.specs.declared.uses.Use.{Use}
 use Rattle.sn_clash.specs.declared.marks.Mark.{Mark}
-use Rattle.sn_foot.specs.Footprints.{clash_on, is_there, number_of}
+use Rattle.sn_foot.specs.Footprints.{Footprint, clash_on, is_there, number_of}
 use Rattle.sn_clash.specs.Clashing.{resources}
-use Rattle.sn_foot.specs.Uses.{footprint_in, is_same, uses_in}
-use Rattle.sn_def.specs.Facts.{is_access}
+use Rattle.sn_foot.specs.Uses.{footprint_in, is_role, is_same, uses_in}
 use Rattle.sn_clash.specs.Marking.{listed, comes_before, first_hit, first_of, hits, mark_of, marked_in, meets, rank}
 use Rattle.sn_clash.proofs.Firsts.{all_none, first_audio, first_buffer, first_control}
+use Rattle.sn_clash.proofs.Roles.{clash_bits, clash_is}
 use Rattle.sn_foot.proofs.Putting.{low_number}
 
 -- ---- tests
@@ -154,56 +154,85 @@ moved f (Buffer m) (Audio n) = moved_not (f (Buffer m)) (f (Audio n))
 moved f (Buffer m) (Control n) = moved_not (f (Buffer m)) (f (Control n))
 moved f (Buffer m) (Buffer n) = moved_number (λ k. f (Buffer k)) m n
 
--- what is marked as read or written, and what some use reads or writes, of a resource that is there or not
-abbrev clash_bits : Bool → Bool → Bool → Bool → Bool → Bool
-clash_bits t mr mw ur uw = ((t && mw) && ((t && ur) || (t && uw))) || ((t && uw) && ((t && mr) || (t && mw)))
+-- what is marked as read, written and mixed, and what some use reads, writes and mixes, of a resource that is there or not
+abbrev there_bits : Bool → Bool → Bool → Bool → Bool → Bool → Bool → Bool
+there_bits t mr mw mm ur uw um = clash_bits (t && mr) (t && mw) (t && mm) (t && ur) (t && uw) (t && um)
 
-no_uses : (t mr mw : Bool) → false ≡ clash_bits t mr mw false false
-no_uses false mr mw = refl
-no_uses true mr true = refl
-no_uses true mr false = refl
+no_uses : (t mr mw mm : Bool) → false ≡ there_bits t mr mw mm false false false
+no_uses true mr mw mm = refl
+no_uses false mr mw mm = refl
 
-one_read : (t mr mw s ur uw : Bool) → (((mw && t) && s) || clash_bits t mr mw ur uw) ≡ clash_bits t mr mw (s || ur) uw
-one_read false mr true s ur uw = refl
-one_read false mr false s ur uw = refl
-one_read true mr false s ur uw = refl
-one_read true mr true true ur uw = refl
-one_read true mr true false ur uw = refl
+one_read : (t s mr mw mm ur uw um : Bool) → ((((mw || mm) && t) && s) || there_bits t mr mw mm ur uw um) ≡ there_bits t mr mw mm (s || ur) uw um
+one_read true true mr true mm ur uw um = refl
+one_read true true mr false true ur uw um = refl
+one_read true true mr false false true uw um = refl
+one_read true true mr false false false uw um = refl
+one_read true false mr true mm ur uw um = refl
+one_read true false mr false true ur uw um = refl
+one_read true false mr false false ur uw um = refl
+one_read false s mr true mm ur uw um = refl
+one_read false s mr false true ur uw um = refl
+one_read false s mr false false ur uw um = refl
 
-one_written : (t mr mw s ur uw : Bool) → ((((mr || mw) && t) && s) || clash_bits t mr mw ur uw) ≡ clash_bits t mr mw ur (s || uw)
-one_written false true mw s ur uw = refl
-one_written false false true s ur uw = refl
-one_written false false false s ur uw = refl
-one_written true true true true true uw = refl
-one_written true true true true false uw = refl
-one_written true true true false ur uw = refl
-one_written true true false true ur uw = refl
-one_written true true false false ur uw = refl
-one_written true false true true true uw = refl
-one_written true false true true false uw = refl
-one_written true false true false ur uw = refl
-one_written true false false true ur true = refl
-one_written true false false true ur false = refl
-one_written true false false false ur uw = refl
+one_written : (t s mr mw mm ur uw um : Bool) → (((((mr || mw) || mm) && t) && s) || there_bits t mr mw mm ur uw um) ≡ there_bits t mr mw mm ur (s || uw) um
+one_written true true true true mm true uw um = refl
+one_written true true true false true true uw um = refl
+one_written true true true false false true uw um = refl
+one_written true true true mw mm false uw um = refl
+one_written true true false true mm true uw um = refl
+one_written true true false true mm false uw um = refl
+one_written true true false false true true uw um = refl
+one_written true true false false true false uw um = refl
+one_written true true false false false ur true um = refl
+one_written true true false false false ur false um = refl
+one_written true false true mw mm ur uw um = refl
+one_written true false false true mm ur uw um = refl
+one_written true false false false true ur uw um = refl
+one_written true false false false false ur uw um = refl
+one_written false s true mw mm ur uw um = refl
+one_written false s false true mm ur uw um = refl
+one_written false s false false true ur uw um = refl
+one_written false s false false false ur uw um = refl
 
-one_more : (a : Access) (t : Bool) (m : Mark) (s ur uw : Bool) →
-    (((meets a m && t) && s) || clash_bits t m.read m.written ur uw) ≡ clash_bits t m.read m.written ((is_access Read a && s) || ur) ((is_access Write a && s) || uw)
-one_more Read t m s ur uw = one_read t m.read m.written s ur uw
-one_more Write t m s ur uw = one_written t m.read m.written s ur uw
+one_mixed : (t s mr mw mm ur uw um : Bool) → ((((mr || mw) && t) && s) || there_bits t mr mw mm ur uw um) ≡ there_bits t mr mw mm ur uw (s || um)
+one_mixed true true true true mm true uw um = refl
+one_mixed true true true false true true uw um = refl
+one_mixed true true true false false true true um = refl
+one_mixed true true true false false true false um = refl
+one_mixed true true true mw mm false true um = refl
+one_mixed true true true mw mm false false um = refl
+one_mixed true true false true mm true uw um = refl
+one_mixed true true false true mm false true um = refl
+one_mixed true true false true mm false false um = refl
+one_mixed true true false false mm ur uw true = refl
+one_mixed true true false false mm ur uw false = refl
+one_mixed true false true mw mm ur uw um = refl
+one_mixed true false false true mm ur uw um = refl
+one_mixed true false false false mm ur uw um = refl
+one_mixed false s true mw mm ur uw um = refl
+one_mixed false s false true mm ur uw um = refl
+one_mixed false s false false mm ur uw um = refl
+
+one_more : (a : Role) (t : Bool) (m : Mark) (s ur uw um : Bool) →
+    (((meets a m && t) && s) || there_bits t m.read m.written m.mixed ur uw um)
+    ≡ there_bits t m.read m.written m.mixed ((is_role Read a && s) || ur) ((is_role Write a && s) || uw) ((is_role Mix a && s) || um)
+one_more Read t m s ur uw um = one_read t s m.read m.written m.mixed ur uw um
+one_more Write t m s ur uw um = one_written t s m.read m.written m.mixed ur uw um
+one_more Mix t m s ur uw um = one_mixed t s m.read m.written m.mixed ur uw um
 
 hit_clash : (there : Resource → Bool) (marks : List Mark) (us : List Use) (r : Resource) →
-    hit_on there marks us r ≡ clash_bits (there r) (mark_of marks r).read (mark_of marks r).written (uses_in Read us r) (uses_in Write us r)
-hit_clash there marks [] r = no_uses (there r) (mark_of marks r).read (mark_of marks r).written
+    hit_on there marks us r ≡ there_bits (there r) (mark_of marks r).read (mark_of marks r).written (mark_of marks r).mixed (uses_in Read us r) (uses_in Write us r) (uses_in Mix us r)
+hit_clash there marks [] r = no_uses (there r) (mark_of marks r).read (mark_of marks r).written (mark_of marks r).mixed
 hit_clash there marks (u ∷ us) r =
     let m : Mark = mark_of marks r in
     let s : Bool = is_same u.resource r in
-    ap (λ b. b || hit_on there marks us r) (moved (λ q. meets u.access (mark_of marks q) && there q) u.resource r)
-    ∙ ap (λ b. ((meets u.access m && there r) && s) || b) (hit_clash there marks us r)
-    ∙ one_more u.access (there r) m s (uses_in Read us r) (uses_in Write us r)
+    ap (λ b. b || hit_on there marks us r) (moved (λ q. meets u.role (mark_of marks q) && there q) u.resource r)
+    ∙ ap (λ b. ((meets u.role m && there r) && s) || b) (hit_clash there marks us r)
+    ∙ one_more u.role (there r) m s (uses_in Read us r) (uses_in Write us r) (uses_in Mix us r)
 
-only_there : (t mr mw ur uw : Bool) → clash_bits t mr mw ur uw ≡ true → t ≡ true
-only_there true mr mw ur uw h = refl
-only_there false mr mw ur uw h = h
+only_there : (t mr mw mm ur uw um : Bool) → there_bits t mr mw mm ur uw um ≡ true → t ≡ true
+only_there true mr mw mm ur uw um h = refl
+only_there false mr mw mm ur uw um h = h
 
 -- ---- among all resources
 
@@ -223,10 +252,12 @@ of_first p low audio (Some (Buffer n)) f =
 pub first_shared : (buffers : List (Option BufferPlace)) (marks : List Mark) (us : List Use) (found : Option Resource) → found ≡ first_hit (is_there buffers) marks us None →
     listed found ≡ take 1 (filter (clash_on (marked_in (is_there buffers) marks) (footprint_in (is_there buffers) us)) resources)
 first_shared buffers marks us found e =
-    let p : Resource → Bool = clash_on (marked_in (is_there buffers) marks) (footprint_in (is_there buffers) us) in
+    let a : Footprint = marked_in (is_there buffers) marks in
+    let b : Footprint = footprint_in (is_there buffers) us in
+    let p : Resource → Bool = clash_on a b in
     let there : (r : Resource) → p r ≡ true → is_there buffers r ≡ true =
-    λ r h. only_there (is_there buffers r) (mark_of marks r).read (mark_of marks r).written (uses_in Read us r) (uses_in Write us r) h in
+    λ r h. only_there (is_there buffers r) (mark_of marks r).read (mark_of marks r).written (mark_of marks r).mixed (uses_in Read us r) (uses_in Write us r) (uses_in Mix us r) (sym (clash_is a b r) ∙ h) in
     ap listed e
     ∙ of_first p (λ r h. low_number buffers r (there r h)) (λ n h. ltb-true n 128 (there (Audio n) h)) (first_hit (is_there buffers) marks us None)
-    (retold (λ r. false || hit_on (is_there buffers) marks us r) p (first_hit (is_there buffers) marks us None) (λ r. hit_clash (is_there buffers) marks us r)
+    (retold (λ r. false || hit_on (is_there buffers) marks us r) p (first_hit (is_there buffers) marks us None) (λ r. hit_clash (is_there buffers) marks us r ∙ sym (clash_is a b r))
     (first_is (is_there buffers) marks us (λ r. false) None (λ r. refl)))

@@ -1,3 +1,4 @@
+pub mod Roles
 pub mod Firsts
 pub mod Marking
 pub mod Least

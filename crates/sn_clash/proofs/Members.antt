@@ -1,5 +1,5 @@
 -- The first clash of members.
-use Rattle.std.proofs.Common.{◌≡◌, ◌≤◌, ◌<◌, ℕ, ◌+◌, ℤ, Bool, true, false, ◌&&◌, ◌||◌, List, [], ◌∷◌, ◌++◌, Option, Some, None, sym, refl, ap, ◌∙◌, arith, length, take, map, reverse, if◌then◌else◌, true≢false}
+use Rattle.std.proofs.Common.{◌≡◌, ◌≤◌, ◌<◌, ℕ, ◌+◌, ℤ, Bool, true, false, ◌||◌, List, [], ◌∷◌, ◌++◌, Option, Some, None, sym, refl, ap, ◌∙◌, arith, length, take, map, reverse, if◌then◌else◌, true≢false}
 use Rattle.std.specs.Prelude.{slice_index_or, is_some}
 use Rattle.std.specs.List.{filter, list_any}
 use Rattle.std.proofs.Math.Bool.{or_comm}
@@ -14,6 +14,7 @@ use Rattle.sn_foot.specs.Uses.{footprint_in}
 use Rattle.sn_clash.specs.Marking.{listed, marked_in}
 use Rattle.sn_clash.specs.Passing.{either, gathered, no_use, clashes_later, from_first, member_of, members_of}
 use Rattle.sn_clash.proofs.Firsts.{first_kept, first_later}
+use Rattle.sn_clash.proofs.Roles.{bits_together, clash_bits, clash_is, clash_swapped}
 
 -- ---- whether there is a first one
 
@@ -53,9 +54,6 @@ one_at there es n x lt is = one_more there es n x lt ∙ ap (λ e. member_of the
 choose : (b : Bool) (m n : ℕ) (f : ℕ → List Member) (xs ys : List Member) → f m ≡ xs → f n ≡ ys → f (if b then m else n) ≡ (if b then xs else ys)
 choose true m n f xs ys x y = x
 choose false m n f xs ys x y = y
-
-clash_swapped : (a b : Footprint) → clash_on a b ≡ clash_on b a
-clash_swapped a b = λ i r. or_comm (a.writes r && (b.reads r || b.writes r)) (b.writes r && (a.reads r || a.writes r)) i
 
 -- the first that clashes is sought
 pub next_first : (there : Resource → Bool) (es : List Subtree) (n : ℕ) (x : Subtree) (first : ℕ) (clashes : Bool) (later : List Mark) → n < length es → x ≡ slice_index_or es n x →
@@ -175,28 +173,21 @@ any_none : {A : Type 0} (xs : List A) → list_any (λ (x : A). false) xs ≡ fa
 any_none [] = refl
 any_none (x ∷ xs) = any_none xs
 
--- ar and aw tell what a member uses, fr and fw what others use, and br and bw one more
-split : (ar aw fr fw br bw : Bool) →
-    ((aw && ((fr || br) || (fw || bw))) || ((fw || bw) && (ar || aw)))
-    ≡ (((aw && (fr || fw)) || (fw && (ar || aw))) || ((aw && (br || bw)) || (bw && (ar || aw))))
-split ar true true fw br bw = refl
-split ar true false true true bw = refl
-split ar true false false true bw = refl
-split ar true false true false bw = refl
-split ar true false false false bw = refl
-split true false fr true br bw = refl
-split false false fr true br true = refl
-split false false fr true br false = refl
-split ar false fr false br bw = refl
+-- a member clashes with what two footprints use together where it clashes with one of them
+split : (a f b : Footprint) (r : Resource) → clash_on a (either f b) r ≡ (clash_on a f r || clash_on a b r)
+split a f b r =
+    clash_is a (either f b) r
+    ∙ bits_together (a.reads r) (a.writes r) (a.mixes r) (f.reads r) (f.writes r) (f.mixes r) (b.reads r) (b.writes r) (b.mixes r)
+    ∙ sym (ap (λ x. x || clash_on a b r) (clash_is a f r)
+    ∙ ap (λ x. clash_bits (a.reads r) (a.writes r) (a.mixes r) (f.reads r) (f.writes r) (f.mixes r) || x) (clash_is a b r))
 
-apart_none : (ar aw : Bool) → ((aw && (false || false)) || (false && (ar || aw))) ≡ false
-apart_none ar true = refl
-apart_none ar false = refl
+apart_none : (a : Footprint) (r : Resource) → clash_on a no_use r ≡ false
+apart_none a r = clash_is a no_use r
 
 -- a member clashes with a later one where it clashes with what all later ones use
 later_some : (id : ℤ) (a : Member) (bs : List Member) → has_some (clashes_with id a bs) ≡ clashes_later a bs
 unfolding has_some
-later_some id a [] = sym (ap (λ p. list_any p resources) (λ i r. apart_none (a.uses.reads r) (a.uses.writes r) i) ∙ any_none resources)
+later_some id a [] = sym (ap (λ p. list_any p resources) (λ i r. apart_none a.uses r i) ∙ any_none resources)
 later_some id a (b ∷ bs) =
     let f : Footprint = gathered no_use bs in
     some_append (map (clash_at id a b) (shared_by a b)) (clashes_with id a bs)
@@ -204,7 +195,7 @@ later_some id a (b ∷ bs) =
     ∙ ap (λ c. list_any (clash_on a.uses b.uses) resources || c) (later_some id a bs)
     ∙ or_comm (list_any (clash_on a.uses b.uses) resources) (list_any (clash_on a.uses f) resources)
     ∙ sym (any_or (clash_on a.uses f) (clash_on a.uses b.uses) resources)
-    ∙ sym (ap (λ p. list_any p resources) (λ i r. split (a.uses.reads r) (a.uses.writes r) (f.reads r) (f.writes r) (b.uses.reads r) (b.uses.writes r) i))
+    ∙ sym (ap (λ p. list_any p resources) (λ i r. split a.uses f b.uses r i))
 
 pick : (id : ℤ) (b : Bool) (a : Member) (bs rest : List Member) → (if b then take 1 (clashes_with id a bs) else first_pair id rest) ≡ first_pair id (if b then a ∷ bs else rest)
 pick id true a bs rest = refl

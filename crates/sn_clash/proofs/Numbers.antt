@@ -8,7 +8,9 @@ use Rattle.sn_tree.specs.Trees.{Nodes, none, node}
 use Rattle.sn_world.specs.declared.stage.Stage.{Stage}
 use Rattle.sn_foot.specs.declared.resource.Resource.{Resource}
 use Rattle.sn_foot.specs.declared.resource.Resource.TheVariants.{Audio, Control, Buffer}
-use Rattle.sn_foot.specs.Footprints.{held_reads, held_writes, clash_on, is_there, number_of}
+use Rattle.sn_foot.specs.declared.uses.Role.{Role}
+use Rattle.sn_foot.specs.Footprints.{clash_on, is_there, number_of}
+use Rattle.sn_foot.specs.Uses.{held_uses}
 use Rattle.sn_clash.specs.declared.clash.Clash.{Clash}
 use Rattle.sn_clash.specs.Clashing.{Member, clashes, clashes_among, clashes_in, clashes_with, is_parallel, members, resources}
 
@@ -55,18 +57,18 @@ either_small : (b : Bool) (xs ys : List Clash) → All IsSmall xs → All IsSmal
 either_small true xs ys p q = p
 either_small false xs ys p q = q
 
-module _ {P : Type 0} (there : Resource → Bool) (reads writes : P → Resource → Bool) where
-  small_clashes : (t : Nodes P) → All IsSmall (clashes there reads writes t)
+module _ {P : Type 0} (there : Resource → Bool) (uses : Role → P → Resource → Bool) where
+  small_clashes : (t : Nodes P) → All IsSmall (clashes there uses t)
   small_clashes none = All-nil IsSmall
   small_clashes (node label below after) =
-      let first : List Clash = take 1 (clashes_among label.id (members there reads writes below)) in
+      let first : List Clash = take 1 (clashes_among label.id (members there uses below)) in
       let own : List Clash = if is_parallel label.kind then first else [] in
-      let rest : List Clash = clashes there reads writes below ++ clashes there reads writes after in
-      either_small label.running (own ++ rest) (clashes there reads writes after)
+      let rest : List Clash = clashes there uses below ++ clashes there uses after in
+      either_small label.running (own ++ rest) (clashes there uses after)
       (All-append IsSmall own rest
-      (either_small (is_parallel label.kind) first [] (All-take IsSmall 1 (clashes_among label.id (members there reads writes below)) (small_among label.id (members there reads writes below))) (All-nil IsSmall))
-      (All-append IsSmall (clashes there reads writes below) (clashes there reads writes after) (small_clashes below) (small_clashes after)))
+      (either_small (is_parallel label.kind) first [] (All-take IsSmall 1 (clashes_among label.id (members there uses below)) (small_among label.id (members there uses below))) (All-nil IsSmall))
+      (All-append IsSmall (clashes there uses below) (clashes there uses after) (small_clashes below) (small_clashes after)))
       (small_clashes after)
 
 pub small_in : (stage : Stage) → All IsSmall (clashes_in stage)
-small_in stage = small_clashes (is_there stage.buffers) held_reads held_writes stage.tree.attached
+small_in stage = small_clashes (is_there stage.buffers) held_uses stage.tree.attached

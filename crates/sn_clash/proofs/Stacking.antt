@@ -14,14 +14,15 @@ use Rattle.sn_tree.specs.Members.{tops, members as rows}
 use Rattle.sn_tree.specs.declared.members.Member.{Member as Row}
 use Rattle.sn_world.specs.declared.stage.Held.{Held}
 use Rattle.sn_foot.specs.declared.resource.Resource.{Resource}
-use Rattle.sn_def.specs.declared.table.Bank.TheVariants as banks
-use Rattle.sn_foot.specs.Footprints.{Footprint, held_reads, held_writes}
+use Rattle.sn_foot.specs.declared.uses.Role.{Role}
+use Rattle.sn_foot.specs.declared.uses.Role.TheVariants.{Read, Write, Mix}
+use Rattle.sn_foot.specs.Footprints.{Footprint}
 use Rattle.sn_clash.specs.declared.clash.Clash.{Clash}
 use Rattle.sn_clash.specs.declared.subtree.Subtree.{Subtree}
 use Rattle.std.specs.Global.{Vec}
 use Rattle.sn_foot.specs.declared.uses.Use.{Use}
 use Rattle.sn_clash.specs.Clashing.{Member, clashes, clashes_among, footprint, is_parallel, members}
-use Rattle.sn_foot.specs.Uses.{footprint_in}
+use Rattle.sn_foot.specs.Uses.{footprint_in, held_uses}
 use Rattle.sn_clash.specs.Passing.{Passed, Slot, base_of, either, found_at, gathered, members_of, no_use, nothing, pass, pass_one, passed_of, slot_members, slot_of, used_by, uses_at}
 use Rattle.sn_clash.specs.Rows.{row_of}
 
@@ -124,43 +125,56 @@ gather_bool false true false false = refl
 
 module _ (there : Resource → Bool) where
   abbrev nodes_use : List (Label Held) → Footprint
-  nodes_use labels = footprint there held_reads held_writes labels
+  nodes_use labels = footprint there held_uses labels
 
   abbrev tops_of : Nodes Held → List Member
-  tops_of t = members there held_reads held_writes t
+  tops_of t = members there held_uses t
 
   more_reads : (f : Footprint) (label : Label Held) (below after : Nodes Held) (r : Resource) →
       ((f.reads r || (nodes_use (running_labels after)).reads r) || (nodes_use (running_labels (node label below none))).reads r) ≡ (f.reads r || (nodes_use (running_labels (node label below after))).reads r)
   more_reads f label below after r =
-      gather_bool (f.reads r) (there r) (used held_reads (running_labels (node label below none)) r) (used held_reads (running_labels after) r)
-      ∙ ap (λ b. f.reads r || (there r && b)) (sym (either_labels label.running label (running_labels below) (running_labels after) held_reads r))
+      gather_bool (f.reads r) (there r) (used (held_uses Read) (running_labels (node label below none)) r) (used (held_uses Read) (running_labels after) r)
+      ∙ ap (λ b. f.reads r || (there r && b)) (sym (either_labels label.running label (running_labels below) (running_labels after) (held_uses Read) r))
 
   more_writes : (f : Footprint) (label : Label Held) (below after : Nodes Held) (r : Resource) →
       ((f.writes r || (nodes_use (running_labels after)).writes r) || (nodes_use (running_labels (node label below none))).writes r) ≡ (f.writes r || (nodes_use (running_labels (node label below after))).writes r)
   more_writes f label below after r =
-      gather_bool (f.writes r) (there r) (used held_writes (running_labels (node label below none)) r) (used held_writes (running_labels after) r)
-      ∙ ap (λ b. f.writes r || (there r && b)) (sym (either_labels label.running label (running_labels below) (running_labels after) held_writes r))
+      gather_bool (f.writes r) (there r) (used (held_uses Write) (running_labels (node label below none)) r) (used (held_uses Write) (running_labels after) r)
+      ∙ ap (λ b. f.writes r || (there r && b)) (sym (either_labels label.running label (running_labels below) (running_labels after) (held_uses Write) r))
+
+  more_mixes : (f : Footprint) (label : Label Held) (below after : Nodes Held) (r : Resource) →
+      ((f.mixes r || (nodes_use (running_labels after)).mixes r) || (nodes_use (running_labels (node label below none))).mixes r) ≡ (f.mixes r || (nodes_use (running_labels (node label below after))).mixes r)
+  more_mixes f label below after r =
+      gather_bool (f.mixes r) (there r) (used (held_uses Mix) (running_labels (node label below none)) r) (used (held_uses Mix) (running_labels after) r)
+      ∙ ap (λ b. f.mixes r || (there r && b)) (sym (either_labels label.running label (running_labels below) (running_labels after) (held_uses Mix) r))
 
   gathered_all : (f : Footprint) (t : Nodes Held) → gathered f (tops_of t) ≡ either f (nodes_use (running_labels t))
-  gathered_all f none = λ i. record { reads = λ r. no_more (f.reads r) (there r) i; writes = λ r. no_more (f.writes r) (there r) i }
+  gathered_all f none = λ i. record { reads = λ r. no_more (f.reads r) (there r) i; writes = λ r. no_more (f.writes r) (there r) i; mixes = λ r. no_more (f.mixes r) (there r) i }
   gathered_all f (node label below after) =
       ap (λ (g : Footprint). either g (nodes_use (running_labels (node label below none)))) (gathered_all f after)
-      ∙ (λ i. record { reads = λ r. more_reads f label below after r i; writes = λ r. more_writes f label below after r i })
+      ∙ (λ i. record { reads = λ r. more_reads f label below after r i; writes = λ r. more_writes f label below after r i; mixes = λ r. more_mixes f label below after r i })
+
+  own_too : (role : Role) (label : Label Held) (below : Nodes Held) (r : Resource) →
+      ((there r && held_uses role label.payload r) || (there r && used (held_uses role) (running_labels below) r)) ≡ (there r && (held_uses role label.payload r || used (held_uses role) (running_labels below ++ []) r))
+  own_too role label below r =
+      sym (and-or_distrib_left (there r) (held_uses role label.payload r) (used (held_uses role) (running_labels below) r))
+      ∙ ap (λ (ls : List (Label Held)). there r && (held_uses role label.payload r || used (held_uses role) ls r)) (sym (append-nil (running_labels below)))
 
   uses_top : (running : Bool) (label : Label Held) (below : Nodes Held) →
       (if running then gathered (used_by there label.payload) (tops_of below) else no_use) ≡ nodes_use (if running then label ∷ (running_labels below ++ []) else [])
   uses_top true label below =
       gathered_all (used_by there label.payload) below
       ∙ (λ i. record {
-        reads = λ r. (sym (and-or_distrib_left (there r) (held_reads label.payload r) (used held_reads (running_labels below) r)) ∙ ap (λ (ls : List (Label Held)). there r && (held_reads label.payload r || used held_reads ls r)) (sym (append-nil (running_labels below)))) i;
-        writes = λ r. (sym (and-or_distrib_left (there r) (held_writes label.payload r) (used held_writes (running_labels below) r)) ∙ ap (λ (ls : List (Label Held)). there r && (held_writes label.payload r || used held_writes ls r)) (sym (append-nil (running_labels below)))) i;
+        reads = λ r. own_too Read label below r i;
+        writes = λ r. own_too Write label below r i;
+        mixes = λ r. own_too Mix label below r i;
       })
-  uses_top false label below = λ i. record { reads = λ r. sym (and-false (there r)) i; writes = λ r. sym (and-false (there r)) i }
+  uses_top false label below = λ i. record { reads = λ r. sym (and-false (there r)) i; writes = λ r. sym (and-false (there r)) i; mixes = λ r. sym (and-false (there r)) i }
 
   -- ---- the slots of nodes
 
   abbrev found_in : Nodes Held → List Clash
-  found_in t = clashes there held_reads held_writes t
+  found_in t = clashes there held_uses t
 
   abbrev top : Label Held → Nodes Held → Member
   top label below = record { id = label.id; uses = nodes_use (running_labels (node label below none)) }
@@ -261,12 +275,12 @@ none_of true label bs cs mine below after f g h quiet =
 none_of false label bs cs mine below after f g h quiet = h quiet
 
 module _ (there : Resource → Bool) where
-  no_parallel : (t : Nodes Held) → list_any parallel (running_labels t) ≡ false → clashes there held_reads held_writes t ≡ []
+  no_parallel : (t : Nodes Held) → list_any parallel (running_labels t) ≡ false → clashes there held_uses t ≡ []
   no_parallel none quiet = refl
   no_parallel (node label below after) quiet =
-      let first : List Clash = take 1 (clashes_among label.id (members there held_reads held_writes below)) in
-      none_of label.running label (running_labels below) (running_labels after) (if parallel label then first else []) (clashes there held_reads held_writes below) (clashes there held_reads held_writes after)
+      let first : List Clash = take 1 (clashes_among label.id (members there held_uses below)) in
+      none_of label.running label (running_labels below) (running_labels after) (if parallel label then first else []) (clashes there held_uses below) (clashes there held_uses after)
       (λ is. cond-false (parallel label) first [] is) (no_parallel below) (no_parallel after) quiet
 
-  pub no_clashes : (t : Nodes Held) → list_any (λ l. is_parallel l.kind) (running_labels t) ≡ false → [] ≡ clashes there held_reads held_writes t
+  pub no_clashes : (t : Nodes Held) → list_any (λ l. is_parallel l.kind) (running_labels t) ≡ false → [] ≡ clashes there held_uses t
   no_clashes t quiet = sym (no_parallel t quiet)

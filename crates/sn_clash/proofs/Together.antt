@@ -13,7 +13,7 @@ use Rattle.sn_clash.specs.Passing.{either, gathered, member_of, members_of}
 -- ---- footprints in another order
 
 pub either_swapped : (f g : Footprint) → either f g ≡ either g f
-either_swapped f g = λ i. record { reads = λ r. or_comm (f.reads r) (g.reads r) i; writes = λ r. or_comm (f.writes r) (g.writes r) i }
+either_swapped f g = λ i. record { reads = λ r. or_comm (f.reads r) (g.reads r) i; writes = λ r. or_comm (f.writes r) (g.writes r) i; mixes = λ r. or_comm (f.mixes r) (g.mixes r) i }
 
 turned : (a b c : Bool) → ((a || b) || c) ≡ ((a || c) || b)
 turned true b c = refl
@@ -23,7 +23,7 @@ turned false false true = refl
 turned false false false = refl
 
 either_turned : (f g h : Footprint) → either (either f g) h ≡ either (either f h) g
-either_turned f g h = λ i. record { reads = λ r. turned (f.reads r) (g.reads r) (h.reads r) i; writes = λ r. turned (f.writes r) (g.writes r) (h.writes r) i }
+either_turned f g h = λ i. record { reads = λ r. turned (f.reads r) (g.reads r) (h.reads r) i; writes = λ r. turned (f.writes r) (g.writes r) (h.writes r) i; mixes = λ r. turned (f.mixes r) (g.mixes r) (h.mixes r) i }
 
 gathered_first : (f g : Footprint) (ms : List Member) → gathered (either f g) ms ≡ either (gathered f ms) g
 gathered_first f g [] = refl

@@ -15,8 +15,11 @@ use Rattle.sn_world.specs.World.{world_of}
 use Rattle.sn_world.proofs.DefsLemmas.{is_some-map}
 use Rattle.sn_foot.specs.declared.resource.Resource.{Resource}
 use Rattle.sn_foot.specs.declared.resource.Resource.TheVariants.{Audio, Control, Buffer}
-use Rattle.sn_foot.specs.Footprints.{Footprint, held_reads, held_writes, is_there}
-use Rattle.sn_clash.specs.Clashing.{Member, clashes, clashes_among, clashes_in, clashes_of, content_reads, content_writes, footprint, is_parallel, members}
+use Rattle.sn_foot.specs.declared.uses.Role.{Role}
+use Rattle.sn_foot.specs.declared.uses.Role.TheVariants.{Read, Write, Mix}
+use Rattle.sn_foot.specs.Footprints.{Footprint, is_there}
+use Rattle.sn_foot.specs.Uses.{held_uses}
+use Rattle.sn_clash.specs.Clashing.{Member, clashes, clashes_among, clashes_in, clashes_of, content_uses, footprint, is_parallel, members}
 
 -- ---- buffers
 
@@ -52,40 +55,44 @@ module _ {P Q : Type 0} (f : P → Q) where
   any_mapped test [] = refl
   any_mapped test (l ∷ ls) = ap (λ b. test (f l.payload) || b) (any_mapped test ls)
 
-  module _ (there : Resource → Bool) (reads writes : Q → Resource → Bool) where
-    footprint_mapped : (t : Nodes P) → footprint there reads writes (running_labels (with_payloads f t)) ≡ footprint there (λ p. reads (f p)) (λ p. writes (f p)) (running_labels t)
+  module _ (there : Resource → Bool) (uses : Role → Q → Resource → Bool) where
+    abbrev before : Role → P → Resource → Bool
+    before role p r = uses role (f p) r
+
+    footprint_mapped : (t : Nodes P) → footprint there uses (running_labels (with_payloads f t)) ≡ footprint there before (running_labels t)
     footprint_mapped t =
-        ap (λ ls. footprint there reads writes ls) (labels_mapped t)
+        ap (λ ls. footprint there uses ls) (labels_mapped t)
         ∙ (λ i. record {
-          reads = λ r. there r && any_mapped (λ q. reads q r) (running_labels t) i;
-          writes = λ r. there r && any_mapped (λ q. writes q r) (running_labels t) i;
+          reads = λ r. there r && any_mapped (λ q. uses Read q r) (running_labels t) i;
+          writes = λ r. there r && any_mapped (λ q. uses Write q r) (running_labels t) i;
+          mixes = λ r. there r && any_mapped (λ q. uses Mix q r) (running_labels t) i;
         })
 
-    members_mapped : (t : Nodes P) → members there reads writes (with_payloads f t) ≡ members there (λ p. reads (f p)) (λ p. writes (f p)) t
+    members_mapped : (t : Nodes P) → members there uses (with_payloads f t) ≡ members there before t
     members_mapped none = refl
     members_mapped (node label below after) =
-        ap (λ (u : Footprint). record { id = label.id; uses = u } ∷ members there reads writes (with_payloads f after)) (footprint_mapped (node label below none))
-        ∙ ap (λ (ms : List Member). record { id = label.id; uses = footprint there (λ p. reads (f p)) (λ p. writes (f p)) (running_labels (node label below none)) } ∷ ms) (members_mapped after)
+        ap (λ (u : Footprint). record { id = label.id; uses = u } ∷ members there uses (with_payloads f after)) (footprint_mapped (node label below none))
+        ∙ ap (λ (ms : List Member). record { id = label.id; uses = footprint there before (running_labels (node label below none)) } ∷ ms) (members_mapped after)
 
-    clashes_mapped : (t : Nodes P) → clashes there reads writes (with_payloads f t) ≡ clashes there (λ p. reads (f p)) (λ p. writes (f p)) t
+    clashes_mapped : (t : Nodes P) → clashes there uses (with_payloads f t) ≡ clashes there before t
     clashes_mapped none = refl
     clashes_mapped (node label below after) =
         λ i. if label.running
         then (if is_parallel label.kind then take 1 (clashes_among label.id (members_mapped below i)) else []) ++ (clashes_mapped below i ++ clashes_mapped after i)
         else clashes_mapped after i
 
--- ---- what synths read and write
+-- ---- what synths use
 
-same_reads : (words : List ℕ) (h : Held) (r : Resource) → content_reads (content_of words h) r ≡ held_reads h r
-same_reads words held.Group r = refl
-same_reads words (held.Synth def controls state) r = refl
-
-same_writes : (words : List ℕ) (h : Held) (r : Resource) → content_writes (content_of words h) r ≡ held_writes h r
-same_writes words held.Group r = refl
-same_writes words (held.Synth def controls state) r = refl
+same_uses : (words : List ℕ) (role : Role) (h : Held) (r : Resource) → content_uses role (content_of words h) r ≡ held_uses role h r
+same_uses words Read held.Group r = refl
+same_uses words Write held.Group r = refl
+same_uses words Mix held.Group r = refl
+same_uses words Read (held.Synth def controls state) r = refl
+same_uses words Write (held.Synth def controls state) r = refl
+same_uses words Mix (held.Synth def controls state) r = refl
 
 pub same_clashes : (stage : Stage) (words : List ℕ) → clashes_of (world_of stage words) ≡ clashes_in stage
 same_clashes stage words =
     let t = stage.tree.attached in
-    clashes_mapped (content_of words) (is_there (buffers_of words stage.buffers)) content_reads content_writes t
-    ∙ (λ i. clashes (λ r. same_there words stage.buffers r i) (λ h r. same_reads words h r i) (λ h r. same_writes words h r i) t)
+    clashes_mapped (content_of words) (is_there (buffers_of words stage.buffers)) content_uses t
+    ∙ (λ i. clashes (λ r. same_there words stage.buffers r i) (λ role h r. same_uses words role h r i) t)

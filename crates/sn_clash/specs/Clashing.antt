@@ -3,6 +3,8 @@ use Rattle.std.specs.Prelude.{ℤ, Bool, true, false, ◌&&◌, if◌then◌else
 use Rattle.std.specs.List.{filter, list_any}
 use Rattle.sn_ports.specs.Limits.{audio_bus_count, control_bus_count, buffer_count}
 use Rattle.sn_mem.specs.Blocks.{table}
+use Rattle.sn_def.specs.declared.control.Control.{Control as SynthControl}
+use Rattle.sn_def.specs.declared.unit.Unit.{Unit as UnitLine}
 use Rattle.sn_tree.specs.declared.node.NodeKind.{NodeKind}
 use Rattle.sn_tree.specs.declared.node.NodeKind.TheVariants as kinds
 use Rattle.sn_tree.specs.Trees.{Label, Nodes, none, node, running_labels}
@@ -11,7 +13,10 @@ use Rattle.sn_world.specs.Nodes.{Content, group, synth}
 use Rattle.sn_world.specs.World.{World}
 use Rattle.sn_foot.specs.declared.resource.Resource.{Resource}
 use Rattle.sn_foot.specs.declared.resource.Resource.TheVariants.{Audio, Control, Buffer}
-use Rattle.sn_foot.specs.Footprints.{Footprint, clash_on, is_there, synth_reads, synth_writes, held_reads, held_writes}
+use Rattle.sn_foot.specs.declared.uses.Role.{Role}
+use Rattle.sn_foot.specs.declared.uses.Role.TheVariants.{Read, Write, Mix}
+use Rattle.sn_foot.specs.Footprints.{Footprint, clash_on, is_there, synth_mixes, synth_reads, synth_writes}
+use Rattle.sn_foot.specs.Uses.{held_uses}
 use Rattle.sn_clash.specs.declared.clash.Clash.{Clash}
 
 -- ---- resources
@@ -46,13 +51,14 @@ is_parallel kinds.Synth = false
 is_parallel kinds.Group = false
 is_parallel kinds.Parallel = true
 
--- nodes with payloads of some sort, of which two tests tell what each reads and writes
-module _ {P : Type 0} (there : Resource → Bool) (reads writes : P → Resource → Bool) where
-  -- the resources that are there and that one of these reads, and those that one of them writes
+-- nodes with payloads of some sort, of which a test tells what each reads, writes and mixes
+module _ {P : Type 0} (there : Resource → Bool) (uses : Role → P → Resource → Bool) where
+  -- the resources that are there and that one of these reads, those that one of them writes, and those that one of them mixes
   abbrev pub footprint : List (Label P) → Footprint
   footprint labels = record {
-    reads = λ r. there r && list_any (λ l. reads l.payload r) labels;
-    writes = λ r. there r && list_any (λ l. writes l.payload r) labels;
+    reads = λ r. there r && list_any (λ l. uses Read l.payload r) labels;
+    writes = λ r. there r && list_any (λ l. uses Write l.payload r) labels;
+    mixes = λ r. there r && list_any (λ l. uses Mix l.payload r) labels;
   }
 
   -- nodes beside each other: a paused one uses nothing
@@ -70,16 +76,17 @@ module _ {P : Type 0} (there : Resource → Bool) (reads writes : P → Resource
 
 -- ---- a world and a stage
 
-abbrev pub content_reads : Content → Resource → Bool
-content_reads group r = false
-content_reads (synth s) r = synth_reads s.definition.units s.controls r
+abbrev pub synth_uses : Role → List UnitLine → List SynthControl → Resource → Bool
+synth_uses Read units controls r = synth_reads units controls r
+synth_uses Write units controls r = synth_writes units controls r
+synth_uses Mix units controls r = synth_mixes units controls r
 
-abbrev pub content_writes : Content → Resource → Bool
-content_writes group r = false
-content_writes (synth s) r = synth_writes s.definition.units s.controls r
+abbrev pub content_uses : Role → Content → Resource → Bool
+content_uses role group r = false
+content_uses role (synth s) r = synth_uses role s.definition.units s.controls r
 
 abbrev pub clashes_of : World → List Clash
-clashes_of w = clashes (is_there w.buffers) content_reads content_writes w.nodes
+clashes_of w = clashes (is_there w.buffers) content_uses w.nodes
 
 abbrev pub clashes_in : Stage → List Clash
-clashes_in stage = clashes (is_there stage.buffers) held_reads held_writes stage.tree.attached
+clashes_in stage = clashes (is_there stage.buffers) held_uses stage.tree.attached

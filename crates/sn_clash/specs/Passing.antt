@@ -4,7 +4,7 @@ use Rattle.std.specs.List.{list_any}
 use Rattle.sn_tree.specs.Trees.{Label}
 use Rattle.sn_world.specs.declared.stage.Held.{Held}
 use Rattle.sn_foot.specs.declared.resource.Resource.{Resource}
-use Rattle.sn_foot.specs.Footprints.{Footprint, held_reads, held_writes, clash_on}
+use Rattle.sn_foot.specs.Footprints.{Footprint, held_mixes, held_reads, held_writes, clash_on}
 use Rattle.sn_clash.specs.declared.clash.Clash.{Clash}
 use Rattle.sn_clash.specs.declared.subtree.Subtree.{Subtree}
 use Rattle.sn_clash.specs.Clashing.{Member, clashes_among, is_parallel, resources}
@@ -13,10 +13,10 @@ use Rattle.sn_foot.specs.Uses.{footprint_in}
 -- ---- footprints together
 
 abbrev pub no_use : Footprint
-no_use = record { reads = λ r. false; writes = λ r. false }
+no_use = record { reads = λ r. false; writes = λ r. false; mixes = λ r. false }
 
 abbrev pub either : Footprint → Footprint → Footprint
-either a b = record { reads = λ r. a.reads r || b.reads r; writes = λ r. a.writes r || b.writes r }
+either a b = record { reads = λ r. a.reads r || b.reads r; writes = λ r. a.writes r || b.writes r; mixes = λ r. a.mixes r || b.mixes r }
 
 -- what members use, beside another footprint
 abbrev pub gathered : Footprint → List Member → Footprint
@@ -68,7 +68,7 @@ slot_members ss = reverse (map (λ s. s.member) ss)
 module _ (there : Resource → Bool) where
   -- what a node uses by itself
   abbrev pub used_by : Held → Footprint
-  used_by h = record { reads = λ r. there r && held_reads h r; writes = λ r. there r && held_writes h r }
+  used_by h = record { reads = λ r. there r && held_reads h r; writes = λ r. there r && held_writes h r; mixes = λ r. there r && held_mixes h r }
 
   -- what a node uses with all below it
   abbrev pub uses_at : Label Held → List Member → Footprint

@@ -5,8 +5,7 @@ ghost use Rattle.sn_foot.specs.Footprints.{is_there};
 ghost use Rattle.sn_foot.specs.Uses.{footprint_in};
 ghost use Rattle.sn_clash.specs.Marking.{is_marked, mark_of, mark_use, mark_uses, marked_in, more, place, unmarked};
 
-use sn_def::Access;
-use sn_foot::{Resource, Use};
+use sn_foot::{Resource, Role, Use};
 use sn_ports::NoMemory;
 use sn_ports::limits::CONTROL_BUS_COUNT;
 use std::alloc::Global;
@@ -19,6 +18,8 @@ pub struct Mark {
     pub read: bool,
     /// It is written.
     pub written: bool,
+    /// It is mixed.
+    pub mixed: bool,
 }
 
 /// How many places there are: of each of the three sorts as many as there are control buses.
@@ -36,28 +37,36 @@ fn place(resource: Resource) -> usize
 }
 
 /// The mark of what is used once more.
-fn more(mark: Mark, access: Access) -> Mark
-    ensures { result ≡ more access mark }
+fn more(mark: Mark, role: Role) -> Mark
+    ensures { result ≡ more role mark }
 {
-    match access {
-        Access::Read => Mark {
+    match role {
+        Role::Read => Mark {
             read: true,
             written: mark.written,
+            mixed: mark.mixed,
         },
-        Access::Write => Mark {
+        Role::Write => Mark {
             read: mark.read,
             written: true,
+            mixed: mark.mixed,
+        },
+        Role::Mix => Mark {
+            read: mark.read,
+            written: mark.written,
+            mixed: true,
         },
     }
 }
 
 /// Whether it is marked that something is used so.
-fn is_marked(access: Access, mark: Mark) -> bool
-    ensures { result ≡ is_marked access mark }
+fn is_marked(role: Role, mark: Mark) -> bool
+    ensures { result ≡ is_marked role mark }
 {
-    match access {
-        Access::Read => mark.read,
-        Access::Write => mark.written,
+    match role {
+        Role::Read => mark.read,
+        Role::Write => mark.written,
+        Role::Mix => mark.mixed,
     }
 }
 
@@ -69,6 +78,7 @@ fn unmarked(alloc: Global, count: usize) -> Result<Vec<Mark>, NoMemory>
     let mark = Mark {
         read: false,
         written: false,
+        mixed: false,
     };
     Ok(vec![in alloc; mark; count]?)
 }
@@ -105,14 +115,15 @@ impl Marks {
         self.marks.get(place(resource)).copied().unwrap_or(Mark {
             read: false,
             written: false,
+            mixed: false,
         })
     }
 
     /// Whether it is marked that the resource of a use is used so.
     pub fn has(&self, used: &Use) -> bool
-        ensures { result ≡ is_marked used.now.access (mark_of self.now used.now.resource) }
+        ensures { result ≡ is_marked used.now.role (mark_of self.now used.now.resource) }
     {
-        is_marked(used.access, self.of(used.resource))
+        is_marked(used.role, self.of(used.resource))
     }
 
     /// Marks a use, where its resource has a place.
@@ -124,7 +135,7 @@ impl Marks {
         if index >= self.marks.len() {
             return;
         }
-        self.marks[index] = more(self.of(used.resource), used.access);
+        self.marks[index] = more(self.of(used.resource), used.role);
     }
 
     /// Marks uses.

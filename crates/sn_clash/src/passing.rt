@@ -44,7 +44,7 @@ fn used_by(alloc: Global, held: &Held) -> Result<Vec<Use>, NoMemory>
     ensures { IfOk result (λ u. (buffers : List (Option buffer.BufferPlace)) → footprint_in (is_there buffers) u.items ≡ used_by (is_there buffers) held.now) }
 {
     let mut uses = Vec::new(alloc);
-    push_held(&mut uses, held)?;
+    push_held(alloc, &mut uses, held)?;
     Ok(uses)
 }
 

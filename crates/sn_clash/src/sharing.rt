@@ -8,8 +8,7 @@ ghost use Rattle.sn_foot.specs.Uses.{footprint_in};
 ghost use Rattle.sn_clash.specs.Marking.{listed, comes_before, first_hit, first_of, hits, marked_in, meets, rank};
 
 use crate::marks::{Mark, Marks};
-use sn_def::Access;
-use sn_foot::{Resource, Use};
+use sn_foot::{Resource, Role, Use};
 use sn_mem::Buffers;
 use sn_ports::limits::{AUDIO_BUS_COUNT, BUFFER_COUNT, CONTROL_BUS_COUNT};
 
@@ -31,13 +30,14 @@ fn is_there(buffers: &Buffers, resource: Resource) -> bool
     }
 }
 
-/// Whether one writes what the other reads or writes.
-fn meets(access: Access, mark: Mark) -> bool
-    ensures { result ≡ meets access mark }
+/// Whether one of the two writes, or one mixes and the other does more.
+fn meets(role: Role, mark: Mark) -> bool
+    ensures { result ≡ meets role mark }
 {
-    match access {
-        Access::Read => mark.written,
-        Access::Write => mark.read || mark.written,
+    match role {
+        Role::Read => mark.written || mark.mixed,
+        Role::Write => (mark.read || mark.written) || mark.mixed,
+        Role::Mix => mark.read || mark.written,
     }
 }
 
@@ -45,7 +45,7 @@ fn meets(access: Access, mark: Mark) -> bool
 fn hits(buffers: &Buffers, marks: &Marks, used: &Use) -> bool
     ensures { result ≡ hits (is_there buffers.now) marks.now used.now }
 {
-    meets(used.access, marks.of(used.resource)) && is_there(buffers, used.resource)
+    meets(used.role, marks.of(used.resource)) && is_there(buffers, used.resource)
 }
 
 fn rank(resource: Resource) -> u32

@@ -10,7 +10,8 @@ use sn_foot::Use;
 use sn_ports::NoMemory;
 use std::alloc::Global;
 
-/// How long a list of uses may grow. There are 3,072 places, each read or written, so that a longer list has repeats.
+/// How long a list of uses may grow. There are 3,072 places, each read or written, and a third of them, the audio buses, may
+/// be mixed too: 7,168 uses in all, so that a longer list has repeats.
 const MOST_USES: usize = 8192;
 
 /// Puts a use at the end and marks it, unless it is marked.

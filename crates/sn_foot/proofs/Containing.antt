@@ -112,4 +112,8 @@ its_words buffers hs =
             (λ (b : has (states_of hs) x ≡ true). or_right (has (used_places buffers f.writes) x) (has (states_of hs) x) b)
             is),
       );
+      mixes = λ x. (
+        (λ h. places_are buffers f.mixes x (sym (has_canonical (used_places buffers f.mixes) x) ∙ h)),
+        (λ is. has_canonical (used_places buffers f.mixes) x ∙ are_places buffers f.mixes x is.0 is.1.0 is.1.1),
+      );
     }

@@ -1,4 +1,6 @@
 pub mod Runs
+pub mod Sameness
+pub mod Judged
 pub mod Putting
 pub mod Finding
 pub mod Placing

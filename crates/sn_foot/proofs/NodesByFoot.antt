@@ -1,16 +1,18 @@
 -- What a foot that has the words of nodes does for them: it has the foot of each, and lies in the memory; and what the nodes make of words
 -- depends on it alone.
-use Rattle.std.proofs.Common.{◌≡◌, ◌<◌, inl, inr, ⊎_elim, ℕ, zero, suc, ◌+◌, nat_lt, Bool, true, false, ◌||◌, List, [], ◌∷◌, length, get_or, ℤ, Option, Some, None, sym, ◌∙◌, arith, All, true≢false}
+use Rattle.std.proofs.Common.{◌≡◌, ◌<◌, ◌⊎◌, inl, inr, ⊎_elim, ℕ, zero, suc, ◌+◌, nat_lt, Bool, true, false, ◌||◌, List, [], ◌∷◌, ◌++◌, length, get_or, ℤ, Option, Some, None, sym, ◌∙◌, arith, All, true≢false}
 use Rattle.std.specs.List.{list_any}
 use Rattle.std.specs.Prelude.{nat_le}
 use Rattle.std.proofs.lemmas.Bool.{and_from, and_parts, or_cases, or_left, or_right, ltb-true}
 use Rattle.std.proofs.lemmas.List.Elements.{All-head, All-tail}
 use Rattle.sn_mem.specs.declared.extents.Extent.{Extent}
 use Rattle.sn_mem.specs.declared.extents.Foot.{Foot}
+use Rattle.sn_foot.specs.declared.reach.Reach.{Reach}
 use Rattle.sn_mem.specs.declared.buffers.BufferPlace.{BufferPlace}
 use Rattle.sn_mem.specs.Buffers.{MayBePlace}
 use Rattle.sn_mem.specs.Layout.{audio_place, control_place}
 use Rattle.sn_mem.specs.Words.{covers, has, touches}
+use Rattle.sn_foot.specs.Reaches.{unmoved}
 use Rattle.sn_io.specs.ByFoot.{IsByFoot, IsPart}
 use Rattle.sn_io.proofs.ByFoot.{by_foot_none, by_foot_then}
 use Rattle.sn_def.specs.Defs.{definition_of}
@@ -26,7 +28,7 @@ use Rattle.sn_world.specs.declared.stage.Held.TheVariants as held
 use Rattle.sn_world.proofs.BufferLaws.{are_places}
 use Rattle.sn_foot.specs.declared.resource.Resource.{Resource}
 use Rattle.sn_foot.specs.declared.resource.Resource.TheVariants.{Audio, Control, Buffer}
-use Rattle.sn_foot.specs.Footprints.{buffer_words, is_there, place_of, held_reads, held_writes, footprint_of, states_of, lies_in, IsOfUsed, AreItsWords, foot_of}
+use Rattle.sn_foot.specs.Footprints.{buffer_words, is_there, place_of, held_mixes, held_reads, held_writes, footprint_of, states_of, lies_in, IsOfUsed, AreItsWords, foot_of}
 use Rattle.sn_foot.specs.Suffices.{Suffices, AreOfWorld, held_by}
 use Rattle.sn_foot.proofs.Runs.{has_append}
 use Rattle.sn_foot.proofs.Containing.{in_range, its_words}
@@ -52,27 +54,44 @@ module _ (buffers : List (Option BufferPlace)) (hs : List Held) (k : ℕ) (d : H
       let p = and_parts (is_there buffers r) (list_any (λ h. held_writes h r) (get_or hs k d ∷ [])) on in
       and_from (is_there buffers r) (list_any (λ h. held_writes h r) hs) p.0 (any_at (λ h. held_writes h r) hs k d low (alone (held_writes (get_or hs k d) r) p.1))
 
+  own_mixes : (r : Resource) → (footprint_of buffers (get_or hs k d ∷ [])).mixes r ≡ true → (footprint_of buffers hs).mixes r ≡ true
+  own_mixes r on =
+      let p = and_parts (is_there buffers r) (list_any (λ h. held_mixes h r) (get_or hs k d ∷ [])) on in
+      and_from (is_there buffers r) (list_any (λ h. held_mixes h r) hs) p.0 (any_at (λ h. held_mixes h r) hs k d low (alone (held_mixes (get_or hs k d) r) p.1))
+
   own_states : (x : ℕ) → has (states_of (get_or hs k d ∷ [])) x ≡ true → has (states_of hs) x ≡ true
   own_states x on = states_at hs k d x low (alone (has (held_extents (get_or hs k d)) x) (sym (has_append (held_extents (get_or hs k d)) [] x) ∙ on))
 
-  own_written : (foot : Foot) (x : ℕ) → AreItsWords buffers hs foot → has (foot_of buffers (get_or hs k d ∷ [])).writes x ≡ true → has foot.writes x ≡ true
-  own_written foot x is w = (is.writes x).1 (⊎_elim
+  own_written : (reach : Reach) (x : ℕ) → AreItsWords buffers hs reach → has (foot_of buffers (get_or hs k d ∷ [])).writes x ≡ true → has reach.writes x ≡ true
+  own_written reach x is w = (is.writes x).1 (⊎_elim
       (λ u. inl (used_more buffers (footprint_of buffers (get_or hs k d ∷ [])).writes (footprint_of buffers hs).writes x own_writes u))
       (λ s. inr (own_states x s))
       (((its_words buffers (get_or hs k d ∷ [])).writes x).0 w))
 
-  own_part : (foot : Foot) → AreItsWords buffers hs foot → IsPart (foot_of buffers (get_or hs k d ∷ [])) foot
-  own_part foot is =
-      let own : Foot = foot_of buffers (get_or hs k d ∷ []) in record {
-        written = λ x w. own_written foot x is w;
+  own_mixed : (reach : Reach) (x : ℕ) → AreItsWords buffers hs reach → has (foot_of buffers (get_or hs k d ∷ [])).mixes x ≡ true → has reach.mixes x ≡ true
+  own_mixed reach x is m = (is.mixes x).1 (used_more buffers (footprint_of buffers (get_or hs k d ∷ [])).mixes (footprint_of buffers hs).mixes x own_mixes (((its_words buffers (get_or hs k d ∷ [])).mixes x).0 m))
+
+  own_put : (reach : Reach) (x : ℕ) → AreItsWords buffers hs reach → has (unmoved (foot_of buffers (get_or hs k d ∷ []))).writes x ≡ true → has (unmoved reach).writes x ≡ true
+  own_put reach x is w =
+      let own : Reach = foot_of buffers (get_or hs k d ∷ []) in
+      has_append reach.writes reach.mixes x
+      ∙ ⊎_elim
+      (λ (a : has own.writes x ≡ true). or_left (has reach.writes x) (has reach.mixes x) (own_written reach x is a))
+      (λ (a : has own.mixes x ≡ true). or_right (has reach.writes x) (has reach.mixes x) (own_mixed reach x is a))
+      (or_cases (has own.writes x) (has own.mixes x) (sym (has_append own.writes own.mixes x) ∙ w))
+
+  own_part : (reach : Reach) → AreItsWords buffers hs reach → IsPart (unmoved (foot_of buffers (get_or hs k d ∷ []))) (unmoved reach)
+  own_part reach is =
+      let own : Reach = foot_of buffers (get_or hs k d ∷ []) in record {
+        written = λ x w. own_put reach x is w;
         touched = λ x t. ⊎_elim
-            (λ (w : has own.writes x ≡ true). or_left (has foot.writes x) (has foot.reads x) (own_written foot x is w))
-            (λ (r : has own.reads x ≡ true). or_right (has foot.writes x) (has foot.reads x) ((is.reads x).1 (used_more buffers (footprint_of buffers (get_or hs k d ∷ [])).reads (footprint_of buffers hs).reads x own_reads (((its_words buffers (get_or hs k d ∷ [])).reads x).0 r))))
-            (or_cases (has own.writes x) (has own.reads x) t);
+            (λ (w : has (own.writes ++ own.mixes) x ≡ true). or_left (has (reach.writes ++ reach.mixes) x) (has reach.reads x) (own_put reach x is w))
+            (λ (r : has own.reads x ≡ true). or_right (has (reach.writes ++ reach.mixes) x) (has reach.reads x) ((is.reads x).1 (used_more buffers (footprint_of buffers (get_or hs k d ∷ [])).reads (footprint_of buffers hs).reads x own_reads (((its_words buffers (get_or hs k d ∷ [])).reads x).0 r))))
+            (or_cases (has (own.writes ++ own.mixes) x) (has own.reads x) t);
       }
 
-pub foot_has_each : (buffers : List (Option BufferPlace)) (hs : List Held) (foot : Foot) → AreItsWords buffers hs foot → All (λ (h : Held). IsPart (foot_of buffers (h ∷ [])) foot) hs
-foot_has_each buffers hs foot is = λ k d low. own_part buffers hs k d low foot is
+pub foot_has_each : (buffers : List (Option BufferPlace)) (hs : List Held) (reach : Reach) → AreItsWords buffers hs reach → All (λ (h : Held). IsPart (unmoved (foot_of buffers (h ∷ []))) (unmoved reach)) hs
+foot_has_each buffers hs reach is = λ k d low. own_part buffers hs k d low reach is
 
 -- ---- a wider foot
 
@@ -81,10 +100,10 @@ suffices_wider part whole buffers held.Group is may = tt
 suffices_wider part whole buffers (held.Synth def controls state) is may = runs_wider part whole buffers controls (definition_of def.value) state is may
 
 -- with its own foot, and so with any foot that has the words of that
-pub own_suffices : (rate : ℕ) (region : Extent) (buffers : List (Option BufferPlace)) (foot : Foot) (h : Held) → AreOfWorld rate region buffers (h ∷ []) → IsPart (foot_of buffers (h ∷ [])) foot → Suffices foot buffers h
+pub own_suffices : (rate : ℕ) (region : Extent) (buffers : List (Option BufferPlace)) (foot : Foot) (h : Held) → AreOfWorld rate region buffers (h ∷ []) → IsPart (unmoved (foot_of buffers (h ∷ []))) foot → Suffices foot buffers h
 own_suffices rate region buffers foot h world part =
-    let own : Foot = foot_of buffers (h ∷ []) in
-    suffices_wider own foot buffers h part (All-head (Suffices own buffers) h [] (foot_suffices rate region buffers (h ∷ []) own world (its_words buffers (h ∷ []))))
+    let own : Reach = foot_of buffers (h ∷ []) in
+    suffices_wider (unmoved own) foot buffers h part (All-head (Suffices (unmoved own) buffers) h [] (foot_suffices rate region buffers (h ∷ []) own world (its_words buffers (h ∷ []))))
 
 -- ---- by foot
 
@@ -137,11 +156,14 @@ states_inside rate region (g ∷ hs) x are h = ⊎_elim
     (λ (c : has (states_of hs) x ≡ true). states_inside rate region hs x (All-tail (IsHeld rate region) g hs are) c)
     (or_cases (has (held_extents g) x) (has (states_of hs) x) (sym (has_append (held_extents g) (states_of hs) x) ∙ h))
 
-pub foot_inside : (rate : ℕ) (region : Extent) (buffers : List (Option BufferPlace)) (hs : List Held) (foot : Foot) (x : ℕ) → AreOfWorld rate region buffers hs → AreItsWords buffers hs foot → touches foot x ≡ true → x < region.at + region.len
-foot_inside rate region buffers hs foot x world is t = ⊎_elim
-    (λ (w : has foot.writes x ≡ true). ⊎_elim
+pub foot_inside : (rate : ℕ) (region : Extent) (buffers : List (Option BufferPlace)) (hs : List Held) (reach : Reach) (x : ℕ) → AreOfWorld rate region buffers hs → AreItsWords buffers hs reach → touches (unmoved reach) x ≡ true → x < region.at + region.len
+foot_inside rate region buffers hs reach x world is t = ⊎_elim
+    (λ (p : has (reach.writes ++ reach.mixes) x ≡ true). ⊎_elim
+    (λ (w : has reach.writes x ≡ true). ⊎_elim
     (λ u. resource_inside region buffers u.0 x world.base world.each u.1.1)
     (λ s. states_inside rate region hs x world.held s)
     ((is.writes x).0 w))
-    (λ (r : has foot.reads x ≡ true). let u = (is.reads x).0 r in resource_inside region buffers u.0 x world.base world.each u.1.1)
-    (or_cases (has foot.writes x) (has foot.reads x) t)
+    (λ (m : has reach.mixes x ≡ true). let u = (is.mixes x).0 m in resource_inside region buffers u.0 x world.base world.each u.1.1)
+    (or_cases (has reach.writes x) (has reach.mixes x) (sym (has_append reach.writes reach.mixes x) ∙ p)))
+    (λ (r : has reach.reads x ≡ true). let u = (is.reads x).0 r in resource_inside region buffers u.0 x world.base world.each u.1.1)
+    (or_cases (has (reach.writes ++ reach.mixes) x) (has reach.reads x) t)

@@ -10,12 +10,11 @@ use Rattle.sn_mem.specs.declared.buffers.BufferPlace.{BufferPlace}
 use Rattle.sn_mem.specs.Buffers.{live_places, place_extents}
 use Rattle.sn_foot.specs.declared.resource.Resource.{Resource}
 use Rattle.sn_foot.specs.declared.resource.Resource.TheVariants as resources
-use Rattle.sn_def.specs.declared.table.Access.{Access}
-use Rattle.sn_def.specs.Facts.{is_access}
+use Rattle.sn_foot.specs.declared.uses.Role.{Role}
 use Rattle.sn_foot.specs.declared.uses.Use.{Use}
 use Rattle.sn_foot.specs.Canonical.{Ends}
 use Rattle.sn_foot.specs.Footprints.{buffer_words, is_there, place_of, listed, where_used, used_places}
-use Rattle.sn_foot.specs.Uses.{places_of}
+use Rattle.sn_foot.specs.Uses.{is_role, places_of}
 use Rattle.sn_foot.proofs.Finding.{all_parts}
 
 -- ---- lists of what numbers give
@@ -83,10 +82,10 @@ used_ends buffers used all =
     (all_listed Ends buffer 1024 (λ n. all_used Ends (used (resources.Buffer n)) (place_of buffers (resources.Buffer n)) (place_ends buffers (resources.Buffer n) all))))
 
 -- so have those of what is used
-pub places_end : (buffers : List (Option BufferPlace)) (access : Access) (us : List Use) → All Ends (live_places buffers) → All Ends (places_of buffers access us)
-places_end buffers access [] all = All-nil Ends
-places_end buffers access (u ∷ us) all =
+pub places_end : (buffers : List (Option BufferPlace)) (role : Role) (us : List Use) → All Ends (live_places buffers) → All Ends (places_of buffers role us)
+places_end buffers role [] all = All-nil Ends
+places_end buffers role (u ∷ us) all =
     let place : Option Extent = place_of buffers u.resource in
-    All-append Ends (where_used (is_access access u.access) place) (places_of buffers access us)
-    (all_used Ends (is_access access u.access) place (place_ends buffers u.resource all))
-    (places_end buffers access us all)
+    All-append Ends (where_used (is_role role u.role) place) (places_of buffers role us)
+    (all_used Ends (is_role role u.role) place (place_ends buffers u.resource all))
+    (places_end buffers role us all)

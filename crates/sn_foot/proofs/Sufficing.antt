@@ -1,14 +1,16 @@
 -- A foot that has the words of synths has all that their running asks for.
-use Rattle.std.proofs.Common.{◌≡◌, ◌≢◌, ◌<◌, inl, inr, ⊎_elim, ℕ, zero, suc, ◌+◌, ◌-◌, nat_lt, Bool, true, false, cond, List, [], ◌∷◌, length, get_or, ℤ, pos, negsuc, ◌+ℤ◌, Option, Some, None, sym, refl, ap, subst, ◌∙◌, arith, All}
+use Rattle.std.proofs.Common.{◌≡◌, ◌≢◌, ◌<◌, ◌⊎◌, inl, inr, ⊎_elim, not, ℕ, zero, suc, ◌+◌, ◌-◌, nat_lt, Bool, true, false, cond, List, [], ◌∷◌, ◌++◌, length, get_or, ℤ, pos, negsuc, ◌+ℤ◌, Option, Some, None, sym, refl, ap, subst, ◌∙◌, arith, All}
 use Rattle.std.specs.List.{list_any}
 use Rattle.std.specs.Prelude.{is_some}
-use Rattle.std.proofs.lemmas.Bool.{cases_eq, eq-eqb, and_from, or_left, or_right, ltb-true, lt-ltb, cond-true}
+use Rattle.std.proofs.lemmas.Bool.{cases_Bool, cases_eq, eq-eqb, and_from, or_left, or_right, ltb-true, lt-ltb, cond-true}
 use Rattle.std.proofs.lemmas.Int.{ints}
 use Rattle.sn_mem.specs.declared.extents.Extent.{Extent}
 use Rattle.sn_mem.specs.declared.extents.Foot.{Foot}
+use Rattle.sn_foot.specs.declared.reach.Reach.{Reach}
 use Rattle.sn_mem.specs.declared.buffers.BufferPlace.{BufferPlace}
 use Rattle.sn_mem.specs.Layout.{audio_place, control_place}
 use Rattle.sn_mem.specs.Words.{covers, has, MayWrite, MayRead}
+use Rattle.sn_foot.specs.Reaches.{unmoved}
 use Rattle.sn_mem.specs.Buses.{audio_number}
 use Rattle.sn_mem.proofs.Meetings.{covered}
 use Rattle.sn_def.specs.declared.control.Control.{Control as SynthControl}
@@ -26,7 +28,7 @@ use Rattle.sn_world.specs.declared.stage.Held.{Held}
 use Rattle.sn_world.specs.declared.stage.Held.TheVariants as held
 use Rattle.sn_foot.specs.declared.resource.Resource.{Resource}
 use Rattle.sn_foot.specs.declared.resource.Resource.TheVariants.{Audio, Control, Buffer}
-use Rattle.sn_foot.specs.Footprints.{buffer_words, is_there, place_of, is_number, is_among, unit_reads, unit_writes, is_bus, follows, synth_reads, synth_writes, held_reads, held_writes, states_of, lies_in, AreItsWords}
+use Rattle.sn_foot.specs.Footprints.{buffer_words, is_there, place_of, is_number, is_among, unit_reads, unit_writes, is_bus, follows, synth_mixes, synth_reads, synth_writes, held_mixes, held_reads, held_writes, states_of, lies_in, AreItsWords}
 use Rattle.sn_foot.specs.Suffices.{Suffices, AreOfWorld}
 use Rattle.sn_foot.proofs.Runs.{has_append}
 
@@ -70,22 +72,36 @@ by_place P (Some p) none some = some p refl
 
 -- ---- the words of resources
 
-reads_place : (buffers : List (Option BufferPlace)) (hs : List Held) (foot : Foot) (r : Resource) (e : Extent) → AreItsWords buffers hs foot → is_there buffers r ≡ true → list_any (λ h. held_reads h r) hs ≡ true → place_of buffers r ≡ Some e → e.at + e.len < 4294967296 → MayRead foot e.at e.len
-reads_place buffers hs foot r e is there some place below = record {
+-- what may be written may be written, or is mixed
+written : (reach : Reach) (x : ℕ) → has reach.writes x ≡ true → has (reach.writes ++ reach.mixes) x ≡ true
+written reach x h = has_append reach.writes reach.mixes x ∙ or_left (has reach.writes x) (has reach.mixes x) h
+
+mixed : (reach : Reach) (x : ℕ) → has reach.mixes x ≡ true → has (reach.writes ++ reach.mixes) x ≡ true
+mixed reach x h = has_append reach.writes reach.mixes x ∙ or_right (has reach.writes x) (has reach.mixes x) h
+
+reads_place : (buffers : List (Option BufferPlace)) (hs : List Held) (reach : Reach) (r : Resource) (e : Extent) → AreItsWords buffers hs reach → is_there buffers r ≡ true → list_any (λ h. held_reads h r) hs ≡ true → place_of buffers r ≡ Some e → e.at + e.len < 4294967296 → MayRead (unmoved reach) e.at e.len
+reads_place buffers hs reach r e is there some place below = record {
   below = below;
   each = λ i lt.
       let x : ℕ = e.at + i in
       let lies : lies_in x (place_of buffers r) ≡ true = ap (λ (p : Option Extent). lies_in x p) place ∙ covered e x (omega arith) (omega (arith, lt)) in
-      or_right (has foot.writes x) (has foot.reads x) ((is.reads x).1 (r, (and_from (is_there buffers r) (list_any (λ h. held_reads h r) hs) there some, lies)));
+      or_right (has (reach.writes ++ reach.mixes) x) (has reach.reads x) ((is.reads x).1 (r, (and_from (is_there buffers r) (list_any (λ h. held_reads h r) hs) there some, lies)));
 }
 
-writes_place : (buffers : List (Option BufferPlace)) (hs : List Held) (foot : Foot) (r : Resource) (e : Extent) → AreItsWords buffers hs foot → is_there buffers r ≡ true → list_any (λ h. held_writes h r) hs ≡ true → place_of buffers r ≡ Some e → e.at + e.len < 4294967296 → MayWrite foot e.at e.len
-writes_place buffers hs foot r e is there some place below = record {
+-- some of them writes the resource, or mixes it
+abbrev IsPut : List Held → Resource → Type 0
+IsPut hs r = (list_any (λ h. held_writes h r) hs ≡ true) ⊎ (list_any (λ h. held_mixes h r) hs ≡ true)
+
+writes_place : (buffers : List (Option BufferPlace)) (hs : List Held) (reach : Reach) (r : Resource) (e : Extent) → AreItsWords buffers hs reach → is_there buffers r ≡ true → IsPut hs r → place_of buffers r ≡ Some e → e.at + e.len < 4294967296 → MayWrite (unmoved reach) e.at e.len
+writes_place buffers hs reach r e is there some place below = record {
   below = below;
   each = λ i lt.
       let x : ℕ = e.at + i in
       let lies : lies_in x (place_of buffers r) ≡ true = ap (λ (p : Option Extent). lies_in x p) place ∙ covered e x (omega arith) (omega (arith, lt)) in
-      (is.writes x).1 (inl (r, (and_from (is_there buffers r) (list_any (λ h. held_writes h r) hs) there some, lies)));
+      ⊎_elim
+      (λ (w : list_any (λ h. held_writes h r) hs ≡ true). written reach x ((is.writes x).1 (inl (r, (and_from (is_there buffers r) (list_any (λ h. held_writes h r) hs) there w, lies)))))
+      (λ (m : list_any (λ h. held_mixes h r) hs ≡ true). mixed reach x ((is.mixes x).1 (r, (and_from (is_there buffers r) (list_any (λ h. held_mixes h r) hs) there m, lies))))
+      some;
 }
 
 audio_at : (buffers : List (Option BufferPlace)) (n : ℕ) → n < 128 → place_of buffers (Audio n) ≡ Some (audio_place n)
@@ -102,24 +118,31 @@ buffer_there buffers n p low e = and_from (nat_lt n 1024) (is_some (get_or buffe
 
 -- ---- the units of a synth whose resources are among those of some
 
-module _ (buffers : List (Option BufferPlace)) (hs : List Held) (foot : Foot) (units : List UnitLine) (controls : List SynthControl) (is : AreItsWords buffers hs foot) (reading : (r : Resource) → synth_reads units controls r ≡ true → list_any (λ h. held_reads h r) hs ≡ true) (writing : (r : Resource) → synth_writes units controls r ≡ true → list_any (λ h. held_writes h r) hs ≡ true) (below : (n : ℕ) (p : BufferPlace) → get_or buffers n None ≡ Some p → p.extent.at + p.extent.len < 4294967296) where
+module _ (buffers : List (Option BufferPlace)) (hs : List Held) (reach : Reach) (units : List UnitLine) (controls : List SynthControl) (is : AreItsWords buffers hs reach) (reading : (r : Resource) → synth_reads units controls r ≡ true → list_any (λ h. held_reads h r) hs ≡ true) (writing : (r : Resource) → synth_writes units controls r ≡ true → list_any (λ h. held_writes h r) hs ≡ true) (mixing : (r : Resource) → synth_mixes units controls r ≡ true → list_any (λ h. held_mixes h r) hs ≡ true) (below : (n : ℕ) (p : BufferPlace) → get_or buffers n None ≡ Some p → p.extent.at + p.extent.len < 4294967296) where
   unit_reading : (k : ℕ) (e : UnitLine) (r : Resource) → k < length units → unit_reads controls (get_or units k e) r ≡ true → list_any (λ h. held_reads h r) hs ≡ true
   unit_reading k e r lt h = reading r (or_right (list_any (λ c. follows c r) controls) (list_any (λ u. unit_reads controls u r) units) (any_at (λ u. unit_reads controls u r) units k e lt h))
 
-  unit_writing : (k : ℕ) (e : UnitLine) (r : Resource) → k < length units → unit_writes controls (get_or units k e) r ≡ true → list_any (λ h. held_writes h r) hs ≡ true
-  unit_writing k e r lt h = writing r (any_at (λ u. unit_writes controls u r) units k e lt h)
+  abbrev foot : Foot
+  foot = unmoved reach
+
+  unit_writing : (k : ℕ) (e : UnitLine) (r : Resource) → k < length units → unit_writes controls (get_or units k e) r ≡ true → IsPut hs r
+  unit_writing k e r lt h =
+      ⊎_elim
+      (λ (m : synth_mixes units controls r ≡ true). inr (mixing r m))
+      (λ (m : synth_mixes units controls r ≡ false). inl (writing r (and_from (list_any (λ u. unit_writes controls u r) units) (not (synth_mixes units controls r)) (any_at (λ u. unit_writes controls u r) units k e lt h) (ap not m))))
+      (cases_Bool (synth_mixes units controls r))
 
   audio_reads : (n : ℕ) → n < 128 → list_any (λ h. held_reads h (Audio n)) hs ≡ true → MayReadAudio foot (Some n)
-  audio_reads n low some = reads_place buffers hs foot (Audio n) (audio_place n) is (lt-ltb n 128 low) some (audio_at buffers n low) (omega arith)
+  audio_reads n low some = reads_place buffers hs reach (Audio n) (audio_place n) is (lt-ltb n 128 low) some (audio_at buffers n low) (omega arith)
 
-  audio_writes : (n : ℕ) → n < 128 → list_any (λ h. held_writes h (Audio n)) hs ≡ true → MayWriteAudio foot (Some n)
-  audio_writes n low some = writes_place buffers hs foot (Audio n) (audio_place n) is (lt-ltb n 128 low) some (audio_at buffers n low) (omega arith)
+  audio_writes : (n : ℕ) → n < 128 → IsPut hs (Audio n) → MayWriteAudio foot (Some n)
+  audio_writes n low some = writes_place buffers hs reach (Audio n) (audio_place n) is (lt-ltb n 128 low) some (audio_at buffers n low) (omega arith)
 
   control_reads : (n : ℕ) → n < 1024 → list_any (λ h. held_reads h (Control n)) hs ≡ true → MayReadControl foot (Some n)
-  control_reads n low some = reads_place buffers hs foot (Control n) (control_place n) is (lt-ltb n 1024 low) some (control_at buffers n low) (omega arith)
+  control_reads n low some = reads_place buffers hs reach (Control n) (control_place n) is (lt-ltb n 1024 low) some (control_at buffers n low) (omega arith)
 
-  control_writes : (n : ℕ) → n < 1024 → list_any (λ h. held_writes h (Control n)) hs ≡ true → MayWriteControl foot (Some n)
-  control_writes n low some = writes_place buffers hs foot (Control n) (control_place n) is (lt-ltb n 1024 low) some (control_at buffers n low) (omega arith)
+  control_writes : (n : ℕ) → n < 1024 → IsPut hs (Control n) → MayWriteControl foot (Some n)
+  control_writes n low some = writes_place buffers hs reach (Control n) (control_place n) is (lt-ltb n 1024 low) some (control_at buffers n low) (omega arith)
 
   unit_plays : (k : ℕ) (e : UnitLine) → k < length units → MayPlay foot buffers controls (get_or units k e)
   unit_plays k e lt =
@@ -130,9 +153,9 @@ module _ (buffers : List (Option BufferPlace)) (hs : List Held) (foot : Foot) (u
         writes = λ on i low. by_audio (MayWriteAudio foot) (z +ℤ pos i) tt (λ n at l. audio_writes n l (unit_writing k e (Audio n) lt (and_from (writes_audio u.kind) (is_among z (length u.inputs - 1) n) on (among z (length u.inputs - 1) i n (omega (arith, low)) at))));
         sets = λ on i low. by_control (MayWriteControl foot) (z +ℤ pos i) tt (λ n at l. control_writes n l (unit_writing k e (Control n) lt (and_from (writes_control u.kind) (is_among z (length u.inputs - 1) n) on (among z (length u.inputs - 1) i n (omega (arith, low)) at))));
         plays = λ on. by_control (λ (o : Option ℕ). MayReadBuffer foot (numbered o buffers)) z tt (λ n at l. by_place (MayReadBuffer foot) (get_or buffers n None) tt (λ p place.
-            reads_place buffers hs foot (Buffer n) p.extent is (buffer_there buffers n p l place) (unit_reading k e (Buffer n) lt (and_from (reads_buffer u.kind) (is_among z 1 n) on (alone z n at))) (buffer_at buffers n p l place) (below n p place)));
+            reads_place buffers hs reach (Buffer n) p.extent is (buffer_there buffers n p l place) (unit_reading k e (Buffer n) lt (and_from (reads_buffer u.kind) (is_among z 1 n) on (alone z n at))) (buffer_at buffers n p l place) (below n p place)));
         records = λ on. by_control (λ (o : Option ℕ). MayWriteBuffer foot (numbered o buffers)) z tt (λ n at l. by_place (MayWriteBuffer foot) (get_or buffers n None) tt (λ p place.
-            writes_place buffers hs foot (Buffer n) p.extent is (buffer_there buffers n p l place) (unit_writing k e (Buffer n) lt (and_from (writes_buffer u.kind) (is_among z 1 n) on (alone z n at))) (buffer_at buffers n p l place) (below n p place)));
+            writes_place buffers hs reach (Buffer n) p.extent is (buffer_there buffers n p l place) (unit_writing k e (Buffer n) lt (and_from (writes_buffer u.kind) (is_among z 1 n) on (alone z n at))) (buffer_at buffers n p l place) (below n p place)));
       }
 
   bus_follows : (o : Option ℕ) → IsFollowed o → ((n : ℕ) → is_bus o n ≡ true → list_any (λ h. held_reads h (Control n)) hs ≡ true) → MayReadControl foot o
@@ -144,19 +167,19 @@ module _ (buffers : List (Option BufferPlace)) (hs : List Held) (foot : Foot) (u
 
 -- ---- all of them
 
-held_suffices : (rate : ℕ) (region : Extent) (buffers : List (Option BufferPlace)) (hs : List Held) (foot : Foot) (h : Held) → region.at + region.len < 4294967296 → ((n : ℕ) (p : BufferPlace) → get_or buffers n None ≡ Some p → p.extent.at + p.extent.len < 4294967296) → AreItsWords buffers hs foot → IsHeld rate region h
-    → ((r : Resource) → held_reads h r ≡ true → list_any (λ h. held_reads h r) hs ≡ true) → ((r : Resource) → held_writes h r ≡ true → list_any (λ h. held_writes h r) hs ≡ true) → ((x : ℕ) → has (held_extents h) x ≡ true → has (states_of hs) x ≡ true)
-    → Suffices foot buffers h
-held_suffices rate region buffers hs foot held.Group bounded below is it reading writing states = tt
-held_suffices rate region buffers hs foot (held.Synth def controls state) bounded below is it reading writing states =
+held_suffices : (rate : ℕ) (region : Extent) (buffers : List (Option BufferPlace)) (hs : List Held) (reach : Reach) (h : Held) → region.at + region.len < 4294967296 → ((n : ℕ) (p : BufferPlace) → get_or buffers n None ≡ Some p → p.extent.at + p.extent.len < 4294967296) → AreItsWords buffers hs reach → IsHeld rate region h
+    → ((r : Resource) → held_reads h r ≡ true → list_any (λ h. held_reads h r) hs ≡ true) → ((r : Resource) → held_writes h r ≡ true → list_any (λ h. held_writes h r) hs ≡ true) → ((r : Resource) → held_mixes h r ≡ true → list_any (λ h. held_mixes h r) hs ≡ true) → ((x : ℕ) → has (held_extents h) x ≡ true → has (states_of hs) x ≡ true)
+    → Suffices (unmoved reach) buffers h
+held_suffices rate region buffers hs reach held.Group bounded below is it reading writing mixing states = tt
+held_suffices rate region buffers hs reach (held.Synth def controls state) bounded below is it reading writing mixing states =
     let d : Definition = definition_of def.value in
     let within = it.within in record {
       keeps = record {
         below = omega (arith, within.1, bounded);
-        each = λ i lt. let x : ℕ = state.at + i in (is.writes x).1 (inr (states x (or_left (covers state x) false (covered state x (omega arith) (omega (arith, lt))))));
+        each = λ i lt. let x : ℕ = state.at + i in written reach x ((is.writes x).1 (inr (states x (or_left (covers state x) false (covered state x (omega arith) (omega (arith, lt)))))));
       };
-      follows = λ k e lt. control_follows buffers hs foot d.units controls is reading writing below k e lt (it.each.followed k e lt);
-      plays = λ k e lt. unit_plays buffers hs foot d.units controls is reading writing below k e lt;
+      follows = λ k e lt. control_follows buffers hs reach d.units controls is reading writing mixing below k e lt (it.each.followed k e lt);
+      plays = λ k e lt. unit_plays buffers hs reach d.units controls is reading writing mixing below k e lt;
     }
 
 pub states_at : (hs : List Held) (k : ℕ) (d : Held) (x : ℕ) → k < length hs → has (held_extents (get_or hs k d)) x ≡ true → has (states_of hs) x ≡ true
@@ -174,9 +197,10 @@ buffers_below region [] n p bounded each e = absurd cc
 buffers_below region (q ∷ qs) zero p bounded each e = place_below region q p bounded each.0 e
 buffers_below region (q ∷ qs) (suc n) p bounded each e = buffers_below region qs n p bounded each.1 e
 
-pub foot_suffices : (rate : ℕ) (region : Extent) (buffers : List (Option BufferPlace)) (hs : List Held) (foot : Foot) → AreOfWorld rate region buffers hs → AreItsWords buffers hs foot → All (Suffices foot buffers) hs
-foot_suffices rate region buffers hs foot world is = λ k d lt.
-    held_suffices rate region buffers hs foot (get_or hs k d) world.bounded (λ n p e. buffers_below region buffers n p world.bounded world.each e) is (world.held k d lt)
+pub foot_suffices : (rate : ℕ) (region : Extent) (buffers : List (Option BufferPlace)) (hs : List Held) (reach : Reach) → AreOfWorld rate region buffers hs → AreItsWords buffers hs reach → All (Suffices (unmoved reach) buffers) hs
+foot_suffices rate region buffers hs reach world is = λ k d lt.
+    held_suffices rate region buffers hs reach (get_or hs k d) world.bounded (λ n p e. buffers_below region buffers n p world.bounded world.each e) is (world.held k d lt)
     (λ r on. any_at (λ h. held_reads h r) hs k d lt on)
     (λ r on. any_at (λ h. held_writes h r) hs k d lt on)
+    (λ r on. any_at (λ h. held_mixes h r) hs k d lt on)
     (λ x on. states_at hs k d x lt on)

@@ -1,16 +1,17 @@
 -- What a node may read and write beside its own state: audio buses, control buses and buffers.
-use Rattle.std.specs.Prelude.{◌≡◌, ◌↔◌, ◌⊎◌, ℕ, zero, suc, ◌-◌, ◌==◌, nat_lt, ℤ, pos, negsuc, ◌+ℤ◌, Bool, true, false, ◌&&◌, ◌||◌, if◌then◌else◌, List, [], ◌∷◌, ◌++◌, length, map, slice_index_or, Option, Some, None, is_some}
+use Rattle.std.specs.Prelude.{◌≡◌, ◌↔◌, ◌⊎◌, ℕ, zero, suc, ◌+◌, ◌-◌, ◌==◌, nat_lt, ℤ, pos, negsuc, ◌+ℤ◌, Bool, true, false, not, ◌&&◌, ◌||◌, if◌then◌else◌, List, [], ◌∷◌, ◌++◌, length, map, slice_index_or, Option, Some, None, is_some}
 use Rattle.std.specs.List.{list_any}
 use Rattle.std.specs.Ordering.{int_eq}
 use Rattle.sn_ports.specs.Limits.{audio_bus_count, control_bus_count, buffer_count}
 use Rattle.sn_mem.specs.declared.extents.Extent.{Extent}
-use Rattle.sn_mem.specs.declared.extents.Foot.{Foot}
+use Rattle.sn_foot.specs.declared.reach.Reach.{Reach}
 use Rattle.sn_mem.specs.Words.{covers, has}
 use Rattle.sn_mem.specs.Layout.{audio_place, control_place}
 use Rattle.sn_def.specs.declared.control.Control.{Control as SynthControl}
 use Rattle.sn_def.specs.declared.unit.Unit.{Unit as UnitLine}
 use Rattle.sn_def.specs.Defs.{definition_of}
 use Rattle.sn_io.specs.BusUnits.{reads_audio, reads_control, writes_audio, writes_control}
+use Rattle.sn_foot.specs.Mixers.{mixes_audio}
 use Rattle.sn_io.specs.BufferUnits.{reads_buffer, writes_buffer}
 use Rattle.sn_synth.specs.Conditions.{index_of}
 use Rattle.sn_mem.specs.declared.buffers.BufferPlace.{BufferPlace}
@@ -68,6 +69,17 @@ unit_writes controls u (Audio n) = writes_audio u.kind && is_among (index_of con
 unit_writes controls u (Control n) = writes_control u.kind && is_among (index_of controls u) (length u.inputs - 1) n
 unit_writes controls u (Buffer n) = writes_buffer u.kind && is_among (index_of controls u) 1 n
 
+-- To audio buses it adds, if it is Out.ar.
+abbrev pub unit_mixes : List SynthControl → UnitLine → Resource → Bool
+unit_mixes controls u (Audio n) = mixes_audio u.kind && unit_writes controls u (Audio n)
+unit_mixes controls u (Control n) = false
+unit_mixes controls u (Buffer n) = false
+
+-- how many of some units read or write a resource
+abbrev pub users : List SynthControl → List UnitLine → Resource → ℕ
+users controls [] r = 0
+users controls (u ∷ us) r = (if unit_reads controls u r || unit_writes controls u r then 1 else 0) + users controls us r
+
 -- ---- synths
 
 abbrev pub is_bus : Option ℕ → ℕ → Bool
@@ -84,8 +96,13 @@ follows control (Buffer n) = false
 abbrev pub synth_reads : List UnitLine → List SynthControl → Resource → Bool
 synth_reads units controls r = list_any (λ c. follows c r) controls || list_any (λ u. unit_reads controls u r) units
 
+-- It mixes an audio bus if one of its units adds a signal to it, and no other unit reads or writes it.
+abbrev pub synth_mixes : List UnitLine → List SynthControl → Resource → Bool
+synth_mixes units controls r = list_any (λ u. unit_mixes controls u r) units && (users controls units r == 1)
+
+-- It writes what its units write and it does not mix.
 abbrev pub synth_writes : List UnitLine → List SynthControl → Resource → Bool
-synth_writes units controls r = list_any (λ u. unit_writes controls u r) units
+synth_writes units controls r = list_any (λ u. unit_writes controls u r) units && not (synth_mixes units controls r)
 
 abbrev pub held_reads : Held → Resource → Bool
 held_reads held.Group r = false
@@ -94,6 +111,10 @@ held_reads (held.Synth def controls state) r = synth_reads (definition_of def.va
 abbrev pub held_writes : Held → Resource → Bool
 held_writes held.Group r = false
 held_writes (held.Synth def controls state) r = synth_writes (definition_of def.value).units controls r
+
+abbrev pub held_mixes : Held → Resource → Bool
+held_mixes held.Group r = false
+held_mixes (held.Synth def controls state) r = synth_mixes (definition_of def.value).units controls r
 
 -- ---- nodes
 
@@ -105,25 +126,31 @@ is_reached id nodes = list_any (λ l. int_eq l.id id) (running_labels nodes)
 abbrev pub found_at : {P : Type 0} → ℤ → Nodes P → List P
 found_at id nodes = if is_reached id nodes then map (λ l. l.payload) (running_labels (subtree id nodes)) else []
 
--- the resources that may be read, and those that may be written
+-- the resources that may be read, those that may be written, and those that are only mixed
 pub record Footprint : Type 0 where
   pub reads : Resource → Bool
   pub writes : Resource → Bool
+  pub mixes : Resource → Bool
 
 -- that of all synths among these
 abbrev pub footprint_of : List (Option BufferPlace) → List Held → Footprint
 footprint_of buffers hs = record {
   reads = λ r. is_there buffers r && list_any (λ h. held_reads h r) hs;
   writes = λ r. is_there buffers r && list_any (λ h. held_writes h r) hs;
+  mixes = λ r. is_there buffers r && list_any (λ h. held_mixes h r) hs;
 }
 
 -- that of a node
 abbrev pub footprint_at : List (Option BufferPlace) → ℤ → Nodes Held → Footprint
 footprint_at buffers id nodes = footprint_of buffers (found_at id nodes)
 
--- one of the two writes what the other reads or writes
+-- the first writes what the second reads, writes or mixes, or mixes what it reads or writes
+abbrev pub meets_on : Footprint → Footprint → Resource → Bool
+meets_on a b r = (a.writes r && ((b.reads r || b.writes r) || b.mixes r)) || (a.mixes r && (b.reads r || b.writes r))
+
+-- so does one of the two with the other
 abbrev pub clash_on : Footprint → Footprint → Resource → Bool
-clash_on a b r = (a.writes r && (b.reads r || b.writes r)) || (b.writes r && (a.reads r || a.writes r))
+clash_on a b r = meets_on a b r || meets_on b a r
 
 abbrev pub Clash : Footprint → Footprint → Type 0
 Clash a b = (r : Resource) × (clash_on a b r ≡ true)
@@ -152,12 +179,16 @@ states_of [] = []
 states_of (h ∷ hs) = held_extents h ++ states_of hs
 
 -- The words of all synths among these: those of their resources, and among the writes those of their states.
-abbrev pub foot_of : List (Option BufferPlace) → List Held → Foot
+abbrev pub foot_of : List (Option BufferPlace) → List Held → Reach
 foot_of buffers hs =
     let f = footprint_of buffers hs in
-    record { reads = canonical (used_places buffers f.reads); writes = canonical (used_places buffers f.writes ++ states_of hs) }
+    record {
+      reads = canonical (used_places buffers f.reads);
+      writes = canonical (used_places buffers f.writes ++ states_of hs);
+      mixes = canonical (used_places buffers f.mixes);
+    }
 
-abbrev pub foot_at : List (Option BufferPlace) → ℤ → Nodes Held → Foot
+abbrev pub foot_at : List (Option BufferPlace) → ℤ → Nodes Held → Reach
 foot_at buffers id nodes = foot_of buffers (found_at id nodes)
 
 -- ---- what is said of single words
@@ -170,7 +201,8 @@ lies_in x (Some e) = covers e x
 abbrev pub IsOfUsed : List (Option BufferPlace) → (Resource → Bool) → ℕ → Type 0
 IsOfUsed buffers used x = (r : Resource) × ((used r ≡ true) × (lies_in x (place_of buffers r) ≡ true))
 
--- A foot has just the words of its resources and, among the writes, those of the states.
-pub record AreItsWords (buffers : List (Option BufferPlace)) (hs : List Held) (foot : Foot) : Type 0 where
-  pub reads : (x : ℕ) → (has foot.reads x ≡ true) ↔ IsOfUsed buffers (footprint_of buffers hs).reads x
-  pub writes : (x : ℕ) → (has foot.writes x ≡ true) ↔ (IsOfUsed buffers (footprint_of buffers hs).writes x ⊎ (has (states_of hs) x ≡ true))
+-- A reach has just the words of its resources and, among the writes, those of the states.
+pub record AreItsWords (buffers : List (Option BufferPlace)) (hs : List Held) (reach : Reach) : Type 0 where
+  pub reads : (x : ℕ) → (has reach.reads x ≡ true) ↔ IsOfUsed buffers (footprint_of buffers hs).reads x
+  pub writes : (x : ℕ) → (has reach.writes x ≡ true) ↔ (IsOfUsed buffers (footprint_of buffers hs).writes x ⊎ (has (states_of hs) x ≡ true))
+  pub mixes : (x : ℕ) → (has reach.mixes x ≡ true) ↔ IsOfUsed buffers (footprint_of buffers hs).mixes x

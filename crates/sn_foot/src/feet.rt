@@ -5,7 +5,7 @@ ghost use Rattle.sn_tree.specs.Trees.{holds};
 ghost use Rattle.sn_mem.specs.Buffers.{live_places};
 ghost use Rattle.sn_world.specs.Pictures.{held_extents, live_held};
 ghost use Rattle.sn_foot.specs.declared.feet.Unfooted.TheVariants.{NoMemory, NoNode};
-ghost use Rattle.sn_def.specs.declared.table.Access.TheVariants.{Read, Write};
+ghost use Rattle.sn_foot.specs.declared.uses.Role.TheVariants.{Write};
 ghost use Rattle.sn_foot.specs.Canonical.{Ends, canonical};
 ghost use Rattle.sn_foot.specs.Footprints.{foot_at, foot_of, states_of};
 ghost use Rattle.sn_foot.specs.Uses.{places_of};
@@ -13,10 +13,10 @@ ghost use Rattle.sn_foot.specs.Uses.{places_of};
 use crate::merging::canonical;
 use crate::nodes::{found_at, is_attached};
 use crate::places::used_places;
-use crate::uses::Use;
+use crate::reach::Reach;
+use crate::uses::{Role, Use};
 use crate::using::uses_of;
-use sn_def::Access;
-use sn_mem::{Buffers, Extent, Extents, Foot};
+use sn_mem::{Buffers, Extent, Extents};
 use sn_ports::NoMemory;
 use sn_world::{Held, NodeId, Stage};
 use std::alloc::Global;
@@ -61,12 +61,12 @@ pub fn put_states(places: &mut Vec<Extent>, nodes: &[&Held]) -> Result<(), NoMem
     Ok(())
 }
 
-/// The words of what is read.
-fn reads_of(alloc: Global, buffers: &Buffers, uses: &[Use]) -> Result<Extents, NoMemory>
+/// The words of what is used in this way.
+fn words_of(alloc: Global, buffers: &Buffers, role: Role, uses: &[Use]) -> Result<Extents, NoMemory>
     requires buffers { All Ends (live_places buffers.now) }
-    ensures { IfOk result (λ reads. reads ≡ canonical (places_of buffers.now Read uses.now)) }
+    ensures { IfOk result (λ words. words ≡ canonical (places_of buffers.now role uses.now)) }
 {
-    let places = used_places(alloc, buffers, Access::Read, uses)?;
+    let places = used_places(alloc, buffers, role, uses)?;
     canonical(alloc, places)
 }
 
@@ -81,30 +81,35 @@ fn writes_of(
     requires states { All Ends (states_of (map (λ h. h.now) nodes.now)) }
     ensures { IfOk result (λ writes. writes ≡ canonical (places_of buffers.now Write uses.now ++ states_of (map (λ h. h.now) nodes.now))) }
 {
-    let mut places = used_places(alloc, buffers, Access::Write, uses)?;
+    let mut places = used_places(alloc, buffers, Role::Write, uses)?;
     put_states(&mut places, nodes)?;
     canonical(alloc, places)
 }
 
-/// The words that nodes may read and write: those of the buses and buffers that their units use, at the present values of
-/// their index controls; the control buses that their controls follow, among the reads; and their own states, among the
-/// writes. Each node counts by itself, whether it runs or not.
-pub fn foot_of_nodes(alloc: Global, buffers: &Buffers, nodes: &[&Held]) -> Result<Foot, NoMemory>
+/// The words that nodes may read, write and mix: those of the buses and buffers that their units use, at the present
+/// values of their index controls; the control buses that their controls follow, among the reads; and their own states,
+/// among the writes. Each node counts by itself, whether it runs or not.
+pub fn foot_of_nodes(alloc: Global, buffers: &Buffers, nodes: &[&Held]) -> Result<Reach, NoMemory>
     requires buffers { All Ends (live_places buffers.now) }
     requires states { All Ends (states_of (map (λ h. h.now) nodes.now)) }
     ensures { IfOk result (λ foot. foot ≡ foot_of buffers.now (map (λ h. h.now) nodes.now)) }
 {
     let uses = uses_of(alloc, nodes)?;
-    let reads = reads_of(alloc, buffers, &uses)?;
+    let reads = words_of(alloc, buffers, Role::Read, &uses)?;
     let writes = writes_of(alloc, buffers, &uses, nodes)?;
-    Ok(Foot { reads, writes })
+    let mixes = words_of(alloc, buffers, Role::Mix, &uses)?;
+    Ok(Reach {
+        reads,
+        writes,
+        mixes,
+    })
 }
 
-/// Replaces the content of `foot` by the words that a node and all below it may read and write.
+/// Replaces the content of `foot` by the words that a node and all below it may read, write and mix.
 ///
-/// What is paused, or lies below a paused node, reads and writes nothing. An `Err` leaves `foot` as it was.
+/// What is paused, or lies below a paused node, uses nothing. An `Err` leaves `foot` as it was.
 #[tactic(auto, using(crate::proofs::Finding::found_ends))]
-pub fn foot_of(alloc: Global, stage: &Stage, node: i32, foot: &mut Foot) -> Result<(), Unfooted>
+pub fn foot_of(alloc: Global, stage: &Stage, node: i32, foot: &mut Reach) -> Result<(), Unfooted>
     requires buffers { All Ends (live_places stage.now.buffers) }
     requires states { All Ends (live_held stage.now.tree.attached) }
     ensures foot { OnOk result (foot.new ≡ foot_at stage.now.buffers node stage.now.tree.attached) }

@@ -2,10 +2,13 @@
 #![tactic(auto)]
 
 mod feet;
+mod judging;
 mod laws;
 mod merging;
+mod mixers;
 mod nodes;
 mod places;
+mod reach;
 mod resource;
 mod units;
 mod uses;
@@ -17,6 +20,7 @@ pub use laws::{
     one_canonical, wider_foot_suffices,
 };
 pub use merging::canonical;
+pub use reach::Reach;
 pub use resource::Resource;
-pub use uses::Use;
+pub use uses::{Role, Use};
 pub use using::push_held;

@@ -2,14 +2,12 @@
 ghost use Rattle.std.specs.Prelude.{◌≡◌, ◌++◌, nat_lt, if◌then◌else◌, Some, None, IfOk, OnOk};
 ghost use Rattle.sn_ports.specs.Limits.{audio_bus_count, control_bus_count};
 ghost use Rattle.sn_mem.specs.Layout.{audio_place, control_place};
-ghost use Rattle.sn_def.specs.Facts.{is_access};
 ghost use Rattle.sn_foot.specs.Footprints.{buffer_words, place_of, where_used};
-ghost use Rattle.sn_foot.specs.Uses.{places_of};
+ghost use Rattle.sn_foot.specs.Uses.{is_role, places_of};
 ghost use Rattle.sn_foot.specs.declared.resource.Resource.TheVariants as resources;
 
 use crate::resource::Resource;
-use crate::uses::Use;
-use sn_def::Access;
+use crate::uses::{Role, Use};
 use sn_mem::{BufferPlace, Buffers, Extent, Places};
 use sn_ports::NoMemory;
 use sn_ports::limits::{AUDIO_BUS_COUNT, BUFFER_COUNT, CONTROL_BUS_COUNT};
@@ -65,12 +63,13 @@ fn place_of(buffers: &Buffers, resource: Resource) -> Option<Extent>
     }
 }
 
-fn is_access(access: Access, used: Access) -> bool
-    ensures { result ≡ is_access access used }
+fn is_role(role: Role, used: Role) -> bool
+    ensures { result ≡ is_role role used }
 {
-    match (access, used) {
-        (Access::Read, Access::Read) => true,
-        (Access::Write, Access::Write) => true,
+    match (role, used) {
+        (Role::Read, Role::Read) => true,
+        (Role::Write, Role::Write) => true,
+        (Role::Mix, Role::Mix) => true,
         _ => false,
     }
 }
@@ -79,15 +78,15 @@ fn is_access(access: Access, used: Access) -> bool
 fn put_place(
     places: &mut Vec<Extent>,
     buffers: &Buffers,
-    access: Access,
+    role: Role,
     used: &Use,
 ) -> Result<(), NoMemory>
-    ensures { OnOk result (places.new.items ≡ places.old.items ++ where_used (is_access access used.now.access) (place_of buffers.now used.now.resource)) }
+    ensures { OnOk result (places.new.items ≡ places.old.items ++ where_used (is_role role used.now.role) (place_of buffers.now used.now.resource)) }
 {
     let Some(place) = place_of(buffers, used.resource) else {
         return Ok(());
     };
-    if is_access(access, used.access) {
+    if is_role(role, used.role) {
         places.push(place)?;
     }
     Ok(())
@@ -97,14 +96,14 @@ fn put_place(
 pub fn used_places(
     alloc: Global,
     buffers: &Buffers,
-    access: Access,
+    role: Role,
     uses: &[Use],
 ) -> Result<Vec<Extent>, NoMemory>
-    ensures { IfOk result (λ places. places.items ≡ places_of buffers.now access uses.now) }
+    ensures { IfOk result (λ places. places.items ≡ places_of buffers.now role uses.now) }
 {
     let mut places = Vec::new(alloc);
     for used in uses {
-        put_place(&mut places, buffers, access, used)?;
+        put_place(&mut places, buffers, role, used)?;
     }
     Ok(places)
 }

@@ -1,14 +1,18 @@
 //! What nodes use by themselves.
-ghost use Rattle.std.specs.Prelude.{◌≡◌, ◌<◌, ◌+ℤ◌, ◌^◌, [], pos, map, IfOk, OnOk};
-ghost use Rattle.sn_def.specs.declared.table.Access.TheVariants.{Read};
+ghost use Rattle.std.specs.Prelude.{◌≡◌, ◌<◌, ◌+ℤ◌, ◌^◌, ◌++◌, [], pos, map, IfOk, OnOk};
+ghost use Rattle.sn_foot.specs.declared.uses.Role.TheVariants.{Read};
 ghost use Rattle.sn_def.specs.declared.table.Bank.TheVariants.{Control};
 ghost use Rattle.sn_def.specs.Units.{row_of};
-ghost use Rattle.sn_foot.specs.Putting.{number_at, put_controls, put_held, put_nodes, put_number, put_span, put_units, put_used, resource};
+ghost use Rattle.sn_foot.specs.Mixers.{mixes_audio};
+ghost use Rattle.sn_foot.specs.Judging.{is_alone, judged};
+ghost use Rattle.sn_foot.specs.Putting.{number_at, put_controls, put_held, put_nodes, put_number, put_span, put_units, put_used, resource, role_in};
 ghost use Rattle.sn_foot.specs.Uses.{PutsUses};
 
+use crate::judging::push_judged;
+use crate::mixers::mixes_audio;
 use crate::resource::Resource;
 use crate::units::{index_of, span};
-use crate::uses::Use;
+use crate::uses::{Role, Use};
 use sn_def::{Access, Bank, Control as SynthControl, Unit, row_of};
 use sn_ports::NoMemory;
 use sn_ports::limits::CONTROL_BUS_COUNT;
@@ -22,6 +26,18 @@ fn resource(bank: Bank, number: u32) -> Resource
         Bank::Audio => Resource::Audio(number),
         Bank::Control => Resource::Control(number),
         Bank::Buffer => Resource::Buffer(number),
+    }
+}
+
+/// How a unit uses what its row says, which adds to what audio buses hold or does not.
+fn role_in(adds: bool, access: Access, bank: Bank) -> Role
+    ensures { result ≡ role_in adds access bank }
+{
+    match (access, bank) {
+        (Access::Read, _) => Role::Read,
+        (Access::Write, Bank::Audio) => { if adds { Role::Mix } else { Role::Write } }
+        (Access::Write, Bank::Control) => Role::Write,
+        (Access::Write, Bank::Buffer) => Role::Write,
     }
 }
 
@@ -44,17 +60,17 @@ fn number_at(first: i32, more: usize) -> Option<u32>
 /// Puts a use at the end, if there is a number.
 fn push_number(
     uses: &mut Vec<Use>,
-    access: Access,
+    role: Role,
     bank: Bank,
     number: Option<u32>,
 ) -> Result<(), NoMemory>
-    ensures { OnOk result (uses.new.items ≡ put_number access bank number uses.old.items) }
+    ensures { OnOk result (uses.new.items ≡ put_number role bank number uses.old.items) }
 {
     let Some(number) = number else {
         return Ok(());
     };
     uses.push(Use {
-        access,
+        role,
         resource: resource(bank, number),
     })?;
     Ok(())
@@ -64,28 +80,28 @@ fn push_number(
 #[tactic(auto, using(crate::proofs::Putting::span_next, crate::proofs::Putting::span_none))]
 fn push_span(
     uses: &mut Vec<Use>,
-    access: Access,
+    role: Role,
     bank: Bank,
     first: i32,
     count: usize,
 ) -> Result<(), NoMemory>
     requires { count < 2 ^ 61 }
-    ensures { OnOk result (uses.new.items ≡ put_span access bank first count uses.old.items) }
+    ensures { OnOk result (uses.new.items ≡ put_span role bank first count uses.old.items) }
 {
     for more in 0..count {
-        push_number(uses, access, bank, number_at(first, more))?;
+        push_number(uses, role, bank, number_at(first, more))?;
     }
     Ok(())
 }
 
 /// Puts what a unit uses at the end, as the row of its kind says.
 fn push_unit(uses: &mut Vec<Use>, controls: &[SynthControl], unit: &Unit) -> Result<(), NoMemory>
-    ensures { OnOk result (uses.new.items ≡ put_used (row_of unit.now.kind).uses controls.now unit.now uses.old.items) }
+    ensures { OnOk result (uses.new.items ≡ put_used (mixes_audio unit.now.kind) (row_of unit.now.kind).uses controls.now unit.now uses.old.items) }
 {
     match row_of(unit.kind).uses {
         Some(used) => push_span(
             uses,
-            used.access,
+            role_in(mixes_audio(unit.kind), used.access, used.bank),
             used.bank,
             index_of(controls, unit),
             span(used.access, used.bank, unit),
@@ -113,37 +129,59 @@ fn push_controls(uses: &mut Vec<Use>, controls: &[SynthControl]) -> Result<(), N
     ensures { OnOk result (uses.new.items ≡ put_controls controls.now uses.old.items) }
 {
     for control in controls {
-        push_number(uses, Access::Read, Bank::Control, control.bus)?;
+        push_number(uses, Role::Read, Bank::Control, control.bus)?;
     }
     Ok(())
 }
 
+/// What the controls and units of a synth use, one by one.
+fn own_uses(alloc: Global, controls: &[SynthControl], units: &[Unit]) -> Result<Vec<Use>, NoMemory>
+    ensures { IfOk result (λ own. own.items ≡ put_units controls.now units.now (put_controls controls.now [])) }
+{
+    let mut own = Vec::new(alloc);
+    push_controls(&mut own, controls)?;
+    push_units(&mut own, controls, units)?;
+    Ok(own)
+}
+
+/// Puts what a synth uses at the end.
+fn push_synth(
+    alloc: Global,
+    uses: &mut Vec<Use>,
+    controls: &[SynthControl],
+    units: &[Unit],
+) -> Result<(), NoMemory>
+    ensures { let own = put_units controls.now units.now (put_controls controls.now []) in OnOk result (uses.new.items ≡ uses.old.items ++ judged (is_alone own) own) }
+{
+    let own = own_uses(alloc, controls, units)?;
+    push_judged(alloc, uses, &own)
+}
+
 /// Puts what a node uses by itself at the end, as the rows of its units say.
-fn push_node(uses: &mut Vec<Use>, held: &Held) -> Result<(), NoMemory>
+fn push_node(alloc: Global, uses: &mut Vec<Use>, held: &Held) -> Result<(), NoMemory>
     ensures { OnOk result (uses.new.items ≡ put_held held.now uses.old.items) }
 {
     match held {
         Held::Group => Ok(()),
         Held::Synth { def, controls, .. } => {
-            push_controls(uses, controls.as_slice())?;
-            push_units(uses, controls.as_slice(), def.units.as_slice())
+            push_synth(alloc, uses, controls.as_slice(), def.units.as_slice())
         }
     }
 }
 
 /// Puts what a node uses by itself at the end. A bus or buffer below 1,024 is then used if it was before, or by the node.
-pub fn push_held(uses: &mut Vec<Use>, held: &Held) -> Result<(), NoMemory>
+pub fn push_held(alloc: Global, uses: &mut Vec<Use>, held: &Held) -> Result<(), NoMemory>
     ensures { OnOk result (PutsUses held.now uses.old.items uses.new.items) }
 {
-    push_node(uses, held)
+    push_node(alloc, uses, held)
 }
 
 /// Puts what nodes use at the end.
-fn push_nodes(uses: &mut Vec<Use>, nodes: &[&Held]) -> Result<(), NoMemory>
+fn push_nodes(alloc: Global, uses: &mut Vec<Use>, nodes: &[&Held]) -> Result<(), NoMemory>
     ensures { OnOk result (uses.new.items ≡ put_nodes (map (λ h. h.now) nodes.now) uses.old.items) }
 {
     for held in nodes {
-        push_node(uses, held)?;
+        push_node(alloc, uses, held)?;
     }
     Ok(())
 }
@@ -153,6 +191,6 @@ pub fn uses_of(alloc: Global, nodes: &[&Held]) -> Result<Vec<Use>, NoMemory>
     ensures { IfOk result (λ uses. uses.items ≡ put_nodes (map (λ h. h.now) nodes.now) []) }
 {
     let mut uses = Vec::new(alloc);
-    push_nodes(&mut uses, nodes)?;
+    push_nodes(alloc, &mut uses, nodes)?;
     Ok(uses)
 }

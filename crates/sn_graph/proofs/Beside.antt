@@ -3,7 +3,7 @@ use Rattle.std.proofs.Common.{◌≡◌, ◌≤◌, ℕ, ◌+◌, ℤ, Bool, tru
 use Rattle.std.specs.Prelude.{◌↔◌}
 use Rattle.std.specs.Ordering.{int_eq}
 use Rattle.std.proofs.lemmas.Bool.{cond_both, or_parts}
-use Rattle.sn_mem.specs.Words.{Clash}
+use Rattle.sn_foot.specs.Reaches.{ReachesClash}
 use Rattle.sn_mem.specs.Buffers.{overlaps}
 use Rattle.sn_mem.proofs.BufferWords.{overlaps-append}
 use Rattle.sn_tree.specs.Trees as trees
@@ -73,7 +73,7 @@ found_within x id t =
     (λ b. omega arith)
 
 pub nodes_agree : (stage : Stage) (words : List ℕ) (a b : ℤ) → Pictures stage words → holds a (subtree b stage.tree.attached) ≡ false → holds b (subtree a stage.tree.attached) ≡ false
-    → Clash (foot_at stage.buffers a stage.tree.attached) (foot_at stage.buffers b stage.tree.attached) ↔ FootprintsClash (footprint_at stage.buffers a stage.tree.attached) (footprint_at stage.buffers b stage.tree.attached)
+    → ReachesClash (foot_at stage.buffers a stage.tree.attached) (foot_at stage.buffers b stage.tree.attached) ↔ FootprintsClash (footprint_at stage.buffers a stage.tree.attached) (footprint_at stage.buffers b stage.tree.attached)
 nodes_agree stage words a b p h k =
     let t = stage.tree.attached in
     let hs = found_at a t in

@@ -1,12 +1,14 @@
--- Where no two members of a split group clash, their synths are clear of each other.
-use Rattle.std.proofs.Common.{◌≡◌, ◌≤◌, ◌⊎◌, inl, inr, ⊎_elim, ℕ, ◌+◌, ℤ, Bool, true, false, not, ◌||◌, ◌&&◌, if◌then◌else◌, List, [], ◌∷◌, ◌++◌, map, Option, sym, refl, ap, ◌∙◌, subst, arith, true≢false}
+-- Where no two members of a split group clash or mix one bus, their synths are clear of each other.
+use Rattle.std.proofs.Common.{◌≡◌, ◌≤◌, ◌⊎◌, inl, inr, ⊎_elim, ℕ, ◌+◌, ◌*◌, ℤ, Bool, true, false, not, ◌&&◌, if◌then◌else◌, List, [], ◌∷◌, ◌++◌, map, Option, sym, refl, ap, ◌∙◌, subst, arith, true≢false}
 use Rattle.std.specs.List.{list_any}
 use Rattle.std.specs.Ordering.{int_eq}
 use Rattle.std.proofs.lemmas.Bool.{cond_both, or_cases, or_left, or_right, and_parts, and_from, lt-ltb, not-true}
 use Rattle.std.proofs.lemmas.List.{append-nil}
 use Rattle.sn_mem.specs.declared.extents.Extent.{Extent}
 use Rattle.sn_mem.specs.declared.buffers.BufferPlace.{BufferPlace}
-use Rattle.sn_mem.specs.Words.{has, Clash}
+use Rattle.sn_foot.specs.declared.reach.Reach.{Reach}
+use Rattle.sn_mem.specs.Words.{has}
+use Rattle.sn_foot.specs.Reaches.{ReachesClash}
 use Rattle.sn_mem.specs.Buffers.{overlaps}
 use Rattle.sn_mem.proofs.BufferWords.{overlaps-append}
 use Rattle.sn_tree.specs.declared.node.NodeKind.{NodeKind}
@@ -17,16 +19,19 @@ use Rattle.sn_world.specs.declared.stage.Held.{Held}
 use Rattle.sn_world.specs.Pictures.{held_extents, live_held}
 use Rattle.sn_world.proofs.Inserting.{has-overlaps}
 use Rattle.sn_foot.specs.declared.resource.Resource.{Resource}
-use Rattle.sn_foot.specs.Footprints.{footprint_of, foot_of, held_reads, held_writes, is_there, states_of}
+use Rattle.sn_foot.specs.Footprints.{footprint_of, foot_of, held_mixes, held_reads, held_writes, is_there, meets_on, states_of}
 use Rattle.sn_foot.specs.Footprints.{Clash as FootprintsClash}
 use Rattle.sn_graph.specs.declared.nodes.Voice.{Voice}
 use Rattle.sn_graph.specs.Voices.{HeardNodes, none, synth, group, voices}
-use Rattle.sn_graph.specs.Plans.{IsClearOf, AreClear, MembersAreClear, SplitsAreClear, is_listed}
+use Rattle.sn_graph.specs.Plans.{MembersAreClear, SplitsAreClear, is_listed}
+use Rattle.sn_graph.specs.Sharing.{is_split, share_a_bus}
 use Rattle.sn_graph.specs.Stages.{with_group, with_node, running_of}
 use Rattle.sn_graph.specs.Disjoint.{AreDisjoint}
 use Rattle.sn_graph.specs.Clear.{held_of, ClashesWithNone, NoneClash, AreListed}
 use Rattle.sn_graph.proofs.Hearing.{voices_group}
-use Rattle.sn_graph.proofs.Resources.{Meets, first_meets, one_meets, overlaps_has, clash_agrees, second_meets}
+use Rattle.sn_graph.proofs.Flags.{none_shared}
+use Rattle.sn_graph.proofs.Meeting.{MeetsNone, MixBuses, MixesBuses, NoMembersMeet, NoneMeet, clear_members}
+use Rattle.sn_graph.proofs.Resources.{clash_agrees, mixed_bus, overlaps_has, used_alone, used_at_all}
 
 -- ---- nodes among others
 
@@ -86,7 +91,7 @@ module _ (buffers : List (Option BufferPlace)) where
 
   abbrev AreOf : List Voice → List Held → Type 0
   AreOf [] hs = Unit {0}
-  AreOf (v ∷ vs) hs = ((h : Held) × (v.foot ≡ foot_of buffers (h ∷ [])) × AmongHeld h hs) × AreOf vs hs
+  AreOf (v ∷ vs) hs = ((h : Held) × (v.reach ≡ foot_of buffers (h ∷ [])) × AmongHeld h hs) × AreOf vs hs
 
   of_more : (vs : List Voice) (hs ks : List Held) → ((h : Held) → AmongHeld h hs → AmongHeld h ks) → AreOf vs hs → AreOf vs ks
   of_more [] hs ks f o = tt
@@ -96,53 +101,88 @@ module _ (buffers : List (Option BufferPlace)) where
   of_append [] ws hs o p = p
   of_append (v ∷ vs) ws hs o p = (o.0, of_append vs ws hs o.1 p)
 
-  lifted : (h k : Held) (hs ks : List Held) → AmongHeld h hs → AmongHeld k ks → (r : Resource)
-      → (footprint_of buffers (h ∷ [])).writes r ≡ true → ((footprint_of buffers (k ∷ [])).writes r || (footprint_of buffers (k ∷ [])).reads r) ≡ true
-      → ((footprint_of buffers hs).writes r ≡ true) × (((footprint_of buffers ks).writes r || (footprint_of buffers ks).reads r) ≡ true)
-  lifted h k hs ks m n r w t = (
-    more_used (is_there buffers r) (λ g. held_writes g r) h hs m w,
-    ⊎_elim
-        (λ (u : (footprint_of buffers (k ∷ [])).writes r ≡ true). or_left ((footprint_of buffers ks).writes r) ((footprint_of buffers ks).reads r) (more_used (is_there buffers r) (λ g. held_writes g r) k ks n u))
-        (λ (u : (footprint_of buffers (k ∷ [])).reads r ≡ true). or_right ((footprint_of buffers ks).writes r) ((footprint_of buffers ks).reads r) (more_used (is_there buffers r) (λ g. held_reads g r) k ks n u))
-        (or_cases ((footprint_of buffers (k ∷ [])).writes r) ((footprint_of buffers (k ∷ [])).reads r) t),
-  )
+  -- what a node uses is used by those among whom it is
+  more_alone : (k : Held) (ks : List Held) → AmongHeld k ks → (r : Resource) → used_alone (footprint_of buffers (k ∷ [])) r ≡ true → used_alone (footprint_of buffers ks) r ≡ true
+  more_alone k ks n r t =
+      let f = footprint_of buffers (k ∷ []) in
+      let g = footprint_of buffers ks in
+      ⊎_elim
+      (λ (u : f.reads r ≡ true). or_left (g.reads r) (g.writes r) (more_used (is_there buffers r) (λ h. held_reads h r) k ks n u))
+      (λ (u : f.writes r ≡ true). or_right (g.reads r) (g.writes r) (more_used (is_there buffers r) (λ h. held_writes h r) k ks n u))
+      (or_cases (f.reads r) (f.writes r) t)
+
+  more_at_all : (k : Held) (ks : List Held) → AmongHeld k ks → (r : Resource) → used_at_all (footprint_of buffers (k ∷ [])) r ≡ true → used_at_all (footprint_of buffers ks) r ≡ true
+  more_at_all k ks n r t =
+      let f = footprint_of buffers (k ∷ []) in
+      let g = footprint_of buffers ks in
+      ⊎_elim
+      (λ (u : used_alone f r ≡ true). or_left (used_alone g r) (g.mixes r) (more_alone k ks n r u))
+      (λ (u : f.mixes r ≡ true). or_right (used_alone g r) (g.mixes r) (more_used (is_there buffers r) (λ h. held_mixes h r) k ks n u))
+      (or_cases (used_alone f r) (f.mixes r) t)
+
+  lifted : (h k : Held) (hs ks : List Held) → AmongHeld h hs → AmongHeld k ks → (r : Resource) → meets_on (footprint_of buffers (h ∷ [])) (footprint_of buffers (k ∷ [])) r ≡ true → meets_on (footprint_of buffers hs) (footprint_of buffers ks) r ≡ true
+  lifted h k hs ks m n r t =
+      let a = footprint_of buffers (h ∷ []) in
+      let b = footprint_of buffers (k ∷ []) in
+      let f = footprint_of buffers hs in
+      let g = footprint_of buffers ks in
+      ⊎_elim
+      (λ (u : (a.writes r && used_at_all b r) ≡ true).
+      let p = and_parts (a.writes r) (used_at_all b r) u in
+      or_left (f.writes r && used_at_all g r) (f.mixes r && used_alone g r) (and_from (f.writes r) (used_at_all g r) (more_used (is_there buffers r) (λ e. held_writes e r) h hs m p.0) (more_at_all k ks n r p.1)))
+      (λ (u : (a.mixes r && used_alone b r) ≡ true).
+      let p = and_parts (a.mixes r) (used_alone b r) u in
+      or_right (f.writes r && used_at_all g r) (f.mixes r && used_alone g r) (and_from (f.mixes r) (used_alone g r) (more_used (is_there buffers r) (λ e. held_mixes e r) h hs m p.0) (more_alone k ks n r p.1)))
+      (or_cases (a.writes r && used_at_all b r) (a.mixes r && used_alone b r) t)
 
   more_clash : (h k : Held) (hs ks : List Held) → AmongHeld h hs → AmongHeld k ks → FootprintsClash (footprint_of buffers (h ∷ [])) (footprint_of buffers (k ∷ [])) → FootprintsClash (footprint_of buffers hs) (footprint_of buffers ks)
   more_clash h k hs ks m n (r, t) =
       let a = footprint_of buffers (h ∷ []) in
-      let b = footprint_of buffers (k ∷ []) in (
+      let b = footprint_of buffers (k ∷ []) in
+      let f = footprint_of buffers hs in
+      let g = footprint_of buffers ks in (
         r,
         ⊎_elim
-            (λ (u : Meets a b r). first_meets (footprint_of buffers hs) (footprint_of buffers ks) r (lifted h k hs ks m n r u.0 u.1))
-            (λ (u : Meets b a r). second_meets (footprint_of buffers hs) (footprint_of buffers ks) r (lifted k h ks hs n m r u.0 u.1))
-            (one_meets a b r t),
+            (λ (u : meets_on a b r ≡ true). or_left (meets_on f g r) (meets_on g f r) (lifted h k hs ks m n r u))
+            (λ (u : meets_on b a r ≡ true). or_right (meets_on f g r) (meets_on g f r) (lifted k h ks hs n m r u))
+            (or_cases (meets_on a b r) (meets_on b a r) t),
       )
 
+  mixes_of : (v : Voice) (h : Held) → v.reach ≡ foot_of buffers (h ∷ []) → MixesBuses v
+  mixes_of v h e x m =
+      let b = mixed_bus buffers h x (ap (λ (r : Reach). has r.mixes x) (sym e) ∙ m) in
+      (b.0, (b.1.0, (b.1.1.0, ap (λ (r : Reach). has r.mixes (65 * b.0)) e ∙ b.1.1.1)))
+
+  -- they mix whole buses
+  mix_of : (vs : List Voice) (hs : List Held) → AreOf vs hs → MixBuses vs
+  mix_of [] hs o = tt
+  mix_of (v ∷ vs) hs o = (mixes_of v o.0.0 o.0.1, mix_of vs hs o.1)
+
   module _ (hs ks : List Held) (is : AreDisjoint buffers (states_of hs ++ states_of ks)) (apart : FootprintsClash (footprint_of buffers hs) (footprint_of buffers ks) → ⊥) where
-    clear_pair : (h k : Held) → AmongHeld h hs → AmongHeld k ks → Clash (foot_of buffers (h ∷ [])) (foot_of buffers (k ∷ [])) → ⊥
+    clear_pair : (h k : Held) → AmongHeld h hs → AmongHeld k ks → ReachesClash (foot_of buffers (h ∷ [])) (foot_of buffers (k ∷ [])) → ⊥
     clear_pair h k m n c =
         let less : (x : ℕ) → overlaps x (states_of (h ∷ []) ++ states_of (k ∷ [])) ≤ overlaps x (states_of hs ++ states_of ks) =
         λ x. omega (arith, overlaps-append x (states_of (h ∷ [])) (states_of (k ∷ [])), overlaps-append x (held_extents h) [], overlaps-append x (held_extents k) [], overlaps-append x (states_of hs) (states_of ks), states_among x h hs m, states_among x k ks n) in
         apart (more_clash h k hs ks m n ((clash_agrees buffers (h ∷ []) (k ∷ []) (fewer (states_of hs ++ states_of ks) (states_of (h ∷ []) ++ states_of (k ∷ [])) is less)).0 c))
 
-    clear_one : (v : Voice) (h : Held) (ws : List Voice) → v.foot ≡ foot_of buffers (h ∷ []) → AmongHeld h hs → AreOf ws ks → IsClearOf v ws
+    clear_one : (v : Voice) (h : Held) (ws : List Voice) → v.reach ≡ foot_of buffers (h ∷ []) → AmongHeld h hs → AreOf ws ks → MeetsNone v ws
     clear_one v h [] e m o = tt
     clear_one v h (w ∷ ws) e m o =
-        (λ c. clear_pair h o.0.0 m o.0.2 (subst (λ f. Clash f (foot_of buffers (o.0.0 ∷ []))) e (subst (λ f. Clash v.foot f) o.0.1 c)), clear_one v h ws e m o.1)
+        (λ c. clear_pair h o.0.0 m o.0.2 (subst (λ (f : Reach). ReachesClash f (foot_of buffers (o.0.0 ∷ []))) e (subst (λ (f : Reach). ReachesClash v.reach f) o.0.1 c)), clear_one v h ws e m o.1)
 
-    clear_all : (vs ws : List Voice) → AreOf vs hs → AreOf ws ks → AreClear vs ws
+    clear_all : (vs ws : List Voice) → AreOf vs hs → AreOf ws ks → NoneMeet vs ws
     clear_all [] ws o p = tt
     clear_all (v ∷ vs) ws o p = (clear_one v o.0.0 ws o.0.1 o.0.2 p, clear_all vs ws o.1 p)
 
-clear_of_more : (v : Voice) (ws us : List Voice) → IsClearOf v ws → IsClearOf v us → IsClearOf v (ws ++ us)
+clear_of_more : (v : Voice) (ws us : List Voice) → MeetsNone v ws → MeetsNone v us → MeetsNone v (ws ++ us)
 clear_of_more v [] us a b = b
 clear_of_more v (w ∷ ws) us a b = (a.0, clear_of_more v ws us a.1 b)
 
-clear_append : (vs ws us : List Voice) → AreClear vs ws → AreClear vs us → AreClear vs (ws ++ us)
+clear_append : (vs ws us : List Voice) → NoneMeet vs ws → NoneMeet vs us → NoneMeet vs (ws ++ us)
 clear_append [] ws us a b = tt
 clear_append (v ∷ vs) ws us a b = (clear_of_more v ws us a.0 b.0, clear_append vs ws us a.1 b.1)
 
-clear_nothing : (vs : List Voice) → AreClear vs []
+clear_nothing : (vs : List Voice) → NoneMeet vs []
 clear_nothing [] = tt
 clear_nothing (v ∷ vs) = (tt, clear_nothing vs)
 
@@ -176,7 +216,7 @@ live_below x id (trees.node label below after) =
 voices_alone : (flag : Bool) (b : HeardNodes) → voices (with_group flag b none) ≡ voices b
 voices_alone flag b = voices_group flag b none ∙ append-nil (voices b)
 
-members_group : (flag : Bool) (b a : HeardNodes) → AreClear (voices b) (voices a) → MembersAreClear a → MembersAreClear (with_group flag b a)
+members_group : (flag : Bool) (b a : HeardNodes) → NoneMeet (voices b) (voices a) → NoMembersMeet a → NoMembersMeet (with_group flag b a)
 members_group flag none a c m = m
 members_group flag (synth v rest) a c m = (c, m)
 members_group flag (group f inner rest) a c m = (c, m)
@@ -200,7 +240,7 @@ module _ (buffers : List (Option BufferPlace)) (clashing : List ℤ) where
   of_node : (kind : NodeKind) (label : Label Held) (b a : HeardNodes) (below after : List (Label Held)) → AreOf buffers (voices b) (payloads below) → AreOf buffers (voices a) (payloads after) → AreOf buffers (voices (with_node buffers clashing kind label b a)) (payloads (label ∷ (below ++ after)))
   of_node kinds.Synth label b a below after o p = ((label.payload, refl, inl refl), of_more buffers (voices a) (payloads after) (payloads (label ∷ (below ++ after))) (λ h m. inr (among_right h below after m)) p)
   of_node kinds.Group label b a below after o p = of_group false label b a below after o p
-  of_node kinds.Parallel label b a below after o p = of_group (not (is_listed clashing label.id)) label b a below after o p
+  of_node kinds.Parallel label b a below after o p = of_group (is_split clashing label.id b) label b a below after o p
 
   of_if : (run : Bool) (x y : HeardNodes) (ls ms : List (Label Held)) → AreOf buffers (voices x) (payloads ls) → AreOf buffers (voices y) (payloads ms) → AreOf buffers (voices (if run then x else y)) (payloads (if run then ls else ms))
   of_if true x y ls ms o p = o
@@ -216,10 +256,10 @@ module _ (buffers : List (Option BufferPlace)) (clashing : List ℤ) where
   voices_node : (run : Bool) (kind : NodeKind) (label : Label Held) (b a : HeardNodes) → voices (if run then with_node buffers clashing kind label b none else none) ++ voices a ≡ voices (if run then with_node buffers clashing kind label b a else a)
   voices_node true kinds.Synth label b a = refl
   voices_node true kinds.Group label b a = ap (λ vs. vs ++ voices a) (voices_alone false b) ∙ sym (voices_group false b a)
-  voices_node true kinds.Parallel label b a = ap (λ vs. vs ++ voices a) (voices_alone (not (is_listed clashing label.id)) b) ∙ sym (voices_group (not (is_listed clashing label.id)) b a)
+  voices_node true kinds.Parallel label b a = ap (λ vs. vs ++ voices a) (voices_alone (is_split clashing label.id b) b) ∙ sym (voices_group (is_split clashing label.id b) b a)
   voices_node false kind label b a = refl
 
-  clear_after : (vs : List Voice) (hs : List Held) (t : Nodes Held) → AreOf buffers vs hs → AreDisjoint buffers (states_of hs ++ live_held t) → ClashesWithNone buffers hs t → AreClear vs (voices (running_of buffers clashing t))
+  clear_after : (vs : List Voice) (hs : List Held) (t : Nodes Held) → AreOf buffers vs hs → AreDisjoint buffers (states_of hs ++ live_held t) → ClashesWithNone buffers hs t → NoneMeet vs (voices (running_of buffers clashing t))
   clear_after vs hs trees.none o is n = clear_nothing vs
   clear_after vs hs (trees.node label below after) o is n =
       let here : Nodes Held = trees.node label below trees.none in
@@ -228,18 +268,18 @@ module _ (buffers : List (Option BufferPlace)) (clashing : List ℤ) where
       (λ x. omega (arith, overlaps-append x (states_of hs) (states_of (held_of here)), overlaps-append x (states_of hs) (live_held whole), few_states x here, live_parts x label below trees.none, live_parts x label below after)) in
       let rest : AreDisjoint buffers (states_of hs ++ live_held after) = fewer buffers (states_of hs ++ live_held whole) (states_of hs ++ live_held after) is
       (λ x. omega (arith, overlaps-append x (states_of hs) (live_held after), overlaps-append x (states_of hs) (live_held whole), live_parts x label below after)) in
-      subst (AreClear vs) (voices_node label.running label.kind label (running_of buffers clashing below) (running_of buffers clashing after))
+      subst (NoneMeet vs) (voices_node label.running label.kind label (running_of buffers clashing below) (running_of buffers clashing after))
       (clear_append vs (voices (running_of buffers clashing here)) (voices (running_of buffers clashing after))
       (clear_all buffers hs (held_of here) first n.0 vs (voices (running_of buffers clashing here)) o (are_of here))
       (clear_after vs hs after o rest n.1))
 
-  members_node : (run : Bool) (kind : NodeKind) (label : Label Held) (b a : HeardNodes) → AreClear (voices (if run then with_node buffers clashing kind label b none else none)) (voices a) → MembersAreClear a → MembersAreClear (if run then with_node buffers clashing kind label b a else a)
+  members_node : (run : Bool) (kind : NodeKind) (label : Label Held) (b a : HeardNodes) → NoneMeet (voices (if run then with_node buffers clashing kind label b none else none)) (voices a) → NoMembersMeet a → NoMembersMeet (if run then with_node buffers clashing kind label b a else a)
   members_node true kinds.Synth label b a c m = (c.0, m)
-  members_node true kinds.Group label b a c m = members_group false b a (subst (λ vs. AreClear vs (voices a)) (voices_alone false b) c) m
-  members_node true kinds.Parallel label b a c m = members_group (not (is_listed clashing label.id)) b a (subst (λ vs. AreClear vs (voices a)) (voices_alone (not (is_listed clashing label.id)) b) c) m
+  members_node true kinds.Group label b a c m = members_group false b a (subst (λ vs. NoneMeet vs (voices a)) (voices_alone false b) c) m
+  members_node true kinds.Parallel label b a c m = members_group (is_split clashing label.id b) b a (subst (λ vs. NoneMeet vs (voices a)) (voices_alone (is_split clashing label.id b) b) c) m
   members_node false kind label b a c m = m
 
-  members_clear : (t : Nodes Held) → AreDisjoint buffers (live_held t) → NoneClash buffers t → MembersAreClear (running_of buffers clashing t)
+  members_clear : (t : Nodes Held) → AreDisjoint buffers (live_held t) → NoneClash buffers t → NoMembersMeet (running_of buffers clashing t)
   members_clear trees.none is n = tt
   members_clear (trees.node label below after) is n =
       let here : Nodes Held = trees.node label below trees.none in
@@ -251,10 +291,14 @@ module _ (buffers : List (Option BufferPlace)) (clashing : List ℤ) where
       (clear_after (voices (running_of buffers clashing here)) (held_of here) after (are_of here) first n.0)
       (members_clear after rest n.1)
 
-  splits_node : (run : Bool) (kind : NodeKind) (label : Label Held) (b a : HeardNodes) → (run ≡ true → (kind ≡ kinds.Parallel → is_listed clashing label.id ≡ false → MembersAreClear b) × SplitsAreClear b) → SplitsAreClear a → SplitsAreClear (if run then with_node buffers clashing kind label b a else a)
+  splits_node : (run : Bool) (kind : NodeKind) (label : Label Held) (b a : HeardNodes) → (run ≡ true → (kind ≡ kinds.Parallel → is_listed clashing label.id ≡ false → NoMembersMeet b) × (MixBuses (voices b) × SplitsAreClear b)) → SplitsAreClear a → SplitsAreClear (if run then with_node buffers clashing kind label b a else a)
   splits_node true kinds.Synth label b a c s = s
-  splits_node true kinds.Group label b a c s = splits_group false b a (λ h. absurd (true≢false (sym h))) (c refl).1 s
-  splits_node true kinds.Parallel label b a c s = splits_group (not (is_listed clashing label.id)) b a (λ h. (c refl).0 refl (not-true (is_listed clashing label.id) h)) (c refl).1 s
+  splits_node true kinds.Group label b a c s = splits_group false b a (λ h. absurd (true≢false (sym h))) (c refl).1.1 s
+  splits_node true kinds.Parallel label b a c s =
+      splits_group (is_split clashing label.id b) b a
+      (λ h. let p = and_parts (not (is_listed clashing label.id)) (not (share_a_bus b)) h in
+      clear_members b (c refl).1.0 ((c refl).0 refl (not-true (is_listed clashing label.id) p.0)) (none_shared b (not-true (share_a_bus b) p.1)))
+      (c refl).1.1 s
   splits_node false kind label b a c s = s
 
   splits_clear : (t : Nodes Held) → AreDisjoint buffers (live_held t) → AreListed buffers clashing t → SplitsAreClear (running_of buffers clashing t)
@@ -264,7 +308,7 @@ module _ (buffers : List (Option BufferPlace)) (clashing : List ℤ) where
       let inner : AreDisjoint buffers (live_held below) = fewer buffers (live_held whole) (live_held below) is (λ x. omega (arith, live_parts x label below after)) in
       let rest : AreDisjoint buffers (live_held after) = fewer buffers (live_held whole) (live_held after) is (λ x. omega (arith, live_parts x label below after)) in
       splits_node label.running label.kind label (running_of buffers clashing below) (running_of buffers clashing after)
-      (λ r. (λ k u. members_clear below inner ((n.0 r).0 k u), splits_clear below inner (n.0 r).1))
+      (λ r. (λ k u. members_clear below inner ((n.0 r).0 k u), (mix_of buffers (voices (running_of buffers clashing below)) (held_of below) (are_of below), splits_clear below inner (n.0 r).1)))
       (splits_clear after rest n.1)
 
   pub clear_below : (id : ℤ) (t : Nodes Held) → AreDisjoint buffers (live_held t) → AreListed buffers clashing (subtree id t) → SplitsAreClear (running_of buffers clashing (subtree id t))

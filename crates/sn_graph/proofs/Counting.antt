@@ -1,5 +1,5 @@
 -- How many jobs there are at most, and how often a synth is among them.
-use Rattle.std.proofs.Common.{◌≡◌, ◌≤◌, ◌<◌, ℕ, ◌+◌, ℤ, Bool, true, false, not, if◌then◌else◌, List, [], ◌∷◌, ◌++◌, Option, Some, sym, refl, ap, ◌∙◌, subst, arith, true≢false, ⊎_elim}
+use Rattle.std.proofs.Common.{◌≡◌, ◌≤◌, ◌<◌, ℕ, ◌+◌, ℤ, Bool, true, false, if◌then◌else◌, List, [], ◌∷◌, ◌++◌, Option, Some, sym, refl, ap, ◌∙◌, subst, arith, true≢false, ⊎_elim}
 use Rattle.std.specs.Ordering.{int_eq}
 use Rattle.std.proofs.lemmas.Bool.{cases_Bool, cond_both, or_cases, false_from_ne_true}
 use Rattle.std.proofs.lemmas.Bool.Decides.{Decides-int_eq}
@@ -14,7 +14,8 @@ use Rattle.sn_world.specs.declared.stage.Held.{Held}
 use Rattle.sn_graph.specs.declared.nodes.Voice.{Voice}
 use Rattle.sn_graph.specs.Voices.{HeardNodes, none, synth, group, voices, has, Once}
 use Rattle.sn_graph.specs.Rows.{Row, done, job, split, size, size_all}
-use Rattle.sn_graph.specs.Plans.{close, followed, is_listed, members, joined, keep, row_of, rows_of}
+use Rattle.sn_graph.specs.Plans.{close, followed, members, joined, keep, row_of, rows_of}
+use Rattle.sn_graph.specs.Sharing.{is_split}
 use Rattle.sn_graph.specs.Stages.{with_group, with_node, running_of}
 use Rattle.sn_graph.proofs.Labels.{kind_at, kind_after, kind_below, kind_here, not_some, some_is, subtree_after, subtree_below, subtree_here}
 use Rattle.sn_graph.proofs.Hearing.{voices_group}
@@ -127,7 +128,7 @@ module _ (buffers : List (Option BufferPlace)) (clashing : List ℤ) where
   weight_node : (kind : NodeKind) (label : Label Held) (below after : HeardNodes) → weight (with_node buffers clashing kind label below after) ≤ 1 + weight below + weight after
   weight_node kinds.Synth label below after = omega arith
   weight_node kinds.Group label below after = weight_group false below after
-  weight_node kinds.Parallel label below after = weight_group (not (is_listed clashing label.id)) below after
+  weight_node kinds.Parallel label below after = weight_group (is_split clashing label.id below) below after
 
   weight_all : (t : Nodes Held) → weight (running_of buffers clashing t) ≤ count t
   weight_all trees.none = omega arith
@@ -171,7 +172,7 @@ module _ (buffers : List (Option BufferPlace)) (clashing : List ℤ) where
   heard_node : (a : ℤ) (kind : NodeKind) (label : Label Held) (below after : HeardNodes) → heard a (voices (with_node buffers clashing kind label below after)) ≤ one_if (int_eq label.id a) + (heard a (voices below) + heard a (voices after))
   heard_node a kinds.Synth label below after = omega arith
   heard_node a kinds.Group label below after = omega (arith, heard_group a false below after)
-  heard_node a kinds.Parallel label below after = omega (arith, heard_group a (not (is_listed clashing label.id)) below after)
+  heard_node a kinds.Parallel label below after = omega (arith, heard_group a (is_split clashing label.id below) below after)
 
   heard_all : (a : ℤ) (t : Nodes Held) → heard a (voices (running_of buffers clashing t)) ≤ occurrences int_eq a (ids t)
   heard_all a trees.none = omega arith

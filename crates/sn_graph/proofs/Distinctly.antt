@@ -12,7 +12,8 @@ use Rattle.sn_tree.specs.Steps.{AllDistinct, occurrences}
 use Rattle.sn_tree.proofs.Distinct.{occurs-node}
 use Rattle.sn_tree.specs.Trees.{Label, Nodes, none, node, holds, ids, running_labels}
 use Rattle.sn_world.specs.declared.stage.Held.{Held}
-use Rattle.sn_foot.specs.Footprints.{held_reads, held_writes, is_reached, is_there}
+use Rattle.sn_foot.specs.Footprints.{is_reached, is_there}
+use Rattle.sn_foot.specs.Uses.{held_uses}
 use Rattle.sn_clash.specs.Clashing.{clashes}
 use Rattle.sn_graph.specs.Plans.{is_listed}
 use Rattle.sn_graph.specs.Clear.{IsClashing, TwoClash}
@@ -163,5 +164,5 @@ module _ (buffers : List (Option BufferPlace)) where
       })))
       (reached_cases id label below after c.reached)
 
-  pub names_are : (id : ℤ) (t : Nodes Held) → AllDistinct int_eq (ids t) → (is_listed (map (λ c. c.group) (clashes (is_there buffers) held_reads held_writes t)) id ≡ true) ↔ IsClashing buffers t id
+  pub names_are : (id : ℤ) (t : Nodes Held) → AllDistinct int_eq (ids t) → (is_listed (map (λ c. c.group) (clashes (is_there buffers) held_uses t)) id ≡ true) ↔ IsClashing buffers t id
   names_are id t one = (λ h. named_clashing id t one (named_found buffers id t h), λ c. found_named buffers id t (clashing_named id t one c))

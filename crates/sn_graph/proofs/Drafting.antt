@@ -7,7 +7,7 @@ use Rattle.sn_foot.specs.Canonical.{Ends}
 use Rattle.std.proofs.lemmas.Bool.{cases_Bool, cond-true, cond-false}
 use Rattle.sn_round.specs.declared.jobs.Job.{Job}
 use Rattle.sn_graph.specs.declared.nodes.Voice.{Voice}
-use Rattle.sn_graph.specs.Voices.{AreWithin, all_reads, all_writes, HeardNodes, none, synth, group, voices}
+use Rattle.sn_graph.specs.Voices.{AreWithin, all_reads, all_writes, HeardNodes, none, synth, group, voices, own_foot}
 use Rattle.sn_graph.specs.Rows.{Row, done, job, split, job_of, size, size_all, last, lasts, jobs, jobs_all}
 use Rattle.sn_graph.specs.Plans.{close, followed, members, joined, keep, row_of, rows_of, inner_row}
 use Rattle.std.proofs.Common.{Option, Some, None}
@@ -310,11 +310,11 @@ within_both (x ∷ xs) ys v w = (v.0, within_both xs ys v.1 w)
 
 pub reads_end : (vs : List Voice) → AreWithin vs → All Ends (all_reads vs)
 reads_end [] w = λ k d l. absurd (omega arith)
-reads_end (v ∷ vs) w = All-append Ends v.foot.reads (all_reads vs) w.0.0 (reads_end vs w.1)
+reads_end (v ∷ vs) w = All-append Ends (own_foot v).reads (all_reads vs) w.0.0 (reads_end vs w.1)
 
 pub writes_end : (vs : List Voice) → AreWithin vs → All Ends (all_writes vs)
 writes_end [] w = λ k d l. absurd (omega arith)
-writes_end (v ∷ vs) w = All-append Ends v.foot.writes (all_writes vs) w.0.1 (writes_end vs w.1)
+writes_end (v ∷ vs) w = All-append Ends (own_foot v).writes (all_writes vs) w.0.1 (writes_end vs w.1)
 
 -- what is left to be put touches words with numbers
 pub within_run : (run : List Voice) (n : HeardNodes) → AreWithin (run ++ voices n) → AreWithin run

@@ -4,7 +4,7 @@ use Rattle.std.proofs.lemmas.Bool.{or_cases, and_parts, or_left}
 use Rattle.std.specs.Ordering.{int_eq}
 use Rattle.sn_mem.specs.Words.{Clash}
 use Rattle.sn_graph.specs.declared.nodes.Voice.{Voice}
-use Rattle.sn_graph.specs.Voices.{HeardNodes, none, synth, group, voices, has, Once}
+use Rattle.sn_graph.specs.Voices.{HeardNodes, none, synth, group, voices, has, Once, own_foot}
 use Rattle.sn_graph.specs.Plans.{IsClearOf, AreClear, MembersAreClear, SplitsAreClear}
 use Rattle.sn_graph.proofs.Shapes.{IsFree, is_parted, Among}
 use Rattle.sn_graph.proofs.Numbers.{has-left, has-right, once-left, once-right, once-both}
@@ -38,18 +38,18 @@ parted_has g (group f inner rest) a b h =
     (or_cases (is_parted f inner a b) (is_parted g rest a b) k))
     (or_cases (g && has (voices inner) a && has (voices rest) b) (is_parted f inner a b || is_parted g rest a b) h)
 
-clear_with : (s : Voice) (ts : List Voice) (t : Voice) → IsClearOf s ts → Among ts t → Clash s.foot t.foot → ⊥
+clear_with : (s : Voice) (ts : List Voice) (t : Voice) → IsClearOf s ts → Among ts t → Clash (own_foot s) (own_foot t) → ⊥
 clear_with s [] t h a c = absurd a
-clear_with s (x ∷ xs) t h a c = ⊎_elim (λ (e : x ≡ t). h.0 (subst (λ (y : Voice). Clash s.foot y.foot) (sym e) c)) (λ (g : Among xs t). clear_with s xs t h.1 g c) a
+clear_with s (x ∷ xs) t h a c = ⊎_elim (λ (e : x ≡ t). h.0 (subst (λ (y : Voice). Clash (own_foot s) (own_foot y)) (sym e) c)) (λ (g : Among xs t). clear_with s xs t h.1 g c) a
 
-clear_all : (ss ts : List Voice) (s t : Voice) → AreClear ss ts → Among ss s → Among ts t → Clash s.foot t.foot → ⊥
+clear_all : (ss ts : List Voice) (s t : Voice) → AreClear ss ts → Among ss s → Among ts t → Clash (own_foot s) (own_foot t) → ⊥
 clear_all [] ts s t h a b c = absurd a
 clear_all (x ∷ xs) ts s t h a b c =
-    ⊎_elim (λ (e : x ≡ s). clear_with x ts t h.0 b (subst (λ (y : Voice). Clash y.foot t.foot) (sym e) c)) (λ (g : Among xs s). clear_all xs ts s t h.1 g b c) a
+    ⊎_elim (λ (e : x ≡ s). clear_with x ts t h.0 b (subst (λ (y : Voice). Clash (own_foot y) (own_foot t)) (sym e) c)) (λ (g : Among xs s). clear_all xs ts s t h.1 g b c) a
 
 -- g says whether the nodes are members of a split group
 pub parted_clear : (g : Bool) (nodes : HeardNodes) (s t : Voice) → (g ≡ true → MembersAreClear nodes) → SplitsAreClear nodes → Once (voices nodes) → Among (voices nodes) s → Among (voices nodes) t
-    → is_parted g nodes s.id t.id ≡ true → Clash s.foot t.foot → ⊥
+    → is_parted g nodes s.id t.id ≡ true → Clash (own_foot s) (own_foot t) → ⊥
 parted_clear g none s t m u o a b h c = absurd a
 parted_clear g (synth x rest) s t m u o a b h c =
     ⊎_elim
@@ -58,7 +58,7 @@ parted_clear g (synth x rest) s t m u o a b h c =
     let e = and_parts g (int_eq x.id s.id) d.0 in
     let here : Among (x ∷ []) s = stands_left (x ∷ []) (voices rest) s o a (or_left (int_eq x.id s.id) false e.1) in
     let there : Among (voices rest) t = stands_right (x ∷ []) (voices rest) t o b d.1 in
-    ⊎_elim (λ (y : x ≡ s). clear_with x (voices rest) t (m e.0).0 there (subst (λ (z : Voice). Clash z.foot t.foot) (sym y) c)) (λ (y : ⊥). y) here)
+    ⊎_elim (λ (y : x ≡ s). clear_with x (voices rest) t (m e.0).0 there (subst (λ (z : Voice). Clash (own_foot z) (own_foot t)) (sym y) c)) (λ (y : ⊥). y) here)
     (λ (k : is_parted g rest s.id t.id ≡ true).
     let d = parted_has g rest s.id t.id k in
     parted_clear g rest s t (λ e. (m e).1) u (once-right (x ∷ []) (voices rest) o) (stands_right (x ∷ []) (voices rest) s o a d.0) (stands_right (x ∷ []) (voices rest) t o b d.1) k c)

@@ -1,5 +1,5 @@
 -- A group in which no synth runs is left out, and no synth with it.
-use Rattle.std.proofs.Common.{◌≡◌, ◌≤◌, ℤ, Bool, false, not, List, ◌++◌, Option, length, true≢false, length-append, refl, arith}
+use Rattle.std.proofs.Common.{◌≡◌, ◌≤◌, ℤ, Bool, false, List, ◌++◌, Option, length, true≢false, length-append, refl, arith}
 use Rattle.std.proofs.lemmas.Bool.{cond_both}
 use Rattle.sn_mem.specs.declared.buffers.BufferPlace.{BufferPlace}
 use Rattle.sn_tree.specs.declared.node.NodeKind.{NodeKind}
@@ -8,7 +8,7 @@ use Rattle.sn_tree.specs.Trees as trees
 use Rattle.sn_tree.specs.Trees.{Label, Nodes}
 use Rattle.sn_world.specs.declared.stage.Held.{Held}
 use Rattle.sn_graph.specs.Voices.{HeardNodes, none, synth, group, is_none, voices, AreHeard}
-use Rattle.sn_graph.specs.Plans.{is_listed}
+use Rattle.sn_graph.specs.Sharing.{is_split}
 use Rattle.sn_graph.specs.Stages.{with_group, with_node, running_of}
 
 pub voices_group : (flag : Bool) (below after : HeardNodes) → voices (with_group flag below after) ≡ voices below ++ voices after
@@ -31,7 +31,7 @@ module _ (buffers : List (Option BufferPlace)) (clashing : List ℤ) where
   heard_node : (kind : NodeKind) (label : Label Held) (below after : HeardNodes) → AreHeard below → AreHeard after → AreHeard (with_node buffers clashing kind label below after)
   heard_node kinds.Synth label below after b a = a
   heard_node kinds.Group label below after b a = heard_group false below after b a
-  heard_node kinds.Parallel label below after b a = heard_group (not (is_listed clashing label.id)) below after b a
+  heard_node kinds.Parallel label below after b a = heard_group (is_split clashing label.id below) below after b a
 
   pub all_heard : (t : Nodes Held) → AreHeard (running_of buffers clashing t)
   all_heard trees.none = tt

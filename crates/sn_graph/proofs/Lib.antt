@@ -12,6 +12,8 @@ pub mod Coming
 pub mod Resources
 pub mod Hearing
 pub mod Linking
+pub mod Flags
+pub mod Meeting
 pub mod Staging
 pub mod Labels
 pub mod Counting

@@ -15,8 +15,9 @@ use Rattle.sn_tree.specs.Trees.{Label, Nodes, none, node, running_labels}
 use Rattle.sn_world.specs.declared.stage.Held.{Held}
 use Rattle.sn_foot.specs.declared.resource.Resource.{Resource}
 use Rattle.sn_foot.specs.declared.resource.Resource.TheVariants.{Audio, Control, Buffer}
-use Rattle.sn_foot.specs.Footprints.{Footprint, footprint_of, held_reads, held_writes, clash_on, is_there}
+use Rattle.sn_foot.specs.Footprints.{Footprint, footprint_of, held_mixes, held_reads, held_writes, clash_on, is_there, meets_on}
 use Rattle.sn_foot.specs.Footprints.{Clash as FootprintsClash}
+use Rattle.sn_foot.specs.Uses.{held_uses}
 use Rattle.sn_clash.specs.declared.clash.Clash.{Clash}
 use Rattle.sn_clash.specs.Clashing.{Member, clashes, clashes_among, clashes_with, footprint, is_parallel, members, resources}
 use Rattle.sn_clash.proofs.Members.{any_first, clash_at}
@@ -92,31 +93,48 @@ module _ (buffers : List (Option BufferPlace)) where
   any_payload p (l ∷ ls) = ap (λ b. p l.payload || b) (any_payload p ls)
 
   abbrev used : List (Label Held) → Footprint
-  used ls = footprint (is_there buffers) held_reads held_writes ls
+  used ls = footprint (is_there buffers) held_uses ls
 
   abbrev tops : Nodes Held → List Member
-  tops t = members (is_there buffers) held_reads held_writes t
+  tops t = members (is_there buffers) held_uses t
 
   abbrev found : Nodes Held → List Clash
-  found t = clashes (is_there buffers) held_reads held_writes t
+  found t = clashes (is_there buffers) held_uses t
 
   same_footprint : (ls : List (Label Held)) → used ls ≡ footprint_of buffers (map (λ l. l.payload) ls)
   same_footprint ls = λ i. record {
     reads = λ r. is_there buffers r && any_payload (λ h. held_reads h r) ls i;
     writes = λ r. is_there buffers r && any_payload (λ h. held_writes h r) ls i;
+    mixes = λ r. is_there buffers r && any_payload (λ h. held_mixes h r) ls i;
   }
 
-  on_there : (f g : Footprint) → ((r : Resource) → f.writes r ≡ true → is_there buffers r ≡ true) → ((r : Resource) → g.writes r ≡ true → is_there buffers r ≡ true) → FootprintsClash f g → list_any (clash_on f g) resources ≡ true
+  -- what it writes or mixes is there
+  abbrev IsOfThere : Footprint → Type 0
+  IsOfThere f = (r : Resource) → (f.writes r || f.mixes r) ≡ true → is_there buffers r ≡ true
+
+  met_there : (f g : Footprint) (r : Resource) → IsOfThere f → meets_on f g r ≡ true → is_there buffers r ≡ true
+  met_there f g r a t =
+      let all : Bool = (g.reads r || g.writes r) || g.mixes r in
+      let alone : Bool = g.reads r || g.writes r in
+      ⊎_elim
+      (λ (h : (f.writes r && all) ≡ true). a r (or_left (f.writes r) (f.mixes r) (and_parts (f.writes r) all h).0))
+      (λ (h : (f.mixes r && alone) ≡ true). a r (or_right (f.writes r) (f.mixes r) (and_parts (f.mixes r) alone h).0))
+      (or_cases (f.writes r && all) (f.mixes r && alone) t)
+
+  on_there : (f g : Footprint) → IsOfThere f → IsOfThere g → FootprintsClash f g → list_any (clash_on f g) resources ≡ true
   on_there f g a b (r, t) =
       among_resources (clash_on f g) r
       (⊎_elim
-      (λ (h : (f.writes r && (g.reads r || g.writes r)) ≡ true). a r (and_parts (f.writes r) (g.reads r || g.writes r) h).0)
-      (λ (h : (g.writes r && (f.reads r || f.writes r)) ≡ true). b r (and_parts (g.writes r) (f.reads r || f.writes r) h).0)
-      (or_cases (f.writes r && (g.reads r || g.writes r)) (g.writes r && (f.reads r || f.writes r)) t))
+      (λ (h : meets_on f g r ≡ true). met_there f g r a h)
+      (λ (h : meets_on g f r ≡ true). met_there g f r b h)
+      (or_cases (meets_on f g r) (meets_on g f r) t))
       t
 
-  there_is : (ls : List (Label Held)) (r : Resource) → (used ls).writes r ≡ true → is_there buffers r ≡ true
-  there_is ls r h = (and_parts (is_there buffers r) (list_any (λ l. held_writes l.payload r) ls) h).0
+  there_is : (ls : List (Label Held)) → IsOfThere (used ls)
+  there_is ls r h = ⊎_elim
+      (λ (w : (used ls).writes r ≡ true). (and_parts (is_there buffers r) (list_any (λ l. held_writes l.payload r) ls) w).0)
+      (λ (m : (used ls).mixes r ≡ true). (and_parts (is_there buffers r) (list_any (λ l. held_mixes l.payload r) ls) m).0)
+      (or_cases ((used ls).writes r) ((used ls).mixes r) h)
 
   abbrev all_of : Label Held → Nodes Held → List (Label Held)
   all_of label below = running_labels (node label below none)

@@ -9,7 +9,7 @@ use Rattle.sn_round.specs.Jobs.{no_job, job_at, foot_at, predecessors, AreJobs, 
 use Rattle.sn_round.proofs.Orders.{past_end, nothing_in}
 use Rattle.sn_foot.proofs.Runs.{has_append, has_canonical}
 use Rattle.sn_graph.specs.declared.nodes.Voice.{Voice}
-use Rattle.sn_graph.specs.Voices.{all_reads, all_writes, ids_of, foot_of, HeardNodes, voices, has, Once}
+use Rattle.sn_graph.specs.Voices.{all_reads, all_writes, ids_of, foot_of, HeardNodes, voices, has, Once, own_foot}
 use Rattle.sn_graph.specs.Rows.{Row, Members, done, job, split, one, more, job_of, size, size_all, lasts, jobs, jobs_all}
 use Rattle.sn_graph.specs.Plans.{is_listed, row_of, joined_synths, plan_of, Plays, edges}
 use Rattle.sn_graph.proofs.Shapes.{IsPlan, Apart, is_parted, Stands, StandsAll, heard, heard_all, Among, IsFree}
@@ -160,31 +160,31 @@ among_has (x ∷ xs) s h = ⊎_elim
     h
 
 -- a word of the joined foot is one of a synth's
-pub writes_of : (ss : List Voice) (x : ℕ) → covered (all_writes ss) x ≡ true → (s : Voice) × Among ss s × (writes s.foot x ≡ true)
+pub writes_of : (ss : List Voice) (x : ℕ) → covered (all_writes ss) x ≡ true → (s : Voice) × Among ss s × (writes (own_foot s) x ≡ true)
 writes_of [] x h = absurd (true≢false (sym h))
 writes_of (s ∷ ss) x h =
     ⊎_elim
-    (λ (g : covered s.foot.writes x ≡ true). (s, inl refl, g))
+    (λ (g : covered (own_foot s).writes x ≡ true). (s, inl refl, g))
     (λ (g : covered (all_writes ss) x ≡ true). let d = writes_of ss x g in (d.0, inr d.1, d.2))
-    (or_cases (covered s.foot.writes x) (covered (all_writes ss) x) (sym (has_append s.foot.writes (all_writes ss) x) ∙ h))
+    (or_cases (covered (own_foot s).writes x) (covered (all_writes ss) x) (sym (has_append (own_foot s).writes (all_writes ss) x) ∙ h))
 
-pub reads_of : (ss : List Voice) (x : ℕ) → covered (all_reads ss) x ≡ true → (s : Voice) × Among ss s × (covered s.foot.reads x ≡ true)
+pub reads_of : (ss : List Voice) (x : ℕ) → covered (all_reads ss) x ≡ true → (s : Voice) × Among ss s × (covered (own_foot s).reads x ≡ true)
 reads_of [] x h = absurd (true≢false (sym h))
 reads_of (s ∷ ss) x h =
     ⊎_elim
-    (λ (g : covered s.foot.reads x ≡ true). (s, inl refl, g))
+    (λ (g : covered (own_foot s).reads x ≡ true). (s, inl refl, g))
     (λ (g : covered (all_reads ss) x ≡ true). let d = reads_of ss x g in (d.0, inr d.1, d.2))
-    (or_cases (covered s.foot.reads x) (covered (all_reads ss) x) (sym (has_append s.foot.reads (all_reads ss) x) ∙ h))
+    (or_cases (covered (own_foot s).reads x) (covered (all_reads ss) x) (sym (has_append (own_foot s).reads (all_reads ss) x) ∙ h))
 
-pub touches_of : (ss : List Voice) (x : ℕ) → touches (foot_of ss) x ≡ true → (s : Voice) × Among ss s × (touches s.foot x ≡ true)
+pub touches_of : (ss : List Voice) (x : ℕ) → touches (foot_of ss) x ≡ true → (s : Voice) × Among ss s × (touches (own_foot s) x ≡ true)
 touches_of ss x h =
     ⊎_elim
-    (λ (g : covered (foot_of ss).writes x ≡ true). let d = writes_of ss x (sym (has_canonical (all_writes ss) x) ∙ g) in (d.0, d.1, or_left (covered d.0.foot.writes x) (covered d.0.foot.reads x) d.2))
-    (λ (g : covered (foot_of ss).reads x ≡ true). let d = reads_of ss x (sym (has_canonical (all_reads ss) x) ∙ g) in (d.0, d.1, or_right (covered d.0.foot.writes x) (covered d.0.foot.reads x) d.2))
+    (λ (g : covered (foot_of ss).writes x ≡ true). let d = writes_of ss x (sym (has_canonical (all_writes ss) x) ∙ g) in (d.0, d.1, or_left (covered (own_foot d.0).writes x) (covered (own_foot d.0).reads x) d.2))
+    (λ (g : covered (foot_of ss).reads x ≡ true). let d = reads_of ss x (sym (has_canonical (all_reads ss) x) ∙ g) in (d.0, d.1, or_right (covered (own_foot d.0).writes x) (covered (own_foot d.0).reads x) d.2))
     (or_cases (covered (foot_of ss).writes x) (covered (foot_of ss).reads x) h)
 
 -- where the joined feet clash, those of two synths do
-pub clash_of : (ss ts : List Voice) → Clash (foot_of ss) (foot_of ts) → (s : Voice) × (t : Voice) × Among ss s × Among ts t × Clash s.foot t.foot
+pub clash_of : (ss ts : List Voice) → Clash (foot_of ss) (foot_of ts) → (s : Voice) × (t : Voice) × Among ss s × Among ts t × Clash (own_foot s) (own_foot t)
 clash_of ss ts (x, c) =
     ⊎_elim
     (λ (d : (writes (foot_of ss) x ≡ true) × (touches (foot_of ts) x ≡ true)). let p = writes_of ss x (sym (has_canonical (all_writes ss) x) ∙ d.0) in let q = touches_of ts x d.1 in (p.0, q.0, p.1, q.1, (x, inl (p.2, q.2))))

@@ -1,20 +1,24 @@
--- Two feet clash exactly where the footprints that they are of do.
+-- Two reaches clash exactly where the footprints that they are of do.
 use Rattle.std.proofs.Common.{◌≡◌, ◌≤◌, ◌<◌, ◌⊎◌, inl, inr, ⊎_elim, ℕ, zero, suc, ◌+◌, ◌*◌, Bool, true, false, ◌&&◌, ◌||◌, List, [], ◌∷◌, ◌++◌, Option, Some, None, sym, refl, ap, ◌∙◌, subst, arith, true≢false, if◌then◌else◌}
-use Rattle.std.specs.Prelude.{◌↔◌, slice_index_or, nat_lt, nat_le, is_some}
+use Rattle.std.specs.Prelude.{◌↔◌, ◌==◌, slice_index_or, nat_lt, nat_le, is_some}
 use Rattle.std.specs.List.{All, list_any}
-use Rattle.std.proofs.lemmas.Bool.{or_cases, or_left, or_right, and_parts, and_from, lt-ltb, ltb-true, leb-true, le-leb, cases_order}
-use Rattle.std.proofs.Math.Bool.{or_comm}
+use Rattle.std.proofs.lemmas.Bool.{or_cases, or_left, or_right, and_parts, and_from, cond-true, lt-ltb, ltb-true, leb-true, le-leb, cases_order}
+use Rattle.std.proofs.Math.Bool.{or-false}
 use Rattle.sn_mem.specs.declared.extents.Extent.{Extent}
 use Rattle.sn_mem.specs.declared.buffers.BufferPlace.{BufferPlace}
 use Rattle.sn_mem.specs.Layout.{audio_place, control_place}
-use Rattle.sn_mem.specs.Words.{covers, has, writes, touches, Clash}
+use Rattle.sn_foot.specs.declared.reach.Reach.{Reach}
+use Rattle.sn_mem.specs.Words.{covers, has, touches}
+use Rattle.sn_foot.specs.Reaches.{unmoved, MeetsAt, ReachesClash}
 use Rattle.sn_mem.specs.Buffers.{MayBePlace, overlaps, live_places, place_extents}
 use Rattle.sn_mem.proofs.BufferWords.{overlaps-append}
+use Rattle.sn_def.specs.Defs.{definition_of}
 use Rattle.sn_world.specs.declared.stage.Held.{Held}
+use Rattle.sn_world.specs.declared.stage.Held.TheVariants as held
 use Rattle.sn_world.proofs.Inserting.{has-overlaps}
 use Rattle.sn_foot.specs.declared.resource.Resource.{Resource}
 use Rattle.sn_foot.specs.declared.resource.Resource.TheVariants.{Audio, Control, Buffer}
-use Rattle.sn_foot.specs.Footprints.{Footprint, buffer_words, clash_on, is_there, place_of, lies_in, states_of, IsOfUsed, held_writes, footprint_of, foot_of}
+use Rattle.sn_foot.specs.Footprints.{Footprint, buffer_words, is_there, meets_on, place_of, lies_in, states_of, IsOfUsed, held_mixes, held_writes, footprint_of, foot_of, users}
 use Rattle.sn_foot.specs.Footprints.{Clash as FootprintsClash}
 use Rattle.sn_foot.proofs.Runs.{has_append}
 use Rattle.sn_foot.proofs.Containing.{its_words, in_range}
@@ -143,74 +147,133 @@ state_left x es fs h = has_append es fs x ∙ or_left (has es x) (has fs x) h
 state_right : (x : ℕ) (es fs : List Extent) → has fs x ≡ true → has (es ++ fs) x ≡ true
 state_right x es fs h = has_append es fs x ∙ or_right (has es x) (has fs x) h
 
--- the first writes what the second uses
-abbrev pub Meets : Footprint → Footprint → Resource → Type 0
-Meets a b r = (a.writes r ≡ true) × ((b.writes r || b.reads r) ≡ true)
+-- what a footprint reads or writes, and what it uses at all
+abbrev pub used_alone : Footprint → Resource → Bool
+used_alone f r = f.reads r || f.writes r
 
-module _ (a b : Footprint) (r : Resource) where
-  -- two footprints clash on what one of them writes and the other uses
-  pub one_meets : clash_on a b r ≡ true → Meets a b r ⊎ Meets b a r
-  one_meets t = ⊎_elim
-      (λ (h : (a.writes r && (b.reads r || b.writes r)) ≡ true). let p = and_parts (a.writes r) (b.reads r || b.writes r) h in inl (p.0, or_comm (b.writes r) (b.reads r) ∙ p.1))
-      (λ (h : (b.writes r && (a.reads r || a.writes r)) ≡ true). let p = and_parts (b.writes r) (a.reads r || a.writes r) h in inr (p.0, or_comm (a.writes r) (a.reads r) ∙ p.1))
-      (or_cases (a.writes r && (b.reads r || b.writes r)) (b.writes r && (a.reads r || a.writes r)) t)
+abbrev pub used_at_all : Footprint → Resource → Bool
+used_at_all f r = (f.reads r || f.writes r) || f.mixes r
 
-  pub first_meets : Meets a b r → clash_on a b r ≡ true
-  first_meets m =
-      or_left (a.writes r && (b.reads r || b.writes r)) (b.writes r && (a.reads r || a.writes r))
-      (and_from (a.writes r) (b.reads r || b.writes r) m.0 (or_comm (b.reads r) (b.writes r) ∙ m.1))
+module _ (buffers : List (Option BufferPlace)) (ks : List Held) (x : ℕ) where
+  wider : (p q : Resource → Bool) → ((r : Resource) → p r ≡ true → q r ≡ true) → IsOfUsed buffers p x → IsOfUsed buffers q x
+  wider p q more u = (u.0, (more u.0 u.1.0, u.1.1))
 
-  pub second_meets : Meets b a r → clash_on a b r ≡ true
-  second_meets m =
-      or_right (a.writes r && (b.reads r || b.writes r)) (b.writes r && (a.reads r || a.writes r))
-      (and_from (b.writes r) (a.reads r || a.writes r) m.0 (or_comm (a.reads r) (a.writes r) ∙ m.1))
-
-module _ (buffers : List (Option BufferPlace)) (hs ks : List Held) (is : AreDisjoint buffers (states_of hs ++ states_of ks)) where
-  touched : (x : ℕ) → touches (foot_of buffers ks) x ≡ true → ((r : Resource) × (((footprint_of buffers ks).writes r || (footprint_of buffers ks).reads r) ≡ true) × (lies_in x (place_of buffers r) ≡ true)) ⊎ (has (states_of ks) x ≡ true)
-  touched x t =
+  -- a word that is read or written
+  used_by : (has (foot_of buffers ks).writes x || has (foot_of buffers ks).reads x) ≡ true → IsOfUsed buffers (used_alone (footprint_of buffers ks)) x ⊎ (has (states_of ks) x ≡ true)
+  used_by t =
+      let f : Footprint = footprint_of buffers ks in
       let w = its_words buffers ks in
       ⊎_elim
       (λ (a : has (foot_of buffers ks).writes x ≡ true). ⊎_elim
-      (λ (u : IsOfUsed buffers (footprint_of buffers ks).writes x). inl (u.0, or_left ((footprint_of buffers ks).writes u.0) ((footprint_of buffers ks).reads u.0) u.1.0, u.1.1))
+      (λ (u : IsOfUsed buffers f.writes x). inl (wider f.writes (used_alone f) (λ r e. or_right (f.reads r) (f.writes r) e) u))
       (λ (s : has (states_of ks) x ≡ true). inr s)
       ((w.writes x).0 a))
-      (λ (a : has (foot_of buffers ks).reads x ≡ true). let u = (w.reads x).0 a in inl (u.0, or_right ((footprint_of buffers ks).writes u.0) ((footprint_of buffers ks).reads u.0) u.1.0, u.1.1))
+      (λ (a : has (foot_of buffers ks).reads x ≡ true). inl (wider f.reads (used_alone f) (λ r e. or_left (f.reads r) (f.writes r) e) ((w.reads x).0 a)))
       (or_cases (has (foot_of buffers ks).writes x) (has (foot_of buffers ks).reads x) t)
 
-  -- where the first foot writes a word that the second touches, they share a resource
-  pub shared : (x : ℕ) → writes (foot_of buffers hs) x ≡ true → touches (foot_of buffers ks) x ≡ true → (r : Resource) × Meets (footprint_of buffers hs) (footprint_of buffers ks) r
-  shared x w t =
+  by_used : (r : Resource) → lies_in x (place_of buffers r) ≡ true → used_alone (footprint_of buffers ks) r ≡ true → (has (foot_of buffers ks).writes x || has (foot_of buffers ks).reads x) ≡ true
+  by_used r l t =
+      let f : Footprint = footprint_of buffers ks in
+      let g : Reach = foot_of buffers ks in
+      let w = its_words buffers ks in
+      ⊎_elim
+      (λ (u : f.reads r ≡ true). or_right (has g.writes x) (has g.reads x) ((w.reads x).1 (r, (u, l))))
+      (λ (u : f.writes r ≡ true). or_left (has g.writes x) (has g.reads x) ((w.writes x).1 (inl (r, (u, l)))))
+      (or_cases (f.reads r) (f.writes r) t)
+
+  wider_used : IsOfUsed buffers (used_alone (footprint_of buffers ks)) x ⊎ (has (states_of ks) x ≡ true) → IsOfUsed buffers (used_at_all (footprint_of buffers ks)) x ⊎ (has (states_of ks) x ≡ true)
+  wider_used c =
+      let f : Footprint = footprint_of buffers ks in
+      ⊎_elim
+      (λ (u : IsOfUsed buffers (used_alone f) x). inl (wider (used_alone f) (used_at_all f) (λ r e. or_left (used_alone f r) (f.mixes r) e) u))
+      (λ (s : has (states_of ks) x ≡ true). inr s)
+      c
+
+  -- a word that is read, written or mixed
+  touched_by : touches (unmoved (foot_of buffers ks)) x ≡ true → IsOfUsed buffers (used_at_all (footprint_of buffers ks)) x ⊎ (has (states_of ks) x ≡ true)
+  touched_by t =
+      let f : Footprint = footprint_of buffers ks in
+      let g : Reach = foot_of buffers ks in
+      let w = its_words buffers ks in
+      ⊎_elim
+      (λ (a : has (g.writes ++ g.mixes) x ≡ true). ⊎_elim
+      (λ (b : has g.writes x ≡ true). wider_used (used_by (or_left (has g.writes x) (has g.reads x) b)))
+      (λ (b : has g.mixes x ≡ true). inl (wider f.mixes (used_at_all f) (λ r e. or_right (used_alone f r) (f.mixes r) e) ((w.mixes x).0 b)))
+      (or_cases (has g.writes x) (has g.mixes x) (sym (has_append g.writes g.mixes x) ∙ a)))
+      (λ (a : has g.reads x ≡ true). wider_used (used_by (or_right (has g.writes x) (has g.reads x) a)))
+      (or_cases (has (g.writes ++ g.mixes) x) (has g.reads x) t)
+
+  still_touched : (has (foot_of buffers ks).writes x || has (foot_of buffers ks).reads x) ≡ true → touches (unmoved (foot_of buffers ks)) x ≡ true
+  still_touched t =
+      let g : Reach = foot_of buffers ks in
+      ⊎_elim
+      (λ (a : has g.writes x ≡ true). or_left (has (g.writes ++ g.mixes) x) (has g.reads x) (has_append g.writes g.mixes x ∙ or_left (has g.writes x) (has g.mixes x) a))
+      (λ (a : has g.reads x ≡ true). or_right (has (g.writes ++ g.mixes) x) (has g.reads x) a)
+      (or_cases (has g.writes x) (has g.reads x) t)
+
+  by_touched : (r : Resource) → lies_in x (place_of buffers r) ≡ true → used_at_all (footprint_of buffers ks) r ≡ true → touches (unmoved (foot_of buffers ks)) x ≡ true
+  by_touched r l t =
+      let f : Footprint = footprint_of buffers ks in
+      let g : Reach = foot_of buffers ks in
+      let w = its_words buffers ks in
+      ⊎_elim
+      (λ (u : used_alone f r ≡ true). still_touched (by_used r l u))
+      (λ (u : f.mixes r ≡ true). or_left (has (g.writes ++ g.mixes) x) (has g.reads x) (has_append g.writes g.mixes x ∙ or_right (has g.writes x) (has g.mixes x) ((w.mixes x).1 (r, (u, l)))))
+      (or_cases (used_alone f r) (f.mixes r) t)
+
+module _ (buffers : List (Option BufferPlace)) (hs ks : List Held) (is : AreDisjoint buffers (states_of hs ++ states_of ks)) where
+  -- a word of both is one of a resource that both use
+  of_both : (x : ℕ) (p q : Resource → Bool) → IsOfUsed buffers p x ⊎ (has (states_of hs) x ≡ true) → IsOfUsed buffers q x ⊎ (has (states_of ks) x ≡ true) → (r : Resource) × ((p r ≡ true) × (q r ≡ true))
+  of_both x p q a b =
       let states = states_of hs ++ states_of ks in
       ⊎_elim
-      (λ (u : IsOfUsed buffers (footprint_of buffers hs).writes x). ⊎_elim
-      (λ (v : (r : Resource) × (((footprint_of buffers ks).writes r || (footprint_of buffers ks).reads r) ≡ true) × (lies_in x (place_of buffers r) ≡ true)).
-      let same : v.0 ≡ u.0 = same_resource buffers states is x v.0 u.0 v.2 u.1.1 in
-      (u.0, (u.1.0, subst (λ (r : Resource). ((footprint_of buffers ks).writes r || (footprint_of buffers ks).reads r) ≡ true) same v.1)))
+      (λ (u : IsOfUsed buffers p x). ⊎_elim
+      (λ (v : IsOfUsed buffers q x).
+      let same : v.0 ≡ u.0 = same_resource buffers states is x v.0 u.0 v.1.1 u.1.1 in
+      (u.0, (u.1.0, subst (λ (r : Resource). q r ≡ true) same v.1.0)))
       (λ (s : has (states_of ks) x ≡ true). absurd (state_apart buffers states is x u.0 u.1.1 (state_right x (states_of hs) (states_of ks) s)))
-      (touched x t))
+      b)
       (λ (s : has (states_of hs) x ≡ true). ⊎_elim
-      (λ (v : (r : Resource) × (((footprint_of buffers ks).writes r || (footprint_of buffers ks).reads r) ≡ true) × (lies_in x (place_of buffers r) ≡ true)).
-      absurd (state_apart buffers states is x v.0 v.2 (state_left x (states_of hs) (states_of ks) s)))
+      (λ (v : IsOfUsed buffers q x). absurd (state_apart buffers states is x v.0 v.1.1 (state_left x (states_of hs) (states_of ks) s)))
       (λ (k : has (states_of ks) x ≡ true). absurd (omega (arith, is.apart x, both_states x (states_of hs) (states_of ks) s k)))
-      (touched x t))
-      (((its_words buffers hs).writes x).0 w)
+      b)
+      a
+
+  -- where the words of the first meet those of the second, their footprints meet
+  pub shared : (x : ℕ) → MeetsAt (foot_of buffers hs) (foot_of buffers ks) x → (r : Resource) × (meets_on (footprint_of buffers hs) (footprint_of buffers ks) r ≡ true)
+  shared x m =
+      let f : Footprint = footprint_of buffers hs in
+      let g : Footprint = footprint_of buffers ks in
+      let w = its_words buffers hs in
+      ⊎_elim
+      (λ (h : (has (foot_of buffers hs).writes x ≡ true) × (touches (unmoved (foot_of buffers ks)) x ≡ true)).
+      let b = of_both x f.writes (used_at_all g) ((w.writes x).0 h.0) (touched_by buffers ks x h.1) in
+      (b.0, or_left (f.writes b.0 && used_at_all g b.0) (f.mixes b.0 && used_alone g b.0) (and_from (f.writes b.0) (used_at_all g b.0) b.1.0 b.1.1)))
+      (λ (h : (has (foot_of buffers hs).mixes x ≡ true) × ((has (foot_of buffers ks).writes x || has (foot_of buffers ks).reads x) ≡ true)).
+      let b = of_both x f.mixes (used_alone g) (inl ((w.mixes x).0 h.0)) (used_by buffers ks x h.1) in
+      (b.0, or_right (f.writes b.0 && used_at_all g b.0) (f.mixes b.0 && used_alone g b.0) (and_from (f.mixes b.0) (used_alone g b.0) b.1.0 b.1.1)))
+      m
+
+  -- the word of a resource that is there
+  its_word : (r : Resource) → is_there buffers r ≡ true → (x : ℕ) × (lies_in x (place_of buffers r) ≡ true)
+  its_word r there = first_word buffers (states_of hs ++ states_of ks) is r (has_place buffers r ∙ there)
 
   -- and the other way round
-  pub meeting : (r : Resource) → Meets (footprint_of buffers hs) (footprint_of buffers ks) r → (x : ℕ) × ((writes (foot_of buffers hs) x ≡ true) × (touches (foot_of buffers ks) x ≡ true))
-  meeting r m =
-      let states = states_of hs ++ states_of ks in
-      let there = (and_parts (is_there buffers r) (list_any (λ h. held_writes h r) hs) m.0).0 in
-      let word = first_word buffers states is r (has_place buffers r ∙ there) in
-      let w = its_words buffers ks in (
-        word.0,
-        (
-          ((its_words buffers hs).writes word.0).1 (inl (r, (m.0, word.1))),
-          ⊎_elim
-              (λ (u : (footprint_of buffers ks).writes r ≡ true). or_left (has (foot_of buffers ks).writes word.0) (has (foot_of buffers ks).reads word.0) ((w.writes word.0).1 (inl (r, (u, word.1)))))
-              (λ (u : (footprint_of buffers ks).reads r ≡ true). or_right (has (foot_of buffers ks).writes word.0) (has (foot_of buffers ks).reads word.0) ((w.reads word.0).1 (r, (u, word.1))))
-              (or_cases ((footprint_of buffers ks).writes r) ((footprint_of buffers ks).reads r) m.1),
-        ),
-      )
+  pub meeting : (r : Resource) → meets_on (footprint_of buffers hs) (footprint_of buffers ks) r ≡ true → (x : ℕ) × MeetsAt (foot_of buffers hs) (foot_of buffers ks) x
+  meeting r t =
+      let f : Footprint = footprint_of buffers hs in
+      let g : Footprint = footprint_of buffers ks in
+      let w = its_words buffers hs in
+      ⊎_elim
+      (λ (h : (f.writes r && used_at_all g r) ≡ true).
+      let p = and_parts (f.writes r) (used_at_all g r) h in
+      let word = its_word r (and_parts (is_there buffers r) (list_any (λ k. held_writes k r) hs) p.0).0 in
+      (word.0, inl ((w.writes word.0).1 (inl (r, (p.0, word.1))), by_touched buffers ks word.0 r word.1 p.1)))
+      (λ (h : (f.mixes r && used_alone g r) ≡ true).
+      let p = and_parts (f.mixes r) (used_alone g r) h in
+      let word = its_word r (and_parts (is_there buffers r) (list_any (λ k. held_mixes k r) hs) p.0).0 in
+      (word.0, inr ((w.mixes word.0).1 (r, (p.0, word.1)), by_used buffers ks word.0 r word.1 p.1)))
+      (or_cases (f.writes r && used_at_all g r) (f.mixes r && used_alone g r) t)
 
 turned : (buffers : List (Option BufferPlace)) (es fs : List Extent) → AreDisjoint buffers (es ++ fs) → AreDisjoint buffers (fs ++ es)
 turned buffers es fs is = record {
@@ -219,15 +282,75 @@ turned buffers es fs is = record {
   apart = λ x. omega (arith, is.apart x, overlaps-append x es fs, overlaps-append x fs es);
 }
 
-pub clash_agrees : (buffers : List (Option BufferPlace)) (hs ks : List Held) → AreDisjoint buffers (states_of hs ++ states_of ks) → Clash (foot_of buffers hs) (foot_of buffers ks) ↔ FootprintsClash (footprint_of buffers hs) (footprint_of buffers ks)
+pub clash_agrees : (buffers : List (Option BufferPlace)) (hs ks : List Held) → AreDisjoint buffers (states_of hs ++ states_of ks) → ReachesClash (foot_of buffers hs) (foot_of buffers ks) ↔ FootprintsClash (footprint_of buffers hs) (footprint_of buffers ks)
 clash_agrees buffers hs ks is =
-    let back = turned buffers (states_of hs) (states_of ks) is in (
-      λ (c : Clash (foot_of buffers hs) (foot_of buffers ks)). ⊎_elim
-          (λ (h : (writes (foot_of buffers hs) c.0 ≡ true) × (touches (foot_of buffers ks) c.0 ≡ true)). let s = shared buffers hs ks is c.0 h.0 h.1 in (s.0, first_meets (footprint_of buffers hs) (footprint_of buffers ks) s.0 s.1))
-          (λ (h : (writes (foot_of buffers ks) c.0 ≡ true) × (touches (foot_of buffers hs) c.0 ≡ true)). let s = shared buffers ks hs back c.0 h.0 h.1 in (s.0, second_meets (footprint_of buffers hs) (footprint_of buffers ks) s.0 s.1))
+    let back = turned buffers (states_of hs) (states_of ks) is in
+    let f : Footprint = footprint_of buffers hs in
+    let g : Footprint = footprint_of buffers ks in (
+      λ (c : ReachesClash (foot_of buffers hs) (foot_of buffers ks)). ⊎_elim
+          (λ (h : MeetsAt (foot_of buffers hs) (foot_of buffers ks) c.0). let s = shared buffers hs ks is c.0 h in (s.0, or_left (meets_on f g s.0) (meets_on g f s.0) s.1))
+          (λ (h : MeetsAt (foot_of buffers ks) (foot_of buffers hs) c.0). let s = shared buffers ks hs back c.0 h in (s.0, or_right (meets_on f g s.0) (meets_on g f s.0) s.1))
           c.1,
       λ (c : FootprintsClash (footprint_of buffers hs) (footprint_of buffers ks)). ⊎_elim
-          (λ (h : Meets (footprint_of buffers hs) (footprint_of buffers ks) c.0). let m = meeting buffers hs ks is c.0 h in (m.0, inl m.1))
-          (λ (h : Meets (footprint_of buffers ks) (footprint_of buffers hs) c.0). let m = meeting buffers ks hs back c.0 h in (m.0, inr m.1))
-          (one_meets (footprint_of buffers hs) (footprint_of buffers ks) c.0 c.1),
+          (λ (h : meets_on f g c.0 ≡ true). let m = meeting buffers hs ks is c.0 h in (m.0, inl m.1))
+          (λ (h : meets_on g f c.0 ≡ true). let m = meeting buffers ks hs back c.0 h in (m.0, inr m.1))
+          (or_cases (meets_on f g c.0) (meets_on g f c.0) c.1),
     )
+
+-- ---- what is mixed
+
+none_of : {A : Type 0} (xs : List A) → list_any (λ x. false) xs ≡ false
+none_of [] = refl
+none_of (x ∷ xs) = none_of xs
+
+mixes_no_control : (h : Held) (n : ℕ) → held_mixes h (Control n) ≡ false
+mixes_no_control held.Group n = refl
+mixes_no_control (held.Synth def controls state) n = ap (λ b. b && (users controls (definition_of def.value).units (Control n) == 1)) (none_of (definition_of def.value).units)
+
+mixes_no_buffer : (h : Held) (n : ℕ) → held_mixes h (Buffer n) ≡ false
+mixes_no_buffer held.Group n = refl
+mixes_no_buffer (held.Synth def controls state) n = ap (λ b. b && (users controls (definition_of def.value).units (Buffer n) == 1)) (none_of (definition_of def.value).units)
+
+one_only : (p : Held → Bool) (h : Held) → list_any p (h ∷ []) ≡ true → p h ≡ false → ⊥
+one_only p h t f = ⊎_elim (λ (e : p h ≡ true). true≢false (sym e ∙ f)) (λ (e : false ≡ true). true≢false (sym e)) (or_cases (p h) false t)
+
+same_tests : (p q : Bool) → (p ≡ true → q ≡ true) → (q ≡ true → p ≡ true) → p ≡ q
+same_tests true q f g = sym (f refl)
+same_tests false true f g = g refl
+same_tests false false f g = refl
+
+module _ (buffers : List (Option BufferPlace)) (h : Held) where
+  -- the word is one of an audio bus that is mixed whole
+  abbrev pub IsOfMixed : ℕ → Type 0
+  IsOfMixed x = (n : ℕ) × ((n < 128) × (((65 * n ≤ x) × (x < 65 * n + 65)) × (has (foot_of buffers (h ∷ [])).mixes (65 * n) ≡ true)))
+
+  first_of : (n : ℕ) → n < 128 → lies_in (65 * n) (place_of buffers (Audio n)) ≡ true
+  first_of n lt =
+      ap (λ (p : Option Extent). lies_in (65 * n) p) (cond-true (nat_lt n 128) (Some (audio_place n)) None (lt-ltb n 128 lt))
+      ∙ covers_first (audio_place n) (omega arith)
+
+  mixed_of : (x : ℕ) (r : Resource) → (footprint_of buffers (h ∷ [])).mixes r ≡ true → lies_in x (place_of buffers r) ≡ true → IsOfMixed x
+  mixed_of x (Audio n) u l =
+      let a = audio_range buffers n x l in
+      (n, (a.0, ((a.1.0, a.1.1), ((its_words buffers (h ∷ [])).mixes (65 * n)).1 (Audio n, (u, first_of n a.0)))))
+  mixed_of x (Control n) u l = absurd (one_only (λ k. held_mixes k (Control n)) h (and_parts (is_there buffers (Control n)) (list_any (λ k. held_mixes k (Control n)) (h ∷ [])) u).1 (mixes_no_control h n))
+  mixed_of x (Buffer n) u l = absurd (one_only (λ k. held_mixes k (Buffer n)) h (and_parts (is_there buffers (Buffer n)) (list_any (λ k. held_mixes k (Buffer n)) (h ∷ [])) u).1 (mixes_no_buffer h n))
+
+  pub mixed_bus : (x : ℕ) → has (foot_of buffers (h ∷ [])).mixes x ≡ true → IsOfMixed x
+  mixed_bus x m = let u = ((its_words buffers (h ∷ [])).mixes x).0 m in mixed_of x u.0 u.1.0 u.1.1
+
+  of_bus : (n : ℕ) (r : Resource) → (footprint_of buffers (h ∷ [])).mixes r ≡ true → lies_in (65 * n) (place_of buffers r) ≡ true → held_mixes h (Audio n) ≡ true
+  of_bus n (Audio m) u l =
+      let a = audio_range buffers m (65 * n) l in
+      let same : m ≡ n = omega (arith, a.1.0, a.1.1) in
+      ap (λ k. held_mixes h (Audio k)) (sym same) ∙ sym (or-false (held_mixes h (Audio m))) ∙ (and_parts (is_there buffers (Audio m)) (list_any (λ k. held_mixes k (Audio m)) (h ∷ [])) u).1
+  of_bus n (Control m) u l = absurd (one_only (λ k. held_mixes k (Control m)) h (and_parts (is_there buffers (Control m)) (list_any (λ k. held_mixes k (Control m)) (h ∷ [])) u).1 (mixes_no_control h m))
+  of_bus n (Buffer m) u l = absurd (one_only (λ k. held_mixes k (Buffer m)) h (and_parts (is_there buffers (Buffer m)) (list_any (λ k. held_mixes k (Buffer m)) (h ∷ [])) u).1 (mixes_no_buffer h m))
+
+  -- a synth mixes a bus exactly where its words say so
+  pub mixes_bus : (n : ℕ) → n < 128 → has (foot_of buffers (h ∷ [])).mixes (65 * n) ≡ held_mixes h (Audio n)
+  mixes_bus n lt =
+      let w = (its_words buffers (h ∷ [])).mixes (65 * n) in
+      same_tests (has (foot_of buffers (h ∷ [])).mixes (65 * n)) (held_mixes h (Audio n))
+      (λ t. let u = w.0 t in of_bus n u.0 u.1.0 u.1.1)
+      (λ t. w.1 (Audio n, (and_from (is_there buffers (Audio n)) (list_any (λ k. held_mixes k (Audio n)) (h ∷ [])) (lt-ltb n 128 lt) (or_left (held_mixes h (Audio n)) false t), first_of n lt)))

@@ -5,7 +5,7 @@ use Rattle.sn_mem.specs.Words.{Clash}
 use Rattle.sn_round.specs.declared.jobs.Job.{Job}
 use Rattle.sn_round.specs.Jobs.{Ordered}
 use Rattle.sn_graph.specs.declared.nodes.Voice.{Voice}
-use Rattle.sn_graph.specs.Voices.{HeardNodes, none, synth, group, voices, ids_of, has}
+use Rattle.sn_graph.specs.Voices.{HeardNodes, none, synth, group, voices, ids_of, has, own_foot}
 use Rattle.sn_graph.specs.Rows.{Row, Members, done, job, split, one, more, job_of, size, size_all, lasts}
 use Rattle.sn_graph.specs.Plans.{joined_synths, edges, Plays}
 
@@ -104,7 +104,7 @@ Among (x ∷ xs) s = (x ≡ s) ⊎ Among xs s
 
 -- synths whose lowest group is split do not clash
 abbrev pub IsFree : HeardNodes → Type 0
-IsFree nodes = (s t : Voice) → Among (voices nodes) s → Among (voices nodes) t → is_parted false nodes s.id t.id ≡ true → Clash s.foot t.foot → ⊥
+IsFree nodes = (s t : Voice) → Among (voices nodes) s → Among (voices nodes) t → is_parted false nodes s.id t.id ≡ true → Clash (own_foot s) (own_foot t) → ⊥
 
 -- a stands before b
 abbrev pub comes : List Voice → ℤ → ℤ → Bool

@@ -1,5 +1,5 @@
 -- What the planner asks of the nodes of a stage.
-use Rattle.std.proofs.Common.{◌≡◌, ℕ, ◌+◌, ℤ, Bool, false, not, List, [], ◌∷◌, ◌++◌, map, Option, sym, refl, ap, ◌∙◌, subst, append_assoc, arith}
+use Rattle.std.proofs.Common.{◌≡◌, ℕ, ◌+◌, ℤ, Bool, false, List, [], ◌∷◌, ◌++◌, map, Option, sym, refl, ap, ◌∙◌, subst, append_assoc, arith}
 use Rattle.std.specs.Prelude.{nat_le, nat_lt}
 use Rattle.std.specs.List.{All}
 use Rattle.std.proofs.lemmas.Bool.{cond_both}
@@ -19,7 +19,7 @@ use Rattle.sn_foot.specs.Footprints.{footprint_of, states_of, used_places}
 use Rattle.sn_foot.proofs.Finding.{all_parts, all_below}
 use Rattle.sn_foot.proofs.Placing.{used_ends}
 use Rattle.sn_graph.specs.Voices.{HeardNodes, voices, AreWithin}
-use Rattle.sn_graph.specs.Plans.{is_listed}
+use Rattle.sn_graph.specs.Sharing.{is_split}
 use Rattle.sn_graph.specs.Stages.{voice_of, with_group, with_node, running_of}
 use Rattle.sn_graph.proofs.Drafting.{within_both}
 use Rattle.sn_graph.proofs.Hearing.{voices_group}
@@ -80,7 +80,9 @@ module _ (buffers : List (Option BufferPlace)) (clashing : List ℤ) where
       let f = footprint_of buffers (held ∷ []) in (
         (
           all_canonical (used_places buffers f.reads) (used_ends buffers f.reads places),
-          all_canonical (used_places buffers f.writes ++ states_of (held ∷ [])) (All-append Ends (used_places buffers f.writes) (states_of (held ∷ [])) (used_ends buffers f.writes places) (All-append Ends (held_extents held) [] state (All-nil Ends))),
+          All-append Ends (canonical (used_places buffers f.writes ++ states_of (held ∷ []))) (canonical (used_places buffers f.mixes))
+              (all_canonical (used_places buffers f.writes ++ states_of (held ∷ [])) (All-append Ends (used_places buffers f.writes) (states_of (held ∷ [])) (used_ends buffers f.writes places) (All-append Ends (held_extents held) [] state (All-nil Ends))))
+              (all_canonical (used_places buffers f.mixes) (used_ends buffers f.mixes places)),
         ),
         tt,
       )
@@ -92,7 +94,7 @@ module _ (buffers : List (Option BufferPlace)) (clashing : List ℤ) where
   within_node : (kind : NodeKind) (label : Label Held) (below after : HeardNodes) → AreWithin (voice_of buffers label.id label.payload ∷ []) → AreWithin (voices below) → AreWithin (voices after) → AreWithin (voices (with_node buffers clashing kind label below after))
   within_node kinds.Synth label below after v b a = (v.0, a)
   within_node kinds.Group label below after v b a = within_group false below after b a
-  within_node kinds.Parallel label below after v b a = within_group (not (is_listed clashing label.id)) below after b a
+  within_node kinds.Parallel label below after v b a = within_group (is_split clashing label.id below) below after b a
 
   within_all : (t : Nodes Held) → All Ends (live_places buffers) → All Ends (live_held t) → AreWithin (voices (running_of buffers clashing t))
   within_all trees.none places all = tt

@@ -1,6 +1,7 @@
 pub mod Voices
 pub mod Rows
 pub mod Plans
+pub mod Sharing
 pub mod Inputs
 pub mod Disjoint
 pub mod Drafts

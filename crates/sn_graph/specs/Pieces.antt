@@ -1,5 +1,5 @@
 -- Nodes by themselves, and how they are put together from the end of the walk on.
-use Rattle.std.specs.Prelude.{ℕ, ℤ, Bool, false, not, if◌then◌else◌, List, [], ◌∷◌, map, reverse, take, drop, Option}
+use Rattle.std.specs.Prelude.{ℕ, ℤ, Bool, false, if◌then◌else◌, List, [], ◌∷◌, map, reverse, take, drop, Option}
 use Rattle.sn_mem.specs.declared.buffers.BufferPlace.{BufferPlace}
 use Rattle.sn_tree.specs.declared.node.NodeKind.{NodeKind}
 use Rattle.sn_tree.specs.declared.node.NodeKind.TheVariants as kinds
@@ -10,7 +10,7 @@ use Rattle.sn_graph.specs.declared.parts.Part.TheVariants as given
 use Rattle.sn_graph.specs.declared.parts.Part.{Part}
 use Rattle.sn_graph.specs.Voices.{HeardNodes, none, synth, group, is_none}
 use Rattle.sn_graph.specs.Inputs.{nodes_of}
-use Rattle.sn_graph.specs.Plans.{is_listed}
+use Rattle.sn_graph.specs.Sharing.{is_split}
 use Rattle.sn_graph.specs.Stages.{voice_of}
 
 -- a node by itself, with what is kept below it, or nothing if it is left out
@@ -45,7 +45,7 @@ module _ (buffers : List (Option BufferPlace)) (clashing : List ℤ) where
   abbrev pub running_piece : NodeKind → Label Held → HeardNodes → Piece
   running_piece kinds.Synth label inner = voice (voice_of buffers label.id label.payload)
   running_piece kinds.Group label inner = group_piece false inner
-  running_piece kinds.Parallel label inner = group_piece (not (is_listed clashing label.id)) inner
+  running_piece kinds.Parallel label inner = group_piece (is_split clashing label.id inner) inner
 
   abbrev pub piece : Label Held → HeardNodes → Piece
   piece label inner = if label.running then running_piece label.kind label inner else nothing

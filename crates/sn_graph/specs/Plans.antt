@@ -6,7 +6,7 @@ use Rattle.sn_mem.specs.Words.{Clash}
 use Rattle.sn_round.specs.declared.jobs.Job.{Job}
 use Rattle.sn_round.specs.Jobs.{foot_at, job_at, Ordered}
 use Rattle.sn_graph.specs.declared.nodes.Voice.{Voice}
-use Rattle.sn_graph.specs.Voices.{HeardNodes, none, synth, group, voices, foot_of, ids_of, has}
+use Rattle.sn_graph.specs.Voices.{HeardNodes, none, synth, group, voices, foot_of, ids_of, has, own_foot}
 use Rattle.sn_graph.specs.Rows.{Row, Members, done, job, split, one, more, jobs}
 
 -- an open run of synths is one job
@@ -100,7 +100,7 @@ pub record IsPlanned (nodes : HeardNodes) (js : List Job) : Type 0 where
 -- no synth of one member clashes with a synth of another
 abbrev pub IsClearOf : Voice → List Voice → Type 0
 IsClearOf s [] = Unit {0}
-IsClearOf s (t ∷ ts) = (Clash s.foot t.foot → ⊥) × IsClearOf s ts
+IsClearOf s (t ∷ ts) = (Clash (own_foot s) (own_foot t) → ⊥) × IsClearOf s ts
 
 abbrev pub AreClear : List Voice → List Voice → Type 0
 AreClear [] ts = Unit {0}

@@ -3,6 +3,7 @@ use Rattle.std.specs.Prelude.{◌≡◌, ◌≤◌, ℤ, Bool, true, false, ◌|
 use Rattle.std.specs.Ordering.{int_eq}
 use Rattle.sn_mem.specs.declared.extents.Extent.{Extent}
 use Rattle.sn_mem.specs.declared.extents.Foot.{Foot}
+use Rattle.sn_foot.specs.Reaches.{unmoved}
 use Rattle.sn_graph.specs.declared.nodes.Voice.{Voice}
 use Rattle.std.specs.List.{All}
 use Rattle.sn_foot.specs.Canonical.{Ends, canonical}
@@ -44,14 +45,18 @@ abbrev pub Once : List Voice → Type 0
 Once [] = Unit {0}
 Once (v ∷ vs) = (has vs v.id ≡ false) × Once vs
 
+-- the words that a synth touches: what it mixes it writes
+abbrev pub own_foot : Voice → Foot
+own_foot v = unmoved v.reach
+
 -- the words that synths may read, and those that they may write
 abbrev pub all_reads : List Voice → List Extent
 all_reads [] = []
-all_reads (v ∷ vs) = v.foot.reads ++ all_reads vs
+all_reads (v ∷ vs) = (own_foot v).reads ++ all_reads vs
 
 abbrev pub all_writes : List Voice → List Extent
 all_writes [] = []
-all_writes (v ∷ vs) = v.foot.writes ++ all_writes vs
+all_writes (v ∷ vs) = (own_foot v).writes ++ all_writes vs
 
 abbrev pub foot_of : List Voice → Foot
 foot_of vs = record { reads = canonical (all_reads vs); writes = canonical (all_writes vs) }
@@ -59,4 +64,4 @@ foot_of vs = record { reads = canonical (all_reads vs); writes = canonical (all_
 -- the words of each have numbers
 abbrev pub AreWithin : List Voice → Type 0
 AreWithin [] = Unit {0}
-AreWithin (v ∷ vs) = (All Ends v.foot.reads × All Ends v.foot.writes) × AreWithin vs
+AreWithin (v ∷ vs) = (All Ends (own_foot v).reads × All Ends (own_foot v).writes) × AreWithin vs

@@ -41,18 +41,19 @@ fn all_reads(alloc: Global, run: &[&Voice]) -> Result<Vec<Extent>, NoMemory>
 {
     let mut extents = Vec::new(alloc);
     for voice in run {
-        append(&mut extents, voice.foot.reads.as_slice())?;
+        append(&mut extents, voice.reach.reads.as_slice())?;
     }
     Ok(extents)
 }
 
-/// What synths may write.
+/// What synths may write: what they mix too.
 fn all_writes(alloc: Global, run: &[&Voice]) -> Result<Vec<Extent>, NoMemory>
     ensures { IfOk result (λ extents. extents.items ≡ all_writes (map (λ v. v.now) run.now)) }
 {
     let mut extents = Vec::new(alloc);
     for voice in run {
-        append(&mut extents, voice.foot.writes.as_slice())?;
+        append(&mut extents, voice.reach.writes.as_slice())?;
+        append(&mut extents, voice.reach.mixes.as_slice())?;
     }
     Ok(extents)
 }

@@ -2,7 +2,7 @@
 ghost use Rattle.std.specs.Prelude.{◌≡◌, ◌↔◌, ◌++◌, ℕ, ℤ, true, false, List, Option};
 ghost use Rattle.std.specs.List.{All};
 ghost use Rattle.sn_mem.specs.declared.buffers.BufferPlace.{BufferPlace};
-ghost use Rattle.sn_mem.specs.Words.{Clash};
+ghost use Rattle.sn_foot.specs.Reaches.{ReachesClash};
 ghost use Rattle.sn_mem.specs.Buffers.{live_places};
 ghost use Rattle.sn_tree.specs.Trees.{holds, subtree};
 ghost use Rattle.sn_world.specs.declared.stage.Held.{Held};
@@ -20,7 +20,7 @@ use sn_world::Stage;
 /// A law: where no two of the buses, the buffers and the states share a word, the words of some nodes clash with those of others
 /// exactly where their footprints clash. A synth's own state clashes with nothing.
 pub fn feet_clash_as_footprints()
-    ensures { (buffers : List (Option BufferPlace)) (first second : List Held) → AreDisjoint buffers (states_of first ++ states_of second) → Clash (foot_of buffers first) (foot_of buffers second) ↔ FootprintsClash (footprint_of buffers first) (footprint_of buffers second) }
+    ensures { (buffers : List (Option BufferPlace)) (first second : List Held) → AreDisjoint buffers (states_of first ++ states_of second) → ReachesClash (foot_of buffers first) (foot_of buffers second) ↔ FootprintsClash (footprint_of buffers first) (footprint_of buffers second) }
 {}
 
 /// A law: a stage that stands for a world meets what its plan asks for, and no two of its buses, buffers and states share a word.
@@ -35,7 +35,7 @@ pub fn worlds_are_disjoint(stage: &Stage)
 /// A law: in a stage that stands for a world, the words of two nodes of which neither stands at or below the other clash exactly
 /// where their footprints clash.
 pub fn nodes_clash_as_footprints(stage: &Stage)
-    ensures { let buffers = stage.now.buffers in let nodes = stage.now.tree.attached in (words : List ℕ) (a b : ℤ) → Pictures stage.now words → holds a (subtree b nodes) ≡ false → holds b (subtree a nodes) ≡ false → Clash (foot_at buffers a nodes) (foot_at buffers b nodes) ↔ FootprintsClash (footprint_at buffers a nodes) (footprint_at buffers b nodes) }
+    ensures { let buffers = stage.now.buffers in let nodes = stage.now.tree.attached in (words : List ℕ) (a b : ℤ) → Pictures stage.now words → holds a (subtree b nodes) ≡ false → holds b (subtree a nodes) ≡ false → ReachesClash (foot_at buffers a nodes) (foot_at buffers b nodes) ↔ FootprintsClash (footprint_at buffers a nodes) (footprint_at buffers b nodes) }
 {
     let _ = stage;
 }

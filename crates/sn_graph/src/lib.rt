@@ -3,6 +3,8 @@
 
 mod jobs;
 mod laws;
+mod linked;
+mod mixing;
 mod named;
 mod nodes;
 mod parts;

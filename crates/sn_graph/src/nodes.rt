@@ -1,13 +1,13 @@
 //! The nodes that are heard, with what each synth touches.
-use sn_mem::Foot;
+use sn_foot::Reach;
 
-/// A running synth, and the words that it may touch.
+/// A running synth, and the words that it may read, write and mix.
 #[derive(Drop)]
 pub struct Voice {
     /// The id of the synth.
     pub id: i32,
     /// The words.
-    pub foot: Foot,
+    pub reach: Reach,
 }
 
 /// The children of a group that are heard, in order. The flag of a group says whether it is split, so that its members may run

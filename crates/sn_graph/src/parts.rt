@@ -4,14 +4,16 @@ ghost use Rattle.std.specs.List.{All};
 ghost use Rattle.sn_mem.specs.Buffers.{live_places};
 ghost use Rattle.sn_foot.specs.Canonical.{Ends};
 ghost use Rattle.sn_foot.specs.Footprints.{states_of};
-ghost use Rattle.sn_graph.specs.Voices.{is_none, none};
+ghost use Rattle.sn_graph.specs.Voices.{none};
 ghost use Rattle.sn_graph.specs.Inputs.{nodes_of};
+ghost use Rattle.sn_graph.specs.Sharing.{is_split};
 ghost use Rattle.sn_graph.specs.Stages.{voice_of};
 ghost use Rattle.sn_clash.specs.Rows.{row_of};
 ghost use Rattle.sn_graph.specs.Pieces.{before, group_piece, linked, piece, piece_of, pieces, with_member};
 
+use crate::linked::Linked;
 use crate::named::NamedGroups;
-use crate::nodes::{HeardNodes, Voice};
+use crate::nodes::Voice;
 use sn_foot::foot_of_nodes;
 use sn_mem::Buffers;
 use sn_ports::NoMemory;
@@ -27,30 +29,26 @@ pub enum Part {
     /// A synth.
     Synth(Voice),
     /// A group, whether it is split, and those below it.
-    Group(bool, HeardNodes),
+    Group(bool, Linked),
 }
 
 /// Puts a node before others.
-fn before(alloc: Global, part: Part, rest: HeardNodes) -> Result<HeardNodes, NoMemory>
+fn before(alloc: Global, part: Part, rest: Linked) -> Result<Linked, NoMemory>
     ensures { IfOk result (λ nodes. nodes_of nodes ≡ before (piece_of part) (nodes_of rest)) }
 {
     match part {
         Part::Nothing => Ok(rest),
-        Part::Synth(voice) => Ok(HeardNodes::Synth(voice, Box::new(alloc, rest)?)),
-        Part::Group(split, inner) => Ok(HeardNodes::Group(
-            split,
-            Box::new(alloc, inner)?,
-            Box::new(alloc, rest)?,
-        )),
+        Part::Synth(voice) => rest.after_synth(alloc, voice),
+        Part::Group(split, inner) => rest.after_group(alloc, split, inner),
     }
 }
 
 /// Puts all these nodes in order.
-fn linked(alloc: Global, parts: Vec<Part>) -> Result<HeardNodes, NoMemory>
+fn linked(alloc: Global, parts: Vec<Part>) -> Result<Linked, NoMemory>
     ensures { IfOk result (λ nodes. nodes_of nodes ≡ linked (map piece_of parts.items) none) }
 {
     let mut parts = parts;
-    let mut nodes = HeardNodes::None;
+    let mut nodes = Linked::new();
     while let Some(part) = parts.pop() {
         nodes = before(alloc, part, nodes)?;
     }
@@ -72,11 +70,7 @@ fn move_first(parts: &mut Vec<Part>, taken: &mut Vec<Part>) -> Result<(), NoMemo
 }
 
 /// Takes the first nodes, so many, in order.
-pub fn take_nodes(
-    alloc: Global,
-    parts: &mut Vec<Part>,
-    count: usize,
-) -> Result<HeardNodes, NoMemory>
+pub fn take_nodes(alloc: Global, parts: &mut Vec<Part>, count: usize) -> Result<Linked, NoMemory>
     ensures nodes { IfOk result (λ nodes. nodes_of nodes ≡ linked (take count (pieces parts.old.items)) none) }
     ensures left { OnOk result (pieces parts.new.items ≡ drop count (pieces parts.old.items)) }
 {
@@ -93,31 +87,28 @@ fn voice_of(alloc: Global, buffers: &Buffers, member: &Member<'_, Held>) -> Resu
     requires state { All Ends (states_of (member.now.payload.now ∷ [])) }
     ensures { IfOk result (λ voice. voice ≡ voice_of buffers.now member.now.id member.now.payload.now) }
 {
-    let foot = foot_of_nodes(alloc, buffers, &[member.payload])?;
+    let reach = foot_of_nodes(alloc, buffers, &[member.payload])?;
     Ok(Voice {
         id: member.id,
-        foot,
+        reach,
     })
 }
 
-/// Whether there are no nodes.
-fn is_none(nodes: &HeardNodes) -> bool
-    ensures { result ≡ is_none (nodes_of nodes.now) }
-{
-    match nodes {
-        HeardNodes::None => true,
-        HeardNodes::Synth(_, _) | HeardNodes::Group(_, _, _) => false,
-    }
-}
-
 /// A group with these below it. Without any it is left out.
-fn group_of(split: bool, inner: HeardNodes) -> Part
+fn group_of(split: bool, inner: Linked) -> Part
     ensures { piece_of result ≡ group_piece split (nodes_of inner) }
 {
-    if is_none(&inner) {
+    if inner.is_none() {
         return Part::Nothing;
     }
     Part::Group(split, inner)
+}
+
+/// Whether a parallel group with these below it is split: no two of its members clash, and none mix one bus.
+fn is_split(clashing: &NamedGroups<'_>, id: &i32, inner: &Linked) -> bool
+    ensures { result ≡ is_split clashing.now id.now (nodes_of inner.now) }
+{
+    !clashing.has(id) && !inner.share_a_bus()
 }
 
 /// A node with these below it.
@@ -126,7 +117,7 @@ fn part_of(
     buffers: &Buffers,
     clashing: &NamedGroups<'_>,
     member: &Member<'_, Held>,
-    inner: HeardNodes,
+    inner: Linked,
 ) -> Result<Part, NoMemory>
     requires buffers { All Ends (live_places buffers.now) }
     requires state { All Ends (states_of (member.now.payload.now ∷ [])) }
@@ -138,7 +129,10 @@ fn part_of(
     match member.kind {
         NodeKind::Synth => Ok(Part::Synth(voice_of(alloc, buffers, member)?)),
         NodeKind::Group => Ok(group_of(false, inner)),
-        NodeKind::Parallel => Ok(group_of(!clashing.has(&member.id), inner)),
+        NodeKind::Parallel => {
+            let split = is_split(clashing, &member.id, &inner);
+            Ok(group_of(split, inner))
+        }
     }
 }
 

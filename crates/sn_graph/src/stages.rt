@@ -39,7 +39,8 @@ fn running_nodes(
         put_part(alloc, &stage.buffers, clashing, &mut parts, &member)?;
     }
     let count = parts.len();
-    take_nodes(alloc, &mut parts, count)
+    let nodes = take_nodes(alloc, &mut parts, count)?;
+    Ok(nodes.into_nodes())
 }
 
 /// The plan of a stage, of which these parallel groups have members that clash.
@@ -60,7 +61,7 @@ fn plan_without(alloc: Global, stage: &Stage, clashing: &NamedGroups<'_>) -> Res
 }
 
 /// The plan of a stage, given its clashes. A parallel group is split, so that its members may run beside each other, unless two
-/// of them clash: then they are rendered in order.
+/// of them clash or mix one bus: then they are rendered in order.
 pub fn plan(alloc: Global, stage: &Stage, clashes: &[Clash]) -> Result<Plan, NoMemory>
     requires buffers { All Ends (live_places stage.now.buffers) }
     requires states { All Ends (live_held stage.now.tree.attached) }

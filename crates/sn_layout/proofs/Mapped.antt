@@ -8,6 +8,8 @@ use Rattle.sn_tree.specs.Trees.{Label, Nodes, none, node, running_labels, with_p
 use Rattle.sn_world.proofs.DefsLemmas.{is_some-map}
 use Rattle.sn_foot.specs.declared.resource.Resource.{Resource}
 use Rattle.sn_foot.specs.declared.resource.Resource.TheVariants.{Audio, Control, Buffer}
+use Rattle.sn_foot.specs.declared.uses.Role.{Role}
+use Rattle.sn_foot.specs.declared.uses.Role.TheVariants.{Read, Write, Mix}
 use Rattle.sn_foot.specs.Footprints.{Footprint, is_there}
 use Rattle.sn_clash.specs.Clashing.{Member, clashes, clashes_among, footprint, is_parallel, members}
 
@@ -44,22 +46,23 @@ module _ {P Q : Type 0} (f : P → Q) where
   any_mapped test [] = refl
   any_mapped test (l ∷ ls) = ap (λ b. test (f l.payload) || b) (any_mapped test ls)
 
-  module _ (there : Resource → Bool) (reads writes : Q → Resource → Bool) where
-    footprint_mapped : (t : Nodes P) → footprint there reads writes (running_labels (with_payloads f t)) ≡ footprint there (λ p. reads (f p)) (λ p. writes (f p)) (running_labels t)
+  module _ (there : Resource → Bool) (uses : Role → Q → Resource → Bool) where
+    footprint_mapped : (t : Nodes P) → footprint there uses (running_labels (with_payloads f t)) ≡ footprint there (λ role p. uses role (f p)) (running_labels t)
     footprint_mapped t =
-        ap (λ ls. footprint there reads writes ls) (labels_mapped t)
+        ap (λ ls. footprint there uses ls) (labels_mapped t)
         ∙ (λ i. record {
-          reads = λ r. there r && any_mapped (λ q. reads q r) (running_labels t) i;
-          writes = λ r. there r && any_mapped (λ q. writes q r) (running_labels t) i;
+          reads = λ r. there r && any_mapped (λ q. uses Read q r) (running_labels t) i;
+          writes = λ r. there r && any_mapped (λ q. uses Write q r) (running_labels t) i;
+          mixes = λ r. there r && any_mapped (λ q. uses Mix q r) (running_labels t) i;
         })
 
-    members_mapped : (t : Nodes P) → members there reads writes (with_payloads f t) ≡ members there (λ p. reads (f p)) (λ p. writes (f p)) t
+    members_mapped : (t : Nodes P) → members there uses (with_payloads f t) ≡ members there (λ role p. uses role (f p)) t
     members_mapped none = refl
     members_mapped (node label below after) =
-        ap (λ (u : Footprint). record { id = label.id; uses = u } ∷ members there reads writes (with_payloads f after)) (footprint_mapped (node label below none))
-        ∙ ap (λ (ms : List Member). record { id = label.id; uses = footprint there (λ p. reads (f p)) (λ p. writes (f p)) (running_labels (node label below none)) } ∷ ms) (members_mapped after)
+        ap (λ (u : Footprint). record { id = label.id; uses = u } ∷ members there uses (with_payloads f after)) (footprint_mapped (node label below none))
+        ∙ ap (λ (ms : List Member). record { id = label.id; uses = footprint there (λ role p. uses role (f p)) (running_labels (node label below none)) } ∷ ms) (members_mapped after)
 
-    pub clashes_mapped : (t : Nodes P) → clashes there reads writes (with_payloads f t) ≡ clashes there (λ p. reads (f p)) (λ p. writes (f p)) t
+    pub clashes_mapped : (t : Nodes P) → clashes there uses (with_payloads f t) ≡ clashes there (λ role p. uses role (f p)) t
     clashes_mapped none = refl
     clashes_mapped (node label below after) =
         λ i. if label.running

@@ -1,5 +1,5 @@
 -- What a synth uses is told by what is laid of it.
-use Rattle.std.proofs.Common.{◌≡◌, ℕ, pos, ◌-◌, ◌==◌, Bool, true, false, ◌&&◌, ◌||◌, List, [], ◌∷◌, length, get_or, refl, ap, sym, subst}
+use Rattle.std.proofs.Common.{◌≡◌, ℕ, pos, ◌+◌, ◌-◌, ◌==◌, Bool, true, false, not, ◌&&◌, ◌||◌, List, [], ◌∷◌, length, get_or, refl, ap, sym, subst}
 use Rattle.std.specs.Prelude.{zip, if◌then◌else◌}
 use Rattle.std.specs.List.{list_any}
 use Rattle.std.proofs.lemmas.Bool.{eq-eqb, or_left, or_right}
@@ -22,8 +22,11 @@ use Rattle.sn_world.specs.Nodes.{Content, group, synth}
 use Rattle.sn_quiet.specs.Quiet.{are_quiet, is_quiet_content}
 use Rattle.sn_foot.specs.declared.resource.Resource.{Resource}
 use Rattle.sn_foot.specs.declared.resource.Resource.TheVariants as resources
-use Rattle.sn_foot.specs.Footprints.{is_among, unit_reads, unit_writes}
-use Rattle.sn_clash.specs.Clashing.{content_reads, content_writes}
+use Rattle.sn_foot.specs.declared.uses.Role.{Role}
+use Rattle.sn_foot.specs.declared.uses.Role.TheVariants.{Read, Write, Mix}
+use Rattle.sn_foot.specs.Mixers.{mixes_audio}
+use Rattle.sn_foot.specs.Footprints.{is_among, synth_mixes, unit_mixes, unit_reads, unit_writes, users}
+use Rattle.sn_clash.specs.Clashing.{content_uses}
 use Rattle.sn_layout.specs.Layout.{kept_values, laid}
 use Rattle.sn_layout.proofs.Values.{value_stays, follow_too}
 
@@ -62,6 +65,11 @@ module _ (test : ℕ → Bool) (cs : List SynthControl) where
   unit_writes_same (resources.Control n) u passes = guarded (writes_control u.kind) (is_among (index_of (kept_values test cs) u) (length u.inputs - 1) n) (is_among (index_of cs u) (length u.inputs - 1) n) (λ is. ap (λ z. is_among z (length u.inputs - 1) n) (index_same u [] passes (bus_index accesses.Write banks.Control u.kind refl is)))
   unit_writes_same (resources.Buffer n) u passes = guarded (writes_buffer u.kind) (is_among (index_of (kept_values test cs) u) 1 n) (is_among (index_of cs u) 1 n) (λ is. let (ms, e) = first_index u.kind (on_a_buffer accesses.Write u.kind is) in ap (λ z. is_among z 1 n) (index_same u ms passes e))
 
+  unit_mixes_same : (r : Resource) (u : UnitLine) → Passes u → unit_mixes (kept_values test cs) u r ≡ unit_mixes cs u r
+  unit_mixes_same (resources.Audio n) u passes = ap (λ b. mixes_audio u.kind && b) (unit_writes_same (resources.Audio n) u passes)
+  unit_mixes_same (resources.Control n) u passes = refl
+  unit_mixes_same (resources.Buffer n) u passes = refl
+
   -- all units, of which the test passes each index control
   units_same : (f g : UnitLine → Bool) → ((u : UnitLine) → Passes u → f u ≡ g u) → (us : List UnitLine) → ((k : ℕ) → list_any (has_index k) us ≡ true → test k ≡ true) → list_any f us ≡ list_any g us
   units_same f g each [] all = refl
@@ -69,20 +77,33 @@ module _ (test : ℕ → Bool) (cs : List SynthControl) where
       λ i. each u (λ k h. all k (or_left (has_index k u) (list_any (has_index k) us) h)) i
       || units_same f g each us (λ k h. all k (or_right (has_index k u) (list_any (has_index k) us) h)) i
 
+  users_same : (r : Resource) (us : List UnitLine) → ((k : ℕ) → list_any (has_index k) us ≡ true → test k ≡ true) → users (kept_values test cs) us r ≡ users cs us r
+  users_same r [] all = refl
+  users_same r (u ∷ us) all =
+      let passes : Passes u = λ k h. all k (or_left (has_index k u) (list_any (has_index k) us) h) in
+      λ i. (if unit_reads_same r u passes i || unit_writes_same r u passes i then 1 else 0)
+      + users_same r us (λ k h. all k (or_right (has_index k u) (list_any (has_index k) us) h)) i
+
+  mixed_same : (r : Resource) (us : List UnitLine) → ((k : ℕ) → list_any (has_index k) us ≡ true → test k ≡ true) → synth_mixes us (kept_values test cs) r ≡ synth_mixes us cs r
+  mixed_same r us all =
+      λ i. units_same (λ u. unit_mixes (kept_values test cs) u r) (λ u. unit_mixes cs u r) (unit_mixes_same r) us all i
+      && (users_same r us all i == 1)
+
 -- ---- what is laid of a node
 
-pub reads_same : (c : Content) (r : Resource) → content_reads (laid c) r ≡ content_reads c r
-reads_same group r = refl
-reads_same (synth s) r =
+pub uses_same : (role : Role) (c : Content) (r : Resource) → content_uses role (laid c) r ≡ content_uses role c r
+uses_same Read group r = refl
+uses_same Write group r = refl
+uses_same Mix group r = refl
+uses_same Read (synth s) r =
     let test : ℕ → Bool = is_index s.definition in
     λ i. follow_too test s.controls r i
     || units_same test s.controls (λ u. unit_reads (kept_values test s.controls) u r) (λ u. unit_reads s.controls u r) (unit_reads_same test s.controls r) s.definition.units (λ k h. h) i
-
-pub writes_same : (c : Content) (r : Resource) → content_writes (laid c) r ≡ content_writes c r
-writes_same group r = refl
-writes_same (synth s) r =
+uses_same Write (synth s) r =
     let test : ℕ → Bool = is_index s.definition in
-    units_same test s.controls (λ u. unit_writes (kept_values test s.controls) u r) (λ u. unit_writes s.controls u r) (unit_writes_same test s.controls r) s.definition.units (λ k h. h)
+    λ i. units_same test s.controls (λ u. unit_writes (kept_values test s.controls) u r) (λ u. unit_writes s.controls u r) (unit_writes_same test s.controls r) s.definition.units (λ k h. h) i
+    && not (mixed_same test s.controls r s.definition.units (λ k h. h) i)
+uses_same Mix (synth s) r = mixed_same (is_index s.definition) s.controls r s.definition.units (λ k h. h)
 
 quiet_same : (c : Content) → is_quiet_content (laid c) ≡ is_quiet_content c
 quiet_same group = refl

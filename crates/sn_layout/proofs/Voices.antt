@@ -1,5 +1,5 @@
 -- The layout of a world decides its clashes, and which nodes run in a stage that stands for it.
-use Rattle.std.proofs.Common.{◌≡◌, ℕ, ℤ, pos, Bool, false, not, ◌&&◌, ◌||◌, List, [], ◌++◌, Option, Some, None, get_or, map, refl, sym, ap, ◌∙◌}
+use Rattle.std.proofs.Common.{◌≡◌, ℕ, ℤ, pos, Bool, false, ◌&&◌, ◌||◌, List, [], ◌++◌, Option, Some, None, get_or, map, refl, sym, ap, ◌∙◌}
 use Rattle.std.specs.Prelude.{if◌then◌else◌, nat_lt}
 use Rattle.std.specs.Option.{option_map}
 use Rattle.sn_mem.specs.declared.extents.Extent.{Extent}
@@ -21,28 +21,31 @@ use Rattle.sn_quiet.specs.Quiet.{are_quiet}
 use Rattle.sn_quiet.proofs.QuietStages.{nodes_are}
 use Rattle.sn_foot.specs.declared.resource.Resource.{Resource}
 use Rattle.sn_foot.specs.declared.resource.Resource.TheVariants.{Audio, Control, Buffer}
+use Rattle.sn_foot.specs.declared.uses.Role.{Role}
+use Rattle.sn_foot.specs.declared.uses.Role.TheVariants.{Read, Write, Mix}
 use Rattle.sn_foot.specs.Canonical.{canonical}
-use Rattle.sn_foot.specs.Footprints.{buffer_words, held_reads, held_writes, is_there, listed, place_of, where_used}
+use Rattle.sn_foot.specs.Footprints.{buffer_words, is_there, listed, place_of, where_used}
+use Rattle.sn_foot.specs.Uses.{held_uses}
 use Rattle.sn_clash.specs.declared.clash.Clash.{Clash}
-use Rattle.sn_clash.specs.Clashing.{clashes, clashes_of, content_reads, content_writes}
+use Rattle.sn_clash.specs.Clashing.{clashes, clashes_of, content_uses}
 use Rattle.sn_clash.proofs.Worlds.{same_clashes}
 use Rattle.sn_graph.specs.declared.nodes.Voice.{Voice}
 use Rattle.sn_graph.specs.Voices.{HeardNodes, none, synth}
-use Rattle.sn_graph.specs.Plans.{is_listed}
+use Rattle.sn_graph.specs.Sharing.{is_split}
 use Rattle.sn_graph.specs.Stages.{voice_of, with_group, with_node, running_of, clashing_in, nodes_in}
 use Rattle.sn_layout.specs.Layout.{Layout, extent_of, laid, layout_of}
 use Rattle.sn_layout.proofs.Mapped.{at_map, there_map, clashes_mapped}
-use Rattle.sn_layout.proofs.Reading.{quiet_laid, reads_same, writes_same}
+use Rattle.sn_layout.proofs.Reading.{quiet_laid, uses_same}
 
 -- ---- clashes
 
 abbrev clashes_from : Layout → List Clash
-clashes_from l = clashes (is_there l.buffers) content_reads content_writes l.nodes
+clashes_from l = clashes (is_there l.buffers) content_uses l.nodes
 
 clashes_are : (w : World) → clashes_of w ≡ clashes_from (layout_of w)
 clashes_are w =
-    sym (clashes_mapped laid (is_there (map (option_map extent_of) w.buffers)) content_reads content_writes w.nodes
-    ∙ (λ i. clashes (λ r. there_map extent_of w.buffers r i) (λ c r. reads_same c r i) (λ c r. writes_same c r i) w.nodes))
+    sym (clashes_mapped laid (is_there (map (option_map extent_of) w.buffers)) content_uses w.nodes
+    ∙ (λ i. clashes (λ r. there_map extent_of w.buffers r i) (λ role c r. uses_same role c r i) w.nodes))
 
 pub clashes_alike : (v w : World) → layout_of v ≡ layout_of w → clashes_of v ≡ clashes_of w
 clashes_alike v w e = clashes_are v ∙ ap clashes_from e ∙ sym (clashes_are w)
@@ -64,25 +67,26 @@ placed place used =
     ++ (listed (λ n. where_used (used (Control n)) (place (Control n))) 1024
     ++ listed (λ n. where_used (used (Buffer n)) (place (Buffer n))) 1024)
 
--- what is read and written, and where the state is
-abbrev voice_with : (Resource → Bool) → (Resource → Option Extent) → ℤ → (Resource → Bool) → (Resource → Bool) → List Extent → Voice
-voice_with there place id reads writes state = record {
+-- what is read, written and mixed, and where the state is
+abbrev voice_with : (Resource → Bool) → (Resource → Option Extent) → ℤ → (Role → Resource → Bool) → List Extent → Voice
+voice_with there place id uses state = record {
   id = id;
-  foot = record {
-    reads = canonical (placed place (λ r. there r && (reads r || false)));
-    writes = canonical (placed place (λ r. there r && (writes r || false)) ++ state);
+  reach = record {
+    reads = canonical (placed place (λ r. there r && (uses Read r || false)));
+    writes = canonical (placed place (λ r. there r && (uses Write r || false)) ++ state);
+    mixes = canonical (placed place (λ r. there r && (uses Mix r || false)));
   };
 }
 
 abbrev voice_from : List (Option Extent) → ℤ → Content → Voice
-voice_from buffers id c = voice_with (is_there buffers) (place_in buffers) id (content_reads c) (content_writes c) (extents_of c ++ [])
+voice_from buffers id c = voice_with (is_there buffers) (place_in buffers) id (λ role r. content_uses role c r) (extents_of c ++ [])
 
 -- as in a stage
 module _ (buffers : List (Option Extent)) (clashing : List ℤ) where
   abbrev node_from : NodeKind → ℤ → Content → HeardNodes → HeardNodes → HeardNodes
   node_from kinds.Synth id c below after = synth (voice_from buffers id c) after
   node_from kinds.Group id c below after = with_group false below after
-  node_from kinds.Parallel id c below after = with_group (not (is_listed clashing id)) below after
+  node_from kinds.Parallel id c below after = with_group (is_split clashing id below) below after
 
   abbrev running_from : Nodes Content → HeardNodes
   running_from trees.none = none
@@ -122,26 +126,26 @@ module _ (places : List (Option BufferPlace)) (words : List ℕ) where
   abbrev seen : Held → Content
   seen h = laid (content_of words h)
 
-  seen_reads : (h : Held) (r : Resource) → held_reads h r ≡ content_reads (seen h) r
-  seen_reads held.Group r = refl
-  seen_reads (held.Synth def controls state) r = sym (reads_same (content_of words (held.Synth def controls state)) r)
-
-  seen_writes : (h : Held) (r : Resource) → held_writes h r ≡ content_writes (seen h) r
-  seen_writes held.Group r = refl
-  seen_writes (held.Synth def controls state) r = sym (writes_same (content_of words (held.Synth def controls state)) r)
+  seen_uses : (role : Role) (h : Held) (r : Resource) → held_uses role h r ≡ content_uses role (seen h) r
+  seen_uses Read held.Group r = refl
+  seen_uses Write held.Group r = refl
+  seen_uses Mix held.Group r = refl
+  seen_uses Read (held.Synth def controls state) r = sym (uses_same Read (content_of words (held.Synth def controls state)) r)
+  seen_uses Write (held.Synth def controls state) r = sym (uses_same Write (content_of words (held.Synth def controls state)) r)
+  seen_uses Mix (held.Synth def controls state) r = sym (uses_same Mix (content_of words (held.Synth def controls state)) r)
 
   seen_state : (h : Held) → held_extents h ++ [] ≡ extents_of (seen h) ++ []
   seen_state held.Group = refl
   seen_state (held.Synth def controls state) = refl
 
   voice_same : (id : ℤ) (h : Held) → voice_of places id h ≡ voice_from extents id (seen h)
-  voice_same id h = λ i. voice_with (λ r. there_same r i) (λ r. place_same r i) id (λ r. seen_reads h r i) (λ r. seen_writes h r i) (seen_state h i)
+  voice_same id h = λ i. voice_with (λ r. there_same r i) (λ r. place_same r i) id (λ role r. seen_uses role h r i) (seen_state h i)
 
   module _ (clashing : List ℤ) where
     kind_same : (kind : NodeKind) (label : Label Held) (b b' a a' : HeardNodes) → b ≡ b' → a ≡ a' → with_node places clashing kind label b a ≡ node_from extents clashing kind label.id (seen label.payload) b' a'
     kind_same kinds.Synth label b b' a a' p q = λ i. synth (voice_same label.id label.payload i) (q i)
     kind_same kinds.Group label b b' a a' p q = λ i. with_group false (p i) (q i)
-    kind_same kinds.Parallel label b b' a a' p q = λ i. with_group (not (is_listed clashing label.id)) (p i) (q i)
+    kind_same kinds.Parallel label b b' a a' p q = λ i. with_group (is_split clashing label.id (p i)) (p i) (q i)
 
     running_same : (t : Nodes Held) → running_of places clashing t ≡ running_from extents clashing (with_payloads laid (with_payloads (content_of words) t))
     running_same trees.none = refl

@@ -10,6 +10,7 @@ use Rattle.sn_mem.specs.declared.extents.Extent.{Extent}
 use Rattle.sn_mem.specs.declared.extents.Foot.{Foot}
 use Rattle.sn_mem.specs.declared.buffers.BufferPlace.{BufferPlace}
 use Rattle.sn_mem.specs.Words.{has, touches}
+use Rattle.sn_foot.specs.Reaches.{unmoved}
 use Rattle.sn_io.specs.ByFoot.{IsByFoot, IsPart}
 use Rattle.sn_tree.specs.Trees as trees
 use Rattle.sn_tree.specs.Trees.{Label, Nodes, running_labels}
@@ -25,7 +26,7 @@ use Rattle.sn_foot.proofs.Runs.{has_append, has_canonical}
 use Rattle.sn_round.specs.declared.jobs.Job.{Job}
 use Rattle.sn_round.specs.Jobs.{foot_at, job_at}
 use Rattle.sn_graph.specs.declared.nodes.Voice.{Voice}
-use Rattle.sn_graph.specs.Voices.{voices, all_reads, all_writes, ids_of, foot_of as foot_of_all}
+use Rattle.sn_graph.specs.Voices.{voices, all_reads, all_writes, ids_of, own_foot, foot_of as foot_of_all}
 use Rattle.sn_graph.specs.Plans.{is_listed, joined_synths, synths_with, IsPlanned}
 use Rattle.sn_graph.specs.Stages.{voice_of, running_of}
 use Rattle.sn_play.specs.Shares.{synths_in, voices_of, joined, shares, share_at}
@@ -47,24 +48,24 @@ with_ids ids (w ∷ ws) v m is = cond_both (is_listed ids w.id) (w ∷ synths_wi
     (λ yes. ⊎_elim (λ (e : w ≡ v). inl e) (λ (n : Among ws v). inr (with_ids ids ws v n is)) m)
     (λ no. ⊎_elim (λ (e : w ≡ v). absurd (true≢false (sym (ap (λ (u : Voice). is_listed ids u.id) e ∙ is) ∙ no))) (λ (n : Among ws v). with_ids ids ws v n is) m)
 
-in_reads : (vs : List Voice) (v : Voice) (x : ℕ) → Among vs v → has v.foot.reads x ≡ true → has (all_reads vs) x ≡ true
+in_reads : (vs : List Voice) (v : Voice) (x : ℕ) → Among vs v → has (own_foot v).reads x ≡ true → has (all_reads vs) x ≡ true
 in_reads [] v x m h = absurd m
-in_reads (w ∷ ws) v x m h = has_append w.foot.reads (all_reads ws) x ∙ ⊎_elim
-    (λ (e : w ≡ v). or_left (has w.foot.reads x) (has (all_reads ws) x) (ap (λ (u : Voice). has u.foot.reads x) e ∙ h))
-    (λ (n : Among ws v). or_right (has w.foot.reads x) (has (all_reads ws) x) (in_reads ws v x n h))
+in_reads (w ∷ ws) v x m h = has_append (own_foot w).reads (all_reads ws) x ∙ ⊎_elim
+    (λ (e : w ≡ v). or_left (has (own_foot w).reads x) (has (all_reads ws) x) (ap (λ (u : Voice). has (own_foot u).reads x) e ∙ h))
+    (λ (n : Among ws v). or_right (has (own_foot w).reads x) (has (all_reads ws) x) (in_reads ws v x n h))
     m
 
-in_writes : (vs : List Voice) (v : Voice) (x : ℕ) → Among vs v → has v.foot.writes x ≡ true → has (all_writes vs) x ≡ true
+in_writes : (vs : List Voice) (v : Voice) (x : ℕ) → Among vs v → has (own_foot v).writes x ≡ true → has (all_writes vs) x ≡ true
 in_writes [] v x m h = absurd m
-in_writes (w ∷ ws) v x m h = has_append w.foot.writes (all_writes ws) x ∙ ⊎_elim
-    (λ (e : w ≡ v). or_left (has w.foot.writes x) (has (all_writes ws) x) (ap (λ (u : Voice). has u.foot.writes x) e ∙ h))
-    (λ (n : Among ws v). or_right (has w.foot.writes x) (has (all_writes ws) x) (in_writes ws v x n h))
+in_writes (w ∷ ws) v x m h = has_append (own_foot w).writes (all_writes ws) x ∙ ⊎_elim
+    (λ (e : w ≡ v). or_left (has (own_foot w).writes x) (has (all_writes ws) x) (ap (λ (u : Voice). has (own_foot u).writes x) e ∙ h))
+    (λ (n : Among ws v). or_right (has (own_foot w).writes x) (has (all_writes ws) x) (in_writes ws v x n h))
     m
 
 -- the foot of each voice is a part of that of all
-pub part_of_all : (vs : List Voice) (v : Voice) → Among vs v → IsPart v.foot (foot_of_all vs)
+pub part_of_all : (vs : List Voice) (v : Voice) → Among vs v → IsPart (own_foot v) (foot_of_all vs)
 part_of_all vs v m =
-    let f : Foot = v.foot in
+    let f : Foot = own_foot v in
     let g : Foot = foot_of_all vs in record {
       written = λ x w. has_canonical (all_writes vs) x ∙ in_writes vs v x m w;
       touched = λ x t. ⊎_elim
@@ -73,28 +74,28 @@ part_of_all vs v m =
           (or_cases (has f.writes x) (has f.reads x) t);
     }
 
-of_reads : (us : List Voice) (x : ℕ) → has (all_reads us) x ≡ true → (v : Voice) × (Among us v × (has v.foot.reads x ≡ true))
+of_reads : (us : List Voice) (x : ℕ) → has (all_reads us) x ≡ true → (v : Voice) × (Among us v × (has (own_foot v).reads x ≡ true))
 of_reads [] x h = absurd (true≢false (sym h))
 of_reads (u ∷ us) x h = ⊎_elim
-    (λ (a : has u.foot.reads x ≡ true). (u, (inl refl, a)))
+    (λ (a : has (own_foot u).reads x ≡ true). (u, (inl refl, a)))
     (λ (b : has (all_reads us) x ≡ true). let r = of_reads us x b in (r.0, (inr r.1.0, r.1.1)))
-    (or_cases (has u.foot.reads x) (has (all_reads us) x) (sym (has_append u.foot.reads (all_reads us) x) ∙ h))
+    (or_cases (has (own_foot u).reads x) (has (all_reads us) x) (sym (has_append (own_foot u).reads (all_reads us) x) ∙ h))
 
-of_writes : (us : List Voice) (x : ℕ) → has (all_writes us) x ≡ true → (v : Voice) × (Among us v × (has v.foot.writes x ≡ true))
+of_writes : (us : List Voice) (x : ℕ) → has (all_writes us) x ≡ true → (v : Voice) × (Among us v × (has (own_foot v).writes x ≡ true))
 of_writes [] x h = absurd (true≢false (sym h))
 of_writes (u ∷ us) x h = ⊎_elim
-    (λ (a : has u.foot.writes x ≡ true). (u, (inl refl, a)))
+    (λ (a : has (own_foot u).writes x ≡ true). (u, (inl refl, a)))
     (λ (b : has (all_writes us) x ≡ true). let r = of_writes us x b in (r.0, (inr r.1.0, r.1.1)))
-    (or_cases (has u.foot.writes x) (has (all_writes us) x) (sym (has_append u.foot.writes (all_writes us) x) ∙ h))
+    (or_cases (has (own_foot u).writes x) (has (all_writes us) x) (sym (has_append (own_foot u).writes (all_writes us) x) ∙ h))
 
-same_touches : (u v : Voice) (x : ℕ) → u ≡ v → touches u.foot x ≡ touches v.foot x
-same_touches u v x e = ap (λ (v : Voice). touches v.foot x) e
+same_touches : (u v : Voice) (x : ℕ) → u ≡ v → touches (own_foot u) x ≡ touches (own_foot v) x
+same_touches u v x e = ap (λ (v : Voice). touches (own_foot v) x) e
 
 -- each word of the foot of all is one of the foot of some
-of_all : (us : List Voice) (x : ℕ) → touches (foot_of_all us) x ≡ true → (v : Voice) × (Among us v × (touches v.foot x ≡ true))
+of_all : (us : List Voice) (x : ℕ) → touches (foot_of_all us) x ≡ true → (v : Voice) × (Among us v × (touches (own_foot v) x ≡ true))
 of_all us x t = ⊎_elim
-    (λ (a : has (foot_of_all us).writes x ≡ true). let r = of_writes us x (sym (has_canonical (all_writes us) x) ∙ a) in (r.0, (r.1.0, or_left (has r.0.foot.writes x) (has r.0.foot.reads x) r.1.1)))
-    (λ (a : has (foot_of_all us).reads x ≡ true). let r = of_reads us x (sym (has_canonical (all_reads us) x) ∙ a) in (r.0, (r.1.0, or_right (has r.0.foot.writes x) (has r.0.foot.reads x) r.1.1)))
+    (λ (a : has (foot_of_all us).writes x ≡ true). let r = of_writes us x (sym (has_canonical (all_writes us) x) ∙ a) in (r.0, (r.1.0, or_left (has (own_foot r.0).writes x) (has (own_foot r.0).reads x) r.1.1)))
+    (λ (a : has (foot_of_all us).reads x ≡ true). let r = of_reads us x (sym (has_canonical (all_reads us) x) ∙ a) in (r.0, (r.1.0, or_right (has (own_foot r.0).writes x) (has (own_foot r.0).reads x) r.1.1)))
     (or_cases (has (foot_of_all us).writes x) (has (foot_of_all us).reads x) t)
 
 -- ---- shares
@@ -166,13 +167,13 @@ module _ (buffers : List (Option BufferPlace)) (clashing : List ℤ) (t : Nodes 
       let name : is_listed (job_at js i).synths v.id ≡ true = subst (λ (is : List ℤ). is_listed is v.id ≡ true) (share_ids buffers js ls i joined_ids lt) (listed (voices_of buffers (share_at js ls i)) v (among_map give (share_at js ls i) l m)) in
       with_ids (job_at js i).synths (planned_voices buffers clashing t) v (subst (λ (vs : List Voice). Among vs v) (sym same) (among_map give ls l (share_among js ls i l m))) name
 
-  pub job_has : (i : ℕ) (l : Label Held) → i < length js → Among (share_at js (synths_of t) i) l → IsPart (foot_of buffers (l.payload ∷ [])) (foot_at js i)
+  pub job_has : (i : ℕ) (l : Label Held) → i < length js → Among (share_at js (synths_of t) i) l → IsPart (unmoved (foot_of buffers (l.payload ∷ []))) (foot_at js i)
   job_has i l lt m =
       let v : Voice = voice_of buffers l.id l.payload in
-      subst (λ (f : Foot). IsPart v.foot f) (sym (planned.feet i lt)) (part_of_all (synths_with (job_at js i).synths (planned_voices buffers clashing t)) v (named i l lt m))
+      subst (λ (f : Foot). IsPart (own_foot v) f) (sym (planned.feet i lt)) (part_of_all (synths_with (job_at js i).synths (planned_voices buffers clashing t)) v (named i l lt m))
 
-  pub jobs_have : (i : ℕ) → i < length js → All (λ (h : Held). IsPart (foot_of buffers (h ∷ [])) (foot_at js i)) (held_by (share_at js (synths_of t) i))
-  jobs_have i lt = all_mapped (λ (h : Held). IsPart (foot_of buffers (h ∷ [])) (foot_at js i)) (λ (l : Label Held). l.payload) (share_at js (synths_of t) i) (λ l m. job_has i l lt m)
+  pub jobs_have : (i : ℕ) → i < length js → All (λ (h : Held). IsPart (unmoved (foot_of buffers (h ∷ []))) (foot_at js i)) (held_by (share_at js (synths_of t) i))
+  jobs_have i lt = all_mapped (λ (h : Held). IsPart (unmoved (foot_of buffers (h ∷ []))) (foot_at js i)) (λ (l : Label Held). l.payload) (share_at js (synths_of t) i) (λ l m. job_has i l lt m)
 
   module _ (rate : ℕ) (region : Extent) (base : region.at ≡ 10368) (bounded : region.at + region.len < 4294967296) (each : AreEach region buffers) (held : AreHeld rate region t) where
     synth_held : (l : Label Held) → Among (synths_of t) l → IsHeld rate region l.payload

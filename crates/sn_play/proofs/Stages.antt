@@ -1,6 +1,7 @@
 -- The jobs of the plan of a stage that stands for a world.
 use Rattle.std.proofs.Common.{◌≡◌, ◌<◌, ℕ, ◌+◌, List, [], ◌∷◌, length, pos, ap, subst, ◌∙◌, arith, All}
 use Rattle.sn_mem.specs.declared.extents.Extent.{Extent}
+use Rattle.sn_foot.specs.Reaches.{unmoved}
 use Rattle.sn_io.specs.ByFoot.{IsByFoot, IsPart}
 use Rattle.sn_round.specs.declared.jobs.Job.{Job}
 use Rattle.sn_round.specs.Jobs.{AreWithin, foot_at, job_at}
@@ -44,7 +45,7 @@ module _ (stage : Stage) (top : subtree (pos 0) stage.tree.attached ≡ stage.tr
     pub shares_named : (i : ℕ) → i < length js → ids_of (voices_of stage.buffers (share_at js (walk_synths stage) i)) ≡ (job_at js i).synths
     shares_named i lt = feet.share_ids stage.buffers js (walk_synths stage) i (feet.joined_ids stage.buffers (clashing_in stage) stage.tree.attached js kinds whole) lt
 
-    pub feet_have : (i : ℕ) → i < length js → All (λ (h : Held). IsPart (foot_of stage.buffers (h ∷ [])) (foot_at js i)) (held_by (share_at js (walk_synths stage) i))
+    pub feet_have : (i : ℕ) → i < length js → All (λ (h : Held). IsPart (unmoved (foot_of stage.buffers (h ∷ []))) (foot_at js i)) (held_by (share_at js (walk_synths stage) i))
     feet_have i lt = feet.jobs_have stage.buffers (clashing_in stage) stage.tree.attached js kinds whole i lt
 
     bounded : stage.pool.region.at + stage.pool.region.len < 4294967296

@@ -3,6 +3,7 @@ ghost use Rattle.std.specs.Prelude.{◌≡◌, ◌<◌, ◌^◌, ◌≤◌, ◌+
 ghost use Rattle.std.specs.List.{All};
 ghost use Rattle.sn_ports.specs.Limits.{block_samples};
 ghost use Rattle.sn_mem.specs.declared.buffers.BufferPlace.{BufferPlace};
+ghost use Rattle.sn_foot.specs.Reaches.{unmoved};
 ghost use Rattle.sn_io.specs.ByFoot.{IsByFoot, IsPart};
 ghost use Rattle.sn_tree.specs.Trees.{Label};
 ghost use Rattle.sn_world.specs.Pictures.{Pictures};
@@ -48,9 +49,9 @@ pub fn groups_change_nothing()
     ensures { (rate b : ℕ) (buffers : List (Option BufferPlace)) (ls : List (Label Held)) (ws : List ℕ) → walk_words rate b buffers (synths_in ls) ws ≡ walk_words rate b buffers ls ws }
 {}
 
-/// A law: a job's foot has the words of the foot of each synth of its share.
+/// A law: a job's foot has the words of each synth of its share, and may write what that synth mixes.
 pub fn job_feet_have_each(stage: &Stage)
-    ensures { (js : List Job) (i : ℕ) (words : List ℕ) → Pictures stage.now words → IsPlanned (nodes_in stage.now) js → i < length js → All (λ h. IsPart (foot_of stage.now.buffers (h ∷ [])) (foot_at js i)) (held_by (share_at js (walk_synths stage.now) i)) }
+    ensures { (js : List Job) (i : ℕ) (words : List ℕ) → Pictures stage.now words → IsPlanned (nodes_in stage.now) js → i < length js → All (λ h. IsPart (unmoved (foot_of stage.now.buffers (h ∷ []))) (foot_at js i)) (held_by (share_at js (walk_synths stage.now) i)) }
 {
     stage.tree.root_holds_all();
 }

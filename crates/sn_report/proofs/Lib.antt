@@ -3,6 +3,7 @@ pub mod LevelLemmas
 pub mod Certified
 pub mod Traced
 pub mod RowWeights
+pub mod Mixed
 pub mod NodeWeights
 pub mod InLine
 pub mod LongestLemmas

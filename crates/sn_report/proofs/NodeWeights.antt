@@ -1,5 +1,5 @@
 -- The weight of the nodes that are heard is that of their row, and that of the nodes of a stage.
-use Rattle.std.proofs.Common.{◌≡◌, ℕ, ◌+◌, ◌≤◌, ℤ, Bool, true, false, ◌||◌, not, List, [], ◌∷◌, ◌++◌, map, Option, Some, sym, refl, ap, ◌∙◌, subst, if◌then◌else◌, arith, add-zero, append_assoc, length, length-append}
+use Rattle.std.proofs.Common.{◌≡◌, ℕ, ◌+◌, ◌≤◌, ℤ, Bool, true, false, ◌||◌, List, [], ◌∷◌, ◌++◌, map, Option, Some, sym, refl, ap, ◌∙◌, subst, if◌then◌else◌, arith, add-zero, append_assoc, length, length-append}
 use Rattle.std.specs.Prelude.{nat_lt, pos}
 use Rattle.std.specs.Option.{option_map}
 use Rattle.std.specs.Ordering.{int_eq}
@@ -16,7 +16,8 @@ use Rattle.sn_world.specs.declared.stage.Stage.{Stage}
 use Rattle.sn_graph.specs.declared.nodes.Voice.{Voice}
 use Rattle.sn_graph.specs.Voices.{AreHeard, HeardNodes, none, synth, group, ids_of, voices}
 use Rattle.sn_graph.specs.Rows.{Row, done, job, split, size}
-use Rattle.sn_graph.specs.Plans.{close, followed, is_listed, joined, keep, members, row_of, rows_of}
+use Rattle.sn_graph.specs.Plans.{close, followed, joined, keep, members, row_of, rows_of}
+use Rattle.sn_graph.specs.Sharing.{is_split as is_split_heard}
 use Rattle.sn_graph.specs.Stages.{clashing_in, nodes_in, running_of, with_group, with_node}
 use Rattle.sn_graph.proofs.Shapes.{heard}
 use Rattle.sn_graph.proofs.Parting.{heard-row}
@@ -25,9 +26,10 @@ use Rattle.sn_graph.proofs.Hearing.{all_heard}
 use Rattle.sn_graph.proofs.Filling.{AllFull, full-rows}
 use Rattle.sn_graph.proofs.Distinctly.{Distinct, distinct_after, distinct_below, held_some, not_below, not_here}
 use Rattle.sn_report.specs.Costs.{cost_of, units_at, units_in, units_of, units_or_none}
-use Rattle.sn_report.specs.Reports.{held_sight, seen_units, stage_weight}
+use Rattle.sn_report.specs.Reports.{held_sight, is_split, seen_units, stage_weight}
 use Rattle.sn_report.specs.Weights.{Weight, both, group_weight, heavier, heaviest, in_order, node_weight, nothing, weights}
 use Rattle.sn_report.proofs.RowWeights.{members_weight, row_weight, run_weight}
+use Rattle.sn_report.proofs.Mixed.{same_split, seen}
 use Rattle.sn_report.proofs.Used.{seen_units_is}
 
 -- ---- weights together
@@ -222,25 +224,29 @@ module _ (units : ℤ → ℕ) (buffers : List (Option BufferPlace)) (clashing :
       by_below (synth v rest) = refl
       by_below (group g inner rest) = refl
 
-  seen_node : (kind : NodeKind) (label : Label Held) (below after : HeardNodes) (ws vs : List Weight) → units label.id ≡ units_of label.payload → ws ≡ heard_weights units below → vs ≡ heard_weights units after
-      → node_weight seen_units clashing kind (record { id = label.id; kind = label.kind; running = label.running; payload = held_sight label.payload }) ws ++ vs ≡ heard_weights units (with_node buffers clashing kind label below after)
-  seen_node kinds.Synth label below after ws vs u e f =
+  seen_node : (kind : NodeKind) (label : Label Held) (below after : HeardNodes) (runs_apart : Bool) (ws vs : List Weight) → units label.id ≡ units_of label.payload → runs_apart ≡ is_split_heard clashing label.id below → ws ≡ heard_weights units below → vs ≡ heard_weights units after
+      → node_weight seen_units (is_split clashing) kind (seen label) runs_apart ws ++ vs ≡ heard_weights units (with_node buffers clashing kind label below after)
+  seen_node kinds.Synth label below after runs_apart ws vs u s e f =
       let same : seen_units (held_sight label.payload) ≡ units label.id = seen_units_is label.payload ∙ sym u in
       λ i. (record { cost = same i; chain = label.id ∷ [] }) ∷ f i
-  seen_node kinds.Group label below after ws vs u e f = seen_group false below after ws vs e f
-  seen_node kinds.Parallel label below after ws vs u e f = seen_group (not (is_listed clashing label.id)) below after ws vs e f
+  seen_node kinds.Group label below after runs_apart ws vs u s e f = seen_group false below after ws vs e f
+  seen_node kinds.Parallel label below after runs_apart ws vs u s e f =
+      ap (λ (b : Bool). group_weight b ws ++ vs) s ∙ seen_group (is_split_heard clashing label.id below) below after ws vs e f
 
-  pub seen_heard : (t : Nodes Held) → Tells units t → weights seen_units clashing (with_payloads held_sight t) ≡ heard_weights units (running_of buffers clashing t)
+  pub seen_heard : (t : Nodes Held) → Tells units t → weights seen_units (is_split clashing) (with_payloads held_sight t) ≡ heard_weights units (running_of buffers clashing t)
   seen_heard trees.none tells = refl
   seen_heard (trees.node label below after) tells =
       let first = seen_heard below tells.1.0 in
       let later = seen_heard after tells.1.1 in
+      let runs_apart : Bool = is_split clashing label.id (with_payloads held_sight below) in
+      let ws : List Weight = weights seen_units (is_split clashing) (with_payloads held_sight below) in
+      let vs : List Weight = weights seen_units (is_split clashing) (with_payloads held_sight after) in
       seen_if label.running
-      (node_weight seen_units clashing label.kind (record { id = label.id; kind = label.kind; running = label.running; payload = held_sight label.payload }) (weights seen_units clashing (with_payloads held_sight below)) ++ weights seen_units clashing (with_payloads held_sight after))
-      (weights seen_units clashing (with_payloads held_sight after))
+      (node_weight seen_units (is_split clashing) label.kind (seen label) runs_apart ws ++ vs)
+      vs
       (with_node buffers clashing label.kind label (running_of buffers clashing below) (running_of buffers clashing after))
       (running_of buffers clashing after)
-      (seen_node label.kind label (running_of buffers clashing below) (running_of buffers clashing after) (weights seen_units clashing (with_payloads held_sight below)) (weights seen_units clashing (with_payloads held_sight after)) tells.0 first later)
+      (seen_node label.kind label (running_of buffers clashing below) (running_of buffers clashing after) runs_apart ws vs tells.0 (same_split buffers clashing label.id below) first later)
       later
 
 -- the weight of a stage is that of the row of its nodes

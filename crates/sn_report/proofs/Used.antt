@@ -3,13 +3,13 @@ use Rattle.std.proofs.Common.{◌≡◌, ℕ, ℤ, ◌+◌, Bool, true, false, �
 use Rattle.std.specs.List.{filter}
 use Rattle.std.proofs.lemmas.List.Elements.{filter-append}
 use Rattle.sn_mem.specs.Blocks.{table}
-use Rattle.sn_def.specs.declared.table.Access.{Access}
-use Rattle.sn_def.specs.declared.table.Access.TheVariants.{Read, Write}
 use Rattle.sn_world.specs.declared.stage.Held.{Held}
 use Rattle.sn_world.specs.declared.stage.Held.TheVariants as held
 use Rattle.sn_world.specs.Pictures.{has_synth}
 use Rattle.sn_foot.specs.declared.resource.Resource.{Resource}
 use Rattle.sn_foot.specs.declared.resource.Resource.TheVariants.{Audio, Control, Buffer}
+use Rattle.sn_foot.specs.declared.uses.Role.{Role}
+use Rattle.sn_foot.specs.declared.uses.Role.TheVariants.{Read, Write, Mix}
 use Rattle.sn_foot.specs.declared.uses.Use.{Use}
 use Rattle.sn_foot.specs.Uses.{footprint_in, uses_in}
 use Rattle.sn_clash.specs.Clashing.{resources}
@@ -26,9 +26,10 @@ pub seen_units_is : (h : Held) → seen_units (held_sight h) ≡ units_of h
 seen_units_is held.Group = refl
 seen_units_is (held.Synth def controls state) = refl
 
-pub used_is : (there : Resource → Bool) (uses : List Use) (access : Access) (r : Resource) → used_so access (footprint_in there uses) r ≡ (there r && uses_in access uses r)
+pub used_is : (there : Resource → Bool) (uses : List Use) (role : Role) (r : Resource) → used_so role (footprint_in there uses) r ≡ (there r && uses_in role uses r)
 used_is there uses Read r = refl
 used_is there uses Write r = refl
+used_is there uses Mix r = refl
 
 pub node_line_is : (there : Resource → Bool) (h : Held) → has_synth h ≡ true → ◌≡◌ {A = ℤ → List ℕ} (λ id. node_line there id (held_sight h)) (λ id. foot_line id (units_of h) (used_by there h))
 node_line_is there held.Group synth = absurd (cc)

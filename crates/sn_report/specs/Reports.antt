@@ -1,5 +1,5 @@
 -- What may run beside what, told in lines.
-use Rattle.std.specs.Prelude.{ℕ, ◌+◌, ℤ, Bool, true, false, ◌&&◌, if◌then◌else◌, List, [], ◌∷◌, ◌++◌, map, length, codes, filter}
+use Rattle.std.specs.Prelude.{ℕ, ◌+◌, ℤ, Bool, true, false, not, ◌&&◌, if◌then◌else◌, List, [], ◌∷◌, ◌++◌, map, length, codes, filter}
 use Rattle.std.specs.Fmt.{decimal, signed_decimal}
 use Rattle.sn_def.specs.declared.control.Control.{Control as SynthControl}
 use Rattle.sn_def.specs.Definition.{Definition}
@@ -12,20 +12,24 @@ use Rattle.sn_world.specs.Nodes.{Content, group, synth}
 use Rattle.sn_world.specs.World.{World}
 use Rattle.sn_foot.specs.declared.resource.Resource.{Resource}
 use Rattle.sn_foot.specs.declared.resource.Resource.TheVariants.{Audio, Control, Buffer}
-use Rattle.sn_foot.specs.Footprints.{Footprint, is_there, synth_reads, synth_writes}
-use Rattle.sn_clash.specs.Clashing.{clashes_of, resources}
+use Rattle.sn_foot.specs.declared.uses.Role.{Role}
+use Rattle.sn_foot.specs.declared.uses.Role.TheVariants.{Read, Write, Mix}
+use Rattle.sn_foot.specs.Footprints.{Footprint, is_there}
+use Rattle.sn_clash.specs.Clashing.{clashes_of, resources, synth_uses}
+use Rattle.sn_graph.specs.Plans.{is_listed}
 use Rattle.sn_graph.specs.Stages.{clashing_in}
+use Rattle.sn_report.specs.Mixing.{mix_one_bus}
 use Rattle.sn_report.specs.Weights.{Weight, in_order, weights}
 
 -- ---- what is told of a node
 
--- nothing of a group; of a synth how many units it has, and which resources it reads and writes as far as they are there
+-- nothing of a group; of a synth how many units it has, and which resources it reads, writes and mixes as far as they are there
 pub data Sight : Type 0 where
   nothing : Sight
-  some : ℕ → (Resource → Bool) → (Resource → Bool) → Sight
+  some : ℕ → (Role → Resource → Bool) → Sight
 
 abbrev pub synth_sight : Definition → List SynthControl → Sight
-synth_sight d controls = some (length d.units) (synth_reads d.units controls) (synth_writes d.units controls)
+synth_sight d controls = some (length d.units) (λ role r. synth_uses role d.units controls r)
 
 abbrev pub held_sight : Held → Sight
 held_sight held.Group = nothing
@@ -37,11 +41,16 @@ content_sight (synth s) = synth_sight s.definition s.controls
 
 abbrev pub seen_units : Sight → ℕ
 seen_units nothing = 0
-seen_units (some units reads writes) = units
+seen_units (some units uses) = units
 
 abbrev pub is_seen : Sight → Bool
 is_seen nothing = false
-is_seen (some units reads writes) = true
+is_seen (some units uses) = true
+
+-- it mixes audio bus n
+abbrev pub seen_mixes : Sight → ℕ → Bool
+seen_mixes nothing n = false
+seen_mixes (some units uses) n = uses Mix (Audio n)
 
 -- ---- lines
 
@@ -60,19 +69,18 @@ abbrev pub resource_list : List Resource → List ℕ
 resource_list [] = codes "-"
 resource_list (r ∷ rs) = resource_word r ++ more_words rs
 
--- The resources are told in their order: audio buses, control buses, and buffers, each by their numbers. No synth mixes onto a bus:
--- what it adds to one counts among what it writes.
+-- The resources are told in their order: audio buses, control buses, and buffers, each by their numbers.
 abbrev pub foot_line : ℤ → ℕ → Footprint → List ℕ
 foot_line id units foot =
-    codes "node " ++ signed_decimal id ++ codes " units " ++ decimal units ++ codes " reads " ++ resource_list (filter foot.reads resources) ++ codes " writes " ++ resource_list (filter foot.writes resources) ++ codes " mixes -" ++ 10 ∷ []
+    codes "node " ++ signed_decimal id ++ codes " units " ++ decimal units ++ codes " reads " ++ resource_list (filter foot.reads resources) ++ codes " writes " ++ resource_list (filter foot.writes resources) ++ codes " mixes " ++ resource_list (filter foot.mixes resources) ++ 10 ∷ []
 
 -- of the resources that a synth uses, those that are there
-abbrev pub foot_there : (Resource → Bool) → (Resource → Bool) → (Resource → Bool) → Footprint
-foot_there there reads writes = record { reads = λ r. there r && reads r; writes = λ r. there r && writes r }
+abbrev pub foot_there : (Resource → Bool) → (Role → Resource → Bool) → Footprint
+foot_there there uses = record { reads = λ r. there r && uses Read r; writes = λ r. there r && uses Write r; mixes = λ r. there r && uses Mix r }
 
 abbrev pub node_line : (Resource → Bool) → ℤ → Sight → List ℕ
 node_line there id nothing = []
-node_line there id (some units reads writes) = foot_line id units (foot_there there reads writes)
+node_line there id (some units uses) = foot_line id units (foot_there there uses)
 
 abbrev pub head_line : ℕ → ℕ → ℕ → List ℕ
 head_line synths units cost = codes "synths " ++ decimal synths ++ codes " units " ++ decimal units ++ codes " cost " ++ decimal cost ++ 10 ∷ []
@@ -109,9 +117,13 @@ module _ (there : Resource → Bool) where
   abbrev pub lines : List (Label Sight) → Weight → List ℕ
   lines labels w = head_line (synths_among labels) (units_among labels) w.cost ++ node_lines labels ++ chain_line w.chain
 
+-- A parallel group is split unless it is one of these, whose members clash, or two of its members mix one bus.
+abbrev pub is_split : List ℤ → ℤ → Nodes Sight → Bool
+is_split clashing id below = not (is_listed clashing id) && not (mix_one_bus seen_mixes below)
+
 -- the weight of nodes, of which these parallel groups have members that clash
 abbrev pub weight_of : Nodes Sight → List ℤ → Weight
-weight_of nodes clashing = in_order (weights seen_units clashing nodes)
+weight_of nodes clashing = in_order (weights seen_units (is_split clashing) nodes)
 
 -- ---- of a world and of a stage
 

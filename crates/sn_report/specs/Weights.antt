@@ -1,9 +1,8 @@
 -- What running synths cost in a row, and the chain of them that costs as much.
-use Rattle.std.specs.Prelude.{ℕ, ◌+◌, nat_lt, ℤ, Bool, false, not, if◌then◌else◌, List, [], ◌∷◌, ◌++◌}
+use Rattle.std.specs.Prelude.{ℕ, ◌+◌, nat_lt, ℤ, Bool, false, if◌then◌else◌, List, [], ◌∷◌, ◌++◌}
 use Rattle.sn_tree.specs.declared.node.NodeKind.{NodeKind}
 use Rattle.sn_tree.specs.declared.node.NodeKind.TheVariants as kinds
 use Rattle.sn_tree.specs.Trees.{Label, Nodes, none, node}
-use Rattle.sn_graph.specs.Plans.{is_listed}
 
 -- a cost, and the ids of the synths of a chain
 pub record Weight : Type 0 where
@@ -34,17 +33,17 @@ abbrev pub group_weight : Bool → List Weight → List Weight
 group_weight split [] = []
 group_weight split (w ∷ ws) = (if split then heaviest (w ∷ ws) else in_order (w ∷ ws)) ∷ []
 
--- the units of a payload, and the ids of the parallel groups whose members clash
-module _ {P : Type 0} (units : P → ℕ) (clashing : List ℤ) where
-  -- that of a node which runs, with those below it: a parallel group is split unless its members clash
-  abbrev pub node_weight : NodeKind → Label P → List Weight → List Weight
-  node_weight kinds.Synth label below = (record { cost = units label.payload; chain = label.id ∷ [] }) ∷ []
-  node_weight kinds.Group label below = group_weight false below
-  node_weight kinds.Parallel label below = group_weight (not (is_listed clashing label.id)) below
+-- the units of a payload, and whether a parallel group with an id and these nodes below it is split
+module _ {P : Type 0} (units : P → ℕ) (splits : ℤ → Nodes P → Bool) where
+  -- that of a node which runs, a split one if it is a parallel group, with those below it
+  abbrev pub node_weight : NodeKind → Label P → Bool → List Weight → List Weight
+  node_weight kinds.Synth label split below = (record { cost = units label.payload; chain = label.id ∷ [] }) ∷ []
+  node_weight kinds.Group label split below = group_weight false below
+  node_weight kinds.Parallel label split below = group_weight split below
 
   -- those of nodes beside each other: a paused node is left out with all below it
   abbrev pub weights : Nodes P → List Weight
   weights none = []
   weights (node label below after) =
-      if label.running then node_weight label.kind label (weights below) ++ weights after
+      if label.running then node_weight label.kind label (splits label.id below) (weights below) ++ weights after
       else weights after

@@ -13,8 +13,7 @@ ghost use Rattle.sn_report.specs.Visits.{label_in, sight_in};
 use crate::costs::units_of;
 use crate::resources::{used_by, used_resources};
 use crate::words::{put_chain, put_int, put_natural, put_resources};
-use sn_def::Access;
-use sn_foot::Use;
+use sn_foot::{Role, Use};
 use sn_mem::Buffers;
 use sn_ports::{NoMemory, Text};
 use sn_tree::{Tree, Visit};
@@ -100,7 +99,7 @@ pub fn put_head(out: &mut Text, synths: u64, units: u64, cost: u64) -> Result<()
 fn put_reads(alloc: Global, out: &mut Text, buffers: &Buffers, uses: &[Use]) -> Result<(), NoMemory>
     ensures { OnOk result (out.new.bytes ≡ out.old.bytes ++ resource_list (filter (footprint_in (is_there buffers.now) uses.now).reads resources)) }
 {
-    let used = used_resources(alloc, buffers, uses, Access::Read)?;
+    let used = used_resources(alloc, buffers, uses, Role::Read)?;
     put_resources(out, &used)
 }
 
@@ -113,7 +112,15 @@ fn put_writes(
 ) -> Result<(), NoMemory>
     ensures { OnOk result (out.new.bytes ≡ out.old.bytes ++ resource_list (filter (footprint_in (is_there buffers.now) uses.now).writes resources)) }
 {
-    let used = used_resources(alloc, buffers, uses, Access::Write)?;
+    let used = used_resources(alloc, buffers, uses, Role::Write)?;
+    put_resources(out, &used)
+}
+
+/// The audio buses that a node mixes.
+fn put_mixes(alloc: Global, out: &mut Text, buffers: &Buffers, uses: &[Use]) -> Result<(), NoMemory>
+    ensures { OnOk result (out.new.bytes ≡ out.old.bytes ++ resource_list (filter (footprint_in (is_there buffers.now) uses.now).mixes resources)) }
+{
+    let used = used_resources(alloc, buffers, uses, Role::Mix)?;
     put_resources(out, &used)
 }
 
@@ -135,7 +142,9 @@ fn put_synth(
     put_reads(alloc, out, buffers, uses)?;
     out.append(b" writes ")?;
     put_writes(alloc, out, buffers, uses)?;
-    out.append(b" mixes -\n")
+    out.append(b" mixes ")?;
+    put_mixes(alloc, out, buffers, uses)?;
+    out.append(b"\n")
 }
 
 /// The line of a node, none of a group.

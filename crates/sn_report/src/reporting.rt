@@ -77,7 +77,7 @@ pub fn report(alloc: Global, plan: &Plan, stage: &Stage) -> Result<Text, NoMemor
 }
 
 /// The report of a stage that stands for a world. A parallel group is told as split, so that its members may run beside each other,
-/// unless two of them clash.
+/// unless two of them clash or mix one bus.
 ///
 /// # Errors
 ///

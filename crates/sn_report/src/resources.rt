@@ -3,17 +3,16 @@ ghost use Rattle.std.specs.Prelude.{◌≡◌, ◌++◌, ◌∷◌, ◌&&◌, []
 ghost use Rattle.std.specs.List.{filter};
 ghost use Rattle.sn_mem.specs.Blocks.{table};
 ghost use Rattle.sn_mem.specs.declared.buffers.BufferPlace as buffer;
-ghost use Rattle.sn_def.specs.Facts.{is_access};
 ghost use Rattle.sn_foot.specs.declared.resource.Resource.TheVariants.{Buffer};
 ghost use Rattle.sn_foot.specs.Footprints.{is_there};
 ghost use Rattle.sn_foot.specs.Putting.{resource};
-ghost use Rattle.sn_foot.specs.Uses.{footprint_in, is_same, uses_in};
+ghost use Rattle.sn_foot.specs.Uses.{footprint_in, is_role, is_same, uses_in};
 ghost use Rattle.sn_clash.specs.Clashing.{resources};
 ghost use Rattle.sn_clash.specs.Passing.{used_by};
 ghost use Rattle.sn_report.specs.Visits.{used_so};
 
-use sn_def::{Access, Bank};
-use sn_foot::{Resource, Use, push_held};
+use sn_def::Bank;
+use sn_foot::{Resource, Role, Use, push_held};
 use sn_mem::Buffers;
 use sn_ports::NoMemory;
 use sn_ports::limits::{AUDIO_BUS_COUNT, BUFFER_COUNT, CONTROL_BUS_COUNT};
@@ -25,7 +24,7 @@ pub fn used_by(alloc: Global, held: &Held) -> Result<Vec<Use>, NoMemory>
     ensures { IfOk result (λ u. (buffers : List (Option buffer.BufferPlace)) → footprint_in (is_there buffers) u.items ≡ used_by (is_there buffers) held.now) }
 {
     let mut uses = Vec::new(alloc);
-    push_held(&mut uses, held)?;
+    push_held(alloc, &mut uses, held)?;
     Ok(uses)
 }
 
@@ -47,12 +46,13 @@ fn is_there(buffers: &Buffers, resource: Resource) -> bool
     }
 }
 
-fn is_access(access: Access, used: Access) -> bool
-    ensures { result ≡ is_access access used }
+fn is_role(role: Role, used: Role) -> bool
+    ensures { result ≡ is_role role used }
 {
-    match (access, used) {
-        (Access::Read, Access::Read) => true,
-        (Access::Write, Access::Write) => true,
+    match (role, used) {
+        (Role::Read, Role::Read) => true,
+        (Role::Write, Role::Write) => true,
+        (Role::Mix, Role::Mix) => true,
         _ => false,
     }
 }
@@ -69,17 +69,17 @@ fn is_same(a: Resource, b: Resource) -> bool
 }
 
 /// Whether it is a use of a resource in this way.
-fn is_use(used: &Use, access: Access, resource: Resource) -> bool
-    ensures { result ≡ (is_access access used.now.access && is_same used.now.resource resource) }
+fn is_use(used: &Use, role: Role, resource: Resource) -> bool
+    ensures { result ≡ (is_role role used.now.role && is_same used.now.resource resource) }
 {
-    is_access(access, used.access) && is_same(used.resource, resource)
+    is_role(role, used.role) && is_same(used.resource, resource)
 }
 
 /// Whether some of them use a resource in this way.
-fn uses_in(uses: &[Use], access: Access, resource: Resource) -> bool
-    ensures { result ≡ uses_in access uses.now resource }
+fn uses_in(uses: &[Use], role: Role, resource: Resource) -> bool
+    ensures { result ≡ uses_in role uses.now resource }
 {
-    uses.iter().any(|used| is_use(used, access, resource))
+    uses.iter().any(|used| is_use(used, role, resource))
 }
 
 fn resource(bank: Bank, number: u32) -> Resource
@@ -94,10 +94,10 @@ fn resource(bank: Bank, number: u32) -> Resource
 
 /// Whether a resource is there, and is used in this way.
 #[tactic(auto, using(crate::proofs::Used::used_is))]
-fn is_used(buffers: &Buffers, uses: &[Use], access: Access, resource: Resource) -> bool
-    ensures { result ≡ used_so access (footprint_in (is_there buffers.now) uses.now) resource }
+fn is_used(buffers: &Buffers, uses: &[Use], role: Role, resource: Resource) -> bool
+    ensures { result ≡ used_so role (footprint_in (is_there buffers.now) uses.now) resource }
 {
-    is_there(buffers, resource) && uses_in(uses, access, resource)
+    is_there(buffers, resource) && uses_in(uses, role, resource)
 }
 
 /// Puts a resource at the end, if it is used so.
@@ -105,12 +105,12 @@ fn push_used(
     used: &mut Vec<Resource>,
     buffers: &Buffers,
     uses: &[Use],
-    access: Access,
+    role: Role,
     resource: Resource,
 ) -> Result<(), NoMemory>
-    ensures { OnOk result (used.new.items ≡ used.old.items ++ filter (used_so access (footprint_in (is_there buffers.now) uses.now)) (resource ∷ [])) }
+    ensures { OnOk result (used.new.items ≡ used.old.items ++ filter (used_so role (footprint_in (is_there buffers.now) uses.now)) (resource ∷ [])) }
 {
-    if is_used(buffers, uses, access, resource) {
+    if is_used(buffers, uses, role, resource) {
         used.push(resource)?;
     }
     Ok(())
@@ -121,14 +121,14 @@ fn push_bank(
     used: &mut Vec<Resource>,
     buffers: &Buffers,
     uses: &[Use],
-    access: Access,
+    role: Role,
     bank: Bank,
     count: u32,
 ) -> Result<(), NoMemory>
-    ensures { OnOk result (used.new.items ≡ used.old.items ++ filter (used_so access (footprint_in (is_there buffers.now) uses.now)) (table (λ n. resource bank n) count)) }
+    ensures { OnOk result (used.new.items ≡ used.old.items ++ filter (used_so role (footprint_in (is_there buffers.now) uses.now)) (table (λ n. resource bank n) count)) }
 {
     for number in 0..count {
-        push_used(used, buffers, uses, access, resource(bank, number))?;
+        push_used(used, buffers, uses, role, resource(bank, number))?;
     }
     Ok(())
 }
@@ -138,27 +138,20 @@ pub fn used_resources(
     alloc: Global,
     buffers: &Buffers,
     uses: &[Use],
-    access: Access,
+    role: Role,
 ) -> Result<Vec<Resource>, NoMemory>
-    ensures { IfOk result (λ used. used.items ≡ filter (used_so access (footprint_in (is_there buffers.now) uses.now)) resources) }
+    ensures { IfOk result (λ used. used.items ≡ filter (used_so role (footprint_in (is_there buffers.now) uses.now)) resources) }
 {
     let mut used = Vec::new(alloc);
+    push_bank(&mut used, buffers, uses, role, Bank::Audio, AUDIO_BUS_COUNT)?;
     push_bank(
         &mut used,
         buffers,
         uses,
-        access,
-        Bank::Audio,
-        AUDIO_BUS_COUNT,
-    )?;
-    push_bank(
-        &mut used,
-        buffers,
-        uses,
-        access,
+        role,
         Bank::Control,
         CONTROL_BUS_COUNT,
     )?;
-    push_bank(&mut used, buffers, uses, access, Bank::Buffer, BUFFER_COUNT)?;
+    push_bank(&mut used, buffers, uses, role, Bank::Buffer, BUFFER_COUNT)?;
     Ok(used)
 }

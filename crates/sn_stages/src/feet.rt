@@ -7,8 +7,8 @@ ghost use Rattle.sn_foot.specs.Canonical.{Ends};
 
 use crate::plans::{all_end, lie, put};
 use sn_def::{Control, Controls, read};
-use sn_foot::{Unfooted, canonical, foot_of};
-use sn_mem::{BufferPlace, Buffers, Extent, Extents, Foot};
+use sn_foot::{Reach, Unfooted, canonical, foot_of};
+use sn_mem::{BufferPlace, Buffers, Extent, Extents};
 use sn_ports::NoMemory;
 use sn_tree::{NodeKind, Tree};
 use sn_world::{Held, Stage};
@@ -112,13 +112,13 @@ fn synth(
     }))
 }
 
-/// The foot of a node, or nothing if there is no such node or a state ends behind the words.
+/// The words of a node, or nothing if there is no such node or a state ends behind the words.
 fn foot(
     alloc: Global,
     buffers: Buffers,
     tree: Tree<Held>,
     node: i32,
-) -> Result<Option<Foot>, NoMemory>
+) -> Result<Option<Reach>, NoMemory>
     requires { All Ends (live_places buffers) }
 {
     if !all_end(&tree) {
@@ -127,9 +127,10 @@ fn foot(
     let mut stage = Stage::new(alloc, 48_000, 0, 0)?;
     stage.tree = tree;
     stage.buffers = buffers;
-    let mut foot = Foot {
+    let mut foot = Reach {
         reads: Extents::new(alloc),
         writes: Extents::new(alloc),
+        mixes: Extents::new(alloc),
     };
     match foot_of(alloc, &stage, node, &mut foot) {
         Ok(()) => Ok(Some(foot)),
@@ -138,16 +139,17 @@ fn foot(
     }
 }
 
-/// A synth by its definition and its controls, and the words that it reads and writes.
+/// A synth by its definition and its controls, and the words that it reads, writes and mixes.
 #[derive(Drop)]
 struct Case<'a> {
     text: &'a [u8],
     controls: (Control, Control),
     reads: &'a [(u32, u32)],
     writes: &'a [(u32, u32)],
+    mixes: &'a [(u32, u32)],
 }
 
-/// Whether a synth reads and writes these words, with its state from word 20,000 on.
+/// Whether a synth reads, writes and mixes these words, with its state from word 20,000 on.
 fn agrees(alloc: Global, case: &Case<'_>) -> Result<bool, NoMemory> {
     let mut tree = Tree::new(alloc, Held::Group)?;
     let Some(held) = synth(alloc, case.text, case.controls, 20_000)? else {
@@ -158,7 +160,9 @@ fn agrees(alloc: Global, case: &Case<'_>) -> Result<bool, NoMemory> {
     }
     match foot(alloc, reels(alloc)?, tree, 1000)? {
         Some(foot) => Ok(
-            lie(foot.reads.as_slice(), case.reads) && lie(foot.writes.as_slice(), case.writes),
+            lie(foot.reads.as_slice(), case.reads)
+                && lie(foot.writes.as_slice(), case.writes)
+                && lie(foot.mixes.as_slice(), case.mixes),
         ),
         None => Ok(false),
     }
@@ -172,13 +176,22 @@ fn as_many_buses_are_used_as_there_are_channels(rt: HostRuntime) -> Result<(), F
             text: WIDE,
             controls: (own(126), own(0)),
             reads: &[(195, 130)],
-            writes: &[(8190, 130), (20000, 2)],
+            writes: &[(20000, 2)],
+            mixes: &[(8190, 130)],
         },
         Case {
             text: WIDE,
             controls: (own(-2), following(1023)),
             reads: &[(195, 130), (10366, 2)],
-            writes: &[(0, 130), (20000, 2)],
+            writes: &[(20000, 2)],
+            mixes: &[(0, 130)],
+        },
+        Case {
+            text: WIDE,
+            controls: (own(2), own(0)),
+            reads: &[(195, 130)],
+            writes: &[(195, 130), (20000, 2)],
+            mixes: &[(130, 65), (325, 65)],
         },
     ];
     for case in &cases {
@@ -195,12 +208,14 @@ fn control_buses_are_read_by_units_and_by_controls(rt: HostRuntime) -> Result<()
             controls: (own(1024), own(0)),
             reads: &[(585, 65)],
             writes: &[(0, 65), (8334, 2), (20000, 2)],
+            mixes: &[],
         },
         Case {
             text: LINK,
             controls: (own(0), following(5)),
             reads: &[(585, 65), (8320, 2), (8330, 2)],
             writes: &[(0, 65), (8334, 2), (20000, 2)],
+            mixes: &[],
         },
     ];
     for case in &cases {
@@ -216,13 +231,15 @@ fn buffers_are_used_if_they_are_allocated(rt: HostRuntime) -> Result<(), Fail> {
             text: REEL,
             controls: (own(2), own(0)),
             reads: &[(30000, 8)],
-            writes: &[(65, 130), (20000, 2), (30016, 8)],
+            writes: &[(20000, 2), (30016, 8)],
+            mixes: &[(65, 130)],
         },
         Case {
             text: REEL,
             controls: (own(3), following(1)),
             reads: &[(8322, 2)],
-            writes: &[(65, 130), (20000, 2), (30016, 8)],
+            writes: &[(20000, 2), (30016, 8)],
+            mixes: &[(65, 130)],
         },
     ];
     for case in &cases {
@@ -256,7 +273,9 @@ fn what_a_walk_does_not_reach_has_no_foot(rt: HostRuntime) -> Result<(), Fail> {
             return Ok(());
         };
         assert_eq!(rt;
-            found.reads.as_slice().len() + found.writes.as_slice().len(),
+            found.reads.as_slice().len()
+                + found.writes.as_slice().len()
+                + found.mixes.as_slice().len(),
             0
         );
     }

@@ -99,7 +99,7 @@ fn jobs_of(alloc: Global, tree: Option<Tree<Held>>) -> Result<Option<u32>, NoMem
     }
 }
 
-/// Each reader is a job, and one more joins them. The writers clash, so that they are one job.
+/// Each reader is a job, and one more joins them. The writers mix one bus, so that they are one job.
 #[test]
 fn a_group_may_have_as_many_members_as_there_are_nodes(rt: HostRuntime) -> Result<(), Fail> {
     let readers = members(rt.alloc(), READER, 4094)?;
@@ -110,7 +110,7 @@ fn a_group_may_have_as_many_members_as_there_are_nodes(rt: HostRuntime) -> Resul
 }
 
 /// Each group has a synth and the next group. The readers are jobs, and but for the last group one more joins them. The
-/// writers clash, so that they are jobs one after the other.
+/// writers mix one bus, so that they are jobs one after the other.
 #[test]
 fn groups_may_be_nested_as_deep_as_there_are_nodes(rt: HostRuntime) -> Result<(), Fail> {
     let empty = nested(rt.alloc(), READER, 4095, 0)?;

@@ -63,7 +63,7 @@ pub fn planned(alloc: Global, tree: Tree<Held>) -> Result<Option<Plan>, NoMemory
     Ok(Some(plan(alloc, &stage, found.as_slice())?))
 }
 
-/// A synth that writes an audio bus, with two words of state from word `at` on.
+/// A synth that mixes an audio bus, with two words of state from word `at` on.
 fn tone(alloc: Global, bus: i32, at: u32) -> Result<Option<Held>, AllocError> {
     let Ok(def) = read(alloc, TONE) else {
         return Ok(None);
@@ -92,7 +92,7 @@ pub fn put(tree: &mut Tree<Held>, id: i32, kind: NodeKind, target: i32, held: He
     tree.insert(id, kind, spot, held).is_ok()
 }
 
-/// What a node is. A tone has the bus that it writes.
+/// What a node is. A tone has the bus that it mixes.
 #[derive(Clone, Copy)]
 enum Sort {
     Group,
@@ -209,7 +209,7 @@ const THREE: Case<'_> = Case {
     ],
 };
 
-/// The three members write one bus.
+/// The three members mix one bus.
 const ONE_BUS: Case<'_> = Case {
     shape: Shape {
         nodes: &[
@@ -307,8 +307,8 @@ const INNER: Case<'_> = Case {
     ],
 };
 
-/// Members of the inner one clash.
-const INNER_CLASH: Case<'_> = Case {
+/// Members of the inner one mix one bus.
+const INNER_BUS: Case<'_> = Case {
     shape: Shape {
         nodes: &[
             Node(50, Sort::Parallel, 0),
@@ -322,8 +322,8 @@ const INNER_CLASH: Case<'_> = Case {
     jobs: &[(&[1, 2], &[]), (&[3], &[]), (&[], &[0, 1])],
 };
 
-/// The inner one clashes with the member after it, which writes what it writes.
-const OUTER_CLASH: Case<'_> = Case {
+/// The inner one and the member after it mix one bus.
+const OUTER_BUS: Case<'_> = Case {
     shape: Shape {
         nodes: &[
             Node(50, Sort::Parallel, 0),
@@ -337,8 +337,8 @@ const OUTER_CLASH: Case<'_> = Case {
     jobs: &[(&[1], &[]), (&[2], &[]), (&[], &[0, 1]), (&[3], &[2])],
 };
 
-/// A member that clashes with another is paused, and so is a group of which two members would clash.
-const PAUSED_CLASH: Case<'_> = Case {
+/// A member that mixes the bus of another is paused, and so is a group of which two members mix one bus.
+const PAUSED_BUS: Case<'_> = Case {
     shape: Shape {
         nodes: &[
             Node(50, Sort::Parallel, 0),
@@ -362,15 +362,7 @@ fn jobs_stand_before_those_that_follow_them(rt: HostRuntime) -> Result<(), Fail>
         jobs: &[(&[2], &[]), (&[3, 4], &[0])],
     };
     let cases = [
-        THREE,
-        ONE_BUS,
-        EIGHT,
-        EMPTY,
-        INNER,
-        INNER_CLASH,
-        OUTER_CLASH,
-        PAUSED_CLASH,
-        paused,
+        THREE, ONE_BUS, EIGHT, EMPTY, INNER, INNER_BUS, OUTER_BUS, PAUSED_BUS, paused,
     ];
     for case in &cases {
         let plan = plan_of(rt.alloc(), &case.shape)?;

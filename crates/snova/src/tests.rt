@@ -242,7 +242,7 @@ fn a_drill_is_played(rt: HostRuntime) -> Result<(), Fail> {
         assert_eq!(rt; outcome, Outcome::Done { blocks: 64 });
         assert_eq!(rt;
             out.taken(),
-            b"drill blocks 64 sound 16428 replies 96 sum 1804405\n".as_slice()
+            b"drill blocks 64 sound 16428 replies 48 sum 1804405\n".as_slice()
         );
     }
     Ok(())

@@ -4,7 +4,8 @@ use Rattle.sn_tree.specs.Trees.{Label, Nodes, subtree}
 use Rattle.sn_tree.specs.declared.members.Member.{Member}
 use Rattle.sn_world.specs.declared.stage.Held.{Held}
 use Rattle.sn_foot.specs.declared.resource.Resource.{Resource}
-use Rattle.sn_foot.specs.Footprints.{held_reads, held_writes, is_there}
+use Rattle.sn_foot.specs.Footprints.{is_there}
+use Rattle.sn_foot.specs.Uses.{held_uses}
 use Rattle.sn_clash.specs.declared.clash.Clash.{Clash}
 use Rattle.sn_clash.specs.Clashing.{clashes}
 use Rattle.sn_clash.specs.Passing.{nothing, pass}
@@ -23,4 +24,4 @@ returns c =
     ∙ ap (λ (ms : List (Member Held)). (pass there (map row_of ms) nothing).found) c.deref.ensures.value
     ∙ ap (λ (rs : List (Label Held × ℕ)). (pass there rs nothing).found) c.in_ok-nodes.ensures)
     ∙ group_passed there root
-    ∙ ap (λ (u : Nodes Held). clashes there held_reads held_writes u) c.root_holds_all.ensures
+    ∙ ap (λ (u : Nodes Held). clashes there held_uses u) c.root_holds_all.ensures

@@ -2,7 +2,7 @@ use Rattle.std.proofs.Common.{◌≡◌, ◌∙◌, ◌++◌, List, ap, map}
 use Rattle.std.proofs.lemmas.List.Elements.{All-append, All-same}
 use Rattle.std.proofs.lemmas.Result.{IfOk-weaker}
 use Rattle.sn_mem.specs.declared.extents.Extent.{Extent}
-use Rattle.sn_def.specs.declared.table.Access.TheVariants.{Write}
+use Rattle.sn_foot.specs.declared.uses.Role.TheVariants.{Write}
 use Rattle.sn_foot.specs.Canonical.{Ends, canonical}
 use Rattle.sn_foot.specs.Footprints.{states_of}
 use Rattle.sn_foot.specs.Uses.{places_of}

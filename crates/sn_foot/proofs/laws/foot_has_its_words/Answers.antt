@@ -10,5 +10,6 @@ returns c = record {
   canonical = λ buffers hs. (
     is_canonical (used_places buffers (footprint_of buffers hs).reads),
     is_canonical (used_places buffers (footprint_of buffers hs).writes ++ states_of hs),
+    is_canonical (used_places buffers (footprint_of buffers hs).mixes),
   );
 }

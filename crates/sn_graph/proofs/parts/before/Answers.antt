@@ -1,4 +1,5 @@
-use Rattle.std.proofs.Common.{sym, ap, ◌∙◌}
+use Rattle.std.proofs.Common.{◌≡◌, ◌∙◌, ap, sym}
+use Rattle.std.proofs.lemmas.Result.{IfOk-weaker}
 use Rattle.sn_graph.specs.Voices.{synth, group}
 use Rattle.sn_graph.specs.Inputs.{nodes_of}
 use Rattle.sn_graph.specs.Pieces.{before, piece_of}
@@ -7,11 +8,14 @@ use Rattle.sn_graph.proofs.parts.before.Goals as goal
 pub returns-in-Nothing : goal.returns-in-Nothing
 returns-in-Nothing c = ap (λ p. before (piece_of p) (nodes_of c.args.rest)) (sym c.in-Nothing.is)
 
-pub returns-in_ok-new-in-Synth : goal.returns-in_ok-new-in-Synth
-returns-in_ok-new-in-Synth c = ap (λ r. synth c.in-Synth.voice (nodes_of r)) c.in_ok-new-in-Synth.ensures.ok ∙ ap (λ p. before (piece_of p) (nodes_of c.args.rest)) (sym c.in-Synth.is)
+pub returns-in-Synth : goal.returns-in-Synth
+returns-in-Synth c = IfOk-weaker c.after_synth.result
+    (λ nodes. nodes_of nodes ≡ synth c.in-Synth.voice (nodes_of c.args.rest))
+    (λ nodes. nodes_of nodes ≡ before (piece_of c.args.part) (nodes_of c.args.rest))
+    (λ nodes e. e ∙ ap (λ p. before (piece_of p) (nodes_of c.args.rest)) (sym c.in-Synth.is)) c.after_synth.ensures
 
-pub returns-in_ok-new-in-Group-2 : goal.returns-in_ok-new-in-Group-2
-returns-in_ok-new-in-Group-2 c =
-    ap (λ r. group c.in-Group.split (nodes_of r) (nodes_of c.in_ok-new-in-Group-2.field-0.value)) c.in_ok-new-in-Group.ensures.ok
-    ∙ ap (λ r. group c.in-Group.split (nodes_of c.in-Group.inner) (nodes_of r)) c.in_ok-new-in-Group-2.ensures.ok
-    ∙ ap (λ p. before (piece_of p) (nodes_of c.args.rest)) (sym c.in-Group.is)
+pub returns-in-Group : goal.returns-in-Group
+returns-in-Group c = IfOk-weaker c.after_group.result
+    (λ nodes. nodes_of nodes ≡ group c.in-Group.split (nodes_of c.in-Group.inner) (nodes_of c.args.rest))
+    (λ nodes. nodes_of nodes ≡ before (piece_of c.args.part) (nodes_of c.args.rest))
+    (λ nodes e. e ∙ ap (λ p. before (piece_of p) (nodes_of c.args.rest)) (sym c.in-Group.is)) c.after_group.ensures

@@ -5,6 +5,9 @@ use Rattle.sn_graph.specs.Pieces.{linked, piece_of}
 use Rattle.sn_graph.proofs.Linking.{linked-snoc}
 use Rattle.sn_graph.proofs.parts.linked.Goals as goal
 
+pub loop-part-init : goal.loop-part-init
+loop-part-init c = ap (linked (map piece_of c.args.parts.items)) c.new-nodes.ensures
+
 pub loop-part-preserved : goal.loop-part-preserved
 loop-part-preserved c =
     ap (linked (map piece_of c.pop.new.self.items)) c.in_ok-nodes.ensures

@@ -1,17 +1,14 @@
-use Rattle.std.proofs.Common.{◌≡◌, ◌≤◌, ◌∷◌, [], ℕ, List, length, map, take, sym, ap, ◌∙◌, subst, arith}
+use Rattle.std.proofs.Common.{◌≡◌, ◌≤◌, ◌∷◌, [], ℕ, List, length, map, sym, ap, ◌∙◌, subst, arith}
 use Rattle.std.specs.Prelude.{pos}
 use Rattle.std.specs.List.{All}
 use Rattle.std.proofs.lemmas.List.{map-append, nil_from_length}
-use Rattle.std.proofs.lemmas.Result.{IfOk-weaker}
 use Rattle.sn_tree.specs.Trees.{Label, subtree}
 use Rattle.sn_tree.specs.Members.{members}
 use Rattle.sn_world.specs.declared.stage.Held.{Held}
 use Rattle.sn_foot.specs.Canonical.{Ends}
 use Rattle.sn_clash.specs.Rows.{row_of}
-use Rattle.sn_graph.specs.Voices.{none}
 use Rattle.sn_graph.specs.Inputs.{nodes_of}
-use Rattle.sn_graph.specs.Pieces.{built, linked, pieces}
-use Rattle.sn_graph.specs.Stages.{running_nodes}
+use Rattle.sn_graph.specs.Pieces.{built, pieces}
 use Rattle.sn_graph.proofs.Linking.{built-snoc, length-pieces, linked_whole}
 use Rattle.sn_graph.proofs.Staging.{states_at, states_parts, members_end}
 use Rattle.sn_graph.proofs.stages.running_nodes.Goals as goal
@@ -51,5 +48,4 @@ returns c =
     let all = sym (ap (λ ms. built stage.buffers c.args.clashing.now (map row_of ms) (pieces c.loop-member.parts.items)) none_is) ∙ c.loop-member.invariant.all in
     let few : length (pieces c.loop-member.parts.items) ≤ c.len-count.result = omega (arith, length-pieces c.loop-member.parts.items, c.len-count.ensures, c.loop-member.parts.ok.0) in
     let whole = linked_whole stage.buffers c.args.clashing.now t (pieces c.loop-member.parts.items) c.len-count.result few all in
-    IfOk-weaker c.take_nodes.result (λ nodes. nodes_of nodes ≡ linked (take c.len-count.result (pieces c.loop-member.parts.items)) none) (λ nodes. nodes_of nodes ≡ running_nodes stage.buffers c.args.clashing.now stage.tree.attached)
-    (λ nodes e. e ∙ whole) c.take_nodes.ensures.nodes
+    ap nodes_of c.into_nodes.ensures ∙ c.in_ok-nodes.ensures.nodes ∙ whole

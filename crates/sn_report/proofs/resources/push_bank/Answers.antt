@@ -10,12 +10,12 @@ use Rattle.sn_report.proofs.resources.push_bank.Goals as goal
 
 pub loop-number-init : goal.loop-number-init
 loop-number-init c =
-    let test = used_so c.args.access (footprint_in (is_there c.args.buffers.now) c.args.uses.now) in
+    let test = used_so c.args.role (footprint_in (is_there c.args.buffers.now) c.args.uses.now) in
     sym (ap (λ (rs : List Resource). c.args.used.now.items ++ rs) (filter_none test (λ n. resource c.args.bank n)) ∙ append-nil c.args.used.now.items)
 
 pub loop-number-preserved : goal.loop-number-preserved
 loop-number-preserved c =
-    let test = used_so c.args.access (footprint_in (is_there c.args.buffers.now) c.args.uses.now) in
+    let test = used_so c.args.role (footprint_in (is_there c.args.buffers.now) c.args.uses.now) in
     let n = c.loop-number.number in
     c.in_ok-push_used.ensures
     ∙ ap (λ (r : Resource). c.loop-number.used.items ++ filter test (r ∷ [])) c.resource.ensures

@@ -9,4 +9,4 @@ use Rattle.sn_report.specs.Visits.{used_so}
 use Rattle.sn_report.proofs.resources.push_bank.Given as goal
 
 abbrev pub invariant-loop-number : goal.invariant-loop-number
-invariant-loop-number l = l.used.items ≡ l.fn.used.items ++ filter (used_so l.access (footprint_in (is_there l.buffers) l.uses)) (table (λ n. resource l.bank n) l.number)
+invariant-loop-number l = l.used.items ≡ l.fn.used.items ++ filter (used_so l.role (footprint_in (is_there l.buffers) l.uses)) (table (λ n. resource l.bank n) l.number)

@@ -11,7 +11,7 @@ use Rattle.sn_report.proofs.resources.used_resources.Goals as goal
 
 pub returns : goal.returns
 returns c =
-    let test = used_so c.args.access (footprint_in (is_there c.args.buffers.now) c.args.uses.now) in
+    let test = used_so c.args.role (footprint_in (is_there c.args.buffers.now) c.args.uses.now) in
     let first = c.in_ok-push_bank.ensures ∙ ap (λ (rs : List Resource). rs ++ filter test (table Audio 128)) c.new-used.ensures.items in
     let second = c.in_ok-push_bank-2.ensures ∙ ap (λ (rs : List Resource). rs ++ filter test (table Control 1024)) first in
     c.in_ok-push_bank-3.ensures ∙ (ap (λ (rs : List Resource). rs ++ filter test (table Buffer 1024)) second

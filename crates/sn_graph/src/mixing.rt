@@ -1,0 +1,105 @@
+//! Which audio buses are mixed: a flag for each.
+ghost use Rattle.std.specs.Prelude.{◌≡◌, ◌<◌, ◌*◌, ◌&&◌, ◌||◌, false, replicate, slice_index_or};
+ghost use Rattle.std.specs.List.{list_any};
+ghost use Rattle.sn_ports.specs.Limits.{audio_bus_count};
+ghost use Rattle.sn_mem.specs.Blocks.{table};
+ghost use Rattle.sn_mem.specs.Layout.{audio_bus_words};
+ghost use Rattle.sn_mem.specs.Words.{covers};
+ghost use Rattle.sn_graph.specs.Sharing.{mixes};
+
+use crate::nodes::Voice;
+use sn_mem::{Extent, Places};
+use sn_ports::limits::AUDIO_BUS_COUNT;
+
+/// How many audio buses there are.
+pub const BUSES: usize = AUDIO_BUS_COUNT as usize;
+
+fn covers(extent: Extent, word: u64) -> bool
+    ensures { result ≡ covers extent word }
+{
+    let begin = extent.at as u64;
+    begin <= word && word < begin + extent.len as u64
+}
+
+fn has(extents: &[Extent], word: u64) -> bool
+    ensures { result ≡ list_any (λ e. covers e word) extents.now }
+{
+    extents.iter().any(|extent| covers(*extent, word))
+}
+
+/// The first word of an audio bus.
+fn first_word(bus: usize) -> u64
+    requires { bus < audio_bus_count }
+    ensures { result ≡ audio_bus_words * bus }
+{
+    u64::from(Places::audio(bus as u32).at)
+}
+
+/// Whether a synth mixes an audio bus.
+fn mixes(voice: &Voice, bus: usize) -> bool
+    requires { bus < audio_bus_count }
+    ensures { result ≡ mixes voice.now bus }
+{
+    has(voice.reach.mixes.as_slice(), first_word(bus))
+}
+
+/// No bus.
+pub fn no_buses() -> [bool; BUSES]
+    ensures { result ≡ replicate audio_bus_count false }
+{
+    [false; BUSES]
+}
+
+/// The buses that a synth mixes.
+pub fn buses_of(voice: &Voice) -> [bool; BUSES]
+    ensures { result ≡ table (mixes voice.now) audio_bus_count }
+{
+    let mut flags = no_buses();
+    for bus in 0..BUSES {
+        flags[bus] = mixes(voice, bus);
+    }
+    flags
+}
+
+fn is_either(one: &[bool; BUSES], other: &[bool; BUSES], bus: usize) -> bool
+    requires { bus < audio_bus_count }
+    ensures { result ≡ (slice_index_or one.now bus false || slice_index_or other.now bus false) }
+{
+    one[bus] || other[bus]
+}
+
+fn is_both(one: &[bool; BUSES], other: &[bool; BUSES], bus: usize) -> bool
+    requires { bus < audio_bus_count }
+    ensures { result ≡ (slice_index_or one.now bus false && slice_index_or other.now bus false) }
+{
+    one[bus] && other[bus]
+}
+
+/// The buses of one or the other.
+pub fn either(one: &[bool; BUSES], other: &[bool; BUSES]) -> [bool; BUSES]
+    ensures { result ≡ table (λ n. slice_index_or one.now n false || slice_index_or other.now n false) audio_bus_count }
+{
+    let mut flags = no_buses();
+    for bus in 0..BUSES {
+        flags[bus] = is_either(one, other, bus);
+    }
+    flags
+}
+
+/// The buses of both.
+pub fn both(one: &[bool; BUSES], other: &[bool; BUSES]) -> [bool; BUSES]
+    ensures { result ≡ table (λ n. slice_index_or one.now n false && slice_index_or other.now n false) audio_bus_count }
+{
+    let mut flags = no_buses();
+    for bus in 0..BUSES {
+        flags[bus] = is_both(one, other, bus);
+    }
+    flags
+}
+
+/// Whether there is a bus.
+pub fn is_any(flags: &[bool]) -> bool
+    ensures { result ≡ list_any (λ b. b) flags.now }
+{
+    flags.iter().any(|flag| *flag)
+}

@@ -2,6 +2,7 @@
 ghost use Rattle.std.specs.Prelude.{◌≡◌, ◌+◌, ◌*◌, ◌^◌, ◌<◌, length, map, None, IfOk};
 ghost use Rattle.sn_ports.specs.Limits.{control_bus_count};
 ghost use Rattle.sn_osc.specs.Shape.{argument_of, message_of};
+ghost use Rattle.sn_mem.specs.Words.{SameButWords};
 ghost use Rattle.sn_reply.specs.Sending.{IsSendable};
 ghost use Rattle.sn_mem.specs.Buses.{control_buses};
 ghost use Rattle.sn_world.specs.declared.stage.Stage.{Stage};
@@ -26,8 +27,7 @@ fn value_of<P: Port>(port: &mut P, number: &BusNumber) -> i32
     requires foot { WritesBuses (P.foot port.old) }
     ensures value { result ≡ value_of (control_buses (P.words port.old)) number.now.bus }
     ensures words { P.words port.new ≡ P.words port.old }
-    ensures foot { P.foot port.new ≡ P.foot port.old }
-    ensures rest { P.rest port.new ≡ P.rest port.old }
+    ensures port { SameButWords P.foot P.rest port.old port.new }
 {
     sample_of(port.load(value_place(number.bus)))
 }
@@ -38,8 +38,7 @@ pub fn value_at<P: Port>(port: &mut P, number: u32) -> i32
     requires foot { WritesBuses (P.foot port.old) }
     ensures value { result ≡ value_at (control_buses (P.words port.old)) number }
     ensures words { P.words port.new ≡ P.words port.old }
-    ensures foot { P.foot port.new ≡ P.foot port.old }
-    ensures rest { P.rest port.new ≡ P.rest port.old }
+    ensures port { SameButWords P.foot P.rest port.old port.new }
 {
     let number = BusNumber { bus: number as i32 };
     value_of(port, &number)
@@ -55,8 +54,7 @@ fn buses_and_values<P: Port>(
     requires foot { WritesBuses (P.foot port.old) }
     ensures values { IfOk result (λ found. map argument_of found ≡ buses_and_values (control_buses (P.words port.old)) numbers.now) }
     ensures words { P.words port.new ≡ P.words port.old }
-    ensures foot { P.foot port.new ≡ P.foot port.old }
-    ensures rest { P.rest port.new ≡ P.rest port.old }
+    ensures port { SameButWords P.foot P.rest port.old port.new }
 {
     let mut found = Vec::new(alloc);
     for number in numbers {
@@ -74,8 +72,7 @@ fn answer<P: Port>(alloc: Global, port: &mut P, numbers: &[BusNumber]) -> Result
     ensures message { IfOk result (λ m. message_of m ≡ answer_get (control_buses (P.words port.old)) numbers.now) }
     ensures sendable { IfOk result (λ m. IsSendable (message_of m)) }
     ensures words { P.words port.new ≡ P.words port.old }
-    ensures foot { P.foot port.new ≡ P.foot port.old }
-    ensures rest { P.rest port.new ≡ P.rest port.old }
+    ensures port { SameButWords P.foot P.rest port.old port.new }
 {
     let arguments = buses_and_values(alloc, port, numbers)?;
     Ok(Message {
@@ -97,8 +94,7 @@ pub fn run_get<P: Port>(
     ensures row { (stage : Stage) → Follows result (get_row from (map argument_of arguments.now) (turn_of stage (P.words port.old) replies.old)) (turn_of stage (P.words port.old) replies.new) }
     ensures unchanged { UnlessFollowed result (replies.new ≡ replies.old) }
     ensures words { P.words port.new ≡ P.words port.old }
-    ensures foot { P.foot port.new ≡ P.foot port.old }
-    ensures rest { P.rest port.new ≡ P.rest port.old }
+    ensures port { SameButWords P.foot P.rest port.old port.new }
 {
     let Some(all) = some_of(singles::<BusNumber>(alloc, arguments)?) else {
         return Ok(Some(Reason::Arguments));

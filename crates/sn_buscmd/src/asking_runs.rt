@@ -2,6 +2,7 @@
 ghost use Rattle.std.specs.Prelude.{◌≡◌, ◌+◌, ◌*◌, ◌^◌, ◌<◌, ◌≤◌, ◌++◌, nat_abs, length, map, None, IfOk, OnOk};
 ghost use Rattle.sn_ports.specs.Limits.{most_values};
 ghost use Rattle.sn_osc.specs.Shape.{argument_of, message_of};
+ghost use Rattle.sn_mem.specs.Words.{SameButWords};
 ghost use Rattle.sn_reply.specs.Sending.{IsSendable};
 ghost use Rattle.sn_mem.specs.Buses.{control_buses};
 ghost use Rattle.sn_world.specs.declared.stage.Stage.{Stage};
@@ -29,8 +30,7 @@ fn push_values<P: Port>(port: &mut P, run: &Run, found: &mut Vec<Arg>) -> Result
     requires foot { WritesBuses (P.foot port.old) }
     ensures values { OnOk result (map argument_of found.new.items ≡ map argument_of found.old.items ++ values_from (control_buses (P.words port.old)) (nat_abs run.now.first) run.now.count) }
     ensures words { P.words port.new ≡ P.words port.old }
-    ensures foot { P.foot port.new ≡ P.foot port.old }
-    ensures rest { P.rest port.new ≡ P.rest port.old }
+    ensures port { SameButWords P.foot P.rest port.old port.new }
 {
     let first = run.first as u32;
     let end = first + run.count;
@@ -46,8 +46,7 @@ fn runs_and_values<P: Port>(alloc: Global, port: &mut P, runs: &[Run]) -> Result
     requires foot { WritesBuses (P.foot port.old) }
     ensures values { IfOk result (λ found. map argument_of found ≡ runs_and_values (control_buses (P.words port.old)) runs.now) }
     ensures words { P.words port.new ≡ P.words port.old }
-    ensures foot { P.foot port.new ≡ P.foot port.old }
-    ensures rest { P.rest port.new ≡ P.rest port.old }
+    ensures port { SameButWords P.foot P.rest port.old port.new }
 {
     let mut found = Vec::new(alloc);
     for run in runs {
@@ -67,8 +66,7 @@ fn answer<P: Port>(alloc: Global, port: &mut P, runs: &[Run]) -> Result<Message,
     ensures message { IfOk result (λ m. message_of m ≡ answer_getn (control_buses (P.words port.old)) runs.now) }
     ensures sendable { IfOk result (λ m. IsSendable (message_of m)) }
     ensures words { P.words port.new ≡ P.words port.old }
-    ensures foot { P.foot port.new ≡ P.foot port.old }
-    ensures rest { P.rest port.new ≡ P.rest port.old }
+    ensures port { SameButWords P.foot P.rest port.old port.new }
 {
     let arguments = runs_and_values(alloc, port, runs)?;
     Ok(Message {
@@ -90,8 +88,7 @@ pub fn run_get_runs<P: Port>(
     ensures row { (stage : Stage) → Follows result (getn_row from (map argument_of arguments.now) (turn_of stage (P.words port.old) replies.old)) (turn_of stage (P.words port.old) replies.new) }
     ensures unchanged { UnlessFollowed result (replies.new ≡ replies.old) }
     ensures words { P.words port.new ≡ P.words port.old }
-    ensures foot { P.foot port.new ≡ P.foot port.old }
-    ensures rest { P.rest port.new ≡ P.rest port.old }
+    ensures port { SameButWords P.foot P.rest port.old port.new }
 {
     let Some(all) = some_of(pairs::<Run>(alloc, arguments)?) else {
         return Ok(Some(Reason::Arguments));

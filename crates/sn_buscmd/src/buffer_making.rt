@@ -2,6 +2,7 @@
 ghost use Rattle.std.specs.Prelude.{◌≡◌, ◌≤◌, ◌<◌, ◌*◌, ◌^◌, None, length, map, Some, IfOk, IfErr, IfSome};
 ghost use Rattle.sn_ports.specs.Limits.{most_channels};
 ghost use Rattle.sn_osc.specs.Shape.{argument_of};
+ghost use Rattle.sn_mem.specs.Words.{SameButWords};
 ghost use Rattle.sn_pool.specs.Pools.{GivesPlace, with_extent};
 ghost use Rattle.sn_pool.specs.Regions.{IsFree, least_place};
 ghost use Rattle.sn_world.specs.World.{turn_of};
@@ -167,8 +168,7 @@ fn make<P: Port>(
     ensures region { stage.new.pool.region ≡ stage.old.pool.region }
     ensures others { KeepsOutside stage.old.pool.region (P.words port.old) (P.words port.new) }
     ensures len { length (P.words port.new) ≡ length (P.words port.old) }
-    ensures foot { P.foot port.new ≡ P.foot port.old }
-    ensures rest { P.rest port.new ≡ P.rest port.old }
+    ensures port { SameButWords P.foot P.rest port.old port.new }
 {
     let told = replies.len();
     tell_done(alloc, b"/b_alloc", new.number, from, replies)?;
@@ -209,8 +209,7 @@ pub fn run_buffer_alloc<P: Port>(
     ensures region { stage.new.pool.region ≡ stage.old.pool.region }
     ensures others { KeepsOutside stage.old.pool.region (P.words port.old) (P.words port.new) }
     ensures len { length (P.words port.new) ≡ length (P.words port.old) }
-    ensures foot { P.foot port.new ≡ P.foot port.old }
-    ensures rest { P.rest port.new ≡ P.rest port.old }
+    ensures port { SameButWords P.foot P.rest port.old port.new }
 {
     let Some(new) = new_buffer(arguments) else {
         return Ok(Some(Reason::Arguments));

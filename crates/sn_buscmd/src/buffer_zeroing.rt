@@ -1,6 +1,7 @@
 //! `/b_zero`.
 ghost use Rattle.std.specs.Prelude.{◌≡◌, length, map};
 ghost use Rattle.sn_osc.specs.Shape.{argument_of};
+ghost use Rattle.sn_mem.specs.Words.{SameButWords};
 ghost use Rattle.sn_world.specs.World.{turn_of};
 ghost use Rattle.sn_world.specs.Pictures.{Pictures, WritesWorld, KeepsOutside};
 ghost use Rattle.sn_world.specs.BufferCommands.{zero_row};
@@ -32,8 +33,7 @@ pub fn run_buffer_zero<P: Port>(
     ensures pictures { Pictures stage.now (P.words port.new) }
     ensures others { KeepsOutside stage.now.pool.region (P.words port.old) (P.words port.new) }
     ensures len { length (P.words port.new) ≡ length (P.words port.old) }
-    ensures foot { P.foot port.new ≡ P.foot port.old }
-    ensures rest { P.rest port.new ≡ P.rest port.old }
+    ensures port { SameButWords P.foot P.rest port.old port.new }
 {
     let Some(number) = one_number(arguments) else {
         return Ok(Some(Reason::Arguments));

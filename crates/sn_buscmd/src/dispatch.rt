@@ -5,6 +5,7 @@ ghost use Rattle.sn_reply.specs.Sending.{IsAnswerable};
 ghost use Rattle.sn_world.specs.World.{turn_of};
 ghost use Rattle.sn_world.specs.Pictures.{Pictures, WritesWorld, KeepsOutside};
 ghost use Rattle.sn_osc.specs.Reading.{read};
+ghost use Rattle.sn_mem.specs.Words.{SameButWords};
 ghost use Rattle.sn_world.specs.Completing.{one_message};
 ghost use Rattle.sn_world.specs.Addresses.{server_command_of};
 ghost use Rattle.sn_world.specs.Commands.{server_row, carrying_row, run_bus, next_alone, next_with, next_of, handled_as};
@@ -70,8 +71,7 @@ fn run_row<P: Port>(
     ensures region { stage.new.pool.region ≡ stage.old.pool.region }
     ensures others { KeepsOutside stage.old.pool.region (P.words port.old) (P.words port.new) }
     ensures len { length (P.words port.new) ≡ length (P.words port.old) }
-    ensures foot { P.foot port.new ≡ P.foot port.old }
-    ensures rest { P.rest port.new ≡ P.rest port.old }
+    ensures port { SameButWords P.foot P.rest port.old port.new }
 {
     match command {
         ServerCommand::Set => run_set(alloc, port, arguments),
@@ -139,8 +139,7 @@ fn run_alone<P: Port>(
     ensures region { stage.new.pool.region ≡ stage.old.pool.region }
     ensures others { KeepsOutside stage.old.pool.region (P.words port.old) (P.words port.new) }
     ensures len { length (P.words port.new) ≡ length (P.words port.old) }
-    ensures foot { P.foot port.new ≡ P.foot port.old }
-    ensures rest { P.rest port.new ≡ P.rest port.old }
+    ensures port { SameButWords P.foot P.rest port.old port.new }
 {
     match run_row(alloc, stage, port, command, arguments, from, replies)? {
         None => Ok(handled_as(command)),
@@ -174,8 +173,7 @@ fn run_carrying<P: Port>(
     ensures region { stage.new.pool.region ≡ stage.old.pool.region }
     ensures others { KeepsOutside stage.old.pool.region (P.words port.old) (P.words port.new) }
     ensures len { length (P.words port.new) ≡ length (P.words port.old) }
-    ensures foot { P.foot port.new ≡ P.foot port.old }
-    ensures rest { P.rest port.new ≡ P.rest port.old }
+    ensures port { SameButWords P.foot P.rest port.old port.new }
 {
     let Some(completion) = completion_in(alloc, blob)? else {
         return Ok(Handled::Failed(Reason::Arguments));
@@ -215,8 +213,7 @@ pub fn run_bus_command<P: Port>(
     ensures region { stage.new.pool.region ≡ stage.old.pool.region }
     ensures others { KeepsOutside stage.old.pool.region (P.words port.old) (P.words port.new) }
     ensures len { length (P.words port.new) ≡ length (P.words port.old) }
-    ensures foot { P.foot port.new ≡ P.foot port.old }
-    ensures rest { P.rest port.new ≡ P.rest port.old }
+    ensures port { SameButWords P.foot P.rest port.old port.new }
 {
     let Some(command) = server_command_of(message.address.as_slice()) else {
         return Ok(Handled::NotMine);

@@ -3,6 +3,7 @@ ghost use Rattle.std.specs.Prelude.{◌≡◌, ◌≤◌, ◌+◌, ℕ, List, ma
 ghost use Rattle.std.specs.List.{All};
 ghost use Rattle.sn_ports.specs.Limits.{control_bus_count};
 ghost use Rattle.sn_osc.specs.Shape.{argument_of};
+ghost use Rattle.sn_mem.specs.Words.{SameButWords};
 ghost use Rattle.sn_mem.specs.Buses.{control_buses};
 ghost use Rattle.sn_reply.specs.Replies.{ReplyShape};
 ghost use Rattle.sn_world.specs.declared.stage.Stage.{Stage};
@@ -31,8 +32,7 @@ fn fill_buses<P: Port>(port: &mut P, fill: &Fill)
     requires foot { WritesBuses (P.foot port.old) }
     ensures buses { control_buses (P.words port.new) ≡ fill_buses fill.now (control_buses (P.words port.old)) }
     ensures others { KeepsOtherWords (P.words port.old) (P.words port.new) }
-    ensures foot { P.foot port.new ≡ P.foot port.old }
-    ensures rest { P.rest port.new ≡ P.rest port.old }
+    ensures port { SameButWords P.foot P.rest port.old port.new }
 {
     for number in fill.first..fill.end() {
         set_value(port, number, fill.value);
@@ -45,8 +45,7 @@ fn fill_each<P: Port>(port: &mut P, fills: &[Fill])
     requires foot { WritesBuses (P.foot port.old) }
     ensures buses { control_buses (P.words port.new) ≡ change_all fill_buses fills.now (control_buses (P.words port.old)) }
     ensures others { KeepsOtherWords (P.words port.old) (P.words port.new) }
-    ensures foot { P.foot port.new ≡ P.foot port.old }
-    ensures rest { P.rest port.new ≡ P.rest port.old }
+    ensures port { SameButWords P.foot P.rest port.old port.new }
 {
     for fill in fills {
         fill_buses(port, fill);
@@ -60,8 +59,7 @@ fn fill_runs<P: Port>(alloc: Global, port: &mut P, runs: &[BusFill]) -> Result<(
     ensures buses { OnOk result (control_buses (P.words port.new) ≡ change_all fill_run runs.now (control_buses (P.words port.old))) }
     ensures unchanged { OnErr result (P.words port.new ≡ P.words port.old) }
     ensures others { KeepsOtherWords (P.words port.old) (P.words port.new) }
-    ensures foot { P.foot port.new ≡ P.foot port.old }
-    ensures rest { P.rest port.new ≡ P.rest port.old }
+    ensures port { SameButWords P.foot P.rest port.old port.new }
 {
     let fills = fills_of(alloc, runs)?;
     let once = once_each(alloc, &fills)?;
@@ -80,8 +78,7 @@ pub fn run_fill<P: Port>(
         → Follows result (fill_row from (map argument_of arguments.now) (turn_of stage (P.words port.old) replies)) (turn_of stage (P.words port.new) replies) }
     ensures unchanged { UnlessFollowed result (P.words port.new ≡ P.words port.old) }
     ensures others { KeepsOtherWords (P.words port.old) (P.words port.new) }
-    ensures foot { P.foot port.new ≡ P.foot port.old }
-    ensures rest { P.rest port.new ≡ P.rest port.old }
+    ensures port { SameButWords P.foot P.rest port.old port.new }
 {
     let Some(all) = some_of(triples::<BusFill>(alloc, arguments)?) else {
         return Ok(Some(Reason::Arguments));

@@ -2,7 +2,7 @@
 ghost use Rattle.std.specs.Prelude.{◌≡◌, ◌≤◌, ◌+◌, ℕ, ℤ, List, None, length, map};
 ghost use Rattle.std.specs.List.{All};
 ghost use Rattle.sn_osc.specs.Shape.{argument_of};
-ghost use Rattle.sn_mem.specs.Words.{MayWrite};
+ghost use Rattle.sn_mem.specs.Words.{MayWrite, SameButWords};
 ghost use Rattle.sn_reply.specs.Replies.{ReplyShape};
 ghost use Rattle.sn_mem.specs.Buffers.{samples_of};
 ghost use Rattle.sn_world.specs.BufferSamples.{change_all, changing, of_buffer, set_value, set_values, fill_values, set_row, setn_row, fill_row};
@@ -49,8 +49,7 @@ pub trait SampleChange: Repeated {
         ensures samples { OnOk result (samples_of (P.words port.new) words ≡ change_all change all.now (samples_of (P.words port.old) words)) }
         ensures unchanged { OnErr result (P.words port.new ≡ P.words port.old) }
         ensures others { KeepsAround words (P.words port.old) (P.words port.new) }
-        ensures foot { P.foot port.new ≡ P.foot port.old }
-        ensures rest { P.rest port.new ≡ P.rest port.old };
+        ensures port { SameButWords P.foot P.rest port.old port.new };
 }
 
 /// A change of no more samples than it has values.
@@ -68,8 +67,7 @@ trait ShortChange: Judged<u32> {
         requires free { Self.judge words.len self.now ≡ None }
         ensures samples { samples_of (P.words port.new) words ≡ change self.now (samples_of (P.words port.old) words) }
         ensures others { KeepsAround words (P.words port.old) (P.words port.new) }
-        ensures foot { P.foot port.new ≡ P.foot port.old }
-        ensures rest { P.rest port.new ≡ P.rest port.old };
+        ensures port { SameButWords P.foot P.rest port.old port.new };
 }
 
 impl ShortChange for SampleValue {
@@ -94,8 +92,7 @@ fn change_each<R: ShortChange, P: Port>(port: &mut P, words: Extent, all: &[R])
     requires free { first_refusal (R.judge words.len) all.now ≡ None }
     ensures samples { samples_of (P.words port.new) words ≡ change_all R.change all.now (samples_of (P.words port.old) words) }
     ensures others { KeepsAround words (P.words port.old) (P.words port.new) }
-    ensures foot { P.foot port.new ≡ P.foot port.old }
-    ensures rest { P.rest port.new ≡ P.rest port.old }
+    ensures port { SameButWords P.foot P.rest port.old port.new }
 {
     for repetition in all {
         repetition.change(port, words);
@@ -108,8 +105,7 @@ fn fill_each<P: Port>(port: &mut P, words: Extent, fills: &[Fill])
     requires within { All (λ f. f.first + f.count ≤ words.len) fills.now }
     ensures samples { samples_of (P.words port.new) words ≡ change_all fill_samples fills.now (samples_of (P.words port.old) words) }
     ensures others { KeepsAround words (P.words port.old) (P.words port.new) }
-    ensures foot { P.foot port.new ≡ P.foot port.old }
-    ensures rest { P.rest port.new ≡ P.rest port.old }
+    ensures port { SameButWords P.foot P.rest port.old port.new }
 {
     for fill in fills {
         fill_samples(port, words, fill.first, fill.count, fill.value);
@@ -177,8 +173,7 @@ fn run_sample_change<R: SampleChange, P: Port>(
     ensures pictures { Pictures stage.now (P.words port.new) }
     ensures others { KeepsOutside stage.now.pool.region (P.words port.old) (P.words port.new) }
     ensures len { length (P.words port.new) ≡ length (P.words port.old) }
-    ensures foot { P.foot port.new ≡ P.foot port.old }
-    ensures rest { P.rest port.new ≡ P.rest port.old }
+    ensures port { SameButWords P.foot P.rest port.old port.new }
 {
     let Some((number, all)) = number_and_all::<R>(alloc, arguments)? else {
         return Ok(Some(Reason::Arguments));
@@ -207,8 +202,7 @@ pub fn run_set_samples<P: Port>(
     ensures pictures { Pictures stage.now (P.words port.new) }
     ensures others { KeepsOutside stage.now.pool.region (P.words port.old) (P.words port.new) }
     ensures len { length (P.words port.new) ≡ length (P.words port.old) }
-    ensures foot { P.foot port.new ≡ P.foot port.old }
-    ensures rest { P.rest port.new ≡ P.rest port.old }
+    ensures port { SameButWords P.foot P.rest port.old port.new }
 {
     run_sample_change::<SampleValue, P>(alloc, stage, port, arguments)
 }
@@ -227,8 +221,7 @@ pub fn run_set_sample_runs<P: Port>(
     ensures pictures { Pictures stage.now (P.words port.new) }
     ensures others { KeepsOutside stage.now.pool.region (P.words port.old) (P.words port.new) }
     ensures len { length (P.words port.new) ≡ length (P.words port.old) }
-    ensures foot { P.foot port.new ≡ P.foot port.old }
-    ensures rest { P.rest port.new ≡ P.rest port.old }
+    ensures port { SameButWords P.foot P.rest port.old port.new }
 {
     run_sample_change::<ValueRun, P>(alloc, stage, port, arguments)
 }
@@ -247,8 +240,7 @@ pub fn run_fill_samples<P: Port>(
     ensures pictures { Pictures stage.now (P.words port.new) }
     ensures others { KeepsOutside stage.now.pool.region (P.words port.old) (P.words port.new) }
     ensures len { length (P.words port.new) ≡ length (P.words port.old) }
-    ensures foot { P.foot port.new ≡ P.foot port.old }
-    ensures rest { P.rest port.new ≡ P.rest port.old }
+    ensures port { SameButWords P.foot P.rest port.old port.new }
 {
     run_sample_change::<SampleFill, P>(alloc, stage, port, arguments)
 }

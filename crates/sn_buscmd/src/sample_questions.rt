@@ -1,7 +1,7 @@
 //! `/b_get` and `/b_getn`: samples of a buffer that are asked for.
 ghost use Rattle.std.specs.Prelude.{◌≡◌, ◌≤◌, ◌<◌, ◌+◌, ◌*◌, ◌^◌, ◌∷◌, ◌++◌, ℤ, List, None, Some, length, map, IfOk, OnOk};
 ghost use Rattle.sn_osc.specs.Shape.{Argument, int, argument_of, message_of};
-ghost use Rattle.sn_mem.specs.Words.{MayWrite};
+ghost use Rattle.sn_mem.specs.Words.{MayWrite, SameButWords};
 ghost use Rattle.sn_reply.specs.Answering.{IsAddress};
 ghost use Rattle.sn_reply.specs.Sending.{IsSendable};
 ghost use Rattle.sn_mem.specs.Buffers.{samples_of};
@@ -44,8 +44,7 @@ pub trait SampleQuestion: Repeated {
         requires few { length (answer (samples_of (P.words port.old) words) self.now) < 2 ^ 31 }
         ensures answered { OnOk result (found.new ≡ found.old ++ answer (samples_of (P.words port.old) words) self.now) }
         ensures words { P.words port.new ≡ P.words port.old }
-        ensures foot { P.foot port.new ≡ P.foot port.old }
-        ensures rest { P.rest port.new ≡ P.rest port.old };
+        ensures port { SameButWords P.foot P.rest port.old port.new };
 }
 
 impl SampleQuestion for SampleIndex {
@@ -74,8 +73,7 @@ fn push_samples<P: Port>(
     requires run { first + count ≤ words.len }
     ensures answered { OnOk result (found.new ≡ found.old ++ values_from (samples_of (P.words port.old) words) first count) }
     ensures words { P.words port.new ≡ P.words port.old }
-    ensures foot { P.foot port.new ≡ P.foot port.old }
-    ensures rest { P.rest port.new ≡ P.rest port.old }
+    ensures port { SameButWords P.foot P.rest port.old port.new }
 {
     let end = first + count;
     for index in first..end {
@@ -112,8 +110,7 @@ fn push_answers<R: SampleQuestion, P: Port>(
     requires few { length (answers R.answer (samples_of (P.words port.old) words) all.now) < 2 ^ 31 }
     ensures answered { OnOk result (found.new ≡ found.old ++ answers R.answer (samples_of (P.words port.old) words) all.now) }
     ensures words { P.words port.new ≡ P.words port.old }
-    ensures foot { P.foot port.new ≡ P.foot port.old }
-    ensures rest { P.rest port.new ≡ P.rest port.old }
+    ensures port { SameButWords P.foot P.rest port.old port.new }
 {
     for repetition in all {
         repetition.push_answer(port, words, found)?;
@@ -137,8 +134,7 @@ fn answer_with<R: SampleQuestion, P: Port>(
     ensures message { IfOk result (λ m. message_of m ≡ answered_with address.now number (answers R.answer (samples_of (P.words port.old) words) all.now)) }
     ensures sendable { IfOk result (λ m. IsSendable (message_of m)) }
     ensures words { P.words port.new ≡ P.words port.old }
-    ensures foot { P.foot port.new ≡ P.foot port.old }
-    ensures rest { P.rest port.new ≡ P.rest port.old }
+    ensures port { SameButWords P.foot P.rest port.old port.new }
 {
     let mut answer = Answer::new(alloc);
     answer.push_int(number)?;
@@ -163,8 +159,7 @@ fn run_sample_question<R: SampleQuestion, P: Port>(
     ensures row { Follows result (of_buffer R.read (asking R.judge R.answer address.now from) (map argument_of arguments.now) (turn_of stage.now (P.words port.old) replies.old)) (turn_of stage.now (P.words port.old) replies.new) }
     ensures untold { UnlessFollowed result (replies.new ≡ replies.old) }
     ensures words { P.words port.new ≡ P.words port.old }
-    ensures foot { P.foot port.new ≡ P.foot port.old }
-    ensures rest { P.rest port.new ≡ P.rest port.old }
+    ensures port { SameButWords P.foot P.rest port.old port.new }
 {
     let Some((number, all)) = number_and_all::<R>(alloc, arguments)? else {
         return Ok(Some(Reason::Arguments));
@@ -195,8 +190,7 @@ pub fn run_get_samples<P: Port>(
     ensures row { Follows result (get_row from (map argument_of arguments.now) (turn_of stage.now (P.words port.old) replies.old)) (turn_of stage.now (P.words port.old) replies.new) }
     ensures untold { UnlessFollowed result (replies.new ≡ replies.old) }
     ensures words { P.words port.new ≡ P.words port.old }
-    ensures foot { P.foot port.new ≡ P.foot port.old }
-    ensures rest { P.rest port.new ≡ P.rest port.old }
+    ensures port { SameButWords P.foot P.rest port.old port.new }
 {
     run_sample_question::<SampleIndex, P>(alloc, b"/b_set", stage, port, arguments, from, replies)
 }
@@ -216,8 +210,7 @@ pub fn run_get_sample_runs<P: Port>(
     ensures row { Follows result (getn_row from (map argument_of arguments.now) (turn_of stage.now (P.words port.old) replies.old)) (turn_of stage.now (P.words port.old) replies.new) }
     ensures untold { UnlessFollowed result (replies.new ≡ replies.old) }
     ensures words { P.words port.new ≡ P.words port.old }
-    ensures foot { P.foot port.new ≡ P.foot port.old }
-    ensures rest { P.rest port.new ≡ P.rest port.old }
+    ensures port { SameButWords P.foot P.rest port.old port.new }
 {
     run_sample_question::<SampleRun, P>(alloc, b"/b_setn", stage, port, arguments, from, replies)
 }

@@ -2,6 +2,7 @@
 ghost use Rattle.std.specs.Prelude.{◌≡◌, ◌<◌, ℕ, List, map, None};
 ghost use Rattle.sn_ports.specs.Limits.{control_bus_count};
 ghost use Rattle.sn_osc.specs.Shape.{argument_of};
+ghost use Rattle.sn_mem.specs.Words.{SameButWords};
 ghost use Rattle.sn_mem.specs.Buses.{control_buses};
 ghost use Rattle.sn_reply.specs.Replies.{ReplyShape};
 ghost use Rattle.sn_world.specs.declared.stage.Stage.{Stage};
@@ -26,8 +27,7 @@ pub fn set_value<P: Port>(port: &mut P, number: u32, value: i32)
     requires foot { WritesBuses (P.foot port.old) }
     ensures buses { control_buses (P.words port.new) ≡ with_value (control_buses (P.words port.old)) number value }
     ensures others { KeepsOtherWords (P.words port.old) (P.words port.new) }
-    ensures foot { P.foot port.new ≡ P.foot port.old }
-    ensures rest { P.rest port.new ≡ P.rest port.old }
+    ensures port { SameButWords P.foot P.rest port.old port.new }
 {
     port.store(Places::control(number).at + 1, word_of(value));
 }
@@ -38,8 +38,7 @@ fn set_bus<P: Port>(port: &mut P, pair: &BusValue)
     requires foot { WritesBuses (P.foot port.old) }
     ensures buses { control_buses (P.words port.new) ≡ set_pair pair.now (control_buses (P.words port.old)) }
     ensures others { KeepsOtherWords (P.words port.old) (P.words port.new) }
-    ensures foot { P.foot port.new ≡ P.foot port.old }
-    ensures rest { P.rest port.new ≡ P.rest port.old }
+    ensures port { SameButWords P.foot P.rest port.old port.new }
 {
     set_value(port, pair.bus as u32, pair.value);
 }
@@ -50,8 +49,7 @@ fn set_buses<P: Port>(port: &mut P, pairs: &[BusValue])
     requires foot { WritesBuses (P.foot port.old) }
     ensures buses { control_buses (P.words port.new) ≡ change_all set_pair pairs.now (control_buses (P.words port.old)) }
     ensures others { KeepsOtherWords (P.words port.old) (P.words port.new) }
-    ensures foot { P.foot port.new ≡ P.foot port.old }
-    ensures rest { P.rest port.new ≡ P.rest port.old }
+    ensures port { SameButWords P.foot P.rest port.old port.new }
 {
     for pair in pairs {
         set_bus(port, pair);
@@ -69,8 +67,7 @@ pub fn run_set<P: Port>(
         → Follows result (set_row from (map argument_of arguments.now) (turn_of stage (P.words port.old) replies)) (turn_of stage (P.words port.new) replies) }
     ensures unchanged { UnlessFollowed result (P.words port.new ≡ P.words port.old) }
     ensures others { KeepsOtherWords (P.words port.old) (P.words port.new) }
-    ensures foot { P.foot port.new ≡ P.foot port.old }
-    ensures rest { P.rest port.new ≡ P.rest port.old }
+    ensures port { SameButWords P.foot P.rest port.old port.new }
 {
     let Some(all) = some_of(pairs::<BusValue>(alloc, arguments)?) else {
         return Ok(Some(Reason::Arguments));

@@ -1,6 +1,7 @@
 //! Runs of buses that are set to values.
 ghost use Rattle.std.specs.Prelude.{◌≡◌, ℕ, List, length, map, None};
 ghost use Rattle.sn_osc.specs.Shape.{argument_of};
+ghost use Rattle.sn_mem.specs.Words.{SameButWords};
 ghost use Rattle.sn_mem.specs.Buses.{control_buses};
 ghost use Rattle.sn_reply.specs.Replies.{ReplyShape};
 ghost use Rattle.sn_world.specs.declared.stage.Stage.{Stage};
@@ -27,8 +28,7 @@ fn set_run<P: Port>(port: &mut P, run: &ValueRun)
     requires foot { WritesBuses (P.foot port.old) }
     ensures buses { control_buses (P.words port.new) ≡ set_values run.now (control_buses (P.words port.old)) }
     ensures others { KeepsOtherWords (P.words port.old) (P.words port.new) }
-    ensures foot { P.foot port.new ≡ P.foot port.old }
-    ensures rest { P.rest port.new ≡ P.rest port.old }
+    ensures port { SameButWords P.foot P.rest port.old port.new }
 {
     let values = run.values();
     let mut number = run.first() as u32;
@@ -44,8 +44,7 @@ fn set_runs<P: Port>(port: &mut P, runs: &[ValueRun])
     requires foot { WritesBuses (P.foot port.old) }
     ensures buses { control_buses (P.words port.new) ≡ change_all set_values runs.now (control_buses (P.words port.old)) }
     ensures others { KeepsOtherWords (P.words port.old) (P.words port.new) }
-    ensures foot { P.foot port.new ≡ P.foot port.old }
-    ensures rest { P.rest port.new ≡ P.rest port.old }
+    ensures port { SameButWords P.foot P.rest port.old port.new }
 {
     for run in runs {
         set_run(port, run);
@@ -63,8 +62,7 @@ pub fn run_set_runs<P: Port>(
         → Follows result (setn_row from (map argument_of arguments.now) (turn_of stage (P.words port.old) replies)) (turn_of stage (P.words port.new) replies) }
     ensures unchanged { UnlessFollowed result (P.words port.new ≡ P.words port.old) }
     ensures others { KeepsOtherWords (P.words port.old) (P.words port.new) }
-    ensures foot { P.foot port.new ≡ P.foot port.old }
-    ensures rest { P.rest port.new ≡ P.rest port.old }
+    ensures port { SameButWords P.foot P.rest port.old port.new }
 {
     let Some(all) = some_of(value_runs(alloc, arguments)?) else {
         return Ok(Some(Reason::Arguments));

@@ -1,5 +1,6 @@
 //! What happens at a boundary.
 ghost use Rattle.std.specs.Prelude.{◌≡◌, [], ℕ, List, true, length, IfOk, OnOk};
+ghost use Rattle.sn_mem.specs.Words.{SameButWords};
 ghost use Rattle.sn_mem.specs.declared.extents.Extent.{Extent};
 ghost use Rattle.sn_world.specs.World.{world_of};
 ghost use Rattle.sn_world.specs.Pictures.{Pictures, WritesWorld};
@@ -53,8 +54,7 @@ pub fn act_boundary<P: Port>(
     ensures pictures { Pictures stage.new (P.words port.new) }
     ensures region { stage.new.pool.region ≡ stage.old.pool.region }
     ensures len { length (P.words port.new) ≡ length (P.words port.old) }
-    ensures foot { P.foot port.new ≡ P.foot port.old }
-    ensures rest { P.rest port.new ≡ P.rest port.old }
+    ensures port { SameButWords P.foot P.rest port.old port.new }
 {
     if hold && !queue.has_due(now) {
         return Ok(false);

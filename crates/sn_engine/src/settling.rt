@@ -2,6 +2,7 @@
 ghost use Rattle.std.specs.Prelude.{◌≡◌, ◌≤◌, ◌<◌, ◌-◌, ◌^◌, [], false, map, length};
 ghost use Rattle.sn_ports.specs.Limits.{most_clients};
 ghost use Rattle.sn_ports.specs.Octets.{bytes_of};
+ghost use Rattle.sn_mem.specs.Words.{SameButWords};
 ghost use Rattle.sn_reply.specs.Frames.{with_frames};
 ghost use Rattle.sn_tree.specs.Trees.{running_labels};
 ghost use Rattle.sn_world.specs.Pictures.{Pictures, WritesWorld};
@@ -37,8 +38,7 @@ pub fn settle_before<P: Port>(
     ensures pictures { Pictures stage.new (P.words port.new) }
     ensures region { stage.new.pool.region ≡ stage.old.pool.region }
     ensures len { length (P.words port.new) ≡ length (P.words port.old) }
-    ensures foot { P.foot port.new ≡ P.foot port.old }
-    ensures rest { P.rest port.new ≡ P.rest port.old }
+    ensures port { SameButWords P.foot P.rest port.old port.new }
 {
     settle(stage, port, next.saturating_sub(1), endings, replies)
 }

@@ -1,7 +1,7 @@
 //! Delay lines: rings of samples in words.
 ghost use Rattle.std.specs.Prelude.{◌≡◌, ◌<◌, ◌≤◌, ◌+◌, ◌-◌, ◌∷◌, [], ℕ, ℤ, List, max, length, slice_index, slice_set};
 ghost use Rattle.sn_ports.specs.Limits.{block_frames};
-ghost use Rattle.sn_mem.specs.Words.{MayWrite};
+ghost use Rattle.sn_mem.specs.Words.{MayWrite, SameButWords};
 ghost use Rattle.sn_fixed.specs.Fixed.{frames_of};
 ghost use Rattle.sn_mem.specs.Blocks.{window, put, sample, sample_in, word_for};
 ghost use Rattle.sn_filt.specs.Rings.{before, after, ringed, most_frames, delay_n, comb_n};
@@ -85,8 +85,7 @@ fn hear<U: Echo, P: Port>(
     ensures words { P.words port.new ≡ slice_set (P.words port.old) (state.at + 1 + place) (word_for (U.step unit.now (sample_in (slice_index (P.words port.old) (state.at + 1 + before (state.len - 1) place (U.reach unit.now inputs.now frame)))) inputs.now frame).0) }
     ensures sample { result ≡ (U.step unit.now (sample_in (slice_index (P.words port.old) (state.at + 1 + before (state.len - 1) place (U.reach unit.now inputs.now frame)))) inputs.now frame).1 }
     ensures reach { U.reach unit.now inputs.now frame ≤ U.most unit.now }
-    ensures foot { P.foot port.new ≡ P.foot port.old }
-    ensures rest { P.rest port.new ≡ P.rest port.old }
+    ensures port { SameButWords P.foot P.rest port.old port.new }
 {
     let frames = unit.reach(time, inputs, frame);
     let past = before(state.len - 1, place, frames);
@@ -111,8 +110,7 @@ fn run_echo<U: Echo, P: Port>(
     requires state { MayWrite (P.foot port.old) state.at state.len }
     ensures words { P.words port.new ≡ put (P.words port.old) state.at (ringed (U.reach unit.now) (U.step unit.now) (window (P.words port.old) state.at state.len) inputs.now).0 }
     ensures outputs { outputs.new ≡ (ringed (U.reach unit.now) (U.step unit.now) (window (P.words port.old) state.at state.len) inputs.now).1 ∷ [] }
-    ensures foot { P.foot port.new ≡ P.foot port.old }
-    ensures rest { P.rest port.new ≡ P.rest port.old }
+    ensures port { SameButWords P.foot P.rest port.old port.new }
 {
     let places = state.len - 1;
     let mut place = (port.load(state.at) % u64::from(places)) as u32;
@@ -209,8 +207,7 @@ pub(crate) fn run_delay_n<P: Port>(
     requires state { MayWrite (P.foot port.old) state.at state.len }
     ensures words { P.words port.new ≡ put (P.words port.old) state.at (delay_n rate (window (P.words port.old) state.at state.len) inputs.now).0 }
     ensures outputs { outputs.new ≡ (delay_n rate (window (P.words port.old) state.at state.len) inputs.now).1 ∷ [] }
-    ensures foot { P.foot port.new ≡ P.foot port.old }
-    ensures rest { P.rest port.new ≡ P.rest port.old }
+    ensures port { SameButWords P.foot P.rest port.old port.new }
 {
     let most = frames_of(inputs.at(1, 0), rate);
     run_echo(&DelayN { rate, most }, port, state, inputs, outputs);
@@ -229,8 +226,7 @@ pub(crate) fn run_comb_n<P: Port>(
     requires state { MayWrite (P.foot port.old) state.at state.len }
     ensures words { P.words port.new ≡ put (P.words port.old) state.at (comb_n rate (window (P.words port.old) state.at state.len) inputs.now).0 }
     ensures outputs { outputs.new ≡ (comb_n rate (window (P.words port.old) state.at state.len) inputs.now).1 ∷ [] }
-    ensures foot { P.foot port.new ≡ P.foot port.old }
-    ensures rest { P.rest port.new ≡ P.rest port.old }
+    ensures port { SameButWords P.foot P.rest port.old port.new }
 {
     let most = frames_of(inputs.at(1, 0), rate).max(1);
     run_echo(&CombN { rate, most }, port, state, inputs, outputs);

@@ -2,7 +2,7 @@
 ghost use Rattle.std.specs.Prelude.{◌≡◌, ◌<◌, ◌≤◌, true, length};
 ghost use Rattle.sn_def.specs.Units.{row_of};
 ghost use Rattle.sn_def.specs.declared.table.StateSize.TheVariants.{Fixed};
-ghost use Rattle.sn_mem.specs.Words.{MayWrite};
+ghost use Rattle.sn_mem.specs.Words.{MayWrite, SameButWords};
 ghost use Rattle.sn_mem.specs.Blocks.{window, put};
 ghost use Rattle.sn_gen.specs.Generators.{is_generator, generator};
 
@@ -37,8 +37,7 @@ pub fn run<P: Port>(
     requires state { MayWrite (P.foot port.old) state.at state.len }
     ensures words { P.words port.new ≡ put (P.words port.old) state.at (generator kind now.now (window (P.words port.old) state.at state.len) inputs.now).0 }
     ensures outputs { outputs.new ≡ (generator kind now.now (window (P.words port.old) state.at state.len) inputs.now).1 }
-    ensures foot { P.foot port.new ≡ P.foot port.old }
-    ensures rest { P.rest port.new ≡ P.rest port.old }
+    ensures port { SameButWords P.foot P.rest port.old port.new }
 {
     let rate = now.rate;
     let phase_step = PhaseStep::new(rate);
@@ -80,8 +79,7 @@ pub fn run_with<P: Port>(
     requires state { MayWrite (P.foot port.old) state.at state.len }
     ensures words { P.words port.new ≡ put (P.words port.old) state.at (generator kind now.now (window (P.words port.old) state.at state.len) inputs.now).0 }
     ensures outputs { outputs.new ≡ (generator kind now.now (window (P.words port.old) state.at state.len) inputs.now).1 }
-    ensures foot { P.foot port.new ≡ P.foot port.old }
-    ensures rest { P.rest port.new ≡ P.rest port.old }
+    ensures port { SameButWords P.foot P.rest port.old port.new }
 {
     match kind {
         Kind::SinOsc => {

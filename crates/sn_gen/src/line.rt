@@ -1,7 +1,7 @@
 //! Straight lines.
 ghost use Rattle.std.specs.Prelude.{◌≡◌, ◌<◌, ◌≤◌, ◌+◌, ◌∷◌, [], ℕ, ℤ, List, IfSome, length};
 ghost use Rattle.sn_ports.specs.Limits.{block_frames};
-ghost use Rattle.sn_mem.specs.Words.{MayWrite};
+ghost use Rattle.sn_mem.specs.Words.{MayWrite, SameButWords};
 ghost use Rattle.sn_mem.specs.Blocks.{recurred, scan};
 ghost use Rattle.sn_gen.specs.Line.{begun, swept, line, sweep_in, sweep_words};
 
@@ -185,8 +185,7 @@ pub(crate) fn run_line<P: Port>(
     requires state { MayWrite (P.foot port.old) at 5 }
     ensures words { P.words port.new ≡ (recurred 5 sweep_in sweep_words (line rate) (P.words port.old) at inputs.now).0 }
     ensures outputs { outputs.new ≡ (recurred 5 sweep_in sweep_words (line rate) (P.words port.old) at inputs.now).1 ∷ [] }
-    ensures foot { P.foot port.new ≡ P.foot port.old }
-    ensures rest { P.rest port.new ≡ P.rest port.old }
+    ensures port { SameButWords P.foot P.rest port.old port.new }
 {
     let mut words = [0u64; 5];
     load_words(port, at, &mut words);

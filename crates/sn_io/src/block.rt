@@ -3,7 +3,7 @@ ghost use Rattle.std.specs.Prelude.{◌≡◌, ◌<◌, ◌≤◌, ◌⊎◌, �
 ghost use Rattle.sn_mem.specs.Layout.{bus_words};
 ghost use Rattle.sn_def.specs.Units.{row_of};
 ghost use Rattle.sn_def.specs.declared.table.StateSize.TheVariants.{Fixed};
-ghost use Rattle.sn_mem.specs.Words.{MayWrite, writes};
+ghost use Rattle.sn_mem.specs.Words.{MayWrite, writes, SameButWords};
 ghost use Rattle.sn_mem.specs.Blocks.{window};
 ghost use Rattle.sn_mem.specs.Buses.{buses_of};
 ghost use Rattle.sn_io.specs.BusUnits.{is_bus_unit, bus_unit};
@@ -34,8 +34,7 @@ fn run_kind<P: Port>(
     requires buses { MayReach kind (P.foot port.old) (length outputs.old) inputs.now }
     ensures words { P.words port.new ≡ (bus_unit_over kind now.now (length outputs.old) (P.words port.old) state.at state.len inputs.now).0 }
     ensures outputs { outputs.new ≡ (bus_unit_over kind now.now (length outputs.old) (P.words port.old) state.at state.len inputs.now).1 }
-    ensures foot { P.foot port.new ≡ P.foot port.old }
-    ensures rest { P.rest port.new ≡ P.rest port.old }
+    ensures port { SameButWords P.foot P.rest port.old port.new }
 {
     let block = now.block;
     match kind {
@@ -90,8 +89,7 @@ pub fn run<P: Port>(
     ensures others { (j : ℕ) → bus_words ≤ j → (j < state.at) ⊎ (state.at + state.len ≤ j) → slice_index (P.words port.new) j ≡ slice_index (P.words port.old) j }
     ensures kept { (j : ℕ) → writes (P.foot port.old) j ≡ false → slice_index (P.words port.new) j ≡ slice_index (P.words port.old) j }
     ensures length { length (P.words port.new) ≡ length (P.words port.old) }
-    ensures foot { P.foot port.new ≡ P.foot port.old }
-    ensures rest { P.rest port.new ≡ P.rest port.old }
+    ensures port { SameButWords P.foot P.rest port.old port.new }
 {
     run_kind(kind, now, port, state, inputs, outputs);
 }

@@ -2,7 +2,7 @@
 ghost use Rattle.std.specs.Prelude.{◌≡◌, ◌<◌, ◌≤◌, ◌+◌, ◌*◌, Some, None, IfSome, length, pos, replicate, slice_index_or};
 ghost use Rattle.std.specs.Option.{option_map};
 ghost use Rattle.sn_ports.specs.Limits.{block_frames};
-ghost use Rattle.sn_mem.specs.Words.{MayRead, MayWrite};
+ghost use Rattle.sn_mem.specs.Words.{MayRead, MayWrite, SameButWords};
 ghost use Rattle.sn_mem.specs.Blocks.{table};
 ghost use Rattle.sn_mem.specs.Buffers.{buffer_of};
 ghost use Rattle.sn_io.specs.BufferUnits.{sample_at, set_frame, set_at, scattered};
@@ -34,8 +34,7 @@ fn sample_at<P: Port>(port: &mut P, place: BufferPlace, frame: Option<u32>, chan
     requires frame { IfSome frame (λ i. i < place.frames) }
     ensures value { result ≡ sample_at (Some (buffer_of (P.words port.old) place)) frame channel }
     ensures words { P.words port.new ≡ P.words port.old }
-    ensures foot { P.foot port.new ≡ P.foot port.old }
-    ensures rest { P.rest port.new ≡ P.rest port.old }
+    ensures port { SameButWords P.foot P.rest port.old port.new }
 {
     match frame {
         Some(frame) => {
@@ -54,8 +53,7 @@ fn gather_channel<P: Port>(port: &mut P, place: BufferPlace, frames: &Frames, ch
     requires frames { AreWithin (Some place.frames) frames.now }
     ensures value { result ≡ table (λ k. sample_at (Some (buffer_of (P.words port.old) place)) (slice_index_or frames.now k None) channel) block_frames }
     ensures words { P.words port.new ≡ P.words port.old }
-    ensures foot { P.foot port.new ≡ P.foot port.old }
-    ensures rest { P.rest port.new ≡ P.rest port.old }
+    ensures port { SameButWords P.foot P.rest port.old port.new }
 {
     let mut samples = [0i32; BLOCK_FRAMES];
     for frame in 0..BLOCK_FRAMES {
@@ -83,8 +81,7 @@ fn channel_at<P: Port>(
     requires frames { AreWithin (place_frames place) frames.now }
     ensures value { result ≡ table (λ k. sample_at (option_map (buffer_of (P.words port.old)) place) (slice_index_or frames.now k None) channel) block_frames }
     ensures words { P.words port.new ≡ P.words port.old }
-    ensures foot { P.foot port.new ≡ P.foot port.old }
-    ensures rest { P.rest port.new ≡ P.rest port.old }
+    ensures port { SameButWords P.foot P.rest port.old port.new }
 {
     match place {
         Some(place) => gather_channel(port, place, frames, channel),
@@ -106,8 +103,7 @@ pub(crate) fn gather<P: Port>(
     requires frames { AreWithin (place_frames place) frames.now }
     ensures outputs { outputs.new ≡ gathered_from (P.words port.old) place frames.now (length outputs.old) }
     ensures words { P.words port.new ≡ P.words port.old }
-    ensures foot { P.foot port.new ≡ P.foot port.old }
-    ensures rest { P.rest port.new ≡ P.rest port.old }
+    ensures port { SameButWords P.foot P.rest port.old port.new }
 {
     let count = outputs.len();
     outputs.clear();
@@ -133,8 +129,7 @@ fn set_frame<P: Port>(
     requires at { at < block_frames }
     requires frame { frame < place.frames }
     ensures words { P.words port.new ≡ set_frame (set_word place.extent.at) inputs.now first at (frame * place.channels) place.channels (P.words port.old) }
-    ensures foot { P.foot port.new ≡ P.foot port.old }
-    ensures rest { P.rest port.new ≡ P.rest port.old }
+    ensures port { SameButWords P.foot P.rest port.old port.new }
 {
     for channel in 0..place.channels {
         let x = inputs.at(first + channel as usize, at);
@@ -157,8 +152,7 @@ fn set_at<P: Port>(
     requires at { at < block_frames }
     requires frame { IfSome frame (λ i. i < place.frames) }
     ensures words { P.words port.new ≡ set_at (set_word place.extent.at) inputs.now first place.channels at frame (P.words port.old) }
-    ensures foot { P.foot port.new ≡ P.foot port.old }
-    ensures rest { P.rest port.new ≡ P.rest port.old }
+    ensures port { SameButWords P.foot P.rest port.old port.new }
 {
     match frame {
         Some(frame) => set_frame(port, place, inputs, first, at, frame),
@@ -179,8 +173,7 @@ fn scatter_frames<P: Port>(
     requires inputs { first + place.channels ≤ length inputs.now }
     requires frames { AreWithin (Some place.frames) frames.now }
     ensures words { P.words port.new ≡ scattered (set_word place.extent.at) inputs.now first place.channels frames.now block_frames (P.words port.old) }
-    ensures foot { P.foot port.new ≡ P.foot port.old }
-    ensures rest { P.rest port.new ≡ P.rest port.old }
+    ensures port { SameButWords P.foot P.rest port.old port.new }
 {
     for at in 0..BLOCK_FRAMES {
         set_at(port, place, inputs, first, at, frames[at]);
@@ -202,8 +195,7 @@ pub(crate) fn scatter<P: Port>(
     requires inputs { IfSome place (λ p. first + p.channels ≤ length inputs.now) }
     requires frames { AreWithin (place_frames place) frames.now }
     ensures words { P.words port.new ≡ onto_buffer inputs.now first frames.now place (P.words port.old) }
-    ensures foot { P.foot port.new ≡ P.foot port.old }
-    ensures rest { P.rest port.new ≡ P.rest port.old }
+    ensures port { SameButWords P.foot P.rest port.old port.new }
 {
     match place {
         Some(place) => scatter_frames(port, place, inputs, first, frames),

@@ -3,7 +3,7 @@ ghost use Rattle.std.specs.Prelude.{◌≡◌, ◌<◌, ◌≤◌, ◌+◌, ◌�
 ghost use Rattle.sn_ports.specs.Limits.{block_frames};
 ghost use Rattle.sn_def.specs.Units.{row_of};
 ghost use Rattle.sn_def.specs.declared.table.StateSize.TheVariants.{Fixed};
-ghost use Rattle.sn_mem.specs.Words.{MayWrite, writes};
+ghost use Rattle.sn_mem.specs.Words.{MayWrite, writes, SameButWords};
 ghost use Rattle.sn_mem.specs.Blocks.{put, window};
 ghost use Rattle.sn_mem.specs.Buffers.{AreApart, buffers_of, live_places, overlaps};
 ghost use Rattle.sn_io.specs.Positions.{indexed};
@@ -63,8 +63,7 @@ fn play<P: Port>(buffers: &Buffers, port: &mut P, at: u32, inputs: &Blocks, outp
     requires state { MayWrite (P.foot port.old) at 4 }
     ensures words { P.words port.new ≡ put (P.words port.old) at (play_frames (place_frames (usable_place (length outputs.old) inputs.now buffers.now)) (window (P.words port.old) at 4) inputs.now).0 }
     ensures outputs { outputs.new ≡ gathered_from (P.words port.new) (usable_place (length outputs.old) inputs.now buffers.now) (play_frames (place_frames (usable_place (length outputs.old) inputs.now buffers.now)) (window (P.words port.old) at 4) inputs.now).1 (length outputs.old) }
-    ensures foot { P.foot port.new ≡ P.foot port.old }
-    ensures rest { P.rest port.new ≡ P.rest port.old }
+    ensures port { SameButWords P.foot P.rest port.old port.new }
 {
     let place = usable(chosen(buffers, inputs), outputs.len());
     let unit = PlayBuf {
@@ -81,8 +80,7 @@ fn record<P: Port>(buffers: &Buffers, port: &mut P, at: u32, inputs: &Blocks)
     requires writes { MayWriteBuffer (P.foot port.old) (chosen inputs.now buffers.now) }
     requires state { MayWrite (P.foot port.old) at 2 }
     ensures words { P.words port.new ≡ onto_buffer inputs.now 4 (record_frames (place_frames (usable_place (signals_from 4 inputs.now) inputs.now buffers.now)) (window (P.words port.old) at 2) inputs.now).1 (usable_place (signals_from 4 inputs.now) inputs.now buffers.now) (put (P.words port.old) at (record_frames (place_frames (usable_place (signals_from 4 inputs.now) inputs.now buffers.now)) (window (P.words port.old) at 2) inputs.now).0) }
-    ensures foot { P.foot port.new ≡ P.foot port.old }
-    ensures rest { P.rest port.new ≡ P.rest port.old }
+    ensures port { SameButWords P.foot P.rest port.old port.new }
 {
     let place = usable(chosen(buffers, inputs), inputs.len() - 4);
     let unit = RecordBuf {
@@ -99,8 +97,7 @@ fn read<P: Port>(buffers: &Buffers, port: &mut P, inputs: &Blocks, outputs: &mut
     requires reads { MayReadBuffer (P.foot port.old) (chosen inputs.now buffers.now) }
     ensures outputs { outputs.new ≡ gathered_from (P.words port.old) (usable_place (length outputs.old) inputs.now buffers.now) (indexed (place_frames (usable_place (length outputs.old) inputs.now buffers.now)) inputs.now) (length outputs.old) }
     ensures words { P.words port.new ≡ P.words port.old }
-    ensures foot { P.foot port.new ≡ P.foot port.old }
-    ensures rest { P.rest port.new ≡ P.rest port.old }
+    ensures port { SameButWords P.foot P.rest port.old port.new }
 {
     let place = usable(chosen(buffers, inputs), outputs.len());
     let frames = indexed(frames_in(place), inputs);
@@ -113,8 +110,7 @@ fn write<P: Port>(buffers: &Buffers, port: &mut P, inputs: &Blocks)
     requires whole { IsWholeIfSome (chosen inputs.now buffers.now) }
     requires writes { MayWriteBuffer (P.foot port.old) (chosen inputs.now buffers.now) }
     ensures words { P.words port.new ≡ onto_buffer inputs.now 2 (indexed (place_frames (usable_place (signals_from 2 inputs.now) inputs.now buffers.now)) inputs.now) (usable_place (signals_from 2 inputs.now) inputs.now buffers.now) (P.words port.old) }
-    ensures foot { P.foot port.new ≡ P.foot port.old }
-    ensures rest { P.rest port.new ≡ P.rest port.old }
+    ensures port { SameButWords P.foot P.rest port.old port.new }
 {
     let place = usable(chosen(buffers, inputs), inputs.len() - 2);
     let frames = indexed(frames_in(place), inputs);
@@ -157,8 +153,7 @@ fn run_kind<P: Port>(
     requires buffer { MayReachBuffer kind (P.foot port.old) inputs.now buffers.now }
     ensures words { P.words port.new ≡ (buffer_unit_over kind now.now (length outputs.old) buffers.now (P.words port.old) state.at state.len inputs.now).0 }
     ensures outputs { outputs.new ≡ (buffer_unit_over kind now.now (length outputs.old) buffers.now (P.words port.old) state.at state.len inputs.now).1 }
-    ensures foot { P.foot port.new ≡ P.foot port.old }
-    ensures rest { P.rest port.new ≡ P.rest port.old }
+    ensures port { SameButWords P.foot P.rest port.old port.new }
 {
     let at = state.at;
     match kind {
@@ -208,8 +203,7 @@ pub fn run_buffer_unit<P: Port>(
     ensures others { AreApart state buffers.now → (j : ℕ) → (j < state.at) ⊎ (state.at + state.len ≤ j) → overlaps j (live_places buffers.now) ≡ 0 → slice_index (P.words port.new) j ≡ slice_index (P.words port.old) j }
     ensures kept { (j : ℕ) → writes (P.foot port.old) j ≡ false → slice_index (P.words port.new) j ≡ slice_index (P.words port.old) j }
     ensures length { length (P.words port.new) ≡ length (P.words port.old) }
-    ensures foot { P.foot port.new ≡ P.foot port.old }
-    ensures rest { P.rest port.new ≡ P.rest port.old }
+    ensures port { SameButWords P.foot P.rest port.old port.new }
 {
     run_kind(kind, now, buffers, port, state, inputs, outputs);
 }

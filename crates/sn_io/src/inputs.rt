@@ -1,7 +1,7 @@
 //! In.ar, InFeedback and In.kr: channels read from buses.
 ghost use Rattle.std.specs.Prelude.{◌≡◌, ◌<◌, ◌≤◌, ◌+◌, ◌^◌, ℕ, IfSome, Some, cond, length, pos, replicate, slice_index, slice_index_or};
 ghost use Rattle.sn_ports.specs.Limits.{block_frames, audio_bus_count, control_bus_count};
-ghost use Rattle.sn_mem.specs.Words.{MayRead};
+ghost use Rattle.sn_mem.specs.Words.{MayRead, SameButWords};
 ghost use Rattle.sn_mem.specs.Layout.{audio_bus_words};
 ghost use Rattle.sn_mem.specs.Blocks.{samples_at};
 ghost use Rattle.sn_mem.specs.Buses.{audio_buses, control_buses, resting};
@@ -27,8 +27,7 @@ fn heard_at<P: Port>(port: &mut P, feedback: bool, block: u64, at: u32) -> Block
     requires reads { MayRead (P.foot port.old) at audio_bus_words }
     ensures value { result ≡ cond (hears feedback block (slice_index (P.words port.old) at)) (samples_at (P.words port.old) (at + 1)) (replicate block_frames (pos 0)) }
     ensures words { P.words port.new ≡ P.words port.old }
-    ensures foot { P.foot port.new ≡ P.foot port.old }
-    ensures rest { P.rest port.new ≡ P.rest port.old }
+    ensures port { SameButWords P.foot P.rest port.old port.new }
 {
     let written = port.load(at);
     if hears(feedback, block, written) {
@@ -44,8 +43,7 @@ fn audio_in<P: Port>(port: &mut P, feedback: bool, block: u64, bus: Option<u32>)
     requires reads { MayReadAudio (P.foot port.old) bus }
     ensures value { result ≡ audio_in feedback block (audio_buses (P.words port.old)) bus }
     ensures words { P.words port.new ≡ P.words port.old }
-    ensures foot { P.foot port.new ≡ P.foot port.old }
-    ensures rest { P.rest port.new ≡ P.rest port.old }
+    ensures port { SameButWords P.foot P.rest port.old port.new }
 {
     match bus {
         Some(bus) => heard_at(port, feedback, block, Places::audio(bus).at),
@@ -59,8 +57,7 @@ fn control_value<P: Port>(port: &mut P, bus: u32) -> i32
     requires reads { MayReadControl (P.foot port.old) (Some bus) }
     ensures value { result ≡ (slice_index_or (control_buses (P.words port.old)) bus resting).value }
     ensures words { P.words port.new ≡ P.words port.old }
-    ensures foot { P.foot port.new ≡ P.foot port.old }
-    ensures rest { P.rest port.new ≡ P.rest port.old }
+    ensures port { SameButWords P.foot P.rest port.old port.new }
 {
     let place = Places::control(bus);
     let word = port.load(place.at + 1);
@@ -72,8 +69,7 @@ fn control_in<P: Port>(port: &mut P, bus: Option<u32>) -> Block
     requires reads { MayReadControl (P.foot port.old) bus }
     ensures value { result ≡ control_in (control_buses (P.words port.old)) bus }
     ensures words { P.words port.new ≡ P.words port.old }
-    ensures foot { P.foot port.new ≡ P.foot port.old }
-    ensures rest { P.rest port.new ≡ P.rest port.old }
+    ensures port { SameButWords P.foot P.rest port.old port.new }
 {
     match bus {
         Some(bus) => [control_value(port, bus); BLOCK_FRAMES],
@@ -94,8 +90,7 @@ pub(crate) fn read_audio<P: Port>(
     requires reads { (i : ℕ) → i < length outputs.old → MayReadAudio (P.foot port.old) (audio_channel inputs.now i) }
     ensures outputs { outputs.new ≡ audio_inputs feedback block inputs.now (length outputs.old) (audio_buses (P.words port.old)) }
     ensures words { P.words port.new ≡ P.words port.old }
-    ensures foot { P.foot port.new ≡ P.foot port.old }
-    ensures rest { P.rest port.new ≡ P.rest port.old }
+    ensures port { SameButWords P.foot P.rest port.old port.new }
 {
     let count = outputs.len();
     outputs.clear();
@@ -111,8 +106,7 @@ pub(crate) fn read_control<P: Port>(port: &mut P, inputs: &Blocks, outputs: &mut
     requires reads { (i : ℕ) → i < length outputs.old → MayReadControl (P.foot port.old) (control_channel inputs.now i) }
     ensures outputs { outputs.new ≡ control_inputs inputs.now (length outputs.old) (control_buses (P.words port.old)) }
     ensures words { P.words port.new ≡ P.words port.old }
-    ensures foot { P.foot port.new ≡ P.foot port.old }
-    ensures rest { P.rest port.new ≡ P.rest port.old }
+    ensures port { SameButWords P.foot P.rest port.old port.new }
 {
     let count = outputs.len();
     outputs.clear();

@@ -2,7 +2,7 @@
 ghost use Rattle.std.specs.Prelude.{◌≡◌, ◌<◌, ◌≤◌, ◌+◌, ◌^◌, ◌+ℤ◌, pos, ℕ, IfSome, length, slice_index_or};
 ghost use Rattle.sn_ports.specs.Limits.{block_frames, audio_bus_count, control_bus_count};
 ghost use Rattle.sn_fixed.specs.Fixed.{sat};
-ghost use Rattle.sn_mem.specs.Words.{MayWrite};
+ghost use Rattle.sn_mem.specs.Words.{MayWrite, SameButWords};
 ghost use Rattle.sn_mem.specs.Layout.{audio_bus_words, control_bus_words};
 ghost use Rattle.sn_mem.specs.Blocks.{changed, table};
 ghost use Rattle.sn_io.specs.Channels.{audio_channel, control_channel, channels, signals};
@@ -30,8 +30,7 @@ fn sums(a: &Block, b: &Block) -> Block
 fn mix_block<P: Port>(port: &mut P, at: u32, signal: &Block)
     requires { MayWrite (P.foot port.old) at block_frames }
     ensures words { P.words port.new ≡ changed summed (P.words port.old) at signal.now }
-    ensures foot { P.foot port.new ≡ P.foot port.old }
-    ensures rest { P.rest port.new ≡ P.rest port.old }
+    ensures port { SameButWords P.foot P.rest port.old port.new }
 {
     let held = port.load_samples(at);
     port.store_samples(at, &sums(&held, signal));
@@ -41,8 +40,7 @@ fn mix_block<P: Port>(port: &mut P, at: u32, signal: &Block)
 fn set_block<P: Port>(port: &mut P, at: u32, signal: &Block)
     requires { MayWrite (P.foot port.old) at block_frames }
     ensures words { P.words port.new ≡ changed (λ _. overwritten) (P.words port.old) at signal.now }
-    ensures foot { P.foot port.new ≡ P.foot port.old }
-    ensures rest { P.rest port.new ≡ P.rest port.old }
+    ensures port { SameButWords P.foot P.rest port.old port.new }
 {
     let silence = [0i32; BLOCK_FRAMES];
     port.store_samples(at, &sums(&silence, signal));
@@ -54,8 +52,7 @@ fn put_block<P: Port>(port: &mut P, adds: bool, block: u64, at: u32, signal: &Bl
     requires block { block < 2 ^ 63 }
     requires bus { MayWrite (P.foot port.old) at audio_bus_words }
     ensures words { P.words port.new ≡ onto_block adds block (P.words port.old) at signal.now }
-    ensures foot { P.foot port.new ≡ P.foot port.old }
-    ensures rest { P.rest port.new ≡ P.rest port.old }
+    ensures port { SameButWords P.foot P.rest port.old port.new }
 {
     let written = port.load(at);
     if adds && written == block + 1 {
@@ -71,8 +68,7 @@ fn put_audio<P: Port>(port: &mut P, adds: bool, block: u64, bus: Option<u32>, si
     requires number { IfSome bus (λ n. n < audio_bus_count) }
     requires bus { MayWriteAudio (P.foot port.old) bus }
     ensures words { P.words port.new ≡ onto_audio adds block (P.words port.old) bus signal.now }
-    ensures foot { P.foot port.new ≡ P.foot port.old }
-    ensures rest { P.rest port.new ≡ P.rest port.old }
+    ensures port { SameButWords P.foot P.rest port.old port.new }
 {
     match bus {
         Some(bus) => put_block(port, adds, block, Places::audio(bus).at, signal),
@@ -87,8 +83,7 @@ pub(crate) fn write_audio<P: Port>(port: &mut P, adds: bool, block: u64, inputs:
     requires index { 1 ≤ length inputs.now }
     requires buses { (i : ℕ) → i + 1 < length inputs.now → MayWriteAudio (P.foot port.old) (audio_channel inputs.now i) }
     ensures words { P.words port.new ≡ channels (onto_audio_channel adds block inputs.now) inputs.now (signals inputs.now) (P.words port.old) }
-    ensures foot { P.foot port.new ≡ P.foot port.old }
-    ensures rest { P.rest port.new ≡ P.rest port.old }
+    ensures port { SameButWords P.foot P.rest port.old port.new }
 {
     for channel in 0..inputs.len() - 1 {
         put_audio(
@@ -107,8 +102,7 @@ fn held_at<P: Port>(port: &mut P, block: u64, at: u32) -> i32
     requires bus { MayWrite (P.foot port.old) at control_bus_words }
     ensures value { result ≡ held_at block (P.words port.old) at }
     ensures words { P.words port.new ≡ P.words port.old }
-    ensures foot { P.foot port.new ≡ P.foot port.old }
-    ensures rest { P.rest port.new ≡ P.rest port.old }
+    ensures port { SameButWords P.foot P.rest port.old port.new }
 {
     let written = port.load(at);
     let word = port.load(at + 1);
@@ -123,8 +117,7 @@ fn put_value<P: Port>(port: &mut P, block: u64, at: u32, x: i32)
     requires block { block < 2 ^ 63 }
     requires bus { MayWrite (P.foot port.old) at control_bus_words }
     ensures words { P.words port.new ≡ onto_value block (P.words port.old) at x }
-    ensures foot { P.foot port.new ≡ P.foot port.old }
-    ensures rest { P.rest port.new ≡ P.rest port.old }
+    ensures port { SameButWords P.foot P.rest port.old port.new }
 {
     let value = add(held_at(port, block, at), x);
     port.store(at + 1, word_of(value));
@@ -136,8 +129,7 @@ fn put_control<P: Port>(port: &mut P, block: u64, bus: Option<u32>, signal: &Blo
     requires number { IfSome bus (λ n. n < control_bus_count) }
     requires bus { MayWriteControl (P.foot port.old) bus }
     ensures words { P.words port.new ≡ onto_control block (P.words port.old) bus signal.now }
-    ensures foot { P.foot port.new ≡ P.foot port.old }
-    ensures rest { P.rest port.new ≡ P.rest port.old }
+    ensures port { SameButWords P.foot P.rest port.old port.new }
 {
     match bus {
         Some(bus) => put_value(port, block, Places::control(bus).at, signal[0]),
@@ -151,8 +143,7 @@ pub(crate) fn write_control<P: Port>(port: &mut P, block: u64, inputs: &Blocks)
     requires index { 1 ≤ length inputs.now }
     requires buses { (i : ℕ) → i + 1 < length inputs.now → MayWriteControl (P.foot port.old) (control_channel inputs.now i) }
     ensures words { P.words port.new ≡ channels (onto_control_channel block inputs.now) inputs.now (signals inputs.now) (P.words port.old) }
-    ensures foot { P.foot port.new ≡ P.foot port.old }
-    ensures rest { P.rest port.new ≡ P.rest port.old }
+    ensures port { SameButWords P.foot P.rest port.old port.new }
 {
     for channel in 0..inputs.len() - 1 {
         put_control(

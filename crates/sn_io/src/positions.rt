@@ -1,7 +1,7 @@
 //! The frames of a buffer that units read and write, one or none at each frame of a block.
 ghost use Rattle.std.specs.Prelude.{◌≡◌, ◌<◌, ◌≤◌, ℕ, ℤ, List, Option, length};
 ghost use Rattle.sn_ports.specs.Limits.{block_frames};
-ghost use Rattle.sn_mem.specs.Words.{MayWrite};
+ghost use Rattle.sn_mem.specs.Words.{MayWrite, SameButWords};
 ghost use Rattle.sn_mem.specs.Blocks.{put, window};
 ghost use Rattle.sn_io.specs.Positions.{frame_at, frame_in, indexed, walked};
 
@@ -74,8 +74,7 @@ pub(crate) fn walk_frames<U: FrameStep, P: Port>(
     requires state { MayWrite (P.foot port.old) at U.State.size }
     ensures words { P.words port.new ≡ put (P.words port.old) at (walked U.State.loaded U.State.stored (U.step unit.now) (window (P.words port.old) at U.State.size) inputs.now).0 }
     ensures frames { result ≡ (walked U.State.loaded U.State.stored (U.step unit.now) (window (P.words port.old) at U.State.size) inputs.now).1 }
-    ensures foot { P.foot port.new ≡ P.foot port.old }
-    ensures rest { P.rest port.new ≡ P.rest port.old }
+    ensures port { SameButWords P.foot P.rest port.old port.new }
 {
     let mut words = [0u64; 8];
     let words = &mut words[..U::State::size()];

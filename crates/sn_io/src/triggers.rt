@@ -3,7 +3,7 @@ ghost use Rattle.std.specs.Prelude.{◌≡◌, ◌<◌, ◌≤◌, ◌^◌, [], 
 ghost use Rattle.sn_ports.specs.Limits.{block_frames};
 ghost use Rattle.sn_def.specs.Units.{row_of};
 ghost use Rattle.sn_def.specs.declared.table.StateSize.TheVariants.{Fixed};
-ghost use Rattle.sn_mem.specs.Words.{MayWrite};
+ghost use Rattle.sn_mem.specs.Words.{MayWrite, SameButWords};
 ghost use Rattle.sn_mem.specs.Blocks.{window, put, recurred};
 ghost use Rattle.sn_io.specs.Triggers.{is_trigger, trigger_block, count_in, count_word, one_quieter, counted, is_quiet, is_silent, quieter};
 
@@ -278,8 +278,7 @@ fn run_silent<U: Recurrence, P: Port>(
     requires state { MayWrite (P.foot port.old) at U.State.size }
     ensures words { P.words port.new ≡ (recurred U.State.size U.State.loaded U.State.stored (U.step unit.now) (P.words port.old) at inputs.now).0 }
     ensures outputs { outputs.new ≡ [] }
-    ensures foot { P.foot port.new ≡ P.foot port.old }
-    ensures rest { P.rest port.new ≡ P.rest port.old }
+    ensures port { SameButWords P.foot P.rest port.old port.new }
 {
     run_recurrence(unit, port, at, inputs, outputs);
     outputs.clear();
@@ -302,8 +301,7 @@ pub(crate) fn run_trigger<P: Port>(
     requires state { MayWrite (P.foot port.old) state.at state.len }
     ensures words { P.words port.new ≡ put (P.words port.old) state.at (trigger_block kind now.now (window (P.words port.old) state.at state.len) inputs.now).0 }
     ensures outputs { outputs.new ≡ (trigger_block kind now.now (window (P.words port.old) state.at state.len) inputs.now).1 }
-    ensures foot { P.foot port.new ≡ P.foot port.old }
-    ensures rest { P.rest port.new ≡ P.rest port.old }
+    ensures port { SameButWords P.foot P.rest port.old port.new }
 {
     let block = now.block;
     let at = state.at;

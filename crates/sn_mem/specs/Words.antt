@@ -33,6 +33,10 @@ pub record MayRead (f : Foot) (at n : ℕ) : Type 0 where
   pub below : at + n < 4294967296
   pub each : (i : ℕ) → i < n → touches f (at + i) ≡ true
 
+-- a port is the same but for its words: what may be read and written, and what else a caller knows of it
+abbrev pub SameButWords : {Port Rest : Type 0} → (Port → Foot) → (Port → Rest) → Port → Port → Type 0
+SameButWords foot rest old new = (foot new ≡ foot old) × (rest new ≡ rest old)
+
 -- each of n words
 abbrev pub everything : ℕ → Foot
 everything n = record { reads = []; writes = record { at = 0; len = n } ∷ [] }

@@ -1,7 +1,7 @@
 //! A port with a plain copy of its first words.
 ghost use Rattle.std.specs.Prelude.{◌≡◌, ◌≤◌, ◌<◌, ◌+◌, ◌^◌, ℕ, true, min, length, slice_set};
 ghost use Rattle.sn_ports.specs.Limits.{block_frames};
-ghost use Rattle.sn_mem.specs.Words.{has, covers, touches, writes};
+ghost use Rattle.sn_mem.specs.Words.{has, covers, touches, writes, SameButWords};
 ghost use Rattle.sn_mem.specs.Blocks.{samples_at, window};
 ghost use Rattle.sn_mem.specs.ThroughFoot.{outside};
 ghost use Rattle.sn_mem.specs.Copies.{IsCopied, covered_below, had_below, localized};
@@ -51,8 +51,7 @@ fn take_extent<P: Port>(port: &mut P, extent: Extent, copy: &mut [u64])
     requires foot { (x : ℕ) → covers extent x ≡ true → touches (P.foot port.old) x ≡ true }
     ensures copied { IsCopied (covered_below (length copy.old) extent) (P.words port.old) copy.old copy.new }
     ensures words { P.words port.new ≡ P.words port.old }
-    ensures foot { P.foot port.new ≡ P.foot port.old }
-    ensures rest { P.rest port.new ≡ P.rest port.old }
+    ensures port { SameButWords P.foot P.rest port.old port.new }
 {
     let end = end_within(extent, copy.len() as u32);
     for at in extent.at..end {
@@ -64,8 +63,7 @@ fn take_extent<P: Port>(port: &mut P, extent: Extent, copy: &mut [u64])
 fn put_word<P: Port>(port: &mut P, at: u32, word: u64)
     requires { writes (P.foot port.old) at ≡ true }
     ensures words { P.words port.new ≡ slice_set (P.words port.old) at word }
-    ensures foot { P.foot port.new ≡ P.foot port.old }
-    ensures rest { P.rest port.new ≡ P.rest port.old }
+    ensures port { SameButWords P.foot P.rest port.old port.new }
 {
     if port.load(at) != word {
         port.store(at, word);
@@ -78,8 +76,7 @@ fn put_extent<P: Port>(port: &mut P, extent: Extent, copy: &[u64])
     requires size { length copy.now < 2 ^ 32 }
     requires foot { (x : ℕ) → covers extent x ≡ true → writes (P.foot port.old) x ≡ true }
     ensures copied { IsCopied (covered_below (length copy.now) extent) copy.now (P.words port.old) (P.words port.new) }
-    ensures foot { P.foot port.new ≡ P.foot port.old }
-    ensures rest { P.rest port.new ≡ P.rest port.old }
+    ensures port { SameButWords P.foot P.rest port.old port.new }
 {
     let end = end_within(extent, copy.len() as u32);
     for at in extent.at..end {
@@ -93,8 +90,7 @@ fn take_extents<P: Port>(port: &mut P, extents: &[Extent], copy: &mut [u64])
     requires foot { (x : ℕ) → has extents.now x ≡ true → touches (P.foot port.old) x ≡ true }
     ensures copied { IsCopied (had_below (length copy.old) extents.now) (P.words port.old) copy.old copy.new }
     ensures words { P.words port.new ≡ P.words port.old }
-    ensures foot { P.foot port.new ≡ P.foot port.old }
-    ensures rest { P.rest port.new ≡ P.rest port.old }
+    ensures port { SameButWords P.foot P.rest port.old port.new }
 {
     for extent in extents {
         take_extent(port, *extent, copy);
@@ -106,8 +102,7 @@ fn put_extents<P: Port>(port: &mut P, extents: &[Extent], copy: &[u64])
     requires size { length copy.now < 2 ^ 32 }
     requires foot { (x : ℕ) → has extents.now x ≡ true → writes (P.foot port.old) x ≡ true }
     ensures copied { IsCopied (had_below (length copy.now) extents.now) copy.now (P.words port.old) (P.words port.new) }
-    ensures foot { P.foot port.new ≡ P.foot port.old }
-    ensures rest { P.rest port.new ≡ P.rest port.old }
+    ensures port { SameButWords P.foot P.rest port.old port.new }
 {
     for extent in extents {
         put_extent(port, *extent, copy);

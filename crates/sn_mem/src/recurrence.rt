@@ -1,7 +1,7 @@
 //! Units that go from frame to frame with a small state.
 ghost use Rattle.std.specs.Prelude.{◌≡◌, ◌<◌, ◌≤◌, ◌∷◌, [], ℕ, ℤ, List, length};
 ghost use Rattle.sn_ports.specs.Limits.{block_frames};
-ghost use Rattle.sn_mem.specs.Words.{MayWrite};
+ghost use Rattle.sn_mem.specs.Words.{MayWrite, SameButWords};
 ghost use Rattle.sn_mem.specs.Blocks.{recurred, scan};
 
 use crate::blocks::{Block, Blocks};
@@ -82,8 +82,7 @@ pub fn run_recurrence<U: Recurrence, P: Port>(
     requires state { MayWrite (P.foot port.old) at U.State.size }
     ensures words { P.words port.new ≡ (recurred U.State.size U.State.loaded U.State.stored (U.step unit.now) (P.words port.old) at inputs.now).0 }
     ensures outputs { outputs.new ≡ (recurred U.State.size U.State.loaded U.State.stored (U.step unit.now) (P.words port.old) at inputs.now).1 ∷ [] }
-    ensures foot { P.foot port.new ≡ P.foot port.old }
-    ensures rest { P.rest port.new ≡ P.rest port.old }
+    ensures port { SameButWords P.foot P.rest port.old port.new }
 {
     let mut words = [0u64; 8];
     let words = &mut words[..U::State::size()];

@@ -1,6 +1,6 @@
 //! Runs of words, loaded and stored.
 ghost use Rattle.std.specs.Prelude.{◌≡◌, ◌≤◌, ◌+◌, length};
-ghost use Rattle.sn_mem.specs.Words.{MayWrite, MayRead};
+ghost use Rattle.sn_mem.specs.Words.{MayWrite, MayRead, SameButWords};
 ghost use Rattle.sn_mem.specs.Blocks.{window, put};
 
 use crate::port::Port;
@@ -18,8 +18,7 @@ pub fn load_words<P: Port>(port: &mut P, at: u32, into: &mut [u64])
     requires { MayRead (P.foot port.old) at (length into.old) }
     ensures value { into.new ≡ window (P.words port.old) at (length into.old) }
     ensures words { P.words port.new ≡ P.words port.old }
-    ensures foot { P.foot port.new ≡ P.foot port.old }
-    ensures rest { P.rest port.new ≡ P.rest port.old }
+    ensures port { SameButWords P.foot P.rest port.old port.new }
 {
     port.load_run(at, into);
 }
@@ -28,8 +27,7 @@ pub fn load_words<P: Port>(port: &mut P, at: u32, into: &mut [u64])
 pub fn store_words<P: Port>(port: &mut P, at: u32, words: &[u64])
     requires { MayWrite (P.foot port.old) at (length words.now) }
     ensures words { P.words port.new ≡ put (P.words port.old) at words.now }
-    ensures foot { P.foot port.new ≡ P.foot port.old }
-    ensures rest { P.rest port.new ≡ P.rest port.old }
+    ensures port { SameButWords P.foot P.rest port.old port.new }
 {
     port.store_run(at, words);
 }

@@ -27,7 +27,7 @@ use Rattle.sn_world.specs.World.{Turn, world_of, turn_of}
 use Rattle.sn_world.proofs.Counting.{amount-put, amount-without}
 use Rattle.sn_world.proofs.Inserting.{held-put}
 use Rattle.sn_nodecmd.specs.Folding.{KeepsTree, Keeps}
-use Rattle.sn_nodecmd.specs.Relocating.{reason_against_move}
+use Rattle.sn_nodecmd.specs.Faults.{reason_of}
 use Rattle.sn_world.proofs.Replacing.{held-without}
 use Rattle.sn_nodecmd.proofs.Judged.{outside_synth}
 use Rattle.sn_nodecmd.proofs.Stepping.{count-put, saved_followed, room_followed, keeps_with}
@@ -96,7 +96,7 @@ held-subtree rate region id (node l below after) h =
 -- ---- reasons
 
 by_tests : (missing lost root beside synth inside : Bool)
-    → option_map reason_against_move (first_fault ((missing, faults.NoNode) ∷ (lost, faults.NoNode) ∷ (root, faults.IsRoot) ∷ (beside, faults.IsRoot) ∷ (synth, faults.NotGroup) ∷ (inside, faults.Inside) ∷ []))
+    → option_map reason_of (first_fault ((missing, faults.NoNode) ∷ (lost, faults.NoNode) ∷ (root, faults.IsRoot) ∷ (beside, faults.IsRoot) ∷ (synth, faults.NotGroup) ∷ (inside, faults.Inside) ∷ []))
     ≡ first_of ((missing, Reasons.NoSuchNode) ∷ (lost, Reasons.NoSuchNode) ∷ (root, Reasons.Root) ∷ (beside, Reasons.Root) ∷ (synth, Reasons.NotGroup) ∷ (inside, Reasons.InsideItself) ∷ [])
 by_tests true lost root beside synth inside = refl
 by_tests false true root beside synth inside = refl
@@ -106,7 +106,7 @@ by_tests false false false false true inside = refl
 by_tests false false false false false true = refl
 by_tests false false false false false false = refl
 
-pub judged_move : (m : NodeMove) (t : Nodes Held) → option_map reason_against_move (move_fault m.id m.action m.target t) ≡ move_refusal m t
+pub judged_move : (m : NodeMove) (t : Nodes Held) → option_map reason_of (move_fault m.id m.action m.target t) ≡ move_refusal m t
 judged_move m t = by_tests (is_missing m.id t) (is_missing m.target t) (int_eq m.id (pos 0)) (is_beside_root m.action m.target) (is_in_synth m.action m.target t) (holds m.target (subtree m.id t))
 
 pub move_refusal_in : (stage : Stage) (words : List ℕ) (m : NodeMove) → move_refusal m (world_of stage words).nodes ≡ move_refusal m stage.tree.attached

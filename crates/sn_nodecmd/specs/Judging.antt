@@ -1,5 +1,6 @@
 -- The reason against a new synth, by the tree's.
-use Rattle.std.specs.Prelude.{ℤ, Bool, true, false, Option, Some, None}
+use Rattle.std.specs.Prelude.{ℤ, Bool, true, false, Option, Some}
+use Rattle.std.specs.Option.{option_map}
 use Rattle.sn_reply.specs.declared.reason.Reason.{Reason}
 use Rattle.sn_reply.specs.declared.reason.Reason.TheVariants as Reasons
 use Rattle.sn_tree.specs.declared.node.AddAction.{AddAction}
@@ -7,20 +8,13 @@ use Rattle.sn_tree.specs.declared.node.TreeFault.{TreeFault}
 use Rattle.sn_tree.specs.declared.node.TreeFault.TheVariants as faults
 use Rattle.sn_tree.specs.Trees.{Nodes}
 use Rattle.sn_tree.specs.Faults.{insert_fault, replace_fault}
-
-abbrev pub if_known : Bool → Option Reason → Option Reason
-if_known true reason = reason
-if_known false reason = Some Reasons.AddAction
+use Rattle.sn_nodecmd.specs.Faults.{reason_of}
 
 -- An add action that is none comes after an id that is in use, and before all others.
 abbrev pub reason_against_new : Bool → Option TreeFault → Option Reason
-reason_against_new known None = if_known known None
 reason_against_new known (Some faults.InUse) = Some Reasons.IdInUse
-reason_against_new known (Some faults.NoNode) = if_known known (Some Reasons.NoSuchNode)
-reason_against_new known (Some faults.NotGroup) = if_known known (Some Reasons.NotGroup)
-reason_against_new known (Some faults.IsRoot) = if_known known (Some Reasons.Root)
-reason_against_new known (Some faults.Inside) = if_known known (Some Reasons.InsideItself)
-reason_against_new known (Some faults.TooMany) = if_known known (Some Reasons.TooManyNodes)
+reason_against_new false fault = Some Reasons.AddAction
+reason_against_new true fault = option_map reason_of fault
 
 -- the tree's fault against a new node, which takes the place of its target or is put beside others
 abbrev pub fault_by : {P : Type 0} → Bool → ℤ → AddAction → ℤ → Nodes P → Option TreeFault

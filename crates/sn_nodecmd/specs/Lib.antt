@@ -1,5 +1,6 @@
 pub mod Asking
 pub mod Setting
+pub mod Faults
 pub mod Judging
 pub mod Placing
 pub mod Runs

@@ -2,6 +2,7 @@
 ghost use Rattle.std.specs.Prelude.{◌≡◌, ◌+◌, ◌*◌, ◌^◌, ◌<◌, length, map};
 ghost use Rattle.sn_osc.specs.Shape.{argument_of, message_of};
 ghost use Rattle.sn_osc.specs.Bytes.{arguments_bytes};
+ghost use Rattle.sn_mem.specs.Words.{SameButWords};
 ghost use Rattle.sn_reply.specs.Sending.{IsAnswerable};
 ghost use Rattle.sn_world.specs.World.{turn_of};
 ghost use Rattle.sn_world.specs.Pictures.{Pictures, WritesWorld, KeepsOutside};
@@ -66,8 +67,7 @@ fn run_row<P: Port>(
     ensures region { stage.new.pool.region ≡ stage.old.pool.region }
     ensures others { KeepsOutside stage.old.pool.region (P.words port.old) (P.words port.new) }
     ensures len { length (P.words port.new) ≡ length (P.words port.old) }
-    ensures foot { P.foot port.new ≡ P.foot port.old }
-    ensures rest { P.rest port.new ≡ P.rest port.old }
+    ensures port { SameButWords P.foot P.rest port.old port.new }
 {
     match command {
         NodeCommand::New => run_new(alloc, stage, port, arguments, replies),
@@ -122,8 +122,7 @@ pub fn run_node_command<P: Port>(
     ensures region { stage.new.pool.region ≡ stage.old.pool.region }
     ensures others { KeepsOutside stage.old.pool.region (P.words port.old) (P.words port.new) }
     ensures len { length (P.words port.new) ≡ length (P.words port.old) }
-    ensures foot { P.foot port.new ≡ P.foot port.old }
-    ensures rest { P.rest port.new ≡ P.rest port.old }
+    ensures port { SameButWords P.foot P.rest port.old port.new }
 {
     let Some(command) = node_command_of(message.address.as_slice()) else {
         return Ok(Handled::NotMine);

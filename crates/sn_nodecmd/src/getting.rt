@@ -4,6 +4,7 @@ ghost use Rattle.std.specs.List.{list_all};
 ghost use Rattle.std.specs.Option.{option_map};
 ghost use Rattle.sn_osc.specs.Shape.{argument_of, message_of, string};
 ghost use Rattle.sn_osc.specs.Bytes.{arguments_bytes};
+ghost use Rattle.sn_mem.specs.Words.{SameButWords};
 ghost use Rattle.sn_mem.specs.Buses.{control_buses};
 ghost use Rattle.sn_def.specs.Definition.{control_names};
 ghost use Rattle.sn_def.specs.Defs.{definition_of};
@@ -111,8 +112,7 @@ fn push_value<P: Port>(
     requires foot { WritesBuses (P.foot port.old) }
     ensures value { OnOk result (answer.new ≡ answer.old ++ value_arguments (control_buses (P.words port.old)) controls.now (name_of control.entry) (control_of (definition_of def.now) (name_of control.entry))) }
     ensures words { P.words port.new ≡ P.words port.old }
-    ensures foot { P.foot port.new ≡ P.foot port.old }
-    ensures rest { P.rest port.new ≡ P.rest port.old }
+    ensures port { SameButWords P.foot P.rest port.old port.new }
 {
     let Some(number) = number_of(def, control) else {
         return Ok(());
@@ -134,8 +134,7 @@ fn push_values<P: Port>(
     requires foot { WritesBuses (P.foot port.old) }
     ensures values { OnOk result (answer.new ≡ answer.old ++ values_asked (control_buses (P.words port.old)) (definition_of def.now) controls.now (map name_of asked.now)) }
     ensures words { P.words port.new ≡ P.words port.old }
-    ensures foot { P.foot port.new ≡ P.foot port.old }
-    ensures rest { P.rest port.new ≡ P.rest port.old }
+    ensures port { SameButWords P.foot P.rest port.old port.new }
 {
     for control in asked {
         push_value(answer, port, def, controls, *control)?;
@@ -158,8 +157,7 @@ fn values_message<P: Port>(
     ensures message { IfOk result (λ m. message_of m ≡ values_message (control_buses (P.words port.old)) id (definition_of def.now) controls.now (map name_of asked.now)) }
     ensures sendable { IfOk result (λ m. IsSendable (message_of m)) }
     ensures words { P.words port.new ≡ P.words port.old }
-    ensures foot { P.foot port.new ≡ P.foot port.old }
-    ensures rest { P.rest port.new ≡ P.rest port.old }
+    ensures port { SameButWords P.foot P.rest port.old port.new }
 {
     let mut answer = Answer::new(alloc);
     answer.push_int(id)?;
@@ -182,8 +180,7 @@ fn answer<P: Port>(
     ensures row { Follows result (values_outcome from (Some (request_of asked.now)) (turn_of stage.now (P.words port.old) replies.old)) (turn_of stage.now (P.words port.new) replies.new) }
     ensures untold { UnlessFollowed result (replies.new ≡ replies.old) }
     ensures words { P.words port.new ≡ P.words port.old }
-    ensures foot { P.foot port.new ≡ P.foot port.old }
-    ensures rest { P.rest port.new ≡ P.rest port.old }
+    ensures port { SameButWords P.foot P.rest port.old port.new }
 {
     let Some(held) = stage.tree.payload(asked.id) else {
         return Ok(Some(Reason::NoSuchNode));
@@ -211,8 +208,7 @@ pub fn run_get<P: Port>(
     ensures row { Follows result (values_row from (map argument_of arguments.now) (turn_of stage.now (P.words port.old) replies.old)) (turn_of stage.now (P.words port.new) replies.new) }
     ensures untold { UnlessFollowed result (replies.new ≡ replies.old) }
     ensures words { P.words port.new ≡ P.words port.old }
-    ensures foot { P.foot port.new ≡ P.foot port.old }
-    ensures rest { P.rest port.new ≡ P.rest port.old }
+    ensures port { SameButWords P.foot P.rest port.old port.new }
 {
     let Some(asked) = asked_controls(alloc, arguments)? else {
         return Ok(Some(Reason::Arguments));

@@ -5,6 +5,7 @@ ghost use Rattle.sn_tree.specs.Faults.{insert_fault, is_synth, replace_fault};
 ghost use Rattle.sn_world.specs.NewNodes.{id_for, one_below, next_after, add_action, action_for, replaces, node_refusal};
 ghost use Rattle.sn_nodecmd.specs.Judging.{reason_against_new, fault_by};
 
+use crate::faults::reason_of;
 use sn_reply::Reason;
 use sn_tree::{AddAction, NodeKind, Spot, Tree, TreeFault};
 use sn_world::{Held, NewNode, NodeId};
@@ -95,11 +96,7 @@ fn reason_against_new(known: bool, fault: Option<TreeFault>) -> Option<Reason>
     match fault {
         Some(TreeFault::InUse) => Some(Reason::IdInUse),
         _ if !known => Some(Reason::AddAction),
-        Some(TreeFault::NoNode) => Some(Reason::NoSuchNode),
-        Some(TreeFault::NotGroup) => Some(Reason::NotGroup),
-        Some(TreeFault::IsRoot) => Some(Reason::Root),
-        Some(TreeFault::Inside) => Some(Reason::InsideItself),
-        Some(TreeFault::TooMany) => Some(Reason::TooManyNodes),
+        Some(fault) => Some(reason_of(fault)),
         None => None,
     }
 }

@@ -7,6 +7,7 @@ mod controls;
 mod describing;
 mod dispatch;
 mod emptying;
+mod faults;
 mod folding;
 mod freeing;
 mod getting;

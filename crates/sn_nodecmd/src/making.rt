@@ -1,6 +1,7 @@
 //! `/s_new`.
 ghost use Rattle.std.specs.Prelude.{◌≡◌, ℕ, map, length, Some};
 ghost use Rattle.sn_osc.specs.Shape.{argument_of};
+ghost use Rattle.sn_mem.specs.Words.{SameButWords};
 ghost use Rattle.sn_def.specs.Defs.{definition_of};
 ghost use Rattle.sn_world.specs.World.{turn_of};
 ghost use Rattle.sn_world.specs.Pictures.{Pictures, WritesWorld, KeepsOutside};
@@ -42,8 +43,7 @@ fn make<P: Port>(
     ensures region { stage.new.pool.region ≡ stage.old.pool.region }
     ensures others { KeepsOutside stage.old.pool.region (P.words port.old) (P.words port.new) }
     ensures len { length (P.words port.new) ≡ length (P.words port.old) }
-    ensures foot { P.foot port.new ≡ P.foot port.old }
-    ensures rest { P.rest port.new ≡ P.rest port.old }
+    ensures port { SameButWords P.foot P.rest port.old port.new }
 {
     let new = &asked.node;
     let Some(node) = id_for(stage.next_id, new) else {
@@ -80,8 +80,7 @@ pub fn run_new<P: Port>(
     ensures region { stage.new.pool.region ≡ stage.old.pool.region }
     ensures others { KeepsOutside stage.old.pool.region (P.words port.old) (P.words port.new) }
     ensures len { length (P.words port.new) ≡ length (P.words port.old) }
-    ensures foot { P.foot port.new ≡ P.foot port.old }
-    ensures rest { P.rest port.new ≡ P.rest port.old }
+    ensures port { SameButWords P.foot P.rest port.old port.new }
 {
     let Some(asked) = asked_by(arguments) else {
         return Ok(Some(Reason::Arguments));

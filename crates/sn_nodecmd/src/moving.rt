@@ -13,8 +13,9 @@ ghost use Rattle.sn_world.specs.Moving.{move_refusal, node_move, move_from, judg
 ghost use Rattle.sn_world.specs.Answers.{Continues, Follows, UnlessFollowed};
 ghost use Rattle.sn_nodecmd.specs.Alone.{pair};
 ghost use Rattle.sn_nodecmd.specs.Folding.{IsAtRest};
-ghost use Rattle.sn_nodecmd.specs.Relocating.{reason_against_move, refused_by};
+ghost use Rattle.sn_nodecmd.specs.Relocating.{refused_by};
 
+use crate::faults::reason_of;
 use crate::folding::{Repetition, each, run};
 use crate::telling::tell;
 use sn_osc::Arg;
@@ -74,20 +75,6 @@ fn moves(
     }
 }
 
-/// The reason against a move, by the fault that the tree has.
-fn reason_against_move(fault: TreeFault) -> Reason
-    ensures { result ≡ reason_against_move fault }
-{
-    match fault {
-        TreeFault::InUse => Reason::IdInUse,
-        TreeFault::NoNode => Reason::NoSuchNode,
-        TreeFault::IsRoot => Reason::Root,
-        TreeFault::NotGroup => Reason::NotGroup,
-        TreeFault::Inside => Reason::InsideItself,
-        TreeFault::TooMany => Reason::TooManyNodes,
-    }
-}
-
 /// Where the node goes.
 fn spot_of(to: &NodeMove) -> Spot
     ensures { result ≡ record { action = to.now.action; target = to.now.target } }
@@ -117,7 +104,7 @@ fn relocate(tree: &mut Tree<Held>, to: &NodeMove) -> Result<(), Reason>
 {
     match shift(tree, to) {
         Ok(()) => Ok(()),
-        Err(fault) => Err(reason_against_move(fault)),
+        Err(fault) => Err(reason_of(fault)),
     }
 }
 

@@ -3,7 +3,7 @@ ghost use Rattle.std.specs.Prelude.{◌≡◌, ◌≤◌, ◌<◌, ◌+◌, ◌^
 ghost use Rattle.sn_mem.specs.Layout.{bus_words};
 ghost use Rattle.sn_ports.specs.Limits.{high_rate};
 ghost use Rattle.sn_mem.specs.declared.extents.Extent.{Extent};
-ghost use Rattle.sn_mem.specs.Words.{writes};
+ghost use Rattle.sn_mem.specs.Words.{writes, SameButWords};
 ghost use Rattle.sn_def.specs.Defs.{definition_of};
 ghost use Rattle.sn_def.specs.StateWords.{state_words};
 ghost use Rattle.sn_pool.specs.Pools.{GivesPlace, times, mark_of, saved_of, room_of};
@@ -211,8 +211,7 @@ pub fn clear<P: Port>(port: &mut P, state: Extent)
     requires below { state.at + state.len < 2 ^ 32 }
     requires foot { (k : ℕ) → k < state.len → writes (P.foot port.old) (state.at + k) ≡ true }
     ensures words { P.words port.new ≡ cleared (P.words port.old) state.at state.len }
-    ensures foot { P.foot port.new ≡ P.foot port.old }
-    ensures rest { P.rest port.new ≡ P.rest port.old }
+    ensures port { SameButWords P.foot P.rest port.old port.new }
 {
     for i in 0..state.len {
         port.store(state.at + i, 0);

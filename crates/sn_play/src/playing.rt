@@ -1,6 +1,7 @@
 //! Nodes that run by their ids, one after the other.
 ghost use Rattle.std.specs.Prelude.{◌≡◌, ◌<◌, ◌^◌, length};
 ghost use Rattle.std.specs.List.{All};
+ghost use Rattle.sn_mem.specs.Words.{SameButWords};
 ghost use Rattle.sn_mem.specs.Layout.{bus_words};
 ghost use Rattle.sn_io.specs.ByFoot.{IsByFoot};
 ghost use Rattle.sn_world.specs.WalkWords.{held_words};
@@ -26,8 +27,7 @@ fn run_held<P: Port>(
     requires block { block < 2 ^ 63 }
     requires held { CanRun stage.now (P.foot port.old) held.now }
     ensures words { P.words port.new ≡ held_words stage.now.rate block node stage.now.buffers held.now (P.words port.old) }
-    ensures foot { P.foot port.new ≡ P.foot port.old }
-    ensures rest { P.rest port.new ≡ P.rest port.old }
+    ensures port { SameButWords P.foot P.rest port.old port.new }
 {
     match held {
         Held::Group => {}
@@ -54,8 +54,7 @@ fn run_node<P: Port>(port: &mut P, stage: &Stage, block: u64, node: i32, scratch
     requires block { block < 2 ^ 63 }
     requires held { CanRun stage.now (P.foot port.old) (held_at stage.now node) }
     ensures words { P.words port.new ≡ held_words stage.now.rate block node stage.now.buffers (held_at stage.now node) (P.words port.old) }
-    ensures foot { P.foot port.new ≡ P.foot port.old }
-    ensures rest { P.rest port.new ≡ P.rest port.old }
+    ensures port { SameButWords P.foot P.rest port.old port.new }
 {
     match stage.tree.payload(node) {
         Some(held) => run_held(port, stage, block, node, held, scratch),
@@ -70,8 +69,7 @@ fn run_nodes<P: Port>(port: &mut P, stage: &Stage, block: u64, nodes: &[i32], sc
     requires block { block < 2 ^ 63 }
     requires nodes { All (λ id. CanRun stage.now (P.foot port.old) (held_at stage.now id)) nodes.now }
     ensures words { P.words port.new ≡ words_by_ids stage.now block nodes.now (P.words port.old) }
-    ensures foot { P.foot port.new ≡ P.foot port.old }
-    ensures rest { P.rest port.new ≡ P.rest port.old }
+    ensures port { SameButWords P.foot P.rest port.old port.new }
 {
     for node in nodes {
         run_node(port, stage, block, *node, scratch);
@@ -96,8 +94,7 @@ fn run_in_copy<P: Port>(
     requires nodes { All (λ id. CanRun stage.now (P.foot port.old) (held_at stage.now id)) nodes.now }
     requires by_foot { IsByFoot (P.foot port.old) (words_by_ids stage.now block nodes.now) }
     ensures words { P.words port.new ≡ words_by_ids stage.now block nodes.now (P.words port.old) }
-    ensures foot { P.foot port.new ≡ P.foot port.old }
-    ensures rest { P.rest port.new ≡ P.rest port.old }
+    ensures port { SameButWords P.foot P.rest port.old port.new }
 {
     let mut local = LocalPort::new(port, foot, copy);
     run_nodes(&mut local, stage, block, nodes, scratch);
@@ -121,8 +118,7 @@ pub fn run_job<P: Port>(
     requires nodes { All (λ id. CanRun stage.now (P.foot port.old) (held_at stage.now id)) nodes.now }
     requires by_foot { IsByFoot (P.foot port.old) (words_by_ids stage.now block nodes.now) }
     ensures words { P.words port.new ≡ words_by_ids stage.now block nodes.now (P.words port.old) }
-    ensures foot { P.foot port.new ≡ P.foot port.old }
-    ensures rest { P.rest port.new ≡ P.rest port.old }
+    ensures port { SameButWords P.foot P.rest port.old port.new }
 {
     if nodes.len() < 2 {
         run_nodes(port, stage, block, nodes, scratch);

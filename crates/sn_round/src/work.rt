@@ -1,6 +1,6 @@
 //! What the jobs of a round do.
 ghost use Rattle.std.specs.Prelude.{◌≡◌, ◌<◌, ℕ, List, true, false, length, slice_index};
-ghost use Rattle.sn_mem.specs.Words.{writes, touches};
+ghost use Rattle.sn_mem.specs.Words.{writes, touches, SameButWords};
 
 use sn_mem::{Foot, Port, Scratch};
 
@@ -31,8 +31,7 @@ pub trait Work: Sync {
         requires job { job < jobs self.now }
         requires foot { P.foot port.old ≡ foot_of self.now job }
         ensures words { P.words port.new ≡ outcome self.now job (P.words port.old) }
-        ensures foot { P.foot port.new ≡ P.foot port.old }
-        ensures rest { P.rest port.new ≡ P.rest port.old };
+        ensures port { SameButWords P.foot P.rest port.old port.new };
 
     /// A job keeps the number of words.
     ghost as_long: { (w : Self) (j : ℕ) (ws : List ℕ) → j < jobs w → length (outcome w j ws) ≡ length ws };

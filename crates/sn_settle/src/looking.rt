@@ -2,7 +2,7 @@
 ghost use Rattle.std.specs.Prelude.{◌≡◌, ◌≤◌, ◌<◌, ◌+◌, ◌*◌, ◌^◌, ℕ, length};
 ghost use Rattle.sn_ports.specs.Limits.{most_clients};
 ghost use Rattle.sn_def.specs.StateWords.{unit_words, units_words};
-ghost use Rattle.sn_mem.specs.Words.{MayRead};
+ghost use Rattle.sn_mem.specs.Words.{MayRead, SameButWords};
 ghost use Rattle.sn_reply.specs.declared.events.Notice.{Notice};
 ghost use Rattle.sn_world.specs.Settling.{triggers_at, endings_at, unit_triggers, unit_endings};
 ghost use Rattle.sn_tree.specs.Trees.{running_labels};
@@ -25,8 +25,7 @@ fn trigger_at<P: Port>(port: &mut P, now: &Now, unit: &Unit, at: u32) -> Option<
     requires block { now.now.block < 2 ^ 63 }
     ensures trigger { listed result ≡ triggers_at now.now.block now.now.node unit.now at (P.words port.old) }
     ensures words { P.words port.new ≡ P.words port.old }
-    ensures foot { P.foot port.new ≡ P.foot port.old }
-    ensures rest { P.rest port.new ≡ P.rest port.old }
+    ensures port { SameButWords P.foot P.rest port.old port.new }
 {
     if !unit.sends() {
         return None;
@@ -48,8 +47,7 @@ fn ending_at<P: Port>(port: &mut P, now: &Now, unit: &Unit, at: u32) -> Option<E
     requires reads { (rate : ℕ) × MayRead (P.foot port.old) at (unit_words rate unit.now) }
     ensures ending { listed result ≡ endings_at now.now.node unit.now at (P.words port.old) }
     ensures words { P.words port.new ≡ P.words port.old }
-    ensures foot { P.foot port.new ≡ P.foot port.old }
-    ensures rest { P.rest port.new ≡ P.rest port.old }
+    ensures port { SameButWords P.foot P.rest port.old port.new }
 {
     let Some(action) = unit.done_action() else {
         return None;
@@ -101,8 +99,7 @@ fn look_at_unit<P: Port>(
     requires can { CanLook (triggers_at now.now.block now.now.node unit.now at (P.words port.old)) (endings_at now.now.node unit.now at (P.words port.old)) outs.old endings.old }
     ensures seen { AreSeen flags.now (triggers_at now.now.block now.now.node unit.now at (P.words port.old)) (endings_at now.now.node unit.now at (P.words port.old)) outs.old outs.new endings.old endings.new }
     ensures words { P.words port.new ≡ P.words port.old }
-    ensures foot { P.foot port.new ≡ P.foot port.old }
-    ensures rest { P.rest port.new ≡ P.rest port.old }
+    ensures port { SameButWords P.foot P.rest port.old port.new }
 {
     let trigger = trigger_at(port, now, unit, at);
     tell_found(flags, trigger, outs);
@@ -127,8 +124,7 @@ fn look_at_units<P: Port>(
     requires can { CanLook (unit_triggers now.now.rate now.now.block now.now.node units.now at (P.words port.old)) (unit_endings now.now.rate now.now.node units.now at (P.words port.old)) outs.old endings.old }
     ensures seen { AreSeen flags.now (unit_triggers now.now.rate now.now.block now.now.node units.now at (P.words port.old)) (unit_endings now.now.rate now.now.node units.now at (P.words port.old)) outs.old outs.new endings.old endings.new }
     ensures words { P.words port.new ≡ P.words port.old }
-    ensures foot { P.foot port.new ≡ P.foot port.old }
-    ensures rest { P.rest port.new ≡ P.rest port.old }
+    ensures port { SameButWords P.foot P.rest port.old port.new }
 {
     let mut number = 0;
     for unit in units {
@@ -154,8 +150,7 @@ fn look_at_held<P: Port>(
     requires can { CanLook (held_triggers now.now.rate now.now.block now.now.node held.now (P.words port.old)) (held_endings now.now.rate now.now.node held.now (P.words port.old)) outs.old endings.old }
     ensures seen { AreSeen stage.now.notify (held_triggers now.now.rate now.now.block now.now.node held.now (P.words port.old)) (held_endings now.now.rate now.now.node held.now (P.words port.old)) outs.old outs.new endings.old endings.new }
     ensures words { P.words port.new ≡ P.words port.old }
-    ensures foot { P.foot port.new ≡ P.foot port.old }
-    ensures rest { P.rest port.new ≡ P.rest port.old }
+    ensures port { SameButWords P.foot P.rest port.old port.new }
 {
     match held {
         Held::Group => {}
@@ -189,8 +184,7 @@ pub fn look_at_all<P: Port>(
     requires can { CanLook (walk_triggers stage.now.rate block (running_labels stage.now.tree.attached) (P.words port.old)) (walk_endings stage.now.rate (running_labels stage.now.tree.attached) (P.words port.old)) outs.old endings.old }
     ensures seen { AreSeen stage.now.notify (walk_triggers stage.now.rate block (running_labels stage.now.tree.attached) (P.words port.old)) (walk_endings stage.now.rate (running_labels stage.now.tree.attached) (P.words port.old)) outs.old outs.new endings.old endings.new }
     ensures words { P.words port.new ≡ P.words port.old }
-    ensures foot { P.foot port.new ≡ P.foot port.old }
-    ensures rest { P.rest port.new ≡ P.rest port.old }
+    ensures port { SameButWords P.foot P.rest port.old port.new }
 {
     for visit in stage.tree.walk() {
         let now = Now {

@@ -1,6 +1,7 @@
 //! What happens after a block.
 ghost use Rattle.std.specs.Prelude.{◌≡◌, ◌≤◌, ◌<◌, ◌+◌, ◌*◌, ◌^◌, [], false, length};
 ghost use Rattle.sn_ports.specs.Limits.{most_clients};
+ghost use Rattle.sn_mem.specs.Words.{SameButWords};
 ghost use Rattle.sn_tree.specs.Trees.{running_labels};
 ghost use Rattle.sn_world.specs.Pictures.{Pictures, WritesWorld, KeepsOutside};
 ghost use Rattle.sn_world.specs.Settling.{endings_in, settled};
@@ -45,8 +46,7 @@ pub fn settle<P: Port>(
     ensures region { stage.new.pool.region ≡ stage.old.pool.region }
     ensures others { KeepsOutside stage.old.pool.region (P.words port.old) (P.words port.new) }
     ensures len { length (P.words port.new) ≡ length (P.words port.old) }
-    ensures foot { P.foot port.new ≡ P.foot port.old }
-    ensures rest { P.rest port.new ≡ P.rest port.old }
+    ensures port { SameButWords P.foot P.rest port.old port.new }
 {
     endings.clear();
     look_at_all(port, stage, block, endings, outs);

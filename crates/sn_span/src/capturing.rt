@@ -3,7 +3,7 @@ ghost use Rattle.std.specs.Prelude.{◌≡◌, ◌<◌, ◌+◌, ◌^◌, ◌==�
 ghost use Rattle.sn_mem.specs.Layout.{audio_bus_words};
 ghost use Rattle.sn_ports.specs.Limits.{block_frames};
 ghost use Rattle.sn_mem.specs.Blocks.{put, table};
-ghost use Rattle.sn_mem.specs.Words.{MayRead, MayWrite};
+ghost use Rattle.sn_mem.specs.Words.{MayRead, MayWrite, SameButWords};
 ghost use Rattle.sn_span.specs.Captures.{CanCapture, IsBeside, captured, heard_word};
 
 use sn_mem::{Extent, Port};
@@ -18,8 +18,7 @@ fn is_written<P: Port>(port: &mut P, bus: &Extent, block: u64) -> bool
     requires block { block < 2 ^ 63 }
     ensures number { result ≡ (slice_index (P.words port.old) bus.now.at == block + 1) }
     ensures words { P.words port.new ≡ P.words port.old }
-    ensures foot { P.foot port.new ≡ P.foot port.old }
-    ensures rest { P.rest port.new ≡ P.rest port.old }
+    ensures port { SameButWords P.foot P.rest port.old port.new }
 {
     port.load(bus.at) == block + 1
 }
@@ -30,8 +29,7 @@ fn word_at<P: Port>(port: &mut P, bus: &Extent, written: bool, frame: u32) -> u6
     requires frame { frame < block_frames }
     ensures word { result ≡ cond written (slice_index (P.words port.old) (bus.now.at + 1 + frame)) 0 }
     ensures words { P.words port.new ≡ P.words port.old }
-    ensures foot { P.foot port.new ≡ P.foot port.old }
-    ensures rest { P.rest port.new ≡ P.rest port.old }
+    ensures port { SameButWords P.foot P.rest port.old port.new }
 {
     if !written {
         return 0;
@@ -47,8 +45,7 @@ fn capture_bus<P: Port>(port: &mut P, bus: &Extent, at: u32, block: u64)
     requires beside { IsBeside bus.now at block_frames }
     requires block { block < 2 ^ 63 }
     ensures words { P.words port.new ≡ put (P.words port.old) at (table (heard_word block (P.words port.old) bus.now) block_frames) }
-    ensures foot { P.foot port.new ≡ P.foot port.old }
-    ensures rest { P.rest port.new ≡ P.rest port.old }
+    ensures port { SameButWords P.foot P.rest port.old port.new }
 {
     let written = is_written(port, bus, block);
     for frame in 0..FRAMES {
@@ -63,8 +60,7 @@ pub fn capture<P: Port>(port: &mut P, outputs: &[Extent], at: u32, block: u64)
     requires can { CanCapture (P.foot port.old) outputs.now at }
     requires block { block < 2 ^ 63 }
     ensures words { P.words port.new ≡ captured outputs.now at block (P.words port.old) }
-    ensures foot { P.foot port.new ≡ P.foot port.old }
-    ensures rest { P.rest port.new ≡ P.rest port.old }
+    ensures port { SameButWords P.foot P.rest port.old port.new }
 {
     for (number, bus) in outputs.iter().enumerate() {
         capture_bus(port, bus, at + FRAMES * number as u32, block);

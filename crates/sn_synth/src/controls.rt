@@ -2,6 +2,7 @@
 ghost use Rattle.std.specs.Prelude.{◌≡◌, ◌≤◌, length};
 ghost use Rattle.std.specs.List.{All};
 ghost use Rattle.sn_ports.specs.Limits.{most_wires};
+ghost use Rattle.sn_mem.specs.Words.{SameButWords};
 ghost use Rattle.sn_mem.specs.Buses.{control_buses};
 ghost use Rattle.sn_synth.specs.Synths.{control_value, control_values};
 ghost use Rattle.sn_io.specs.Conditions.{MayReadControl};
@@ -16,8 +17,7 @@ pub fn control_value<P: Port>(port: &mut P, control: Control) -> i32
     requires reads { MayReadControl (P.foot port.old) control.bus }
     ensures value { result ≡ control_value (control_buses (P.words port.old)) control }
     ensures words { P.words port.new ≡ P.words port.old }
-    ensures foot { P.foot port.new ≡ P.foot port.old }
-    ensures rest { P.rest port.new ≡ P.rest port.old }
+    ensures port { SameButWords P.foot P.rest port.old port.new }
 {
     let Some(bus) = control.bus else {
         return control.value;
@@ -34,8 +34,7 @@ pub(crate) fn read_controls<P: Port>(port: &mut P, controls: &[Control], values:
     requires reads { MayFollow (P.foot port.old) controls.now }
     ensures values { values.new ≡ control_values (control_buses (P.words port.old)) controls.now }
     ensures words { P.words port.new ≡ P.words port.old }
-    ensures foot { P.foot port.new ≡ P.foot port.old }
-    ensures rest { P.rest port.new ≡ P.rest port.old }
+    ensures port { SameButWords P.foot P.rest port.old port.new }
 {
     values.clear();
     for control in controls {

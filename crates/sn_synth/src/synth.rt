@@ -3,7 +3,7 @@ ghost use Rattle.std.specs.Prelude.{◌≡◌, ◌<◌, ◌≤◌, ◌^◌, ◌+
 ghost use Rattle.sn_mem.specs.Layout.{bus_words};
 ghost use Rattle.sn_def.specs.Defs.{definition_of};
 ghost use Rattle.sn_def.specs.StateWords.{state_words};
-ghost use Rattle.sn_mem.specs.Words.{MayWrite, writes};
+ghost use Rattle.sn_mem.specs.Words.{MayWrite, writes, SameButWords};
 ghost use Rattle.sn_mem.specs.Blocks.{window};
 ghost use Rattle.sn_mem.specs.Buffers.{AreApart, live_places, overlaps, resources_of};
 ghost use Rattle.sn_synth.specs.Synths.{synth_block};
@@ -47,8 +47,7 @@ pub fn run_synth<P: Port>(
     ensures others { (j : ℕ) → bus_words ≤ j → (j < state.at) ⊎ (state.at + state.len ≤ j) → overlaps j (live_places buffers.now) ≡ 0 → slice_index (P.words port.new) j ≡ slice_index (P.words port.old) j }
     ensures kept { (j : ℕ) → writes (P.foot port.old) j ≡ false → slice_index (P.words port.new) j ≡ slice_index (P.words port.old) j }
     ensures length { length (P.words port.new) ≡ length (P.words port.old) }
-    ensures foot { P.foot port.new ≡ P.foot port.old }
-    ensures rest { P.rest port.new ≡ P.rest port.old }
+    ensures port { SameButWords P.foot P.rest port.old port.new }
 {
     def.well_formed();
     read_controls(port, controls.as_slice(), &mut scratch.values);

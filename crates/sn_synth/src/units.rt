@@ -7,7 +7,7 @@ ghost use Rattle.sn_def.specs.WellFormed.{UnitsFit, outputs_of};
 ghost use Rattle.sn_def.specs.StateWords.{words_of, units_words};
 ghost use Rattle.sn_def.specs.Units.{row_of};
 ghost use Rattle.sn_filt.specs.Rings.{most_frames};
-ghost use Rattle.sn_mem.specs.Words.{MayWrite};
+ghost use Rattle.sn_mem.specs.Words.{MayWrite, SameButWords};
 ghost use Rattle.sn_gen.specs.Generators.{is_generator};
 ghost use Rattle.sn_mem.specs.Blocks.{window, put};
 ghost use Rattle.sn_mem.specs.Buffers.{AreApart};
@@ -70,8 +70,7 @@ fn run_inner<P: Port>(
     requires state { MayWrite (P.foot port.old) state.at state.len }
     ensures words { P.words port.new ≡ put (P.words port.old) state.at (inner kind now.now (window (P.words port.old) state.at state.len) inputs.now).0 }
     ensures outputs { outputs.new ≡ (inner kind now.now (window (P.words port.old) state.at state.len) inputs.now).1 }
-    ensures foot { P.foot port.new ≡ P.foot port.old }
-    ensures rest { P.rest port.new ≡ P.rest port.old }
+    ensures port { SameButWords P.foot P.rest port.old port.new }
 {
     if is_generator(kind) {
         sn_gen::run_with(heights, kind, now, port, state, inputs, outputs);
@@ -101,8 +100,7 @@ fn run_plain<P: Port>(
     requires buses { MayReach kind (P.foot port.old) (length outputs.old) inputs.now }
     ensures words { P.words port.new ≡ (plain_after kind now.now (length outputs.old) (P.words port.old) state.at state.len inputs.now).0 }
     ensures outputs { outputs.new ≡ (plain_after kind now.now (length outputs.old) (P.words port.old) state.at state.len inputs.now).1 }
-    ensures foot { P.foot port.new ≡ P.foot port.old }
-    ensures rest { P.rest port.new ≡ P.rest port.old }
+    ensures port { SameButWords P.foot P.rest port.old port.new }
 {
     if is_bus_unit(kind) {
         sn_io::run(kind, now, &Places, port, state, inputs, outputs);
@@ -128,8 +126,7 @@ fn run_kind<P: Port>(
     requires can { CanRun kind now.now.rate (P.foot port.old) buffers.now (length outputs.old) state.at state.len inputs.now }
     ensures words { P.words port.new ≡ (unit_after kind now.now (length outputs.old) buffers.now (P.words port.old) state.at state.len inputs.now).0 }
     ensures outputs { outputs.new ≡ (unit_after kind now.now (length outputs.old) buffers.now (P.words port.old) state.at state.len inputs.now).1 }
-    ensures foot { P.foot port.new ≡ P.foot port.old }
-    ensures rest { P.rest port.new ≡ P.rest port.old }
+    ensures port { SameButWords P.foot P.rest port.old port.new }
 {
     if is_buffer_unit(kind) {
         sn_io::run_buffer_unit(kind, now, buffers, port, state, inputs, outputs);
@@ -159,8 +156,7 @@ pub(crate) fn run_units<P: Port>(
     requires buffers { AreApart (record { at = at; len = units_words now.now.rate units.now }) buffers.now }
     requires outputs { All (MayOutput (P.foot port.old) buffers.now scratch.old.values) units.now }
     ensures words { P.words port.new ≡ (after_units now.now.rate now.now.block now.now.node buffers.now scratch.old.values units.now (begun (P.words port.old) at)).words }
-    ensures foot { P.foot port.new ≡ P.foot port.old }
-    ensures rest { P.rest port.new ≡ P.rest port.old }
+    ensures port { SameButWords P.foot P.rest port.old port.new }
 {
     scratch.wires.clear();
     let mut place = at;

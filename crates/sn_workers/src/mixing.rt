@@ -1,6 +1,6 @@
 //! Jobs that mix their words with those of earlier jobs.
 ghost use Rattle.std.specs.Prelude.{◌≡◌, ◌<◌, length};
-ghost use Rattle.sn_mem.specs.Words.{writes, touches};
+ghost use Rattle.sn_mem.specs.Words.{writes, touches, SameButWords};
 ghost use Rattle.sn_workers.specs.Mixing.{mix, seen};
 
 use sn_machine::{may_touch, may_write};
@@ -28,8 +28,7 @@ fn seen<P: Port>(port: &mut P, foot: &Foot, at: u32) -> u64
     requires { P.foot port.old ≡ foot.now }
     ensures word { result ≡ seen foot.now (P.words port.old) at }
     ensures same { P.words port.new ≡ P.words port.old }
-    ensures foot { P.foot port.new ≡ P.foot port.old }
-    ensures rest { P.rest port.new ≡ P.rest port.old }
+    ensures port { SameButWords P.foot P.rest port.old port.new }
 {
     if may_touch(foot, u64::from(at)) {
         port.load(at)

@@ -25,6 +25,6 @@ loop-number-preserved g c =
           ∙ sym (ap (λ xs. map argument_of found ++ xs) (values-more buses number end c.loop-number-test.true))
           ∙ c.loop-number.invariant.left;
       words = c.value_at.ensures.words ∙ c.loop-number.invariant.words;
-      foot = c.value_at.ensures.foot ∙ c.loop-number.invariant.foot;
-      rest = c.value_at.ensures.rest ∙ c.loop-number.invariant.rest;
+      foot = c.value_at.ensures.port.0 ∙ c.loop-number.invariant.foot;
+      rest = c.value_at.ensures.port.1 ∙ c.loop-number.invariant.rest;
     }

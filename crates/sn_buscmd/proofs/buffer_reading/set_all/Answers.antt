@@ -24,8 +24,8 @@ loop-index-preserved g c =
       left = sets_next words.len at.index at.rest.now c.behind_sample-rest.result.now old new _ within (one ∙ ap (set old at.index) c.sample_in_front.ensures) c.behind_sample-rest.ensures at.invariant.left;
       whole = omega (arith, within, at.invariant.whole, ap length c.behind_sample-rest.ensures, length-drop 4 at.rest.now);
       others = others;
-      foot = c.set_sample.ensures.foot ∙ at.invariant.foot;
-      rest = c.set_sample.ensures.rest ∙ at.invariant.rest;
+      foot = c.set_sample.ensures.port.0 ∙ at.invariant.foot;
+      rest = c.set_sample.ensures.port.1 ∙ at.invariant.rest;
     }
 
 pub returns-clause-samples : goal.returns-clause-samples

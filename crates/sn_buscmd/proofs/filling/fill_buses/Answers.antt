@@ -21,8 +21,8 @@ loop-number-preserved g c =
     record {
       left = ap (λ (bs : List ControlBus). with_values bs (number + 1) (replicate (end - (number + 1)) fill.value)) set ∙ sym (filled-more before number end fill.value low) ∙ c.loop-number.invariant.left;
       others = others-again _ _ _ c.loop-number.invariant.others c.set_value.ensures.others;
-      foot = c.set_value.ensures.foot ∙ c.loop-number.invariant.foot;
-      rest = c.set_value.ensures.rest ∙ c.loop-number.invariant.rest;
+      foot = c.set_value.ensures.port.0 ∙ c.loop-number.invariant.foot;
+      rest = c.set_value.ensures.port.1 ∙ c.loop-number.invariant.rest;
     }
 
 pub returns-clause-buses : goal.returns-clause-buses

@@ -24,6 +24,6 @@ loop-index-preserved g c =
           ∙ sym (ap (λ (xs : List Argument). found ++ xs) (values-more samples index end c.loop-index-test.true))
           ∙ c.loop-index.invariant.left;
       words = c.sample_at.ensures.words ∙ c.loop-index.invariant.words;
-      foot = c.sample_at.ensures.foot ∙ c.loop-index.invariant.foot;
-      rest = c.sample_at.ensures.rest ∙ c.loop-index.invariant.rest;
+      foot = c.sample_at.ensures.port.0 ∙ c.loop-index.invariant.foot;
+      rest = c.sample_at.ensures.port.1 ∙ c.loop-index.invariant.rest;
     }

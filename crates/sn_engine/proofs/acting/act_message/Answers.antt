@@ -20,8 +20,8 @@ loop-preserved g c =
       pictures = e.pictures;
       region = e.region ∙ i.region;
       len = e.len ∙ i.len;
-      foot = e.foot ∙ i.foot;
-      rest = e.rest ∙ i.rest;
+      foot = e.port.0 ∙ i.foot;
+      rest = e.port.1 ∙ i.rest;
     }
 
 pub returns-clause-acts : goal.returns-clause-acts

@@ -23,6 +23,6 @@ loop-message-preserved g c =
       pictures = c.act_one.ensures.pictures;
       region = c.act_one.ensures.region ∙ i.region;
       len = c.act_one.ensures.len ∙ i.len;
-      foot = c.act_one.ensures.foot ∙ i.foot;
-      rest = c.act_one.ensures.rest ∙ i.rest;
+      foot = c.act_one.ensures.port.0 ∙ i.foot;
+      rest = c.act_one.ensures.port.1 ∙ i.rest;
     }

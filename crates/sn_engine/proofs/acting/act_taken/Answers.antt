@@ -52,8 +52,8 @@ loop-entry-preserved g c =
       pictures = c.act_messages.ensures.pictures;
       region = c.act_messages.ensures.region ∙ i.region;
       len = c.act_messages.ensures.len ∙ i.len;
-      foot = c.act_messages.ensures.foot ∙ i.foot;
-      rest = c.act_messages.ensures.rest ∙ i.rest;
+      foot = c.act_messages.ensures.port.0 ∙ i.foot;
+      rest = c.act_messages.ensures.port.1 ∙ i.rest;
     }
 
 pub returns-clause-acts : goal.returns-clause-acts

@@ -37,8 +37,8 @@ loop-frame-preserved g c =
       place = c.after-place.ensures.bound;
       long = length-set_at c.loop-frame.samples c.loop-frame.frame (to_z w32 (of_z w32 c.hear.result)) 64 i.long;
       rate = c.at-time.ensures.rate ∙ i.rate;
-      foot = c.hear.ensures.foot ∙ i.foot;
-      rest = c.hear.ensures.rest ∙ i.rest;
+      foot = c.hear.ensures.port.0 ∙ i.foot;
+      rest = c.hear.ensures.port.1 ∙ i.rest;
       ran = ring_more (g.U.Echo.reach c.args.unit.now) (g.U.Echo.step c.args.unit.now) at len c.loop-frame.frame c.loop-frame.place c.after-place.result (len - 1)
           (c.load.result % c.from.result, window (g.P.Port.words c.load.new.self) at len) ws (g.P.Port.words c.hear.new.port) c.args.inputs.now (to_z w32 (of_z w32 c.hear.result)) c.loop-frame.samples
           lt refl i.place (omega (arith, c.hear.ensures.reach)) inside i.ran c.hear.ensures.words (to_z-of_z w32 c.hear.result fits ∙ c.hear.ensures.sample) c.after-place.ensures.value;
@@ -66,6 +66,5 @@ returns g c =
     record {
       words = done.0 ∙ ap (λ (ws : List ℕ). put ws at (ringed reach step (window ws at len) ins).0) c.load.ensures.same;
       outputs = c.push.ensures ∙ (ap (λ (bs : List (List ℤ)). bs ++ c.loop-frame.samples ∷ []) c.clear.ensures ∙ ap (λ (ys : List ℤ). ys ∷ []) (done.1 ∙ ap (λ (ws : List ℕ). (ringed reach step (window ws at len) ins).1) c.load.ensures.same));
-      foot = c.store.ensures.foot ∙ (i.foot ∙ c.load.ensures.foot);
-      rest = c.store.ensures.rest ∙ (i.rest ∙ c.load.ensures.rest);
+      port = (c.store.ensures.foot ∙ (i.foot ∙ c.load.ensures.foot), c.store.ensures.rest ∙ (i.rest ∙ c.load.ensures.rest));
     }

@@ -17,6 +17,5 @@ returns g c =
       kept = λ j off. run_keeps c.args.kind c.args.now.now (g.P.Port.foot c.args.port.now) (length c.args.outputs.now) (g.P.Port.words c.args.port.now) (g.P.Port.words c.run_kind.new.port) c.args.state.at c.args.state.len c.args.inputs.now
           c.run_kind.ensures.words c.requires.state c.requires.size c.requires.buses j off;
       length = m.long;
-      foot = c.run_kind.ensures.foot;
-      rest = c.run_kind.ensures.rest;
+      port = c.run_kind.ensures.port;
     }

@@ -27,6 +27,6 @@ loop-channel-preserved g c =
       made = made;
       long = ap (λ (bs : List (List ℤ)). length bs) made ∙ length-table f (c.loop-channel.channel + 1);
       words = c.channel_at-samples.ensures.words ∙ i.words;
-      foot = c.channel_at-samples.ensures.foot ∙ i.foot;
-      rest = c.channel_at-samples.ensures.rest ∙ i.rest;
+      foot = c.channel_at-samples.ensures.port.0 ∙ i.foot;
+      rest = c.channel_at-samples.ensures.port.1 ∙ i.rest;
     }

@@ -24,6 +24,6 @@ loop-frame-preserved g c =
       made = table_step f c.loop-frame.samples c.loop-frame.frame (to_z w32 (of_z w32 c.sample_at.result)) lt i.made
           (to_z-of_z w32 c.sample_at.result fits ∙ (c.sample_at.ensures.value ∙ ap (λ (us : List ℕ). sample_at (Some (buffer_of us c.args.place)) (get_or c.args.frames.now c.loop-frame.frame None) c.args.channel) i.words));
       words = c.sample_at.ensures.words ∙ i.words;
-      foot = c.sample_at.ensures.foot ∙ i.foot;
-      rest = c.sample_at.ensures.rest ∙ i.rest;
+      foot = c.sample_at.ensures.port.0 ∙ i.foot;
+      rest = c.sample_at.ensures.port.1 ∙ i.rest;
     }

@@ -12,6 +12,6 @@ loop-at-preserved g c = record {
   words = c.set_at.ensures.words
       ∙ (ap (λ (us : List ℕ). set_at (set_word c.args.place.extent.at) c.args.inputs.now c.args.first c.args.place.channels c.loop-at.at (get_or c.args.frames.now c.loop-at.at None) us) c.loop-at.invariant.words
       ∙ sym (scattered_more (set_word c.args.place.extent.at) c.args.inputs.now c.args.first c.args.place.channels c.args.frames.now c.loop-at.at (g.P.Port.words c.args.port.now)));
-  foot = c.set_at.ensures.foot ∙ c.loop-at.invariant.foot;
-  rest = c.set_at.ensures.rest ∙ c.loop-at.invariant.rest;
+  foot = c.set_at.ensures.port.0 ∙ c.loop-at.invariant.foot;
+  rest = c.set_at.ensures.port.1 ∙ c.loop-at.invariant.rest;
 }

@@ -23,6 +23,5 @@ returns g c =
       others = λ apart j off free. (means apart).others j off (no_buffers places j free);
       kept = run_keeps c.args.kind c.args.now.now n at len f places ws us c.args.inputs.now c.run_kind.ensures.words c.requires.size c.requires.state c.requires.buffer;
       length = run_long c.args.kind c.args.now.now n at len places ws us c.args.inputs.now c.run_kind.ensures.words;
-      foot = c.run_kind.ensures.foot;
-      rest = c.run_kind.ensures.rest;
+      port = c.run_kind.ensures.port;
     }

@@ -27,6 +27,6 @@ loop-channel-preserved g c =
       made = made;
       long = ap (λ (bs : List (List ℤ)). length bs) made ∙ length-table f (c.loop-channel.channel + 1);
       words = c.audio_in-samples.ensures.words ∙ i.words;
-      foot = c.audio_in-samples.ensures.foot ∙ i.foot;
-      rest = c.audio_in-samples.ensures.rest ∙ i.rest;
+      foot = c.audio_in-samples.ensures.port.0 ∙ i.foot;
+      rest = c.audio_in-samples.ensures.port.1 ∙ i.rest;
     }

@@ -27,6 +27,6 @@ loop-channel-preserved g c =
       made = made;
       long = ap (λ (bs : List (List ℤ)). length bs) made ∙ length-table f (c.loop-channel.channel + 1);
       words = c.control_in-samples.ensures.words ∙ i.words;
-      foot = c.control_in-samples.ensures.foot ∙ i.foot;
-      rest = c.control_in-samples.ensures.rest ∙ i.rest;
+      foot = c.control_in-samples.ensures.port.0 ∙ i.foot;
+      rest = c.control_in-samples.ensures.port.1 ∙ i.rest;
     }

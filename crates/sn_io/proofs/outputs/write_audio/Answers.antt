@@ -9,6 +9,6 @@ loop-channel-init g c = record { words = sym (channels_none (onto_audio_channel 
 pub loop-channel-preserved : goal.loop-channel-preserved
 loop-channel-preserved g c = record {
   words = audio_more c.args.adds c.args.block c.args.inputs.now (g.P.Port.words c.args.port.now) (g.P.Port.words c.loop-channel.port) (g.P.Port.words c.put_audio.new.port) c.loop-channel.channel c.audio_channel.result c.block.result.now c.loop-channel.invariant.words c.audio_channel.ensures.number c.block.ensures c.put_audio.ensures.words;
-  foot = c.put_audio.ensures.foot ∙ c.loop-channel.invariant.foot;
-  rest = c.put_audio.ensures.rest ∙ c.loop-channel.invariant.rest;
+  foot = c.put_audio.ensures.port.0 ∙ c.loop-channel.invariant.foot;
+  rest = c.put_audio.ensures.port.1 ∙ c.loop-channel.invariant.rest;
 }

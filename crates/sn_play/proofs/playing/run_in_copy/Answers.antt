@@ -22,9 +22,9 @@ flush-requires-clause-outside g c =
     ap (λ (h : Foot). localized h (g.P.Port.words first.port.now) first.copy.now) c.new-local.ensures.foot
     ∙ (ap (λ (ws : List ℕ). localized f ws first.copy.now) c.new-local.ensures.port ∙ c.new-local.ensures.words) in
     let now : localized (g.P.Port.foot last.port.now) (g.P.Port.words last.port.now) last.copy.now ≡ change base = c.run_nodes.ensures.words ∙ ap change seen in
-    let kept : outside (g.P.Port.foot last.port.now) (g.P.Port.words last.port.now) ≡ outside (g.P.Port.foot first.port.now) (g.P.Port.words first.port.now) = ap (λ (r : LocalRest g.row.P-Rest.Denot). r.outside) c.run_nodes.ensures.rest in
+    let kept : outside (g.P.Port.foot last.port.now) (g.P.Port.words last.port.now) ≡ outside (g.P.Port.foot first.port.now) (g.P.Port.words first.port.now) = ap (λ (r : LocalRest g.row.P-Rest.Denot). r.outside) c.run_nodes.ensures.port.1 in
     let there : outside (g.P.Port.foot first.port.now) (g.P.Port.words first.port.now) ≡ outside f base =
     ap (λ (h : Foot). outside h (g.P.Port.words first.port.now)) c.new-local.ensures.foot ∙ ap (outside f) c.new-local.ensures.port in
     seen_outside f (g.P.Port.foot last.port.now) change base
     (localized (g.P.Port.foot last.port.now) (g.P.Port.words last.port.now) last.copy.now) (g.P.Port.words last.port.now)
-    (c.run_nodes.ensures.foot ∙ c.new-local.ensures.foot) c.requires.by_foot now (kept ∙ there)
+    (c.run_nodes.ensures.port.0 ∙ c.new-local.ensures.foot) c.requires.by_foot now (kept ∙ there)

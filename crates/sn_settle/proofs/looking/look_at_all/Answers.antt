@@ -62,8 +62,8 @@ loop-visit-preserved g c =
           c.look_at_held.ensures.seen));
       held = held.1;
       words = c.look_at_held.ensures.words ∙ i.words;
-      foot = c.look_at_held.ensures.foot ∙ i.foot;
-      rest = c.look_at_held.ensures.rest ∙ i.rest;
+      foot = c.look_at_held.ensures.port.0 ∙ i.foot;
+      rest = c.look_at_held.ensures.port.1 ∙ i.rest;
     }
 
 pub returns-clause-seen : goal.returns-clause-seen

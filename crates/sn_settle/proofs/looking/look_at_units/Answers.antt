@@ -79,8 +79,8 @@ loop-unit-preserved g c =
       underway = subst (λ (n : ℕ). IsUnderway c.args.flags.now all_triggers (unit_triggers now.rate now.block now.node left n ws) all_endings (unit_endings now.rate now.node left n ws) c.args.outs.now c.look_at_unit.new.outs c.args.endings.now c.look_at_unit.new.endings) (sym (next_place now.rate c.args.units.now c.args.at c.loop-unit.unit-index u lt c.unit-item.is)) under;
       count = omega (arith, i.count);
       words = c.look_at_unit.ensures.words ∙ i.words;
-      foot = c.look_at_unit.ensures.foot ∙ i.foot;
-      rest = c.look_at_unit.ensures.rest ∙ i.rest;
+      foot = c.look_at_unit.ensures.port.0 ∙ i.foot;
+      rest = c.look_at_unit.ensures.port.1 ∙ i.rest;
     }
 
 pub returns-clause-seen : goal.returns-clause-seen

@@ -42,8 +42,8 @@ loop-unit-preserved g c =
           ∙ sym (ap (λ (us : List UnitLine). settled_units c.args.rate us here (g.P.Port.words c.loop-unit.port)) (drop_next c.args.units.now c.loop-unit.unit-index u lt c.unit-item.is))
           ∙ i.words;
       count = omega (arith, i.count);
-      foot = c.settle_unit.ensures.foot ∙ i.foot;
-      rest = c.settle_unit.ensures.rest ∙ i.rest;
+      foot = c.settle_unit.ensures.port.0 ∙ i.foot;
+      rest = c.settle_unit.ensures.port.1 ∙ i.rest;
     }
 
 pub returns-clause-words : goal.returns-clause-words

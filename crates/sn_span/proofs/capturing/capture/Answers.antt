@@ -12,8 +12,8 @@ loop-number-preserved g c =
     record {
       made = captured_more c.args.block (g.P.Port.words c.args.port.now) (g.P.Port.words c.loop-number.port) (g.P.Port.words c.capture_bus.new.port) c.args.outputs.now c.args.at c.loop-number.number no_extent
           c.loop-number-test.true c.requires.can.buses c.requires.can.beside i.made c.capture_bus.ensures.words;
-      foot = c.capture_bus.ensures.foot ∙ i.foot;
-      rest = c.capture_bus.ensures.rest ∙ i.rest;
+      foot = c.capture_bus.ensures.port.0 ∙ i.foot;
+      rest = c.capture_bus.ensures.port.1 ∙ i.rest;
     }
 
 pub capture_bus-requires-clause-long : goal.capture_bus-requires-clause-long

@@ -7,8 +7,8 @@ use Rattle.sn_span.proofs.capturing.capture_bus.Goals as goal
 pub loop-frame-init : goal.loop-frame-init
 loop-frame-init g c = record {
   made = c.is_written-written.ensures.words ∙ capture_none c.args.block (g.P.Port.words c.args.port.now) c.args.bus.now c.args.at;
-  foot = c.is_written-written.ensures.foot;
-  rest = c.is_written-written.ensures.rest;
+  foot = c.is_written-written.ensures.port.0;
+  rest = c.is_written-written.ensures.port.1;
 }
 
 pub loop-frame-preserved : goal.loop-frame-preserved
@@ -19,8 +19,8 @@ loop-frame-preserved g c =
       made = capture_step c.args.block ws (g.P.Port.words c.loop-frame.port) (g.P.Port.words c.store.new.self) c.args.bus.now c.args.at c.loop-frame.frame c.word_at-word.result c.is_written-written.result
           c.requires.long c.requires.beside c.loop-frame-test.true i.made c.is_written-written.ensures.number c.word_at-word.ensures.word
           (c.store.ensures.changed ∙ ap (λ (us : List ℕ). set us (c.args.at + c.loop-frame.frame) c.word_at-word.result) c.word_at-word.ensures.words);
-      foot = c.store.ensures.foot ∙ (c.word_at-word.ensures.foot ∙ i.foot);
-      rest = c.store.ensures.rest ∙ (c.word_at-word.ensures.rest ∙ i.rest);
+      foot = c.store.ensures.foot ∙ (c.word_at-word.ensures.port.0 ∙ i.foot);
+      rest = c.store.ensures.rest ∙ (c.word_at-word.ensures.port.1 ∙ i.rest);
     }
 
 pub word_at-word-requires-clause-reads : goal.word_at-word-requires-clause-reads

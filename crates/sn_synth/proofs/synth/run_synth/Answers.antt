@@ -11,7 +11,7 @@ use Rattle.sn_synth.proofs.synth.run_synth.Goals as goal
 
 pub run_units-requires-clause-outputs : goal.run_units-requires-clause-outputs
 run_units-requires-clause-outputs g c = may_output (g.P.Port.foot c.args.port.now) (g.P.Port.foot c.read_controls.new.port) c.args.buffers.now (definition_of c.args.def.now) c.args.controls.now (control_buses (g.P.Port.words c.args.port.now)) c.read_controls.new.values c.as_slice-2.result.now
-    c.requires.controls c.well_formed-2.ensures.fit c.requires.buffers.each c.requires.writes c.read_controls.ensures.foot (c.read_controls.ensures.values ∙ ap (control_values (control_buses (g.P.Port.words c.args.port.now))) c.as_slice.ensures) c.as_slice-2.ensures
+    c.requires.controls c.well_formed-2.ensures.fit c.requires.buffers.each c.requires.writes c.read_controls.ensures.port.0 (c.read_controls.ensures.values ∙ ap (control_values (control_buses (g.P.Port.words c.args.port.now))) c.as_slice.ensures) c.as_slice-2.ensures
 
 pub returns : goal.returns
 returns g c =
@@ -37,6 +37,5 @@ returns g c =
       kept = λ j off. run_keeps rate block node (g.P.Port.foot c.args.port.now) places (definition_of c.args.def.now) c.args.controls.now at c.args.state.len ws (g.P.Port.words c.run_units.new.port) words
           c.requires.controls c.well_formed-2.ensures.fit c.requires.buffers.each c.requires.writes c.requires.words c.requires.state j off;
       length = means.long;
-      foot = c.run_units.ensures.foot ∙ c.read_controls.ensures.foot;
-      rest = c.run_units.ensures.rest ∙ c.read_controls.ensures.rest;
+      port = (c.run_units.ensures.port.0 ∙ c.read_controls.ensures.port.0, c.run_units.ensures.port.1 ∙ c.read_controls.ensures.port.1);
     }

@@ -74,6 +74,6 @@ loop-unit-preserved g c =
       low = omega arith;
       count = omega arith;
       values = i.values;
-      foot = c.run_kind.ensures.foot ∙ i.foot;
-      rest = c.run_kind.ensures.rest ∙ i.rest;
+      foot = c.run_kind.ensures.port.0 ∙ i.foot;
+      rest = c.run_kind.ensures.port.1 ∙ i.rest;
     }

@@ -11,7 +11,7 @@ use Rattle.sn_table.proofs.job.run_job.Goals as goal
 
 pub returns-clause-of : goal.returns-clause-of
 returns-clause-of g c =
-    let rest = c.run.ensures.rest in
+    let rest = c.run.ensures.port.1 in
     let last = c.seat-1.given.1 (sym c.new-port.ensures.same_reference ∙ sym (ap (λ (r : SeatRest). r.seat) rest)) ∙ c.drop-port.ensures in
     let e = ap (λ (r : SeatRest). r.place) rest in
     let same = ap rest_of last ∙ (e ∙ ap rest_of c.new-port.ensures.same) in
@@ -19,7 +19,7 @@ returns-clause-of g c =
 
 pub returns-clause-view : goal.returns-clause-view
 returns-clause-view g c =
-    let rest = c.run.ensures.rest in
+    let rest = c.run.ensures.port.1 in
     let last = c.seat-1.given.1 (sym c.new-port.ensures.same_reference ∙ sym (ap (λ (r : SeatRest). r.seat) rest)) ∙ c.drop-port.ensures in
     let old = c.args.seat.now in
     let same = ap (λ (r : SeatRest). r.place.me.0) rest ∙ ap (λ (s : WorkerSeat). (rest_of s).me.0) c.new-port.ensures.same in

@@ -140,22 +140,22 @@ returns-in_err-reserve-2-clause-past c =
 pub returns-in_err-quits-clause-past : goal.returns-in_err-quits-clause-past
 returns-in_err-quits-clause-past c =
     let e = c.self.inside in
-    rested_kept _ c.args.self.now.past (past_is c.self.view_is) c.act_boundary.new.planned.jobs c.act_boundary.new.port.rounds c.act_boundary.new.port.stores (length e.crew.hands.items) c.act_boundary.ensures.rest refl
+    rested_kept _ c.args.self.now.past (past_is c.self.view_is) c.act_boundary.new.planned.jobs c.act_boundary.new.port.rounds c.act_boundary.new.port.stores (length e.crew.hands.items) c.act_boundary.ensures.port.1 refl
 
 pub returns-in_err-send-clause-past : goal.returns-in_err-send-clause-past
 returns-in_err-send-clause-past c =
     let e = c.self.inside in
-    rested_kept _ c.args.self.now.past (past_is c.self.view_is) c.unroll.new.self.jobs c.act_boundary.new.port.rounds c.act_boundary.new.port.stores (length e.crew.hands.items) c.act_boundary.ensures.rest refl
+    rested_kept _ c.args.self.now.past (past_is c.self.view_is) c.unroll.new.self.jobs c.act_boundary.new.port.rounds c.act_boundary.new.port.stores (length e.crew.hands.items) c.act_boundary.ensures.port.1 refl
 
 pub returns-in_err-self-inside-clause-past : goal.returns-in_err-self-inside-clause-past
 returns-in_err-self-inside-clause-past c =
     let e = c.self.inside in
-    rested_kept _ c.args.self.now.past (past_is c.self.view_is) c.unroll.new.self.jobs c.act_boundary.new.port.rounds c.act_boundary.new.port.stores (length e.crew.hands.items) c.act_boundary.ensures.rest refl
+    rested_kept _ c.args.self.now.past (past_is c.self.view_is) c.unroll.new.self.jobs c.act_boundary.new.port.rounds c.act_boundary.new.port.stores (length e.crew.hands.items) c.act_boundary.ensures.port.1 refl
 
 pub returns-clause-past : goal.returns-clause-past
 returns-clause-past c =
     let e = c.self.inside in
-    rested_kept _ c.args.self.now.past (past_is c.self.view_is) c.unroll.new.self.jobs c.act_boundary.new.port.rounds c.act_boundary.new.port.stores (length e.crew.hands.items) c.act_boundary.ensures.rest refl
+    rested_kept _ c.args.self.now.past (past_is c.self.view_is) c.unroll.new.self.jobs c.act_boundary.new.port.rounds c.act_boundary.new.port.stores (length e.crew.hands.items) c.act_boundary.ensures.port.1 refl
 
 pub returns-clause-planned : goal.returns-clause-planned
 returns-clause-planned c = record {
@@ -169,7 +169,7 @@ returns-clause-planned c = record {
 pub returns-in_err-unroll-clause-past : goal.returns-in_err-unroll-clause-past
 returns-in_err-unroll-clause-past c =
     let e = c.self.inside in
-    rested_kept _ c.args.self.now.past (past_is c.self.view_is) c.unroll.new.self.jobs c.act_boundary.new.port.rounds c.act_boundary.new.port.stores (length e.crew.hands.items) c.act_boundary.ensures.rest refl
+    rested_kept _ c.args.self.now.past (past_is c.self.view_is) c.unroll.new.self.jobs c.act_boundary.new.port.rounds c.act_boundary.new.port.stores (length e.crew.hands.items) c.act_boundary.ensures.port.1 refl
 
 pub returns-in_err-unroll-clause-behind : goal.returns-in_err-unroll-clause-behind
 returns-in_err-unroll-clause-behind c = none_lost c.args.self.now.running.replies (map bytes_of c.self.inside.replies.items) (ap (λ (r : Running). r.replies) (running_is c.self.view_is))

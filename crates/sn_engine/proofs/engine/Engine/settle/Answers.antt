@@ -44,4 +44,4 @@ invariant_of-self c =
 pub returns-clause-past : goal.returns-clause-past
 returns-clause-past c =
     let e = c.self.inside in
-    rounds_kept _ c.args.self.now.past (past_is c.self.view_is) e.planned.jobs c.settle_before-ended.new.port.rounds c.settle_before-ended.new.port.stores (length e.crew.hands.items) c.settle_before-ended.ensures.rest refl refl
+    rounds_kept _ c.args.self.now.past (past_is c.self.view_is) e.planned.jobs c.settle_before-ended.new.port.rounds c.settle_before-ended.new.port.stores (length e.crew.hands.items) c.settle_before-ended.ensures.port.1 refl refl

@@ -153,6 +153,20 @@ def sc_defs():
     m = d.sig("BinaryOpUGen", AUDIO, [a, 0.0009765625], special=MUL)
     d.ugen("Out", AUDIO, [d["out"], m], 0)
     out["quiet"] = d.scgf()
+    # rich: three oscillators through two filters, with a tremolo and an envelope
+    d = Def("rich", freq=440, out=0)
+    a = d.sig("SinOsc", AUDIO, [d["freq"], 0.0])
+    b = d.sig("LFSaw", AUDIO, [d["freq"], 0.0])
+    c = d.sig("LFTri", AUDIO, [d["freq"], 0.0])
+    s = d.sig("BinaryOpUGen", AUDIO, [d.sig("BinaryOpUGen", AUDIO, [a, b], special=ADD), c], special=ADD)
+    f = d.sig("OnePole", AUDIO, [s, 0.5])
+    e = d.sig("Line", AUDIO, [0.001, 0.0, 60.0, 0.0])
+    m = d.sig("BinaryOpUGen", AUDIO, [f, e], special=MUL)
+    v = d.sig("SinOsc", AUDIO, [5.0, 0.0])
+    t = d.sig("BinaryOpUGen", AUDIO, [m, v], special=MUL)
+    o = d.sig("OnePole", AUDIO, [t, 0.25])
+    d.ugen("Out", AUDIO, [d["out"], o], 0)
+    out["rich"] = d.scgf()
     # step: a control's value onto a control bus
     d = Def("step", value=1, out=0)
     d.ugen("Out", CONTROL, [d["out"], d["value"]], 0)
@@ -183,6 +197,9 @@ def snova_defs():
                     "a = SinOsc freq 0\ne = Line 0.01 0 dur 0\nm = Mul a e\nOut.ar out m\n",
         "quiet": "control freq 440000\ncontrol out 0\n"
                  "a = SinOsc freq 0\nm = Mul a 16384\nOut.ar out m\n",
+        "rich": "control freq 440000\ncontrol out 0\n"
+                "a = SinOsc freq 0\nb = LFSaw freq 0\nc = LFTri freq 0\nd = Add a b\ns = Add d c\nf = OnePole s 0.5\n"
+                "e = Line 0.001 0 60000 0\nm = Mul f e\nv = SinOsc 5000 0\nt = Mul m v\no = OnePole t 0.25\nOut.ar out o\n",
         "step": "control value 1\ncontrol out 0\nOut.kr out value\n",
         "voice": "control freq 440000\ncontrol out 16\n"
                  "a = SinOsc freq 0\ne = Line 0.25 0 500 2\nm = Mul a e\nOut.ar out m\n",

@@ -29,9 +29,9 @@ def ended(binary, words, folder, **how):
 
 def leaving_reader(binary, folder):
     """How it ends if the sound goes into a pipe whose reader leaves at once."""
-    os.mkfifo(os.path.join(folder, "pipe"))
-    reader = subprocess.Popen(["head", "-c", "1", os.path.join(folder, "pipe")], stdout=subprocess.DEVNULL)
-    found = ended(binary, ["render", "commands", "pipe", "replies"], folder)
+    os.mkfifo(os.path.join(folder, "unread"))
+    reader = subprocess.Popen(["head", "-c", "1", os.path.join(folder, "unread")], stdout=subprocess.DEVNULL)
+    found = ended(binary, ["render", "commands", "unread", "replies"], folder)
     reader.wait()
     return found
 

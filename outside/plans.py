@@ -3,6 +3,7 @@
 
 Without a program the rows and the longest chains are tried by the model alone: of random trees no chain of synths that can't run beside
 each other costs more than the one that is told, over all such chains. With one it is run on all of them too."""
+import collections
 import itertools
 import os
 import random
@@ -19,24 +20,43 @@ from texts import TEXTS
 LETTERS = "acb"
 
 
-def is_split(world, group):
-    """Whether the members of a group may run beside each other."""
-    if group.kind != "parallel" or world.clash_of(group):
-        return False
-    mixed = [bus for child in group.children for bus in world.foot(child)[2]]
-    return len(mixed) == len(set(mixed))
+MOST_LANES = 4096
 
 
-def weight(world, node):
+def split_groups(world):
+    """The groups whose members may run beside each other. They are taken in walk order: of each whose members don't clash, every synth below it
+    takes a lane for each bus that it mixes, if two of the members mix it and it is so in no split group above; if there are lanes for all."""
+    split, left = set(), MOST_LANES
+
+    def visit(node, above):
+        nonlocal left
+        if not node.run or not node.is_group():
+            return
+        if node.kind == "parallel" and not world.clash_of(node):
+            counts = collections.Counter(bus for child in node.children for bus in world.foot(child)[2])
+            shared = {bus for bus, count in counts.items() if count > 1} - above
+            taken = sum(len(shared & set(world.foot(synth)[2])) for synth in node.running() if not synth.is_group())
+            if taken <= left:
+                left -= taken
+                split.add(node.id)
+                above = above | shared
+        for child in node.children:
+            visit(child, above)
+
+    visit(world.root, frozenset())
+    return split
+
+
+def weight(node, split):
     """What a node costs, and the chain that costs as much, or None where no synth runs."""
     if not node.run:
         return None
     if not node.is_group():
         return len(node.definition.units), [node.id]
-    members = [found for found in (weight(world, child) for child in node.children) if found]
+    members = [found for found in (weight(child, split) for child in node.children) if found]
     if not members:
         return None
-    if is_split(world, node):
+    if node.id in split:
         return max(members, key=lambda member: member[0])
     return sum(cost for cost, _ in members), [ident for _, chain in members for ident in chain]
 
@@ -48,7 +68,7 @@ def listed(resources):
 def report(world):
     """The lines of a world."""
     synths = [node for node in world.root.running() if not node.is_group()]
-    cost, chain = weight(world, world.root) or (0, [])
+    cost, chain = weight(world.root, split_groups(world)) or (0, [])
     units = sum(len(synth.definition.units) for synth in synths)
     lines = [f"synths {len(synths)} units {units} cost {cost}"]
     for synth in synths:
@@ -76,7 +96,7 @@ def model(words, data):
 
 # All chains, for small trees.
 
-def may_meet(world, a, b):
+def may_meet(split, a, b):
     """Whether two synths may run at the same time: the lowest group that holds both is split."""
     above = []
     node = a
@@ -86,13 +106,14 @@ def may_meet(world, a, b):
     node = b
     while node not in above:
         node = node.parent
-    return is_split(world, node)
+    return node.id in split
 
 
 def greatest(world):
     """The greatest cost of synths of which no two may run at the same time."""
     synths = [node for node in world.root.running() if not node.is_group()]
-    meets = {(a.id, b.id) for a, b in itertools.permutations(synths, 2) if may_meet(world, a, b)}
+    split = split_groups(world)
+    meets = {(a.id, b.id) for a, b in itertools.permutations(synths, 2) if may_meet(split, a, b)}
     best = 0
     for size in range(len(synths) + 1):
         for some in itertools.combinations(synths, size):
@@ -126,7 +147,7 @@ ROWS = [
     ("two beside each other, the first of equals", stream(*TWO, ("/p_new", 1, 0, 0), new("out0", 10, 1, 1), new("out1", 11, 1, 1)),
      "synths 2 units 2 cost 1\nnode 10 units 1 reads - writes - mixes a0\nnode 11 units 1 reads - writes - mixes a1\nchain 10\n"),
     ("two that mix one bus", stream(*TWO, ("/p_new", 1, 0, 0), new("out0", 10, 1, 1), new("out0", 11, 1, 1)),
-     "synths 2 units 2 cost 2\nnode 10 units 1 reads - writes - mixes a0\nnode 11 units 1 reads - writes - mixes a0\nchain 10 11\n"),
+     "synths 2 units 2 cost 1\nnode 10 units 1 reads - writes - mixes a0\nnode 11 units 1 reads - writes - mixes a0\nchain 10\n"),
     ("two that clash", stream(*TWO, ("/d_recv", copies("read0", 0, 3)), ("/p_new", 1, 0, 0), new("out0", 10, 1, 1), new("read0", 11, 1, 1)),
      "synths 2 units 3 cost 3\nnode 10 units 1 reads - writes - mixes a0\nnode 11 units 2 reads a0 writes - mixes a3\nchain 10 11\n"),
     ("one bus read and written", stream(("/d_recv", copies("wide", 4, 4, 5)), new("wide", 10, 1, 0)),
@@ -142,10 +163,10 @@ ROWS = [
      stream(*recv("tone"), ("/d_recv", copies("three", 16, 0, 1)), ("/p_new", 1, 0, 0), *[new("tone", 10 + i, 1, 1) + ("out", 16 + i) for i in range(4)], new("three", 20, 1, 0)),
      "synths 5 units 11 cost 5\n" + "".join(f"node {10 + i} units 2 reads - writes - mixes a{16 + i}\n" for i in range(4))
      + "node 20 units 3 reads a16 writes - mixes a0\nchain 10 20\n"),
-    ("three that mix one bus, which are rendered in order, and one that hears them",
+    ("three that mix one bus, each onto its lane, and one that hears them",
      stream(("/d_recv", TEXTS["dc"]), ("/d_recv", copies("three", 16, 0, 1)), ("/p_new", 1, 0, 0), *[new("dc", 10 + i, 1, 1) + ("out", 16) for i in range(3)], new("three", 20, 1, 0)),
-     "synths 4 units 6 cost 6\n" + "".join(f"node {10 + i} units 1 reads - writes - mixes a16\n" for i in range(3))
-     + "node 20 units 3 reads a16 writes - mixes a0\nchain 10 11 12 20\n"),
+     "synths 4 units 6 cost 4\n" + "".join(f"node {10 + i} units 1 reads - writes - mixes a16\n" for i in range(3))
+     + "node 20 units 3 reads a16 writes - mixes a0\nchain 10 20\n"),
     ("the last boundary acts", stream(*TWO, new("out0", 10, 1, 0), at(1, new("out1", 11, 1, 0))),
      "synths 2 units 2 cost 2\nnode 10 units 1 reads - writes - mixes a0\nnode 11 units 1 reads - writes - mixes a1\nchain 10 11\n"),
 ]
@@ -186,7 +207,7 @@ def model_differences():
     found = [f"{name}\n  by hand {wanted!r}, model {model((), data)[2]!r}" for name, data, wanted in ROWS if model((), data)[2] != wanted]
     for seed in range(TREES):
         world = played((), chance_stream(seed)).world
-        told = (weight(world, world.root) or (0, []))[0]
+        told = (weight(world.root, split_groups(world)) or (0, []))[0]
         if told != greatest(world):
             found.append(f"tree {seed}: all chains {greatest(world)}, model {told}")
     return found

@@ -26,7 +26,7 @@ CONNECTIONS = [
     ("a cut size", stream(("/sync", 1)) + b"\0\0", [("/synced", 1)], "cut after 2 bytes", 10),
     ("a cut frame", stream(("/sync", 1), ("/sync", 2))[:-3], [("/synced", 1)], "cut after 17 bytes", 10),
     ("a quit and what stands behind it", stream(osc.bundle(1, *map(packet, [("/sync", 1), ("/quit",), ("/sync", 2)]))), [("/synced", 1), ("/done", "/quit"), ("/synced", 2)], "quit", 0),
-    ("a quit and a clash", stream(osc.bundle(1, *map(packet, [*recv("dc"), ("/p_new", 1, 0, 0), ("/quit",), ("/s_new", "dc", 10, 1, 1), ("/s_new", "dc", 11, 1, 1)]))), [("/done", "/d_recv"), ("/done", "/quit"), ("/p_clash", 1, 10, 11, "audio", 0)], "quit", 0),
+    ("a quit and a clash", stream(osc.bundle(1, *map(packet, [*recv("dc", "swap"), ("/p_new", 1, 0, 0), ("/quit",), ("/s_new", "dc", 10, 1, 1), ("/s_new", "swap", 11, 1, 1)]))), [("/done", "/d_recv"), ("/done", "/d_recv"), ("/done", "/quit"), ("/p_clash", 1, 10, 11, "audio", 0)], "quit", 0),
     ("a quit that is carried", stream(("/b_alloc", 0, 1, osc.message("/quit"))), [("/done", "/b_alloc", 0), ("/done", "/quit")], "quit", 0),
     ("a quit with an argument is none", stream(("/quit", 1)), [("/fail", "/quit", "arguments")], "closed", 0),
 ]

@@ -5,7 +5,7 @@ use crate::holding::holds;
 use crate::line::{Answer, Line, Rows, Unanswered, number, said};
 use crate::rounds::{no_jobs, put};
 use sn_machine::{Machine, Script, View, Words, may_write};
-use sn_mem::{Extent, Extents, Foot, clash};
+use sn_mem::{AllMoves, Extent, Extents, Foot, Moves, clash};
 use sn_ports::NoMemory;
 use sn_round::{Ids, Job, Jobs, Plan, SharedFoot};
 use std::alloc::Global;
@@ -69,6 +69,8 @@ fn random_job(alloc: Global, dice: &mut Dice, jobs: &[Job]) -> Result<Job, NoMem
     }
     Ok(Job {
         synths: Ids::new(alloc),
+        moves: AllMoves::new(alloc),
+        lanes: Moves::new(alloc),
         foot: SharedFoot::new(alloc, foot)?,
         before,
     })

@@ -4,7 +4,7 @@ ghost use Rattle.std.specs.List.{All};
 ghost use Rattle.sn_round.specs.Jobs.{AreJobs, times};
 
 use crate::line::{Answer, Line, Rows, Unanswered, number, said};
-use sn_mem::{Extent, Extents, Foot};
+use sn_mem::{AllMoves, Extent, Extents, Foot, Moves};
 use sn_ports::NoMemory;
 use sn_ports::limits::MOST_SPAN;
 use sn_round::{Ids, Job, Jobs, Plan, SharedFoot};
@@ -104,6 +104,8 @@ fn put_job(alloc: Global, jobs: &mut Vec<Job>, line: &mut Line<'_>) -> Answer
     let at = (jobs.len() as u32).wrapping_mul(10);
     let job = Job {
         synths,
+        moves: AllMoves::new(alloc),
+        lanes: Moves::new(alloc),
         foot: foot(alloc, at)?,
         before,
     };

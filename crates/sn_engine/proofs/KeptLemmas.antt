@@ -11,6 +11,8 @@ use Rattle.sn_world.specs.declared.stage.Stage.{Stage}
 use Rattle.sn_world.specs.World.{World, Turn, world_of}
 use Rattle.sn_clash.specs.declared.clash.Clash.{Clash}
 use Rattle.sn_clash.specs.Clashing.{clashes_of}
+use Rattle.sn_mem.specs.declared.extents.Extent.{Extent}
+use Rattle.sn_graph.specs.Lanes.{with_lanes}
 use Rattle.sn_graph.specs.Voices.{HeardNodes}
 use Rattle.sn_graph.specs.Plans.{IsPlanned, plan_of}
 use Rattle.sn_layout.specs.Layout.{layout_of}
@@ -20,7 +22,7 @@ use Rattle.sn_engine.specs.declared.acting.Asked.{Asked}
 use Rattle.sn_engine.specs.Boundary.{Acted, acted, act_message, act_messages, asked_by, both, messages_ask}
 use Rattle.sn_engine.specs.Clashing.{told_clashes}
 use Rattle.sn_engine.specs.Holding.{AreClashesOf, LayoutStays}
-use Rattle.sn_engine.specs.Planning.{IsPlanOf, IsPlannedFor}
+use Rattle.sn_engine.specs.Planning.{IsPlanOf, IsPlannedFor, first_lane, laned_nodes}
 use Rattle.sn_engine.proofs.ActingLemmas.{both-assoc}
 use Rattle.sn_engine.proofs.CompletionLemmas.{none_carried}
 use Rattle.sn_engine.proofs.ToldLemmas.{none_told}
@@ -70,9 +72,10 @@ module _ (old new : Stage) (us vs : List ℕ) (same : layout_of (world_of new vs
   pub clashes_stay : (cs : List Clash) → AreClashesOf old cs → AreClashesOf new cs
   clashes_stay cs h = λ words. h us ∙ clashes_alike (world_of old us) (world_of new vs) (sym same) ∙ clashes_anyhow new vs words
 
-  plan_stays : (jobs : List Job) → IsPlanOf old jobs → IsPlanOf new jobs
-  plan_stays jobs h =
-      let nodes = nodes_alike old new us vs (sym same) in
+  plan_stays : (jobs : List Job) → new.pool.region ≡ old.pool.region → IsPlanOf old jobs → IsPlanOf new jobs
+  plan_stays jobs region h =
+      let at : first_lane old ≡ first_lane new = ap (λ (e : Extent). (10368 + e.len) + 16384) (sym region) in
+      let nodes : laned_nodes old ≡ laned_nodes new = λ i. with_lanes (at i) 4096 (nodes_alike old new us vs (sym same) i) in
       record {
         jobs_are = h.jobs_are ∙ ap plan_of nodes;
         planned = subst (λ (n : HeardNodes). IsPlanned n jobs) nodes h.planned;
@@ -81,9 +84,9 @@ module _ (old new : Stage) (us vs : List ℕ) (same : layout_of (world_of new vs
         few = h.few;
       }
 
-  pub planned_stays : (jobs : List Job) (quiet : Bool) → IsPlannedFor old jobs quiet → IsPlannedFor new jobs quiet
-  planned_stays jobs quiet h = record {
-    plan = plan_stays jobs h.plan;
+  pub planned_stays : (jobs : List Job) (quiet : Bool) → new.pool.region ≡ old.pool.region → IsPlannedFor old jobs quiet → IsPlannedFor new jobs quiet
+  planned_stays jobs quiet region h = record {
+    plan = plan_stays jobs region h.plan;
     quiet_is = λ words. h.quiet_is us ∙ quiet_alike (world_of old us) (world_of new vs) (sym same) ∙ quiet_anyhow new vs words;
   }
 

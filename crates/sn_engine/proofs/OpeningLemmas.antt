@@ -12,7 +12,7 @@ use Rattle.sn_clash.specs.declared.clash.Clash.{Clash}
 use Rattle.sn_machine.specs.declared.views.Rested.{Rested}
 use Rattle.sn_round.specs.declared.jobs.Job.{Job}
 use Rattle.sn_engine.specs.Playing.{Past, no_past}
-use Rattle.sn_engine.specs.Planning.{HasCopies}
+use Rattle.sn_engine.specs.Planning.{HasCopies, HasLanes}
 use Rattle.sn_engine.specs.Remembered.{Remembered}
 use Rattle.sn_engine.specs.Running.{Running, opened}
 use Rattle.sn_engine.specs.declared.standing.Standing.TheVariants.{Settled}
@@ -60,7 +60,7 @@ rate_fits rate h = search rules
 pub memory_fits : (memory : ℕ) → IsTrue (is_within 65536 16777216 memory) → 10368 + memory < 4294967296
 memory_fits memory h = search rules
 
-pub memory_opens : (memory : ℕ) → IsTrue (is_within 65536 16777216 memory) → (1 ≤ 10368 + memory + 16384) × (10368 + memory + 16384 < 2 ^ 31)
+pub memory_opens : (memory : ℕ) → IsTrue (is_within 65536 16777216 memory) → (1 ≤ 10368 + memory + 16384 + 266240) × (10368 + memory + 16384 + 266240 < 2 ^ 31)
 memory_opens memory h = let most : memory ≤ 16777216 = search rules in (omega arith, omega (arith, most))
 
 pub workers_fit : (workers : ℕ) → IsTrue (is_within 1 16 workers) → (1 ≤ workers) × (workers ≤ 16)
@@ -75,16 +75,24 @@ opens_past workers words jobs memory crew none zeros all = λ i. a_past (none i)
 
 -- there is room for the copies
 pub opens_copies : (channels memory rate clients copies : ℕ) (stage : Stage) (words : List ℕ) (outputs : List Extent) → IsTrue (is_within 1 8 channels) → IsTrue (is_within 65536 16777216 memory) → IsOpening rate memory clients stage → copies ≡ 10368 + memory
-    → words ≡ replicate (copies + 16384) 0 → outputs ≡ table audio_place channels → HasCopies channels stage words outputs copies
+    → words ≡ replicate (copies + 16384 + 266240) 0 → outputs ≡ table audio_place channels → HasCopies channels stage words outputs copies
 opens_copies channels memory rate clients copies stage words outputs few large o at zeros places =
     let most : 10368 + memory < 4294967296 = memory_fits memory large in
     let roomy = memory_opens memory large in
     let region : stage.pool.region.len ≡ memory = ap (λ p. p.region.len) o.pool in
-    let long : length words ≡ copies + 16384 = ap length zeros ∙ length-replicate (copies + 16384) 0 in
+    let long : length words ≡ copies + 16384 + 266240 = ap length zeros ∙ length-replicate (copies + 16384 + 266240) 0 in
     record {
       few = channels_fit channels few;
       outputs_are = places;
-      behind = omega (arith, region, at);
+      at = omega (arith, region, at);
       fits = omega (arith, long);
       bounded = omega (arith, at, roomy.1);
     }
+
+-- and for the lanes
+pub opens_lanes : (memory rate clients : ℕ) (stage : Stage) (words : List ℕ) → IsTrue (is_within 65536 16777216 memory) → IsOpening rate memory clients stage → words ≡ replicate (10368 + memory + 16384 + 266240) 0 → HasLanes stage words
+opens_lanes memory rate clients stage words large o zeros =
+    let roomy = memory_opens memory large in
+    let region : stage.pool.region.len ≡ memory = ap (λ p. p.region.len) o.pool in
+    let long : length words ≡ 10368 + memory + 16384 + 266240 = ap length zeros ∙ length-replicate (10368 + memory + 16384 + 266240) 0 in
+    record { fits = omega (arith, region, long); bounded = omega (arith, region, roomy.1) }

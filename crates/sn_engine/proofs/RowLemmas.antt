@@ -12,32 +12,41 @@ use Rattle.sn_world.specs.declared.stage.Stage.{Stage}
 use Rattle.sn_world.specs.Pictures.{Pictures}
 use Rattle.sn_world.specs.World.{World}
 use Rattle.sn_graph.specs.Plans.{IsPlanned}
-use Rattle.sn_graph.specs.Stages.{nodes_in}
 use Rattle.sn_play.specs.declared.span.Span.{Span}
-use Rattle.sn_play.specs.Spans.{ArePlayed, IsSpanReady}
+use Rattle.sn_play.specs.Spans.{ArePlayed}
 use Rattle.sn_engine.specs.Outputs.{sounds}
-use Rattle.sn_engine.specs.Planning.{HasCopies, IsPlanOf, IsSpanOf}
+use Rattle.sn_engine.specs.Planning.{HasCopies, HasLanes, IsPlanOf, IsRowReady, IsSpanOf, first_lane, laned_nodes}
 use Rattle.sn_engine.specs.Playing.{Past, Playing}
 use Rattle.sn_engine.specs.Running.{Running, with_block}
 use Rattle.sn_engine.specs.Spans.{AreRounds, HasRounds, IsQuiet, IsSpan, with_blocks}
 use Rattle.sn_engine.specs.declared.standing.Standing.TheVariants.{Rendered}
 use Rattle.sn_engine.proofs.SpanLaws.{blocks_are, rendered}
 
--- a span of the plan of a stage that stands for a world is ready
-pub span_ready : (w : Span) (channels : ℕ) (stage : Stage) (jobs : List Job) (words : List ℕ) → w.first.stage.now ≡ stage → w.first.plan.now ≡ jobs → Pictures stage words → IsPlanOf stage jobs → HasCopies channels stage words w.outputs.now w.copies
-    → w.all.now ≡ unrolled jobs w.outputs.now w.copies w.blocks → w.blocks ≤ 32 → w.first.block + w.blocks < 2 ^ 63 → IsSpanReady w
-span_ready w channels stage jobs words same plan pictures planned copies all few early = record {
-  channels = channels;
-  few = copies.few;
-  outputs_are = copies.outputs_are;
-  words = words;
-  pictures = subst (λ (s : Stage). Pictures s words) (sym same) pictures;
-  planned = subst (λ (s : Stage). IsPlanned (nodes_in s) w.first.plan.now) (sym same) (subst (λ (js : List Job). IsPlanned (nodes_in stage) js) (sym plan) planned.planned);
-  early = early;
-  all_are = all ∙ ap (λ (js : List Job). unrolled js w.outputs.now w.copies w.blocks) (sym plan);
-  behind = omega (arith, copies.behind, ap (λ (s : Stage). s.pool.region.len) same);
-  bounded = omega (arith, copies.bounded, few);
-}
+-- a span of the plan of a stage that stands for a world is ready, with the lanes behind the copies
+pub span_ready : (w : Span) (channels : ℕ) (stage : Stage) (jobs : List Job) (words : List ℕ) → w.first.stage.now ≡ stage → w.first.plan.now ≡ jobs → Pictures stage words → IsPlanOf stage jobs → HasCopies channels stage words w.outputs.now w.copies → HasLanes stage words
+    → w.all.now ≡ unrolled jobs w.outputs.now w.copies w.blocks → w.blocks ≤ 32 → w.first.block + w.blocks < 2 ^ 63 → IsRowReady w
+span_ready w channels stage jobs words same plan pictures planned copies lanes all few early =
+    let len : w.first.stage.now.pool.region.len ≡ stage.pool.region.len = ap (λ (s : Stage). s.pool.region.len) same in record {
+      ready = record {
+        channels = channels;
+        few = copies.few;
+        outputs_are = copies.outputs_are;
+        words = words;
+        pictures = subst (λ (s : Stage). Pictures s words) (sym same) pictures;
+        first = first_lane w.first.stage.now;
+        most = 4096;
+        room = omega (arith, lanes.fits, len);
+        most_few = omega arith;
+        bounded = omega (arith, lanes.bounded, len);
+        planned = subst (λ (s : Stage). IsPlanned (laned_nodes s) w.first.plan.now) (sym same) (subst (λ (js : List Job). IsPlanned (laned_nodes stage) js) (sym plan) planned.planned);
+        early = early;
+        all_are = all ∙ ap (λ (js : List Job). unrolled js w.outputs.now w.copies w.blocks) (sym plan);
+        behind = omega (arith, copies.at, len);
+        before = omega (arith, copies.at, few, len);
+      };
+      first = refl;
+      most = refl;
+    }
 
 pub played_from : (stage other : Stage) (b first n copies channels : ℕ) (words us : List ℕ) → other ≡ stage → b ≡ first → ArePlayed other b n copies channels words us → ArePlayed stage first n copies channels words us
 played_from stage other b first n copies channels words us same at played =
@@ -48,7 +57,7 @@ pub still_copied : (channels : ℕ) (old new : Stage) (ws us : List ℕ) (output
 still_copied channels old new ws us outputs copies same long h = record {
   few = h.few;
   outputs_are = h.outputs_are;
-  behind = omega (arith, h.behind, ap (λ (e : Extent). e.len) same);
+  at = omega (arith, h.at, ap (λ (e : Extent). e.len) same);
   fits = omega (arith, h.fits, long);
   bounded = h.bounded;
 }

@@ -5,7 +5,7 @@ use Rattle.std.specs.List.{list_any}
 use Rattle.sn_ports.specs.Limits.{most_jobs, most_span, most_channels, block_samples}
 use Rattle.sn_mem.specs.declared.extents.Extent.{Extent}
 use Rattle.sn_mem.specs.Blocks.{table}
-use Rattle.sn_mem.specs.Layout.{audio_place, bus_words}
+use Rattle.sn_mem.specs.Layout.{audio_place, bus_words, lane_words, most_lanes}
 use Rattle.sn_queue.specs.Waiting.{WaitingList}
 use Rattle.sn_queue.specs.Steps.{is_due}
 use Rattle.sn_round.specs.declared.jobs.Job.{Job}
@@ -16,7 +16,11 @@ use Rattle.sn_world.specs.declared.stage.Stage.{Stage}
 use Rattle.sn_world.specs.Pictures.{Pictures}
 use Rattle.sn_world.specs.World.{World, world_of}
 use Rattle.sn_graph.specs.Plans.{IsPlanned, plan_of}
-use Rattle.sn_graph.specs.Stages.{nodes_in}
+use Rattle.sn_graph.specs.Stages.{nodes_with}
+use Rattle.sn_graph.specs.Voices.{HeardNodes}
+use Rattle.sn_play.specs.declared.span.Span.{Span}
+use Rattle.sn_play.specs.Blocks.{AreResting}
+use Rattle.sn_play.specs.Spans.{IsSpanReady}
 use Rattle.sn_engine.specs.declared.standing.Standing.{Standing}
 use Rattle.sn_engine.specs.declared.standing.Standing.TheVariants.{Bounded}
 
@@ -25,10 +29,27 @@ pub record IsPictured (stage : Stage) : Type 0 where
   pub words : List ℕ
   pub pictures : Pictures stage words
 
+-- where the lanes begin: behind the copies of a span of the sound, which stand behind the words of the pool
+abbrev pub first_lane : Stage → ℕ
+first_lane stage = (bus_words + stage.pool.region.len) + most_span * block_samples
+
+-- the nodes that are heard, with the lanes that there are
+abbrev pub laned_nodes : Stage → HeardNodes
+laned_nodes stage = nodes_with (first_lane stage) most_lanes stage
+
+-- The lanes have room in the words.
+pub record HasLanes (stage : Stage) (words : List ℕ) : Type 0 where
+  pub fits : first_lane stage + lane_words ≤ length words
+  pub bounded : first_lane stage + lane_words < 4294967296
+
+-- no lane counts as written in block b or in a later one
+abbrev pub LanesRest : Stage → ℕ → List ℕ → Type 0
+LanesRest stage b words = AreResting (first_lane stage) most_lanes b words
+
 -- jobs are the plan of a stage, and a round can run them
 pub record IsPlanOf (stage : Stage) (jobs : List Job) : Type 0 where
-  pub jobs_are : jobs ≡ plan_of (nodes_in stage)
-  pub planned : IsPlanned (nodes_in stage) jobs
+  pub jobs_are : jobs ≡ plan_of (laned_nodes stage)
+  pub planned : IsPlanned (laned_nodes stage) jobs
   pub order : AreJobs jobs
   pub free : IsRaceFree jobs
   pub few : length jobs ≤ most_jobs
@@ -56,15 +77,21 @@ pub record IsSpanned (jobs : List Job) (outputs : List Extent) (copies : ℕ) (a
   pub all_are : 2 ≤ blocks → all ≡ unrolled jobs outputs copies blocks
   pub free : 2 ≤ blocks → IsRaceFree all
 
+-- a span is ready, with the lanes that there are
+pub record IsRowReady (w : Span) : Type 0 where
+  pub ready : IsSpanReady w
+  pub first : ready.first ≡ first_lane w.first.stage.now
+  pub most : ready.most ≡ most_lanes
+
 -- so it is, where nothing is said to have changed since the plan was made
 abbrev pub StillSpanned : Bool → List Job → List Extent → ℕ → List Job → ℕ → Type 0
 StillSpanned hold jobs outputs copies all blocks = hold ≡ true → IsSpanned jobs outputs copies all blocks
 
--- The first audio buses are heard, and the copies of a span of their sound have room behind the words of the pool.
+-- The first audio buses are heard, and the copies of a span of their sound begin behind the words of the pool.
 pub record HasCopies (channels : ℕ) (stage : Stage) (words : List ℕ) (outputs : List Extent) (copies : ℕ) : Type 0 where
   pub few : channels ≤ most_channels
   pub outputs_are : outputs ≡ table audio_place channels
-  pub behind : bus_words + stage.pool.region.len ≤ copies
+  pub at : copies ≡ bus_words + stage.pool.region.len
   pub fits : copies + most_span * block_samples ≤ length words
   pub bounded : copies + most_span * block_samples < 4294967296
 

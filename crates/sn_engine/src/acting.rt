@@ -1,11 +1,12 @@
-ghost use Rattle.std.specs.Prelude.{◌≡◌, Ok, map, length, IfOk, OnOk};
+ghost use Rattle.std.specs.Prelude.{◌≡◌, ◌+◌, Ok, map, length, IfOk, OnOk};
 ghost use Rattle.std.specs.List.{AllByRecursion};
 ghost use Rattle.sn_osc.specs.Shape.{message_of};
 ghost use Rattle.sn_mem.specs.Words.{SameButWords};
+ghost use Rattle.sn_mem.specs.Layout.{bus_words};
 ghost use Rattle.sn_reply.specs.Sending.{IsAnswerable};
 ghost use Rattle.sn_world.specs.World.{turn_of, world_of};
 ghost use Rattle.sn_world.specs.Ending.{is_completing};
-ghost use Rattle.sn_world.specs.Pictures.{Pictures, WritesWorld};
+ghost use Rattle.sn_world.specs.Pictures.{KeepsOutside, Pictures, WritesWorld};
 ghost use Rattle.sn_world.specs.Commands.{run_node, run_bus, either as first_there, command, next_after};
 ghost use Rattle.sn_world.specs.Answers.{Handles, UnlessDone, TellsNext, NextHas, next_told};
 ghost use Rattle.sn_engine.specs.Boundary.{completed, act_message, act_messages, act_entries, asked_by, both, messages_ask, entries_ask, due_at, later_than, left_at};
@@ -14,7 +15,7 @@ ghost use Rattle.sn_engine.specs.Holding.{LayoutStays};
 
 use sn_buscmd::run_bus_command;
 use sn_layout::Watch;
-use sn_mem::Port;
+use sn_mem::{Below, Port};
 use sn_nodecmd::run_node_command;
 use sn_osc::Message;
 use sn_ports::NoMemory;
@@ -322,4 +323,35 @@ pub fn act_due<P: Port>(
     }
     queue.clear_after(now);
     Ok(asked.quit)
+}
+
+/// The same over the words below `end` alone, where those of the pool end: the others stay as they are.
+pub fn act_below<P: Port>(
+    alloc: Global,
+    stage: &mut Stage,
+    port: &mut P,
+    end: u32,
+    queue: &mut Queue,
+    now: u64,
+    watch: &mut Watch,
+    replies: &mut Replies,
+) -> Result<bool, NoMemory>
+    requires waiting { AllAnswerable queue.old.waiting }
+    requires pictures { Pictures stage.old (P.words port.old) }
+    requires end { end ≡ bus_words + stage.old.pool.region.len }
+    requires foot { WritesWorld (P.foot port.old) stage.old.pool.region }
+    ensures acts { OnOk result (turn_of stage.new (P.words port.new) replies.new ≡ act_entries (due_at now queue.old) (turn_of stage.old (P.words port.old) replies.old)) }
+    ensures quit { IfOk result (λ q. q ≡ (entries_ask (due_at now queue.old) (turn_of stage.old (P.words port.old) replies.old)).quit) }
+    ensures layout { OnOk result (LayoutStays watch.old.stays watch.new.stays (world_of stage.old (P.words port.old)) (world_of stage.new (P.words port.new))) }
+    ensures left { OnOk result (queue.new ≡ record queue.old { waiting = left_at now queue.old (turn_of stage.old (P.words port.old) replies.old) }) }
+    ensures kept { queue.new ≡ record queue.old { waiting = queue.new.waiting } }
+    ensures waiting { AllAnswerable queue.new.waiting }
+    ensures pictures { Pictures stage.new (P.words port.new) }
+    ensures region { stage.new.pool.region ≡ stage.old.pool.region }
+    ensures len { length (P.words port.new) ≡ length (P.words port.old) }
+    ensures port { SameButWords P.foot P.rest port.old port.new }
+    ensures others { KeepsOutside stage.old.pool.region (P.words port.old) (P.words port.new) }
+{
+    let mut below = Below::new(port, end);
+    act_due(alloc, stage, &mut below, queue, now, watch, replies)
 }

@@ -31,7 +31,7 @@ use crate::settling::settle_before;
 use crate::standing::{Flow, Standing};
 use sn_clash::Clashes;
 use sn_crew::Crew;
-use sn_mem::{BUS_WORDS, Extents, Places};
+use sn_mem::{BUS_WORDS, Extents, LANE_WORDS, Places};
 use sn_osc::Packet;
 use sn_pcm::Settings;
 use sn_ports::limits::{BLOCK_SAMPLES, MOST_SPAN};
@@ -72,7 +72,7 @@ pub struct Engine {
     clashes: Clashes,
     planned: Planned,
     holds: bool,
-    // The audio buses that are heard, and where the copies of their sound begin, behind the words of the pool.
+    // The audio buses that are heard, and where the copies of their sound begin, behind the words of the pool. The lanes follow.
     outputs: Extents,
     copies: u32,
     // How many blocks in a row a boundary makes ready, at most.
@@ -98,7 +98,7 @@ impl Model for Engine {
     ghost use Rattle.sn_world.specs.SettleWords.{walk_room};
     ghost use Rattle.sn_engine.specs.Keeping.{HasRoom, IsRoom};
     ghost use Rattle.sn_engine.specs.Holding.{StillHold};
-    ghost use Rattle.sn_engine.specs.Planning.{HasCopies, StillPlanned, StillSpanned, HoldsBounded};
+    ghost use Rattle.sn_engine.specs.Planning.{HasCopies, HasLanes, LanesRest, StillPlanned, StillSpanned, HoldsBounded};
     ghost use Rattle.sn_ports.specs.Limits.{most_clients};
 
     ghost Value = { Playing };
@@ -114,7 +114,7 @@ impl Model for Engine {
         × IsRoom e.standing e.room (walk_room (running_labels e.stage.tree.attached)) × (e.room < 2 ^ 30) × (length e.replies.items ≤ most_clients)
         × StillHold e.holds e.stage e.clashes × StillPlanned e.holds e.stage e.planned.jobs e.planned.quiet × HoldsBounded e.standing e.holds
         × StillSpanned e.holds e.planned.jobs e.outputs e.copies e.planned.all e.planned.blocks
-        × HasCopies e.settings.channels e.stage e.memory.words e.outputs e.copies };
+        × HasCopies e.settings.channels e.stage e.memory.words e.outputs e.copies × HasLanes e.stage e.memory.words × LanesRest e.stage e.block e.memory.words };
 }
 
 /// Whether a boundary was done, and its blocks are next.
@@ -195,7 +195,7 @@ impl Engine {
         let stage = Stage::new(alloc, settings.rate, settings.memory, clients)?;
         let planned = Planned::nothing(alloc)?;
         let copies = POOL_AT + settings.memory;
-        let memory = Memory::open(alloc, copies + COPIES)?;
+        let memory = Memory::open(alloc, copies + COPIES + LANE_WORDS)?;
         let outputs = first_buses(alloc, settings.channels)?;
         let crew = Crew::open(alloc, settings.workers)?;
         let queue = Queue::new(alloc, base, settings.rate, limit);
@@ -339,6 +339,7 @@ impl Engine {
             &mut self.clashes,
             &mut self.planned,
             hold,
+            self.copies,
             &mut said,
         )?;
         let blocks = self.planned.span(&self.queue, self.block, self.wanted);

@@ -1,14 +1,14 @@
 //! The memory between rounds and in them.
-ghost use Rattle.std.specs.Prelude.{◌≡◌, ◌≤◌, ◌<◌, ◌+◌, ◌*◌, ◌^◌, ◌++◌, ◌∷◌, [], ℕ, IfOk, length, replicate, slice_index};
-ghost use Rattle.sn_ports.specs.Limits.{most_jobs, block_samples};
+ghost use Rattle.std.specs.Prelude.{◌≡◌, ◌≤◌, ◌<◌, ◌+◌, ◌^◌, ◌++◌, ◌∷◌, [], ℕ, IfOk, length, replicate, slice_index};
+ghost use Rattle.sn_ports.specs.Limits.{most_jobs};
 ghost use Rattle.sn_mem.specs.Blocks.{table};
 ghost use Rattle.sn_mem.specs.Layout.{audio_place};
 ghost use Rattle.sn_world.specs.Pictures.{Pictures};
 ghost use Rattle.sn_world.specs.Walk.{walk};
 ghost use Rattle.sn_world.specs.World.{world_of};
 ghost use Rattle.sn_round.specs.Jobs.{IsRaceFree};
-ghost use Rattle.sn_play.specs.Spans.{ArePlayed, IsSpanReady};
-ghost use Rattle.sn_engine.specs.Planning.{IsPlanOf};
+ghost use Rattle.sn_play.specs.Spans.{ArePlayed};
+ghost use Rattle.sn_engine.specs.Planning.{HasLanes, IsPlanOf, IsRowReady, LanesRest};
 
 use sn_crew::Crew;
 use sn_machine::Rests;
@@ -70,7 +70,8 @@ impl Memory {
         self.shared.load(&mut self.main, at)
     }
 
-    /// A round of the jobs of a block: after it the words stand for the world after the walk.
+    /// A round of the jobs of a block: after it the words stand for the world after the walk. If no lane counts as written in the
+    /// block, none does in the next one.
     pub fn round<H: Threads + Sync, G: Gate>(
         &mut self,
         rt: &H,
@@ -81,8 +82,11 @@ impl Memory {
         requires pictures { Pictures block.now.stage.now self.old.words }
         requires planned { IsPlanOf block.now.stage.now block.now.plan.now }
         requires early { block.now.block < 2 ^ 63 }
+        requires lanes { HasLanes block.now.stage.now self.old.words }
+        requires resting { LanesRest block.now.stage.now block.now.block self.old.words }
         ensures world { world_of block.now.stage.now self.new.words ≡ walk block.now.block (world_of block.now.stage.now self.old.words) }
         ensures pictures { Pictures block.now.stage.now self.new.words }
+        ensures resting { LanesRest block.now.stage.now (block.now.block + 1) self.new.words }
         ensures length { length self.new.words ≡ length self.old.words }
         ensures rounds { self.new.rounds ≡ self.old.rounds ++ record { jobs = block.now.plan.now; crew = length crew.old.hands.items } ∷ [] }
         ensures stores { self.new.stores ≡ self.old.stores }
@@ -93,7 +97,7 @@ impl Memory {
     }
 
     /// A round of the jobs of several blocks: after it the words stand for the world after the walks of the blocks, and the copies hold
-    /// the sound of each.
+    /// the sound of each. If no lane counts as written in the first block, none does in the block after them.
     pub fn span<H: Threads + Sync, G: Gate>(
         &mut self,
         rt: &H,
@@ -102,11 +106,13 @@ impl Memory {
         gate: &G,
     )
         requires pictures { Pictures span.now.first.stage.now self.old.words }
-        requires ready { IsSpanReady span.now }
+        requires ready { IsRowReady span.now }
         requires free { IsRaceFree span.now.all.now }
         requires few { length span.now.all.now ≤ most_jobs }
-        requires fits { span.now.copies + block_samples * span.now.blocks ≤ length self.old.words }
+        requires lanes { HasLanes span.now.first.stage.now self.old.words }
+        requires resting { LanesRest span.now.first.stage.now span.now.first.block self.old.words }
         ensures played { (channels : ℕ) → span.now.outputs.now ≡ table audio_place channels → ArePlayed span.now.first.stage.now span.now.first.block span.now.blocks span.now.copies channels self.old.words self.new.words }
+        ensures resting { LanesRest span.now.first.stage.now (span.now.first.block + span.now.blocks) self.new.words }
         ensures length { length self.new.words ≡ length self.old.words }
         ensures rounds { self.new.rounds ≡ self.old.rounds ++ record { jobs = span.now.all.now; crew = length crew.old.hands.items } ∷ [] }
         ensures stores { self.new.stores ≡ self.old.stores }

@@ -1,6 +1,7 @@
 //! The plan of a stage.
-ghost use Rattle.std.specs.Prelude.{◌*◌, ◌≡◌, ◌<◌, ◌≤◌, ◌+◌, [], ℕ, length, IfOk, OnOk};
+ghost use Rattle.std.specs.Prelude.{◌*◌, ◌≡◌, ◌<◌, ◌≤◌, ◌+◌, ◌^◌, [], ℕ, length, IfOk, OnOk};
 ghost use Rattle.sn_ports.specs.Limits.{most_jobs, most_count, most_span, block_samples};
+ghost use Rattle.sn_mem.specs.Layout.{bus_words, lane_words, most_lanes};
 ghost use Rattle.sn_round.specs.Jobs.{IsRaceFree};
 ghost use Rattle.sn_span.specs.Unrolling.{start};
 ghost use Rattle.sn_engine.specs.Holding.{AreClashesOf};
@@ -9,10 +10,11 @@ ghost use Rattle.sn_engine.specs.Planning.{IsPictured, IsPlannedFor, IsSpanned, 
 use crate::spans::{blocks_before_due, most_blocks};
 use crate::weighing::{threads_for, units_beside};
 use sn_clash::{Clashes, world_has_the_clashes};
-use sn_graph::{plan, worlds_are_disjoint};
-use sn_mem::{Extent, Extents};
+use sn_graph::{Lanes, plan, worlds_are_disjoint};
+use sn_mem::{Extent, Extents, MOST_LANES};
+use sn_play::worlds_lie_below;
 use sn_ports::NoMemory;
-use sn_ports::limits::MOST_COUNT;
+use sn_ports::limits::{MOST_COUNT, MOST_SPAN};
 use sn_queue::Queue;
 use sn_quiet::is_quiet;
 use sn_round::Plan;
@@ -43,6 +45,17 @@ fn no_plan(alloc: Global) -> Result<Plan, NoMemory>
     Plan::new(alloc, Vec::new(alloc))
 }
 
+/// The lanes, which begin behind the copies of a span.
+fn lanes_behind(copies: u32) -> Lanes
+    requires { copies + most_span * block_samples < 2 ^ 32 }
+    ensures { result ≡ record { first = copies + most_span * block_samples; most = most_lanes } }
+{
+    Lanes {
+        first: copies + MOST_SPAN * COPY_WORDS,
+        most: MOST_LANES,
+    }
+}
+
 impl Planned {
     /// No jobs.
     pub fn nothing(alloc: Global) -> Result<Planned, NoMemory>
@@ -58,18 +71,26 @@ impl Planned {
         })
     }
 
-    /// The plan of a stage, given its clashes.
-    pub fn of(alloc: Global, stage: &Stage, clashes: &Clashes) -> Result<Planned, NoMemory>
+    /// The plan of a stage, given its clashes, and where the copies of a span begin, behind which the lanes stand.
+    pub fn of(
+        alloc: Global,
+        stage: &Stage,
+        clashes: &Clashes,
+        copies: u32,
+    ) -> Result<Planned, NoMemory>
         requires stands { IsPictured stage.now }
         requires clashes { AreClashesOf stage.now clashes.now }
+        requires copies { copies ≡ bus_words + stage.now.pool.region.len }
+        requires lanes { copies + most_span * block_samples + lane_words < 4294967296 }
         ensures planned { IfOk result (λ p. IsPlannedFor stage.now p.jobs p.quiet) }
         ensures none { IfOk result (λ p. p.blocks ≡ 0) }
     {
         // Hints for the proof alone: what a stage that stands for a world meets, and how few nodes a tree has.
         worlds_are_disjoint(stage);
+        worlds_lie_below(stage);
         world_has_the_clashes(stage);
         let _count = stage.tree.len();
-        let jobs = plan(alloc, stage, clashes.as_slice())?;
+        let jobs = plan(alloc, stage, clashes.as_slice(), lanes_behind(copies))?;
         jobs.is_well_formed();
         let beside = units_beside(alloc, stage, &jobs)?;
         let all = no_plan(alloc)?;

@@ -6,7 +6,7 @@ ghost use Rattle.sn_world.specs.Pictures.{Pictures};
 ghost use Rattle.sn_world.specs.World.{world_of};
 ghost use Rattle.sn_play.specs.Spans.{ArePlayed};
 ghost use Rattle.sn_engine.specs.Outputs.{sounds};
-ghost use Rattle.sn_engine.specs.Planning.{HasCopies, IsPlanOf, IsSpanned};
+ghost use Rattle.sn_engine.specs.Planning.{HasCopies, HasLanes, IsPlanOf, IsSpanned, LanesRest};
 ghost use Rattle.sn_engine.specs.Spans.{AreRounds};
 
 use crate::hearing::{hear_block, hear_copy};
@@ -69,11 +69,14 @@ fn render_each<H: Threads + Sync, G: Gate>(
     requires pictures { Pictures part.now.stage.now memory.old.words }
     requires planned { IsPlanOf part.now.stage.now part.now.planned.now.jobs }
     requires early { part.now.first + part.now.blocks < 2 ^ 63 }
+    requires lanes { HasLanes part.now.stage.now memory.old.words }
+    requires resting { LanesRest part.now.stage.now part.now.first memory.old.words }
     requires channels { part.now.settings.now.channels ≤ most_channels }
     requires samples { block_samples ≤ vec_capacity samples.old }
     requires room { 3 * block_samples * part.now.blocks ≤ sound.old.spare }
     ensures world { world_of part.now.stage.now memory.new.words ≡ walks part.now.first part.now.blocks (world_of part.now.stage.now memory.old.words) }
     ensures pictures { Pictures part.now.stage.now memory.new.words }
+    ensures resting { LanesRest part.now.stage.now (part.now.first + part.now.blocks) memory.new.words }
     ensures length { length memory.new.words ≡ length memory.old.words }
     ensures sound { sound.new.bytes ≡ sound.old.bytes ++ sounds part.now.settings.now part.now.first part.now.blocks (world_of part.now.stage.now memory.old.words) }
     ensures samples { block_samples ≤ vec_capacity samples.new }
@@ -130,10 +133,13 @@ fn render_span<H: Threads + Sync, G: Gate>(
     requires some { 2 ≤ part.now.blocks }
     requires blocks { part.now.planned.now.blocks ≡ part.now.blocks }
     requires early { part.now.first + part.now.blocks < 2 ^ 63 }
+    requires lanes { HasLanes part.now.stage.now memory.old.words }
+    requires resting { LanesRest part.now.stage.now part.now.first memory.old.words }
     requires samples { block_samples ≤ vec_capacity samples.old }
     requires room { 3 * block_samples * part.now.blocks ≤ sound.old.spare }
     ensures world { world_of part.now.stage.now memory.new.words ≡ walks part.now.first part.now.blocks (world_of part.now.stage.now memory.old.words) }
     ensures pictures { Pictures part.now.stage.now memory.new.words }
+    ensures resting { LanesRest part.now.stage.now (part.now.first + part.now.blocks) memory.new.words }
     ensures length { length memory.new.words ≡ length memory.old.words }
     ensures sound { sound.new.bytes ≡ sound.old.bytes ++ sounds part.now.settings.now part.now.first part.now.blocks (world_of part.now.stage.now memory.old.words) }
     ensures samples { block_samples ≤ vec_capacity samples.new }
@@ -170,10 +176,13 @@ pub fn render<H: Threads + Sync, G: Gate>(
     requires copies { HasCopies part.now.settings.now.channels part.now.stage.now memory.old.words part.now.outputs.now part.now.copies }
     requires some { 1 ≤ part.now.blocks }
     requires early { part.now.first + part.now.blocks < 2 ^ 63 }
+    requires lanes { HasLanes part.now.stage.now memory.old.words }
+    requires resting { LanesRest part.now.stage.now part.now.first memory.old.words }
     requires samples { block_samples ≤ vec_capacity samples.old }
     requires room { 3 * block_samples * part.now.blocks ≤ sound.old.spare }
     ensures world { world_of part.now.stage.now memory.new.words ≡ walks part.now.first part.now.blocks (world_of part.now.stage.now memory.old.words) }
     ensures pictures { Pictures part.now.stage.now memory.new.words }
+    ensures resting { LanesRest part.now.stage.now (part.now.first + part.now.blocks) memory.new.words }
     ensures length { length memory.new.words ≡ length memory.old.words }
     ensures sound { sound.new.bytes ≡ sound.old.bytes ++ sounds part.now.settings.now part.now.first part.now.blocks (world_of part.now.stage.now memory.old.words) }
     ensures samples { block_samples ≤ vec_capacity samples.new }

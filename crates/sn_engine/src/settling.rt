@@ -5,7 +5,7 @@ ghost use Rattle.sn_ports.specs.Octets.{bytes_of};
 ghost use Rattle.sn_mem.specs.Words.{SameButWords};
 ghost use Rattle.sn_reply.specs.Frames.{with_frames};
 ghost use Rattle.sn_tree.specs.Trees.{running_labels};
-ghost use Rattle.sn_world.specs.Pictures.{Pictures, WritesWorld};
+ghost use Rattle.sn_world.specs.Pictures.{KeepsOutside, Pictures, WritesWorld};
 ghost use Rattle.sn_world.specs.Settling.{endings_in, settled};
 ghost use Rattle.sn_world.specs.SettleWords.{walk_room};
 ghost use Rattle.sn_world.specs.World.{world_of, turn_of};
@@ -39,6 +39,7 @@ pub fn settle_before<P: Port>(
     ensures region { stage.new.pool.region ≡ stage.old.pool.region }
     ensures len { length (P.words port.new) ≡ length (P.words port.old) }
     ensures port { SameButWords P.foot P.rest port.old port.new }
+    ensures others { KeepsOutside stage.old.pool.region (P.words port.old) (P.words port.new) }
 {
     settle(stage, port, next.saturating_sub(1), endings, replies)
 }

@@ -12,6 +12,9 @@ const UNITS_FOR_A_THREAD: u32 = 4096;
 /// To share a job takes as long as so many units, or less.
 const UNITS_FOR_A_JOB: u32 = 2;
 
+/// To add a lane to its bus takes as long as so many units.
+const UNITS_FOR_A_LANE: u32 = 2;
+
 /// To share so few jobs takes next to nothing.
 const FEW_JOBS: u32 = 16;
 
@@ -68,23 +71,27 @@ fn units_to_share(jobs: u32) -> u32 {
 }
 
 /// How many units of the jobs of the plan of a stage can run beside the longest chain of jobs, of which each follows
-/// the one before. What it takes to share the jobs is taken off.
+/// the one before, and joints add their lanes. What it takes to share the jobs is taken off.
 pub fn units_beside(alloc: Global, stage: &Stage, plan: &Plan) -> Result<u32, NoMemory> {
     let units = units_in_walk(alloc, stage)?;
     let mut left = units.as_slice();
     // How many units the longest chain has that ends with each job.
     let mut chains = Vec::new(alloc);
     let mut longest = 0u32;
+    let mut all = sum(&units);
     for job in 0..plan.jobs() {
         let count = plan.synths(job).as_slice().len().min(left.len());
         let (own, rest) = left.split_at(count);
         left = rest;
         let before = greatest_of(&chains, plan.predecessors(job).as_slice());
-        let chain = before.saturating_add(sum(own));
+        let lanes = u32::try_from(plan.lanes(job).as_slice().len()).unwrap_or(u32::MAX);
+        let joins = lanes.saturating_mul(UNITS_FOR_A_LANE);
+        all = all.saturating_add(joins);
+        let chain = before.saturating_add(sum(own)).saturating_add(joins);
         chains.push(chain)?;
         longest = longest.max(chain);
     }
-    let beside = sum(&units).saturating_sub(longest);
+    let beside = all.saturating_sub(longest);
     Ok(beside.saturating_sub(units_to_share(plan.jobs())))
 }
 

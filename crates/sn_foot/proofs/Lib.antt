@@ -7,4 +7,7 @@ pub mod Placing
 pub mod Containing
 pub mod Footing
 pub mod Sufficing
+pub mod OnlyMixed
+pub mod WholeBuses
+pub mod MixedOnto
 pub mod NodesByFoot

@@ -42,7 +42,7 @@ any_at p (x ∷ xs) (suc k) d lt h = or_right (p x) (list_any p xs) (any_at p xs
 number_is : (z : ℤ) (n : ℕ) → z ≡ pos n → is_number z n ≡ true
 number_is z n e = let P : ℤ → Type 0 = λ (z : ℤ). is_number z n ≡ true in subst P (sym e) (eq-eqb n n refl)
 
-among : (first : ℤ) (count i n : ℕ) → i < count → first +ℤ pos i ≡ pos n → is_among first count n ≡ true
+pub among : (first : ℤ) (count i n : ℕ) → i < count → first +ℤ pos i ≡ pos n → is_among first count n ≡ true
 unfolding is_among
 among first zero i n lt e = absurd (omega arith)
 among first (suc k) i n lt e = ⊎_elim
@@ -58,15 +58,15 @@ picked P m true none some = some refl
 picked P m false none some = none
 
 -- what holds of no bus, and of each that is, holds of that of a number
-by_audio : (P : Option ℕ → Type 0) (z : ℤ) → P None → ((n : ℕ) → z ≡ pos n → n < 128 → P (Some n)) → P (audio_number z)
+pub by_audio : (P : Option ℕ → Type 0) (z : ℤ) → P None → ((n : ℕ) → z ≡ pos n → n < 128 → P (Some n)) → P (audio_number z)
 by_audio P (pos m) none some = picked P m (nat_lt m 128) none (λ e. some m refl (ltb-true m 128 e))
 by_audio P (negsuc m) none some = none
 
-by_control : (P : Option ℕ → Type 0) (z : ℤ) → P None → ((n : ℕ) → z ≡ pos n → n < 1024 → P (Some n)) → P (control_number z)
+pub by_control : (P : Option ℕ → Type 0) (z : ℤ) → P None → ((n : ℕ) → z ≡ pos n → n < 1024 → P (Some n)) → P (control_number z)
 by_control P (pos m) none some = picked P m (nat_lt m 1024) none (λ e. some m refl (ltb-true m 1024 e))
 by_control P (negsuc m) none some = none
 
-by_place : (P : Option BufferPlace → Type 0) (q : Option BufferPlace) → P None → ((p : BufferPlace) → q ≡ Some p → P (Some p)) → P q
+pub by_place : (P : Option BufferPlace → Type 0) (q : Option BufferPlace) → P None → ((p : BufferPlace) → q ≡ Some p → P (Some p)) → P q
 by_place P None none some = none
 by_place P (Some p) none some = some p refl
 
@@ -104,7 +104,7 @@ writes_place buffers hs reach r e is there some place below = record {
       some;
 }
 
-audio_at : (buffers : List (Option BufferPlace)) (n : ℕ) → n < 128 → place_of buffers (Audio n) ≡ Some (audio_place n)
+pub audio_at : (buffers : List (Option BufferPlace)) (n : ℕ) → n < 128 → place_of buffers (Audio n) ≡ Some (audio_place n)
 audio_at buffers n low = cond-true (nat_lt n 128) (Some (audio_place n)) None (lt-ltb n 128 low)
 
 control_at : (buffers : List (Option BufferPlace)) (n : ℕ) → n < 1024 → place_of buffers (Control n) ≡ Some (control_place n)

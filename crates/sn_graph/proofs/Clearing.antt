@@ -1,14 +1,15 @@
--- Where no two members of a split group clash or mix one bus, their synths are clear of each other.
-use Rattle.std.proofs.Common.{◌≡◌, ◌≤◌, ◌⊎◌, inl, inr, ⊎_elim, ℕ, ◌+◌, ◌*◌, ℤ, Bool, true, false, not, ◌&&◌, if◌then◌else◌, List, [], ◌∷◌, ◌++◌, map, Option, sym, refl, ap, ◌∙◌, subst, arith, true≢false}
+-- Where no two members of a group clash, their synths do not meet.
+use Rattle.std.proofs.Common.{◌≡◌, ◌≤◌, ◌⊎◌, inl, inr, ⊎_elim, ℕ, ◌+◌, ◌*◌, ℤ, Bool, true, false, ◌&&◌, if◌then◌else◌, List, [], ◌∷◌, ◌++◌, map, Option, sym, refl, ap, ◌∙◌, subst, arith, true≢false}
+use Rattle.std.specs.Prelude.{is_some, nat_le, nat_lt}
 use Rattle.std.specs.List.{list_any}
 use Rattle.std.specs.Ordering.{int_eq}
-use Rattle.std.proofs.lemmas.Bool.{cond_both, or_cases, or_left, or_right, and_parts, and_from, lt-ltb, not-true}
+use Rattle.std.proofs.lemmas.Bool.{cond_both, or_cases, or_left, or_right, and_parts, and_from, le-leb, lt-ltb, not-true}
 use Rattle.std.proofs.lemmas.List.{append-nil}
 use Rattle.sn_mem.specs.declared.extents.Extent.{Extent}
 use Rattle.sn_mem.specs.declared.buffers.BufferPlace.{BufferPlace}
 use Rattle.sn_foot.specs.declared.reach.Reach.{Reach}
-use Rattle.sn_mem.specs.Words.{has}
-use Rattle.sn_foot.specs.Reaches.{ReachesClash}
+use Rattle.sn_mem.specs.Words.{has, touches}
+use Rattle.sn_foot.specs.Reaches.{unmoved, ReachesClash}
 use Rattle.sn_mem.specs.Buffers.{overlaps}
 use Rattle.sn_mem.proofs.BufferWords.{overlaps-append}
 use Rattle.sn_tree.specs.declared.node.NodeKind.{NodeKind}
@@ -17,21 +18,20 @@ use Rattle.sn_tree.specs.Trees as trees
 use Rattle.sn_tree.specs.Trees.{Label, Nodes, holds, running_labels, subtree}
 use Rattle.sn_world.specs.declared.stage.Held.{Held}
 use Rattle.sn_world.specs.Pictures.{held_extents, live_held}
-use Rattle.sn_world.proofs.Inserting.{has-overlaps}
 use Rattle.sn_foot.specs.declared.resource.Resource.{Resource}
 use Rattle.sn_foot.specs.Footprints.{footprint_of, foot_of, held_mixes, held_reads, held_writes, is_there, meets_on, states_of}
 use Rattle.sn_foot.specs.Footprints.{Clash as FootprintsClash}
 use Rattle.sn_graph.specs.declared.nodes.Voice.{Voice}
-use Rattle.sn_graph.specs.Voices.{HeardNodes, none, synth, group, voices}
-use Rattle.sn_graph.specs.Plans.{MembersAreClear, SplitsAreClear, is_listed}
-use Rattle.sn_graph.specs.Sharing.{is_split, share_a_bus}
-use Rattle.sn_graph.specs.Stages.{with_group, with_node, running_of}
-use Rattle.sn_graph.specs.Disjoint.{AreDisjoint}
+use Rattle.sn_graph.specs.Voices.{HeardNodes, none, synth, group, voices, lanes_if}
+use Rattle.sn_graph.specs.Plans.{is_listed}
+use Rattle.sn_graph.specs.Stages.{may_split, with_group, with_node, running_of}
+use Rattle.sn_graph.specs.Disjoint.{AreDisjoint, LieBelow}
 use Rattle.sn_graph.specs.Clear.{held_of, ClashesWithNone, NoneClash, AreListed}
 use Rattle.sn_graph.proofs.Hearing.{voices_group}
-use Rattle.sn_graph.proofs.Flags.{none_shared}
-use Rattle.sn_graph.proofs.Meeting.{MeetsNone, MixBuses, MixesBuses, NoMembersMeet, NoneMeet, clear_members}
-use Rattle.sn_graph.proofs.Resources.{clash_agrees, mixed_bus, overlaps_has, used_alone, used_at_all}
+use Rattle.sn_graph.proofs.Clearance.{AreWhole, IsWhole}
+use Rattle.sn_graph.proofs.Laning.{ArePlain}
+use Rattle.sn_graph.proofs.Meeting.{MeetsNone, NoMembersMeet, NoneMeet, SplitsMeetNone}
+use Rattle.sn_graph.proofs.Resources.{clash_agrees, foot_below, has_of_overlaps, mixed_bus, overlaps_has, used_alone, used_at_all, whole_bus}
 
 -- ---- nodes among others
 
@@ -76,14 +76,11 @@ more_used there p h hs m t =
 
 -- ---- places that are apart
 
-has_overlaps : (x : ℕ) (es : List Extent) → 1 ≤ overlaps x es → has es x ≡ true
-has_overlaps x es l = has-overlaps es x ∙ lt-ltb 0 (overlaps x es) (omega (arith, l))
-
 module _ (buffers : List (Option BufferPlace)) where
   pub fewer : (es fs : List Extent) → AreDisjoint buffers es → ((x : ℕ) → overlaps x fs ≤ overlaps x es) → AreDisjoint buffers fs
   fewer es fs is l = record {
     places = is.places;
-    behind = λ x h. is.behind x (has_overlaps x es (omega (arith, overlaps_has x fs h, l x)));
+    behind = λ x h. is.behind x (has_of_overlaps x es (omega (arith, overlaps_has x fs h, l x)));
     apart = λ x. omega (arith, is.apart x, l x);
   }
 
@@ -148,15 +145,21 @@ module _ (buffers : List (Option BufferPlace)) where
             (or_cases (meets_on a b r) (meets_on b a r) t),
       )
 
-  mixes_of : (v : Voice) (h : Held) → v.reach ≡ foot_of buffers (h ∷ []) → MixesBuses v
-  mixes_of v h e x m =
-      let b = mixed_bus buffers h x (ap (λ (r : Reach). has r.mixes x) (sym e) ∙ m) in
-      (b.0, (b.1.0, (b.1.1.0, ap (λ (r : Reach). has r.mixes (65 * b.0)) e ∙ b.1.1.1)))
+  whole_voice : (first : ℕ) (v : Voice) (h : Held) (hs : List Held) (states : List Extent) → LieBelow first buffers states → ((x : ℕ) → has (states_of hs) x ≡ true → has states x ≡ true) → AmongHeld h hs → v.reach ≡ foot_of buffers (h ∷ []) → IsWhole first v
+  whole_voice first v h hs states is own m e = record {
+    mixed = λ x k.
+        let b = mixed_bus buffers h x (ap (λ (r : Reach). has r.mixes x) (sym e) ∙ k) in
+        (b.0, (b.1.0, (and_from (nat_le (65 * b.0) x) (nat_lt x (65 * b.0 + 65)) (le-leb (65 * b.0) x b.1.1.0.0) (lt-ltb x (65 * b.0 + 65) b.1.1.0.1), ap (λ (r : Reach). has r.mixes (65 * b.0)) e ∙ b.1.1.1)));
+    whole = λ n x lt k c. ap (λ (r : Reach). has r.mixes x) e ∙ whole_bus buffers h n x lt (ap (λ (r : Reach). has r.mixes (65 * n)) (sym e) ∙ k) c;
+    below = λ x t. foot_below buffers h first x states is
+        (λ y s. own y (has_of_overlaps y (states_of hs) (omega (arith, overlaps_has y (states_of (h ∷ [])) s, overlaps-append y (held_extents h) [], states_among y h hs m))))
+        (ap (λ (r : Reach). touches (unmoved r) x) (sym e) ∙ t);
+  }
 
-  -- they mix whole buses
-  mix_of : (vs : List Voice) (hs : List Held) → AreOf vs hs → MixBuses vs
-  mix_of [] hs o = tt
-  mix_of (v ∷ vs) hs o = (mixes_of v o.0.0 o.0.1, mix_of vs hs o.1)
+  -- they mix whole buses, and their words lie below
+  pub whole_all : (first : ℕ) (vs : List Voice) (hs : List Held) (states : List Extent) → LieBelow first buffers states → ((x : ℕ) → has (states_of hs) x ≡ true → has states x ≡ true) → AreOf vs hs → AreWhole first vs
+  whole_all first [] hs states is own o = tt
+  whole_all first (v ∷ vs) hs states is own o = (whole_voice first v o.0.0 hs states is own o.0.2 o.0.1, whole_all first vs hs states is own o.1)
 
   module _ (hs ks : List Held) (is : AreDisjoint buffers (states_of hs ++ states_of ks)) (apart : FootprintsClash (footprint_of buffers hs) (footprint_of buffers ks) → ⊥) where
     clear_pair : (h k : Held) → AmongHeld h hs → AmongHeld k ks → ReachesClash (foot_of buffers (h ∷ [])) (foot_of buffers (k ∷ [])) → ⊥
@@ -221,10 +224,19 @@ members_group flag none a c m = m
 members_group flag (synth v rest) a c m = (c, m)
 members_group flag (group f inner rest) a c m = (c, m)
 
-splits_group : (flag : Bool) (b a : HeardNodes) → (flag ≡ true → MembersAreClear b) → SplitsAreClear b → SplitsAreClear a → SplitsAreClear (with_group flag b a)
+split_if : (flag : Bool) → is_some (lanes_if flag) ≡ true → flag ≡ true
+split_if true h = refl
+split_if false h = h
+
+splits_group : (flag : Bool) (b a : HeardNodes) → (flag ≡ true → NoMembersMeet b) → SplitsMeetNone b → SplitsMeetNone a → SplitsMeetNone (with_group flag b a)
 splits_group flag none a c s t = t
-splits_group flag (synth v rest) a c s t = (c, (s, t))
-splits_group flag (group f inner rest) a c s t = (c, (s, t))
+splits_group flag (synth v rest) a c s t = ((λ h. c (split_if flag h)), (s, t))
+splits_group flag (group f inner rest) a c s t = ((λ h. c (split_if flag h)), (s, t))
+
+plain_group : (flag : Bool) (b a : HeardNodes) → ArePlain b → ArePlain a → ArePlain (with_group flag b a)
+plain_group flag none a p q = q
+plain_group flag (synth v rest) a p q = (p, q)
+plain_group flag (group f inner rest) a p q = (p, q)
 
 -- ---- the nodes of a stage
 
@@ -240,7 +252,7 @@ module _ (buffers : List (Option BufferPlace)) (clashing : List ℤ) where
   of_node : (kind : NodeKind) (label : Label Held) (b a : HeardNodes) (below after : List (Label Held)) → AreOf buffers (voices b) (payloads below) → AreOf buffers (voices a) (payloads after) → AreOf buffers (voices (with_node buffers clashing kind label b a)) (payloads (label ∷ (below ++ after)))
   of_node kinds.Synth label b a below after o p = ((label.payload, refl, inl refl), of_more buffers (voices a) (payloads after) (payloads (label ∷ (below ++ after))) (λ h m. inr (among_right h below after m)) p)
   of_node kinds.Group label b a below after o p = of_group false label b a below after o p
-  of_node kinds.Parallel label b a below after o p = of_group (is_split clashing label.id b) label b a below after o p
+  of_node kinds.Parallel label b a below after o p = of_group (may_split clashing label.id) label b a below after o p
 
   of_if : (run : Bool) (x y : HeardNodes) (ls ms : List (Label Held)) → AreOf buffers (voices x) (payloads ls) → AreOf buffers (voices y) (payloads ms) → AreOf buffers (voices (if run then x else y)) (payloads (if run then ls else ms))
   of_if true x y ls ms o p = o
@@ -256,7 +268,7 @@ module _ (buffers : List (Option BufferPlace)) (clashing : List ℤ) where
   voices_node : (run : Bool) (kind : NodeKind) (label : Label Held) (b a : HeardNodes) → voices (if run then with_node buffers clashing kind label b none else none) ++ voices a ≡ voices (if run then with_node buffers clashing kind label b a else a)
   voices_node true kinds.Synth label b a = refl
   voices_node true kinds.Group label b a = ap (λ vs. vs ++ voices a) (voices_alone false b) ∙ sym (voices_group false b a)
-  voices_node true kinds.Parallel label b a = ap (λ vs. vs ++ voices a) (voices_alone (is_split clashing label.id b) b) ∙ sym (voices_group (is_split clashing label.id b) b a)
+  voices_node true kinds.Parallel label b a = ap (λ vs. vs ++ voices a) (voices_alone (may_split clashing label.id) b) ∙ sym (voices_group (may_split clashing label.id) b a)
   voices_node false kind label b a = refl
 
   clear_after : (vs : List Voice) (hs : List Held) (t : Nodes Held) → AreOf buffers vs hs → AreDisjoint buffers (states_of hs ++ live_held t) → ClashesWithNone buffers hs t → NoneMeet vs (voices (running_of buffers clashing t))
@@ -276,7 +288,7 @@ module _ (buffers : List (Option BufferPlace)) (clashing : List ℤ) where
   members_node : (run : Bool) (kind : NodeKind) (label : Label Held) (b a : HeardNodes) → NoneMeet (voices (if run then with_node buffers clashing kind label b none else none)) (voices a) → NoMembersMeet a → NoMembersMeet (if run then with_node buffers clashing kind label b a else a)
   members_node true kinds.Synth label b a c m = (c.0, m)
   members_node true kinds.Group label b a c m = members_group false b a (subst (λ vs. NoneMeet vs (voices a)) (voices_alone false b) c) m
-  members_node true kinds.Parallel label b a c m = members_group (is_split clashing label.id b) b a (subst (λ vs. NoneMeet vs (voices a)) (voices_alone (is_split clashing label.id b) b) c) m
+  members_node true kinds.Parallel label b a c m = members_group (may_split clashing label.id) b a (subst (λ vs. NoneMeet vs (voices a)) (voices_alone (may_split clashing label.id) b) c) m
   members_node false kind label b a c m = m
 
   members_clear : (t : Nodes Held) → AreDisjoint buffers (live_held t) → NoneClash buffers t → NoMembersMeet (running_of buffers clashing t)
@@ -291,25 +303,39 @@ module _ (buffers : List (Option BufferPlace)) (clashing : List ℤ) where
       (clear_after (voices (running_of buffers clashing here)) (held_of here) after (are_of here) first n.0)
       (members_clear after rest n.1)
 
-  splits_node : (run : Bool) (kind : NodeKind) (label : Label Held) (b a : HeardNodes) → (run ≡ true → (kind ≡ kinds.Parallel → is_listed clashing label.id ≡ false → NoMembersMeet b) × (MixBuses (voices b) × SplitsAreClear b)) → SplitsAreClear a → SplitsAreClear (if run then with_node buffers clashing kind label b a else a)
+  splits_node : (run : Bool) (kind : NodeKind) (label : Label Held) (b a : HeardNodes) → (run ≡ true → (kind ≡ kinds.Parallel → is_listed clashing label.id ≡ false → NoMembersMeet b) × SplitsMeetNone b) → SplitsMeetNone a → SplitsMeetNone (if run then with_node buffers clashing kind label b a else a)
   splits_node true kinds.Synth label b a c s = s
-  splits_node true kinds.Group label b a c s = splits_group false b a (λ h. absurd (true≢false (sym h))) (c refl).1.1 s
-  splits_node true kinds.Parallel label b a c s =
-      splits_group (is_split clashing label.id b) b a
-      (λ h. let p = and_parts (not (is_listed clashing label.id)) (not (share_a_bus b)) h in
-      clear_members b (c refl).1.0 ((c refl).0 refl (not-true (is_listed clashing label.id) p.0)) (none_shared b (not-true (share_a_bus b) p.1)))
-      (c refl).1.1 s
+  splits_node true kinds.Group label b a c s = splits_group false b a (λ h. absurd (true≢false (sym h))) (c refl).1 s
+  splits_node true kinds.Parallel label b a c s = splits_group (may_split clashing label.id) b a (λ h. (c refl).0 refl (not-true (is_listed clashing label.id) h)) (c refl).1 s
   splits_node false kind label b a c s = s
 
-  splits_clear : (t : Nodes Held) → AreDisjoint buffers (live_held t) → AreListed buffers clashing t → SplitsAreClear (running_of buffers clashing t)
-  splits_clear trees.none is n = tt
-  splits_clear (trees.node label below after) is n =
+  splits_meet_none : (t : Nodes Held) → AreDisjoint buffers (live_held t) → AreListed buffers clashing t → SplitsMeetNone (running_of buffers clashing t)
+  splits_meet_none trees.none is n = tt
+  splits_meet_none (trees.node label below after) is n =
       let whole : Nodes Held = trees.node label below after in
       let inner : AreDisjoint buffers (live_held below) = fewer buffers (live_held whole) (live_held below) is (λ x. omega (arith, live_parts x label below after)) in
       let rest : AreDisjoint buffers (live_held after) = fewer buffers (live_held whole) (live_held after) is (λ x. omega (arith, live_parts x label below after)) in
       splits_node label.running label.kind label (running_of buffers clashing below) (running_of buffers clashing after)
-      (λ r. (λ k u. members_clear below inner ((n.0 r).0 k u), (mix_of buffers (voices (running_of buffers clashing below)) (held_of below) (are_of below), splits_clear below inner (n.0 r).1)))
-      (splits_clear after rest n.1)
+      (λ r. (λ k u. members_clear below inner ((n.0 r).0 k u), splits_meet_none below inner (n.0 r).1))
+      (splits_meet_none after rest n.1)
 
-  pub clear_below : (id : ℤ) (t : Nodes Held) → AreDisjoint buffers (live_held t) → AreListed buffers clashing (subtree id t) → SplitsAreClear (running_of buffers clashing (subtree id t))
-  clear_below id t is n = splits_clear (subtree id t) (fewer buffers (live_held t) (live_held (subtree id t)) is (λ x. live_below x id t)) n
+  pub none_meet_below : (id : ℤ) (t : Nodes Held) → AreDisjoint buffers (live_held t) → AreListed buffers clashing (subtree id t) → SplitsMeetNone (running_of buffers clashing (subtree id t))
+  none_meet_below id t is n = splits_meet_none (subtree id t) (fewer buffers (live_held t) (live_held (subtree id t)) is (λ x. live_below x id t)) n
+
+  plain_node : (run : Bool) (kind : NodeKind) (label : Label Held) (b a : HeardNodes) → ArePlain b → ArePlain a → ArePlain (if run then with_node buffers clashing kind label b a else a)
+  plain_node true kinds.Synth label b a p q = (refl, q)
+  plain_node true kinds.Group label b a p q = plain_group false b a p q
+  plain_node true kinds.Parallel label b a p q = plain_group (may_split clashing label.id) b a p q
+  plain_node false kind label b a p q = q
+
+  -- no lanes are given yet
+  pub are_plain : (t : Nodes Held) → ArePlain (running_of buffers clashing t)
+  are_plain trees.none = tt
+  are_plain (trees.node label below after) = plain_node label.running label.kind label (running_of buffers clashing below) (running_of buffers clashing after) (are_plain below) (are_plain after)
+
+  -- the synths of a subtree mix whole buses, and their words lie below
+  pub whole_below : (first : ℕ) (id : ℤ) (t : Nodes Held) → LieBelow first buffers (live_held t) → AreWhole first (voices (running_of buffers clashing (subtree id t)))
+  whole_below first id t is =
+      let u : Nodes Held = subtree id t in
+      whole_all buffers first (voices (running_of buffers clashing u)) (held_of u) (live_held t) is
+      (λ x s. has_of_overlaps x (live_held t) (omega (arith, overlaps_has x (states_of (held_of u)) s, few_states x u, live_below x id t))) (are_of u)

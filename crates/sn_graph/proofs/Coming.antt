@@ -14,6 +14,7 @@ use Rattle.sn_graph.proofs.Parting.{heard-row}
 use Rattle.sn_graph.proofs.Planning.{is_plan, whole, played}
 use Rattle.sn_graph.proofs.Lowest.{parted_is_lowest}
 use Rattle.sn_graph.proofs.Jobwise.{feet_are}
+use Rattle.sn_graph.proofs.Stepping.{steps_are}
 
 pub comes_left : (xs ys : List Voice) (a b : ℤ) → comes xs a b ≡ true → comes (xs ++ ys) a b ≡ true
 comes_left [] ys a b h = absurd (true≢false (sym h))
@@ -48,7 +49,7 @@ module _ (at : ℕ → Job) where
         (λ (g : i ≤ n). let k : i ≡ n = omega arith in
         comes_across ss (heard rest) a b (sym (listed-ids ss a) ∙ (sym (ap (λ (x : Job). is_listed x.synths a) (ap at k ∙ s.0)) ∙ p)) (plays_in at (n + 1) (n ∷ []) rest j b s.1 (omega arith) (omega arith) q))
         (cases_lt n i)
-    comes_in n e (split ms rest) i j a b s l m h p q =
+    comes_in n e (split lanes ms rest) i j a b s l m h p q =
         let mute : (k : ℕ) (c : ℤ) → k ≡ n + size_all ms → Plays_at k c → ⊥ = λ k c u t. true≢false (sym t ∙ ap (λ (x : Job). is_listed x.synths c) (ap at u ∙ s.1)) in
         ⊎_elim
         (λ (g : j < n + size_all ms). comes_left (heard_all ms) (heard rest) a b (comes_all n e ms i j a b s.0 l m g p q))
@@ -91,5 +92,6 @@ module _ (nodes : HeardNodes) (once : Once (voices nodes)) where
           λ (d : (i < j) × (lowest_is_split false nodes a b ≡ false)). (p.ordered i j a b u v).1 (d.0, parted_is_lowest false nodes a b once (comes_first i j a b d.0 u v) ∙ d.1),
         );
         feet = feet_are nodes once;
+        steps = λ j. steps_are nodes j;
         few = p.few;
       }

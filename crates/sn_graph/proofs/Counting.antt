@@ -1,9 +1,10 @@
 -- How many jobs there are at most, and how often a synth is among them.
-use Rattle.std.proofs.Common.{◌≡◌, ◌≤◌, ◌<◌, ℕ, ◌+◌, ℤ, Bool, true, false, if◌then◌else◌, List, [], ◌∷◌, ◌++◌, Option, Some, sym, refl, ap, ◌∙◌, subst, arith, true≢false, ⊎_elim}
+use Rattle.std.proofs.Common.{◌≡◌, ◌≤◌, ◌<◌, ℕ, ◌+◌, ℤ, Bool, true, false, if◌then◌else◌, List, [], ◌∷◌, ◌++◌, Option, Some, None, replicate, sym, refl, ap, ◌∙◌, subst, arith, true≢false, ⊎_elim}
 use Rattle.std.specs.Ordering.{int_eq}
 use Rattle.std.proofs.lemmas.Bool.{cases_Bool, cond_both, or_cases, false_from_ne_true}
 use Rattle.std.proofs.lemmas.Bool.Decides.{Decides-int_eq}
 use Rattle.sn_mem.specs.declared.buffers.BufferPlace.{BufferPlace}
+use Rattle.sn_mem.specs.declared.moves.Moved.{Moved}
 use Rattle.sn_tree.specs.declared.node.NodeKind.{NodeKind}
 use Rattle.sn_tree.specs.declared.node.NodeKind.TheVariants as kinds
 use Rattle.sn_tree.specs.Trees as trees
@@ -15,12 +16,13 @@ use Rattle.sn_graph.specs.declared.nodes.Voice.{Voice}
 use Rattle.sn_graph.specs.Voices.{HeardNodes, none, synth, group, voices, has, Once}
 use Rattle.sn_graph.specs.Rows.{Row, done, job, split, size, size_all}
 use Rattle.sn_graph.specs.Plans.{close, followed, members, joined, keep, row_of, rows_of}
-use Rattle.sn_graph.specs.Sharing.{is_split}
-use Rattle.sn_graph.specs.Stages.{with_group, with_node, running_of}
+use Rattle.sn_graph.specs.Lanes.{laned, with_lanes}
+use Rattle.sn_graph.specs.Stages.{may_split, with_group, with_node, running_of}
 use Rattle.sn_graph.proofs.Labels.{kind_at, kind_after, kind_below, kind_here, not_some, some_is, subtree_after, subtree_below, subtree_here}
 use Rattle.sn_graph.proofs.Hearing.{voices_group}
 use Rattle.sn_graph.proofs.Shapes.{weight}
 use Rattle.sn_graph.proofs.Drafting.{size-followed}
+use Rattle.sn_graph.proofs.Alike.{weight_laned}
 
 -- ---- jobs
 
@@ -41,15 +43,15 @@ size-members : (r : Row) (rs : List Row) → size_all (members r rs) ≡ size r 
 size-members r [] = omega arith
 size-members r (q ∷ rs) = omega (arith, size-members q rs)
 
-size-joined : (rs : List Row) → size (joined rs) ≤ 1 + sizes rs
-size-joined [] = omega arith
-size-joined (r ∷ []) = omega arith
-size-joined (r ∷ q ∷ rs) = omega (arith, size-members q rs)
+size-joined : (lanes : List Moved) (rs : List Row) → size (joined lanes rs) ≤ 1 + sizes rs
+size-joined lanes [] = omega arith
+size-joined lanes (r ∷ []) = omega arith
+size-joined lanes (r ∷ q ∷ rs) = omega (arith, size-members q rs)
 
 sizes-keep : (r : Row) (rs : List Row) → sizes (keep r rs) ≡ size r + sizes rs
 sizes-keep done rs = omega arith
 sizes-keep (job vs a) rs = refl
-sizes-keep (split ms a) rs = refl
+sizes-keep (split lanes ms a) rs = refl
 
 size-close : (run : List Voice) (r : Row) → size (close run r) ≡ runs run + size r
 size-close [] r = omega arith
@@ -62,14 +64,14 @@ mutual
   few_row : (run : List Voice) (t : HeardNodes) → size (row_of run t) ≤ runs run + weight t
   few_row run none = omega (arith, size-close run done)
   few_row run (synth v rest) = omega (arith, few_row (run ++ v ∷ []) rest, some_run run v)
-  few_row run (group true inner rest) = omega (arith, size-after run (joined (rows_of inner)) (row_of [] rest), few_row [] rest, size-joined (rows_of inner), few_rows inner)
-  few_row run (group false inner rest) = omega (arith, size-after run (row_of [] inner) (row_of [] rest), few_row [] rest, few_row [] inner)
+  few_row run (group (Some lanes) inner rest) = omega (arith, size-after run (joined lanes (rows_of inner)) (row_of [] rest), few_row [] rest, size-joined lanes (rows_of inner), few_rows inner)
+  few_row run (group None inner rest) = omega (arith, size-after run (row_of [] inner) (row_of [] rest), few_row [] rest, few_row [] inner)
 
   few_rows : (t : HeardNodes) → sizes (rows_of t) ≤ weight t
   few_rows none = omega arith
   few_rows (synth v rest) = omega (arith, few_rows rest)
-  few_rows (group true inner rest) = omega (arith, sizes-keep (joined (rows_of inner)) (rows_of rest), size-joined (rows_of inner), few_rows inner, few_rows rest)
-  few_rows (group false inner rest) = omega (arith, sizes-keep (row_of [] inner) (rows_of rest), few_row [] inner, few_rows rest)
+  few_rows (group (Some lanes) inner rest) = omega (arith, sizes-keep (joined lanes (rows_of inner)) (rows_of rest), size-joined lanes (rows_of inner), few_rows inner, few_rows rest)
+  few_rows (group None inner rest) = omega (arith, sizes-keep (row_of [] inner) (rows_of rest), few_row [] inner, few_rows rest)
 
 -- ---- ids
 
@@ -118,17 +120,23 @@ weight_group flag none after = omega arith
 weight_group flag (synth v rest) after = omega arith
 weight_group flag (group f inner rest) after = omega arith
 
+-- with lanes, a plain group has as many jobs as what is below it
+few_inner : (first most : ℕ) (above : List Bool) (taken : ℕ) (below : HeardNodes) → size (row_of [] (laned first most above taken (group None below none)).nodes) ≤ weight below
+few_inner first most above taken below =
+    let r : HeardNodes = (laned first most above taken below).nodes in
+    omega (arith, size-followed (row_of [] r) done, few_row [] r, weight_laned first most above taken below)
+
 -- a plain group has no job of its own
-few_plain : (below : HeardNodes) → size (row_of [] (with_group false below none)) ≤ weight below
-few_plain none = omega arith
-few_plain (synth v rest) = omega (arith, size-followed (row_of [] (synth v rest)) done, few_row [] (synth v rest))
-few_plain (group f inner rest) = omega (arith, size-followed (row_of [] (group f inner rest)) done, few_row [] (group f inner rest))
+few_plain : (first most : ℕ) (above : List Bool) (taken : ℕ) (below : HeardNodes) → size (row_of [] (laned first most above taken (with_group false below none)).nodes) ≤ weight below
+few_plain first most above taken none = omega arith
+few_plain first most above taken (synth v rest) = few_inner first most above taken (synth v rest)
+few_plain first most above taken (group f inner rest) = few_inner first most above taken (group f inner rest)
 
 module _ (buffers : List (Option BufferPlace)) (clashing : List ℤ) where
   weight_node : (kind : NodeKind) (label : Label Held) (below after : HeardNodes) → weight (with_node buffers clashing kind label below after) ≤ 1 + weight below + weight after
   weight_node kinds.Synth label below after = omega arith
   weight_node kinds.Group label below after = weight_group false below after
-  weight_node kinds.Parallel label below after = weight_group (is_split clashing label.id below) below after
+  weight_node kinds.Parallel label below after = weight_group (may_split clashing label.id) below after
 
   weight_all : (t : Nodes Held) → weight (running_of buffers clashing t) ≤ count t
   weight_all trees.none = omega arith
@@ -139,20 +147,21 @@ module _ (buffers : List (Option BufferPlace)) (clashing : List ℤ) where
       (λ h. omega (arith, weight_node label.kind label b a, weight_all below, weight_all after))
       (λ h. omega (arith, weight_all after))
 
-  few_group : (kind : NodeKind) (label : Label Held) (below : HeardNodes) → kind ≡ kinds.Group → size (row_of [] (with_node buffers clashing kind label below none)) ≤ weight below
+module _ (buffers : List (Option BufferPlace)) (clashing : List ℤ) (first most : ℕ) where
+  few_group : (kind : NodeKind) (label : Label Held) (below : HeardNodes) → kind ≡ kinds.Group → size (row_of [] (with_lanes first most (with_node buffers clashing kind label below none))) ≤ weight below
   few_group kind label below plain =
-      subst (λ (k : NodeKind). size (row_of [] (with_node buffers clashing k label below none)) ≤ weight below) (sym plain)
-      (few_plain below)
+      subst (λ (k : NodeKind). size (row_of [] (with_lanes first most (with_node buffers clashing k label below none))) ≤ weight below) (sym plain)
+      (few_plain first most (replicate 128 false) 0 below)
 
-  few_top : (label : Label Held) (below : Nodes Held) → label.kind ≡ kinds.Group → size (row_of [] (running_of buffers clashing (trees.node label below trees.none))) ≤ count below
+  few_top : (label : Label Held) (below : Nodes Held) → label.kind ≡ kinds.Group → size (row_of [] (with_lanes first most (running_of buffers clashing (trees.node label below trees.none)))) ≤ count below
   few_top label below plain =
       let b : HeardNodes = running_of buffers clashing below in
-      cond_both label.running (with_node buffers clashing label.kind label b none) none (λ r. size (row_of [] r) ≤ count below)
-      (λ h. omega (arith, few_group label.kind label b plain, weight_all below))
+      cond_both label.running (with_node buffers clashing label.kind label b none) none (λ r. size (row_of [] (with_lanes first most r)) ≤ count below)
+      (λ h. omega (arith, few_group label.kind label b plain, weight_all buffers clashing below))
       (λ h. omega arith)
 
   abbrev Few : ℕ → Nodes Held → Type 0
-  Few n t = size (row_of [] (running_of buffers clashing t)) < n
+  Few n t = size (row_of [] (with_lanes first most (running_of buffers clashing t))) < n
 
   -- of a plain group and what is below it there are fewer jobs than nodes
   pub few_jobs : (id : ℤ) (t : Nodes Held) → kind_at id t ≡ Some kinds.Group → Few (count t) (subtree id t)
@@ -169,10 +178,11 @@ module _ (buffers : List (Option BufferPlace)) (clashing : List ℤ) where
       (cases_Bool (holds id below)))
       (cases_Bool (int_eq label.id id))
 
+module _ (buffers : List (Option BufferPlace)) (clashing : List ℤ) where
   heard_node : (a : ℤ) (kind : NodeKind) (label : Label Held) (below after : HeardNodes) → heard a (voices (with_node buffers clashing kind label below after)) ≤ one_if (int_eq label.id a) + (heard a (voices below) + heard a (voices after))
   heard_node a kinds.Synth label below after = omega arith
   heard_node a kinds.Group label below after = omega (arith, heard_group a false below after)
-  heard_node a kinds.Parallel label below after = omega (arith, heard_group a (is_split clashing label.id below) below after)
+  heard_node a kinds.Parallel label below after = omega (arith, heard_group a (may_split clashing label.id) below after)
 
   heard_all : (a : ℤ) (t : Nodes Held) → heard a (voices (running_of buffers clashing t)) ≤ occurrences int_eq a (ids t)
   heard_all a trees.none = omega arith

@@ -7,10 +7,11 @@ use Rattle.sn_foot.specs.Canonical.{Ends}
 use Rattle.std.proofs.lemmas.Bool.{cases_Bool, cond-true, cond-false}
 use Rattle.sn_round.specs.declared.jobs.Job.{Job}
 use Rattle.sn_graph.specs.declared.nodes.Voice.{Voice}
-use Rattle.sn_graph.specs.Voices.{AreWithin, all_reads, all_writes, HeardNodes, none, synth, group, voices, own_foot}
+use Rattle.sn_graph.specs.Voices.{AreWithin, HaveEnds, JointsEnd, all_reads, all_writes, joint_lanes, HeardNodes, none, synth, group, voices, own_foot}
 use Rattle.sn_graph.specs.Rows.{Row, done, job, split, job_of, size, size_all, last, lasts, jobs, jobs_all}
 use Rattle.sn_graph.specs.Plans.{close, followed, members, joined, keep, row_of, rows_of, inner_row}
 use Rattle.std.proofs.Common.{Option, Some, None}
+use Rattle.sn_mem.specs.declared.moves.Moved.{Moved}
 use Rattle.sn_graph.specs.Drafts.{listed, Puts, IsJoint}
 use Rattle.sn_graph.proofs.Planning.{length-jobs}
 use Rattle.sn_graph.proofs.Filling as filling
@@ -40,12 +41,12 @@ behind run = map (λ (s : Bor Voice). s.now) run
 pub size-followed : (x y : Row) → size (followed x y) ≡ size x + size y
 size-followed done y = omega arith
 size-followed (job ss x) y = omega (arith, size-followed x y)
-size-followed (split ms x) y = omega (arith, size-followed x y)
+size-followed (split lanes ms x) y = omega (arith, size-followed x y)
 
 pub last-followed : (n : ℕ) (e : List ℕ) (x y : Row) → last n e (followed x y) ≡ last (n + size x) (last n e x) y
 last-followed n e done y = let q : n ≡ n + 0 = omega arith in ap (λ (k : ℕ). last k e y) q
 last-followed n e (job ss x) y = let q : n + 1 + size x ≡ n + (1 + size x) = omega arith in last-followed (n + 1) (n ∷ []) x y ∙ ap (λ (k : ℕ). last k (last (n + 1) (n ∷ []) x) y) q
-last-followed n e (split ms x) y =
+last-followed n e (split lanes ms x) y =
     let q : n + size_all ms + 1 + size x ≡ n + (size_all ms + (1 + size x)) = omega arith in
     last-followed (n + size_all ms + 1) ((n + size_all ms) ∷ []) x y ∙ ap (λ (k : ℕ). last k (last (n + size_all ms + 1) ((n + size_all ms) ∷ []) x) y) q
 
@@ -53,12 +54,12 @@ pub jobs-followed : (n : ℕ) (e : List ℕ) (x y : Row) → jobs n e (followed 
 jobs-followed n e done y = let q : n ≡ n + 0 = omega arith in ap (λ (k : ℕ). jobs k e y) q
 jobs-followed n e (job ss x) y =
     let q : n + 1 + size x ≡ n + (1 + size x) = omega arith in
-    ap (λ (l : List Job). job_of ss e ∷ l) (jobs-followed (n + 1) (n ∷ []) x y ∙ ap (λ (k : ℕ). jobs (n + 1) (n ∷ []) x ++ jobs k (last (n + 1) (n ∷ []) x) y) q)
-jobs-followed n e (split ms x) y =
+    ap (λ (l : List Job). job_of ss [] e ∷ l) (jobs-followed (n + 1) (n ∷ []) x y ∙ ap (λ (k : ℕ). jobs (n + 1) (n ∷ []) x ++ jobs k (last (n + 1) (n ∷ []) x) y) q)
+jobs-followed n e (split lanes ms x) y =
     let q : n + size_all ms + 1 + size x ≡ n + (size_all ms + (1 + size x)) = omega arith in
     let m : ℕ = n + size_all ms in
-    ap (λ (l : List Job). jobs_all n e ms ++ job_of [] (lasts n e ms) ∷ l) (jobs-followed (m + 1) (m ∷ []) x y ∙ ap (λ (k : ℕ). jobs (m + 1) (m ∷ []) x ++ jobs k (last (m + 1) (m ∷ []) x) y) q)
-    ∙ sym (append_assoc (jobs_all n e ms) (job_of [] (lasts n e ms) ∷ jobs (m + 1) (m ∷ []) x) (jobs (n + (size_all ms + (1 + size x))) (last (m + 1) (m ∷ []) x) y))
+    ap (λ (l : List Job). jobs_all n e ms ++ job_of [] lanes (lasts n e ms) ∷ l) (jobs-followed (m + 1) (m ∷ []) x y ∙ ap (λ (k : ℕ). jobs (m + 1) (m ∷ []) x ++ jobs k (last (m + 1) (m ∷ []) x) y) q)
+    ∙ sym (append_assoc (jobs_all n e ms) (job_of [] lanes (lasts n e ms) ∷ jobs (m + 1) (m ∷ []) x) (jobs (n + (size_all ms + (1 + size x))) (last (m + 1) (m ∷ []) x) y))
 
 pub close-followed : (run : List Voice) (r : Row) → close run r ≡ followed (close run done) r
 close-followed [] r = refl
@@ -69,7 +70,7 @@ puts-length before after e f r p =
     omega (arith, ap length p.jobs_put, length-append before (jobs (length before) (listed e) r), length-jobs (length before) (listed e) r)
 
 -- the open run that was put
-pub put_run : (before after : List Job) (e f : Option ℕ) (ss : List Voice) → 1 ≤ length ss → after ≡ before ++ job_of ss (listed e) ∷ [] → f ≡ Some (length before) → Puts before after e f (close ss done)
+pub put_run : (before after : List Job) (e f : Option ℕ) (ss : List Voice) → 1 ≤ length ss → after ≡ before ++ job_of ss [] (listed e) ∷ [] → f ≡ Some (length before) → Puts before after e f (close ss done)
 put_run before after e f [] l h k = absurd (omega arith)
 put_run before after e f (s ∷ ss) l h k = record { jobs_put = h; last_is = ap listed k }
 
@@ -103,11 +104,11 @@ leaves-length before now e f r w h =
     )
 
 -- at a group the open run comes first, and then the group
-group_row : (run : List Voice) (flag : Bool) (inner rest : HeardNodes) → row_of run (group flag inner rest) ≡ followed (close run done) (followed (inner_row flag inner) (row_of [] rest))
+group_row : (run : List Voice) (flag : Option (List Moved)) (inner rest : HeardNodes) → row_of run (group flag inner rest) ≡ followed (close run done) (followed (inner_row flag inner) (row_of [] rest))
 group_row run flag inner rest = close-followed run (followed (inner_row flag inner) (row_of [] rest))
 
 -- a group in a row: it was put after the open run
-pub group_put : (before now mid after : List Job) (e f g k : Option ℕ) (run : List Voice) (flag : Bool) (inner rest : HeardNodes) (w : Row) → Leaves before now e f (row_of run (group flag inner rest)) w
+pub group_put : (before now mid after : List Job) (e f g k : Option ℕ) (run : List Voice) (flag : Option (List Moved)) (inner rest : HeardNodes) (w : Row) → Leaves before now e f (row_of run (group flag inner rest)) w
     → Puts now mid f g (close run done) → Puts mid after g k (inner_row flag inner) → Leaves before after e k (row_of [] rest) w
 group_put before now mid after e f g k run flag inner rest w h p q =
     let r : Row = inner_row flag inner in
@@ -115,7 +116,7 @@ group_put before now mid after e f g k run flag inner rest w h p q =
     leaves_more before mid after e g k r (row_of [] rest) w (leaves_more before now mid e f g (close run done) (followed r (row_of [] rest)) w (subst (λ (x : Row). Leaves before now e f x w) q2 h) p) q
 
 -- there is room for the open run and the group
-pub room_for : (before now : List Job) (e f : Option ℕ) (run : List Voice) (flag : Bool) (inner rest : HeardNodes) (w : Row) → Leaves before now e f (row_of run (group flag inner rest)) w
+pub room_for : (before now : List Job) (e f : Option ℕ) (run : List Voice) (flag : Option (List Moved)) (inner rest : HeardNodes) (w : Row) → Leaves before now e f (row_of run (group flag inner rest)) w
     → length now + size (close run done) + size (inner_row flag inner) ≤ length before + size w
 room_for before now e f run flag inner rest w h =
     let r : Row = inner_row flag inner in
@@ -141,15 +142,15 @@ pub length-list : (n : ℕ) (e : List ℕ) (r : Row) (rs : List Row) → length 
 length-list n e r [] = omega (arith, length-append (jobs n e r) [], length-jobs n e r)
 length-list n e r (q ∷ rs) = omega (arith, length-append (jobs n e r) (jobs_list (n + size r) e (q ∷ rs)), length-jobs n e r, length-list (n + size r) e q rs)
 
-pub size-joined : (r : Row) (rs : List Row) → size_all (members r rs) ≤ size (joined (r ∷ rs))
-size-joined r [] = omega arith
-size-joined r (q ∷ rs) = omega arith
+pub size-joined : (lanes : List Moved) (r : Row) (rs : List Row) → size_all (members r rs) ≤ size (joined lanes (r ∷ rs))
+size-joined lanes r [] = omega arith
+size-joined lanes r (q ∷ rs) = omega arith
 
 -- there is room for a member
-pub room_member : (before now : List Job) (ls : List ℕ) (e : Option ℕ) (r : Row) (rs ws : List Row) → LeavesAll before now ls e (r ∷ rs) ws → length now + size r ≤ length before + size (joined ws)
-room_member before now ls e r rs [] h =
+pub room_member : (lanes : List Moved) (before now : List Job) (ls : List ℕ) (e : Option ℕ) (r : Row) (rs ws : List Row) → LeavesAll before now ls e (r ∷ rs) ws → length now + size r ≤ length before + size (joined lanes ws)
+room_member lanes before now ls e r rs [] h =
     omega (arith, ap length h.jobs_left, length-append before [], length-append now (jobs_list (length now) (listed e) (r ∷ rs)), length-append (jobs (length now) (listed e) r) (jobs_list (length now + size r) (listed e) rs), length-jobs (length now) (listed e) r)
-room_member before now ls e r rs (w ∷ ws) h =
+room_member lanes before now ls e r rs (w ∷ ws) h =
     omega (
       arith,
       ap length h.jobs_left,
@@ -158,24 +159,24 @@ room_member before now ls e r rs (w ∷ ws) h =
       length-append (jobs (length now) (listed e) r) (jobs_list (length now + size r) (listed e) rs),
       length-jobs (length now) (listed e) r,
       length-list (length before) (listed e) w ws,
-      size-joined w ws,
+      size-joined lanes w ws,
     )
 
-pub room_joint : (before now : List Job) (ls : List ℕ) (e : Option ℕ) (ws : List Row) → LeavesAll before now ls e [] ws → length now ≤ length before + size (joined ws)
-room_joint before now ls e [] h = omega (arith, ap length h.jobs_left, length-append before [], length-append now [])
-room_joint before now ls e (w ∷ ws) h =
-    omega (arith, ap length h.jobs_left, length-append before (jobs_list (length before) (listed e) (w ∷ ws)), length-append now [], length-list (length before) (listed e) w ws, size-joined w ws)
+pub room_joint : (lanes : List Moved) (before now : List Job) (ls : List ℕ) (e : Option ℕ) (ws : List Row) → LeavesAll before now ls e [] ws → length now ≤ length before + size (joined lanes ws)
+room_joint lanes before now ls e [] h = omega (arith, ap length h.jobs_left, length-append before [], length-append now [])
+room_joint lanes before now ls e (w ∷ ws) h =
+    omega (arith, ap length h.jobs_left, length-append before (jobs_list (length before) (listed e) (w ∷ ws)), length-append now [], length-list (length before) (listed e) w ws, size-joined lanes w ws)
 
 -- a row with a job has one last job
 pub single : (n : ℕ) (x : ℕ) (r : Row) → (m : ℕ) × (last n (x ∷ []) r ≡ m ∷ [])
 single n x done = (x, refl)
 single n x (job ss rest) = single (n + 1) n rest
-single n x (split ms rest) = single (n + size_all ms + 1) (n + size_all ms) rest
+single n x (split lanes ms rest) = single (n + size_all ms + 1) (n + size_all ms) rest
 
 pub last_single : (n : ℕ) (e : List ℕ) (r : Row) → 1 ≤ size r → (m : ℕ) × (last n e r ≡ m ∷ [])
 last_single n e done l = absurd (omega arith)
 last_single n e (job ss rest) l = single (n + 1) n rest
-last_single n e (split ms rest) l = single (n + size_all ms + 1) (n + size_all ms) rest
+last_single n e (split lanes ms rest) l = single (n + size_all ms + 1) (n + size_all ms) rest
 
 pub jobs-members : (n : ℕ) (e : List ℕ) (r : Row) (rs : List Row) → jobs_all n e (members r rs) ≡ jobs_list n e (r ∷ rs)
 jobs-members n e r [] = sym (append-nil (jobs n e r))
@@ -186,38 +187,38 @@ lasts-members n e r [] = sym (append-nil (last n e r))
 lasts-members n e r (q ∷ rs) = ap (λ (l : List ℕ). last n e r ++ l) (lasts-members (n + size r) e q rs)
 
 -- the joint was put after the members
-pub joint_put : (before now after : List Job) (ls : List ℕ) (e f : Option ℕ) (ws : List Row) → filling.AllFull ws → LeavesAll before now ls e [] ws → IsJoint now after ls e f → Puts before after e f (joined ws)
-joint_put before now after ls e f [] full h j =
+pub joint_put : (lanes : List Moved) (before now after : List Job) (ls : List ℕ) (e f : Option ℕ) (ws : List Row) → filling.AllFull ws → LeavesAll before now ls e [] ws → IsJoint lanes now after ls e f → Puts before after e f (joined lanes ws)
+joint_put lanes before now after ls e f [] full h j =
     let none : ls ≡ [] = sym (append-nil ls) ∙ h.lasts_left in
-    let k : (after ≡ now) × (f ≡ e) = subst (λ (l : List ℕ). IsJoint now after l e f) none j in
+    let k : (after ≡ now) × (f ≡ e) = subst (λ (l : List ℕ). IsJoint lanes now after l e f) none j in
     record { jobs_put = k.0 ∙ (sym (append-nil now) ∙ h.jobs_left); last_is = ap listed k.1 }
-joint_put before now after ls e f (r ∷ []) full h j =
+joint_put lanes before now after ls e f (r ∷ []) full h j =
     let m = last_single (length before) (listed e) r full.0 in
     let one : ls ≡ m.0 ∷ [] = sym (append-nil ls) ∙ (h.lasts_left ∙ (append-nil (last (length before) (listed e) r) ∙ m.1)) in
-    let k : (after ≡ now) × (f ≡ Some m.0) = subst (λ (l : List ℕ). IsJoint now after l e f) one j in
+    let k : (after ≡ now) × (f ≡ Some m.0) = subst (λ (l : List ℕ). IsJoint lanes now after l e f) one j in
     record {
       jobs_put = k.0 ∙ (sym (append-nil now) ∙ (h.jobs_left ∙ ap (λ (l : List Job). before ++ l) (append-nil (jobs (length before) (listed e) r))));
       last_is = ap listed k.1 ∙ sym m.1;
     }
-joint_put before now after ls e f (r ∷ q ∷ rs) full h j =
+joint_put lanes before now after ls e f (r ∷ q ∷ rs) full h j =
     let n : ℕ = length before in
     let a = last_single n (listed e) r full.0 in
     let b = last_single (n + size r) (listed e) q full.2.0 in
     let rest : List ℕ = lasts_list (n + size r + size q) (listed e) rs in
     let all : ls ≡ lasts n (listed e) (members r (q ∷ rs)) = sym (append-nil ls) ∙ (h.lasts_left ∙ sym (lasts-members n (listed e) r (q ∷ rs))) in
     let two : ls ≡ a.0 ∷ b.0 ∷ rest = sym (append-nil ls) ∙ (h.lasts_left ∙ (λ i. a.1 i ++ (b.1 i ++ rest))) in
-    let k : (after ≡ now ++ job_of [] (a.0 ∷ b.0 ∷ rest) ∷ []) × (f ≡ Some (length now)) = subst (λ (l : List ℕ). IsJoint now after l e f) two j in
+    let k : (after ≡ now ++ job_of [] lanes (a.0 ∷ b.0 ∷ rest) ∷ []) × (f ≡ Some (length now)) = subst (λ (l : List ℕ). IsJoint lanes now after l e f) two j in
     let here : now ≡ before ++ jobs_all n (listed e) (members r (q ∷ rs)) = sym (append-nil now) ∙ (h.jobs_left ∙ ap (λ (l : List Job). before ++ l) (sym (jobs-members n (listed e) r (q ∷ rs)))) in
     let long : length now ≡ n + size_all (members r (q ∷ rs)) = omega (arith, ap length here, length-append before (jobs_all n (listed e) (members r (q ∷ rs))), ap length (jobs-members n (listed e) r (q ∷ rs)), length-list n (listed e) r (q ∷ rs)) in
     record {
-      jobs_put = k.0 ∙ ((λ i. here i ++ job_of [] ((sym two ∙ all) i) ∷ []) ∙ append_assoc before (jobs_all n (listed e) (members r (q ∷ rs))) (job_of [] (lasts n (listed e) (members r (q ∷ rs))) ∷ []));
+      jobs_put = k.0 ∙ ((λ i. here i ++ job_of [] lanes ((sym two ∙ all) i) ∷ []) ∙ append_assoc before (jobs_all n (listed e) (members r (q ∷ rs))) (job_of [] lanes (lasts n (listed e) (members r (q ∷ rs))) ∷ []));
       last_is = ap listed k.1 ∙ ap (λ (m : ℕ). m ∷ []) long;
     }
 
-pub is_joint : (before after : List Job) (ls : List ℕ) (e f : Option ℕ) → 2 ≤ length ls → after ≡ before ++ job_of [] ls ∷ [] → f ≡ Some (length before) → IsJoint before after ls e f
-is_joint before after [] e f l h k = absurd (omega arith)
-is_joint before after (x ∷ []) e f l h k = absurd (omega arith)
-is_joint before after (x ∷ y ∷ ls) e f l h k = (h, k)
+pub is_joint : (lanes : List Moved) (before after : List Job) (ls : List ℕ) (e f : Option ℕ) → 2 ≤ length ls → after ≡ before ++ job_of [] lanes ls ∷ [] → f ≡ Some (length before) → IsJoint lanes before after ls e f
+is_joint lanes before after [] e f l h k = absurd (omega arith)
+is_joint lanes before after (x ∷ []) e f l h k = absurd (omega arith)
+is_joint lanes before after (x ∷ y ∷ ls) e f l h k = (h, k)
 
 pub length-behind : (run : List (Bor Voice)) → length (behind run) ≡ length run
 length-behind [] = refl
@@ -228,12 +229,12 @@ module _ {before now : List Job} {e f : Option ℕ} {w : Row} where
   pub fit_row : {r : Row} → Leaves before now e f r w → length before + size w < 2 ^ 32 → length now < 2 ^ 32
   fit_row {r} h l = omega (arith, leaves-length before now e f r w h)
 
-  pub fit_group : (run : List Voice) {n inner rest : HeardNodes} {flag : Bool} {mid : List Job} {g : Option ℕ} → Leaves before now e f (row_of run n) w → n ≡ group flag inner rest → length before + size w < 2 ^ 32
+  pub fit_group : (run : List Voice) {n inner rest : HeardNodes} {flag : Option (List Moved)} {mid : List Job} {g : Option ℕ} → Leaves before now e f (row_of run n) w → n ≡ group flag inner rest → length before + size w < 2 ^ 32
       → Puts now mid f g (close run done) → length mid + size (inner_row flag inner) < 2 ^ 32
   fit_group run {n} {inner} {rest} {flag} {mid} {g} h q l p =
       omega (arith, puts-length now mid f g (close run done) p, room_for before now e f run flag inner rest w (subst (λ (m : HeardNodes). Leaves before now e f (row_of run m) w) q h))
 
-  pub next_group : (run : List Voice) {n inner rest : HeardNodes} {flag : Bool} {mid after : List Job} {g k : Option ℕ} → Leaves before now e f (row_of run n) w → n ≡ group flag inner rest
+  pub next_group : (run : List Voice) {n inner rest : HeardNodes} {flag : Option (List Moved)} {mid after : List Job} {g k : Option ℕ} → Leaves before now e f (row_of run n) w → n ≡ group flag inner rest
       → Puts now mid f g (close run done) → Puts mid after g k (inner_row flag inner) → Leaves before after e k (row_of [] rest) w
   next_group run {n} {inner} {rest} {flag} {mid} {after} {g} {k} h q p r =
       group_put before now mid after e f g k run flag inner rest w (subst (λ (m : HeardNodes). Leaves before now e f (row_of run m) w) q h) p r
@@ -247,20 +248,25 @@ last_of ls ms b k h m = m ∙ ap (λ (o : Option ℕ). ls ++ listed o) (cond-tru
 none_of : (ls ms : List ℕ) (b : Bool) (k : Option ℕ) → b ≡ false → ms ≡ ls ++ listed (if b then k else None) → ms ≡ ls
 none_of ls ms b k h m = m ∙ (ap (λ (o : Option ℕ). ls ++ listed o) (cond-false b k None h) ∙ append-nil ls)
 
-module _ {before now : List Job} {e : Option ℕ} {ls : List ℕ} {ws : List Row} where
-  pub fit_members : {rs : List Row} → LeavesAll before now ls e rs ws → length before + size (joined ws) < 2 ^ 32 → length now < 2 ^ 32
-  fit_members {rs = []} h l = omega (arith, room_joint before now ls e ws h)
-  fit_members {rs = r ∷ rs} h l = omega (arith, room_member before now ls e r rs ws h)
+module _ (lanes : List Moved) {before now : List Job} {e : Option ℕ} {ls : List ℕ} {ws : List Row} where
+  pub fit_members : {rs : List Row} → LeavesAll before now ls e rs ws → length before + size (joined lanes ws) < 2 ^ 32 → length now < 2 ^ 32
+  fit_members {rs = []} h l = omega (arith, room_joint lanes before now ls e ws h)
+  fit_members {rs = r ∷ rs} h l = omega (arith, room_member lanes before now ls e r rs ws h)
 
   -- a member without a job is left out
-  fit_kept : (r : Row) (rs : List Row) → LeavesAll before now ls e (keep r rs) ws → length before + size (joined ws) < 2 ^ 32 → length now + size r < 2 ^ 32
+  fit_kept : (r : Row) (rs : List Row) → LeavesAll before now ls e (keep r rs) ws → length before + size (joined lanes ws) < 2 ^ 32 → length now + size r < 2 ^ 32
   fit_kept done rs h l = omega (arith, fit_members h l)
-  fit_kept (job ss a) rs h l = omega (arith, room_member before now ls e (job ss a) rs ws h)
-  fit_kept (split ms a) rs h l = omega (arith, room_member before now ls e (split ms a) rs ws h)
+  fit_kept (job ss a) rs h l = omega (arith, room_member lanes before now ls e (job ss a) rs ws h)
+  fit_kept (split others ms a) rs h l = omega (arith, room_member lanes before now ls e (split others ms a) rs ws h)
 
-  pub fit_member : {n inner rest : HeardNodes} {flag : Bool} → LeavesAll before now ls e (rows_of n) ws → n ≡ group flag inner rest → length before + size (joined ws) < 2 ^ 32 → length now + size (inner_row flag inner) < 2 ^ 32
+  pub fit_member : {n inner rest : HeardNodes} {flag : Option (List Moved)} → LeavesAll before now ls e (rows_of n) ws → n ≡ group flag inner rest → length before + size (joined lanes ws) < 2 ^ 32 → length now + size (inner_row flag inner) < 2 ^ 32
   fit_member {n} {inner} {rest} {flag} h q l = fit_kept (inner_row flag inner) (rows_of rest) (subst (λ (x : HeardNodes). LeavesAll before now ls e (rows_of x) ws) q h) l
 
+  pub end_members : (inner : HeardNodes) {n : HeardNodes} {after : List Job} {k : Option ℕ} → LeavesAll before now ls e (rows_of n) ws → n ≡ none → ws ≡ rows_of inner → IsJoint lanes now after ls e k → Puts before after e k (joined lanes ws)
+  end_members inner {n} {after} {k} h q u j =
+      joint_put lanes before now after ls e k ws (subst filling.AllFull (sym u) (filling.full-rows inner)) (subst (λ (x : HeardNodes). LeavesAll before now ls e (rows_of x) ws) q h) j
+
+module _ {before now : List Job} {e : Option ℕ} {ls : List ℕ} {ws : List Row} where
   pub next_synth : {n rest : HeardNodes} {s : Voice} {after : List Job} {k : Option ℕ} {ms : List ℕ} → LeavesAll before now ls e (rows_of n) ws → n ≡ synth s rest → Puts now after e k (close (s ∷ []) done) → ms ≡ ls ++ listed k → LeavesAll before after ms e (rows_of rest) ws
   next_synth {n} {rest} {s} {after} {k} {ms} h q p m =
       subst (λ (l : List ℕ). LeavesAll before after l e (rows_of rest) ws) (sym m) (member_put before now after ls e k (close (s ∷ []) done) (rows_of rest) ws (subst (λ (x : HeardNodes). LeavesAll before now ls e (rows_of x) ws) q h) p)
@@ -279,21 +285,17 @@ module _ {before now : List Job} {e : Option ℕ} {ls : List ℕ} {ws : List Row
       (λ (t : b ≡ true). subst (λ (l : List ℕ). LeavesAll before after l e rs ws) (sym (last_of ls ms b k t m)) (member_put before now after ls e k (job ss a) rs ws h p))
       (λ (f : b ≡ false). absurd (omega (arith, few f, long)))
       (cases_Bool b)
-  kept_put (split ns a) rs after k ms b h p m more few =
-      let long = puts-length now after e k (split ns a) p in
+  kept_put (split lanes ns a) rs after k ms b h p m more few =
+      let long = puts-length now after e k (split lanes ns a) p in
       ⊎_elim
-      (λ (t : b ≡ true). subst (λ (l : List ℕ). LeavesAll before after l e rs ws) (sym (last_of ls ms b k t m)) (member_put before now after ls e k (split ns a) rs ws h p))
+      (λ (t : b ≡ true). subst (λ (l : List ℕ). LeavesAll before after l e rs ws) (sym (last_of ls ms b k t m)) (member_put before now after ls e k (split lanes ns a) rs ws h p))
       (λ (f : b ≡ false). absurd (omega (arith, few f, long)))
       (cases_Bool b)
 
-  pub next_member : (b : Bool) {n inner rest : HeardNodes} {flag : Bool} {after : List Job} {k : Option ℕ} {ms : List ℕ} → LeavesAll before now ls e (rows_of n) ws → n ≡ group flag inner rest → Puts now after e k (inner_row flag inner)
+  pub next_member : (b : Bool) {n inner rest : HeardNodes} {flag : Option (List Moved)} {after : List Job} {k : Option ℕ} {ms : List ℕ} → LeavesAll before now ls e (rows_of n) ws → n ≡ group flag inner rest → Puts now after e k (inner_row flag inner)
       → ms ≡ ls ++ listed (if b then k else None) → (b ≡ true → length now < length after) → (b ≡ false → length after ≤ length now) → LeavesAll before after ms e (rows_of rest) ws
   next_member b {n} {inner} {rest} {flag} {after} {k} {ms} h q p m more few =
       kept_put (inner_row flag inner) (rows_of rest) after k ms b (subst (λ (x : HeardNodes). LeavesAll before now ls e (rows_of x) ws) q h) p m more few
-
-  pub end_members : (inner : HeardNodes) {n : HeardNodes} {after : List Job} {k : Option ℕ} → LeavesAll before now ls e (rows_of n) ws → n ≡ none → ws ≡ rows_of inner → IsJoint now after ls e k → Puts before after e k (joined ws)
-  end_members inner {n} {after} {k} h q u j =
-      joint_put before now after ls e k ws (subst filling.AllFull (sym u) (filling.full-rows inner)) (subst (λ (x : HeardNodes). LeavesAll before now ls e (rows_of x) ws) q h) j
 
 -- the words of some of them
 pub within_left : (xs ys : List Voice) → AreWithin (xs ++ ys) → AreWithin xs
@@ -316,6 +318,13 @@ pub writes_end : (vs : List Voice) → AreWithin vs → All Ends (all_writes vs)
 writes_end [] w = λ k d l. absurd (omega arith)
 writes_end (v ∷ vs) w = All-append Ends (own_foot v).writes (all_writes vs) w.0.1 (writes_end vs w.1)
 
+-- what is left of the joints
+pub joints_synth : (n : HeardNodes) {rest : HeardNodes} {v : Voice} → JointsEnd n → n ≡ synth v rest → JointsEnd rest
+joints_synth n {rest} {v} j e = subst (λ (m : HeardNodes). JointsEnd m) e j
+
+pub joints_group : (n : HeardNodes) {lanes : Option (List Moved)} {inner rest : HeardNodes} → JointsEnd n → n ≡ group lanes inner rest → HaveEnds (joint_lanes lanes) × (JointsEnd inner × JointsEnd rest)
+joints_group n {lanes} {inner} {rest} j e = subst (λ (m : HeardNodes). JointsEnd m) e j
+
 -- what is left to be put touches words with numbers
 pub within_run : (run : List Voice) (n : HeardNodes) → AreWithin (run ++ voices n) → AreWithin run
 within_run run n w = within_left run (voices n) w
@@ -323,7 +332,7 @@ within_run run n w = within_left run (voices n) w
 pub within_synth : (n : HeardNodes) {rest : HeardNodes} {v : Voice} → AreWithin (voices n) → n ≡ synth v rest → AreWithin (v ∷ []) × AreWithin (voices rest)
 within_synth n {rest} {v} w e = let s : AreWithin (voices (synth v rest)) = subst (λ (m : HeardNodes). AreWithin (voices m)) e w in ((s.0, tt), s.1)
 
-module _ (run : List Voice) (n : HeardNodes) {rest inner : HeardNodes} {flag : Bool} where
+module _ (run : List Voice) (n : HeardNodes) {rest inner : HeardNodes} {flag : Option (List Moved)} where
   within_group : AreWithin (run ++ voices n) → n ≡ group flag inner rest → AreWithin (voices inner ++ voices rest)
   within_group w e = within_right run (voices (group flag inner rest)) (subst (λ (m : HeardNodes). AreWithin (run ++ voices m)) e w)
 

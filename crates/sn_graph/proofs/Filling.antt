@@ -1,7 +1,8 @@
 -- No member is without a job, so no predecessor stands twice, and the edges are few.
-use Rattle.std.proofs.Common.{◌≡◌, ◌⊎◌, ℕ, ◌+◌, ◌*◌, ◌<◌, ◌≤◌, true, false, List, [], ◌∷◌, ◌++◌, length, refl, ap, ◌∙◌, ⊎_elim, inl, inr, arith, length-append}
+use Rattle.std.proofs.Common.{◌≡◌, ◌⊎◌, ℕ, ◌+◌, ◌*◌, ◌<◌, ◌≤◌, true, false, List, [], ◌∷◌, ◌++◌, length, Some, None, refl, ap, ◌∙◌, ⊎_elim, inl, inr, arith, length-append}
 use Rattle.std.specs.Prelude.{◌==◌}
 use Rattle.std.proofs.lemmas.Bool.{cases_lt, cases_Bool, ne_eqb}
+use Rattle.sn_mem.specs.declared.moves.Moved.{Moved}
 use Rattle.sn_round.specs.declared.jobs.Job.{Job}
 use Rattle.sn_round.specs.Jobs.{times}
 use Rattle.sn_graph.specs.declared.nodes.Voice.{Voice}
@@ -13,7 +14,7 @@ use Rattle.sn_graph.proofs.Shapes.{Fits, FitsAll, IsFull, AreFull}
 pub full-followed : (x y : Row) → IsFull x → IsFull y → IsFull (followed x y)
 full-followed done y f g = g
 full-followed (job ss x) y f g = full-followed x y f g
-full-followed (split ms x) y f g = (f.0, full-followed x y f.1 g)
+full-followed (split lanes ms x) y f g = (f.0, full-followed x y f.1 g)
 
 pub full-close : (run : List Voice) (r : Row) → IsFull r → IsFull (close run r)
 full-close [] r f = f
@@ -27,15 +28,15 @@ pub full-members : (r : Row) (rs : List Row) → AllFull (r ∷ rs) → AreFull 
 full-members r [] f = (f.0, f.1)
 full-members r (q ∷ rs) f = (f.0, f.1, full-members q rs f.2)
 
-pub full-joined : (rs : List Row) → AllFull rs → IsFull (joined rs)
-full-joined [] f = tt
-full-joined (r ∷ []) f = f.1
-full-joined (r ∷ q ∷ rs) f = (full-members r (q ∷ rs) f, tt)
+pub full-joined : (lanes : List Moved) (rs : List Row) → AllFull rs → IsFull (joined lanes rs)
+full-joined lanes [] f = tt
+full-joined lanes (r ∷ []) f = f.1
+full-joined lanes (r ∷ q ∷ rs) f = (full-members r (q ∷ rs) f, tt)
 
 pub full-keep : (r : Row) (rs : List Row) → IsFull r → AllFull rs → AllFull (keep r rs)
 full-keep done rs f g = g
 full-keep (job ss a) rs f g = (omega arith, f, g)
-full-keep (split ms a) rs f g = (omega arith, f, g)
+full-keep (split lanes ms a) rs f g = (omega arith, f, g)
 
 full-after : (run : List Voice) (r rest : Row) → IsFull r → IsFull rest → IsFull (close run (followed r rest))
 full-after run r rest f g = full-close run (followed r rest) (full-followed r rest f g)
@@ -44,14 +45,14 @@ mutual
   pub full-row : (run : List Voice) (nodes : HeardNodes) → IsFull (row_of run nodes)
   full-row run none = full-close run done tt
   full-row run (synth s rest) = full-row (run ++ s ∷ []) rest
-  full-row run (group true inner rest) = full-after run (joined (rows_of inner)) (row_of [] rest) (full-joined (rows_of inner) (full-rows inner)) (full-row [] rest)
-  full-row run (group false inner rest) = full-after run (row_of [] inner) (row_of [] rest) (full-row [] inner) (full-row [] rest)
+  full-row run (group (Some lanes) inner rest) = full-after run (joined lanes (rows_of inner)) (row_of [] rest) (full-joined lanes (rows_of inner) (full-rows inner)) (full-row [] rest)
+  full-row run (group None inner rest) = full-after run (row_of [] inner) (row_of [] rest) (full-row [] inner) (full-row [] rest)
 
   pub full-rows : (nodes : HeardNodes) → AllFull (rows_of nodes)
   full-rows none = tt
   full-rows (synth s rest) = (omega arith, tt, full-rows rest)
-  full-rows (group true inner rest) = full-keep (joined (rows_of inner)) (rows_of rest) (full-joined (rows_of inner) (full-rows inner)) (full-rows rest)
-  full-rows (group false inner rest) = full-keep (row_of [] inner) (rows_of rest) (full-row [] inner) (full-rows rest)
+  full-rows (group (Some lanes) inner rest) = full-keep (joined lanes (rows_of inner)) (rows_of rest) (full-joined lanes (rows_of inner) (full-rows inner)) (full-rows rest)
+  full-rows (group None inner rest) = full-keep (row_of [] inner) (rows_of rest) (full-row [] inner) (full-rows rest)
 
 -- how many members
 abbrev pub count : Members → ℕ
@@ -61,7 +62,7 @@ count (more r ms) = 1 + count ms
 pub length-last : (n : ℕ) (e : List ℕ) (r : Row) → length e ≤ 1 → length (last n e r) ≤ 1
 length-last n e done h = h
 length-last n e (job ss rest) h = length-last (n + 1) (n ∷ []) rest (omega arith)
-length-last n e (split ms rest) h = length-last (n + size_all ms + 1) ((n + size_all ms) ∷ []) rest (omega arith)
+length-last n e (split lanes ms rest) h = length-last (n + size_all ms + 1) ((n + size_all ms) ∷ []) rest (omega arith)
 
 pub length-lasts : (n : ℕ) (e : List ℕ) (ms : Members) → length e ≤ 1 → length (lasts n e ms) ≤ count ms
 length-lasts n e (one r) h = length-last n e r h
@@ -78,12 +79,12 @@ mutual
       let d = edges-row (n + 1) (n ∷ []) rest (omega arith) f in
       let upper : edges (jobs (n + 1) (n ∷ []) rest) ≤ 2 * size rest = d.0 in
       (omega arith, λ l. omega arith)
-  edges-row n e (split ms rest) h f =
+  edges-row n e (split lanes ms rest) h f =
       let d = edges-row (n + size_all ms + 1) ((n + size_all ms) ∷ []) rest (omega arith) f.1 in
       let upper : edges (jobs (n + size_all ms + 1) ((n + size_all ms) ∷ []) rest) ≤ 2 * size rest = d.0 in
       let within : edges (jobs_all n e ms) + count ms ≤ 2 * size_all ms = edges-all n e ms h f.0 in
       let few : length (lasts n e ms) ≤ count ms = length-lasts n e ms h in
-      let sum = edges-append (jobs_all n e ms) (job_of [] (lasts n e ms) ∷ jobs (n + size_all ms + 1) ((n + size_all ms) ∷ []) rest) in
+      let sum = edges-append (jobs_all n e ms) (job_of [] lanes (lasts n e ms) ∷ jobs (n + size_all ms + 1) ((n + size_all ms) ∷ []) rest) in
       (omega (arith, sum), λ l. omega (arith, sum))
 
   pub edges-all : (n : ℕ) (e : List ℕ) (ms : Members) → length e ≤ 1 → AreFull ms → edges (jobs_all n e ms) + count ms ≤ 2 * size_all ms
@@ -114,20 +115,20 @@ last_out n e (job ss rest) x o h =
     last_out (n + 1) (n ∷ []) rest x
     (⊎_elim (λ (d : x < n). inl (omega arith)) (λ (d : n + size (job ss rest) ≤ x). inr (omega arith)) o)
     (times-other x n (λ q. ⊎_elim (λ (d : x < n). omega arith) (λ (d : n + size (job ss rest) ≤ x). omega arith) o))
-last_out n e (split ms rest) x o h =
+last_out n e (split lanes ms rest) x o h =
     last_out (n + size_all ms + 1) ((n + size_all ms) ∷ []) rest x
-    (⊎_elim (λ (d : x < n). inl (omega arith)) (λ (d : n + size (split ms rest) ≤ x). inr (omega arith)) o)
-    (times-other x (n + size_all ms) (λ q. ⊎_elim (λ (d : x < n). omega arith) (λ (d : n + size (split ms rest) ≤ x). omega arith) o))
+    (⊎_elim (λ (d : x < n). inl (omega arith)) (λ (d : n + size (split lanes ms rest) ≤ x). inr (omega arith)) o)
+    (times-other x (n + size_all ms) (λ q. ⊎_elim (λ (d : x < n). omega arith) (λ (d : n + size (split lanes ms rest) ≤ x). omega arith) o))
 
 pub full_out : (n : ℕ) (e : List ℕ) (r : Row) (x : ℕ) → 1 ≤ size r → Outside n (size r) x → times x (last n e r) ≡ 0
 full_out n e done x l o = absurd (omega arith)
 full_out n e (job ss rest) x l o = last_out n [] (job ss rest) x o refl
-full_out n e (split ms rest) x l o = last_out n [] (split ms rest) x o refl
+full_out n e (split lanes ms rest) x l o = last_out n [] (split lanes ms rest) x o refl
 
 pub last_once : (n : ℕ) (e : List ℕ) (r : Row) (x : ℕ) → times x e ≤ 1 → times x (last n e r) ≤ 1
 last_once n e done x h = h
 last_once n e (job ss rest) x h = last_once (n + 1) (n ∷ []) rest x (times-one x n)
-last_once n e (split ms rest) x h = last_once (n + size_all ms + 1) ((n + size_all ms) ∷ []) rest x (times-one x (n + size_all ms))
+last_once n e (split lanes ms rest) x h = last_once (n + size_all ms + 1) ((n + size_all ms) ∷ []) rest x (times-one x (n + size_all ms))
 
 pub lasts_out : (n : ℕ) (e : List ℕ) (ms : Members) (x : ℕ) → AreFull ms → Outside n (size_all ms) x → times x (lasts n e ms) ≡ 0
 lasts_out n e (one r) x f o = full_out n e r x f.0 o
@@ -153,7 +154,7 @@ module _ (b : ℕ → List ℕ) (x : ℕ) where
         (λ (g : n < k). once (n + 1) (n ∷ []) rest k s.1 f (times-one x n) (omega arith) (omega arith))
         (λ (g : k ≤ n). let q : k ≡ n = omega arith in let t : times x (b k) ≡ times x e = ap (times x) (ap b q ∙ s.0) in omega arith)
         (cases_lt n k)
-    once n e (split ms rest) k s f h l m =
+    once n e (split lanes ms rest) k s f h l m =
         ⊎_elim
         (λ (g : k < n + size_all ms). once_all n e ms k s.0 f.0 h l g)
         (λ (g : n + size_all ms ≤ k). ⊎_elim

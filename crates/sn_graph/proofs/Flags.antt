@@ -1,17 +1,18 @@
 -- Flags of audio buses, and what they say of nodes.
-use Rattle.std.proofs.Common.{◌≡◌, ◌<◌, ℕ, ◌+◌, Bool, true, false, ◌||◌, ◌&&◌, List, [], ◌∷◌, ◌++◌, length, take, replicate, sym, refl, ap, ◌∙◌, arith, true≢false}
+use Rattle.std.proofs.Common.{◌≡◌, ◌<◌, ℕ, ◌+◌, Bool, false, ◌||◌, ◌&&◌, List, [], ◌∷◌, ◌++◌, length, Option, take, replicate, sym, refl, ap, ◌∙◌, arith}
 use Rattle.std.specs.Prelude.{slice_index_or}
 use Rattle.std.specs.List.{list_any}
 use Rattle.std.proofs.lemmas.List.{get_or-replicate, length-replicate, same_lists, take_all}
-use Rattle.std.proofs.lemmas.List.Folds.{list_any-append, list_any_at}
+use Rattle.std.proofs.lemmas.List.Folds.{list_any-append}
 use Rattle.sn_mem.specs.declared.extents.Extent.{Extent}
+use Rattle.sn_mem.specs.declared.moves.Moved.{Moved}
 use Rattle.sn_mem.specs.Blocks.{table}
 use Rattle.sn_mem.specs.Words.{covers, has}
 use Rattle.sn_mem.proofs.Tables.{length-table}
 use Rattle.sn_mem.proofs.Windows.{table_at, table_same}
 use Rattle.sn_graph.specs.declared.nodes.Voice.{Voice}
 use Rattle.sn_graph.specs.Voices.{HeardNodes, synth, group, voices}
-use Rattle.sn_graph.specs.Sharing.{mixes, one_mixes, share_a_bus, two_mix}
+use Rattle.sn_graph.specs.Sharing.{mixes, one_mixes, two_mix}
 
 -- ---- tables of flags
 
@@ -58,28 +59,15 @@ with_synth v rest own mixed shared more m s is o a b d =
     (either_told (mixes v) f own mixed m o is.0 d, either_told (λ n. mixes v n && f n) (two_mix rest) more shared s met is.1 b)
 
 -- a group before others
-pub with_group : (flag : Bool) (inner rest : HeardNodes) (own mixed shared more m s : List Bool) → AreOf rest mixed shared → own ≡ table (one_mixes (voices inner)) 128
+pub with_group : (lanes : Option (List Moved)) (inner rest : HeardNodes) (own mixed shared more m s : List Bool) → AreOf rest mixed shared → own ≡ table (one_mixes (voices inner)) 128
     → more ≡ table (λ n. slice_index_or own n false && slice_index_or mixed n false) 128
     → s ≡ table (λ n. slice_index_or more n false || slice_index_or shared n false) 128
     → m ≡ table (λ n. slice_index_or own n false || slice_index_or mixed n false) 128
-    → AreOf (group flag inner rest) m s
-with_group flag inner rest own mixed shared more m s is o a b d =
+    → AreOf (group lanes inner rest) m s
+with_group lanes inner rest own mixed shared more m s is o a b d =
     let e : ℕ → Bool = one_mixes (voices inner) in
     let f : ℕ → Bool = one_mixes (voices rest) in
     let met : more ≡ table (λ n. e n && f n) 128 = both_told e f own mixed more o is.0 a in (
       either_told e f own mixed m o is.0 d ∙ table_same (λ n. e n || f n) (one_mixes (voices inner ++ voices rest)) 128 (λ k lt. sym (list_any-append (λ v. mixes v k) (voices inner) (voices rest))),
       either_told (λ n. e n && f n) (two_mix rest) more shared s met is.1 b,
     )
-
--- ---- what is shared
-
-pub shared_is : (nodes : HeardNodes) (flags : List Bool) → flags ≡ table (two_mix nodes) 128 → list_any (λ b. b) flags ≡ share_a_bus nodes
-unfolding share_a_bus
-shared_is nodes flags e = ap (λ (bs : List Bool). list_any (λ b. b) bs) e
-
--- where no bus is shared, no two members mix one
-pub none_shared : (nodes : HeardNodes) → share_a_bus nodes ≡ false → (n : ℕ) → n < 128 → two_mix nodes n ≡ true → ⊥
-unfolding share_a_bus
-none_shared nodes e n lt t =
-    true≢false
-    (sym (list_any_at (λ b. b) (table (two_mix nodes) 128) n false (omega (arith, lt, length-table (two_mix nodes) 128)) (table_at (two_mix nodes) 128 n false lt ∙ t)) ∙ e)

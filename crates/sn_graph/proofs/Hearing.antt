@@ -8,8 +8,7 @@ use Rattle.sn_tree.specs.Trees as trees
 use Rattle.sn_tree.specs.Trees.{Label, Nodes}
 use Rattle.sn_world.specs.declared.stage.Held.{Held}
 use Rattle.sn_graph.specs.Voices.{HeardNodes, none, synth, group, is_none, voices, AreHeard}
-use Rattle.sn_graph.specs.Sharing.{is_split}
-use Rattle.sn_graph.specs.Stages.{with_group, with_node, running_of}
+use Rattle.sn_graph.specs.Stages.{may_split, with_group, with_node, running_of}
 
 pub voices_group : (flag : Bool) (below after : HeardNodes) → voices (with_group flag below after) ≡ voices below ++ voices after
 voices_group flag none after = refl
@@ -20,7 +19,7 @@ voices_group flag (group f inner rest) after = refl
 some_heard : (nodes : HeardNodes) → AreHeard nodes → is_none nodes ≡ false → 1 ≤ length (voices nodes)
 some_heard none heard some = absurd (true≢false some)
 some_heard (synth v rest) heard some = omega arith
-some_heard (group flag inner rest) heard some = omega (arith, heard.0, length-append (voices inner) (voices rest))
+some_heard (group lanes inner rest) heard some = omega (arith, heard.0, length-append (voices inner) (voices rest))
 
 heard_group : (flag : Bool) (below after : HeardNodes) → AreHeard below → AreHeard after → AreHeard (with_group flag below after)
 heard_group flag none after b a = a
@@ -31,7 +30,7 @@ module _ (buffers : List (Option BufferPlace)) (clashing : List ℤ) where
   heard_node : (kind : NodeKind) (label : Label Held) (below after : HeardNodes) → AreHeard below → AreHeard after → AreHeard (with_node buffers clashing kind label below after)
   heard_node kinds.Synth label below after b a = a
   heard_node kinds.Group label below after b a = heard_group false below after b a
-  heard_node kinds.Parallel label below after b a = heard_group (is_split clashing label.id below) below after b a
+  heard_node kinds.Parallel label below after b a = heard_group (may_split clashing label.id) below after b a
 
   pub all_heard : (t : Nodes Held) → AreHeard (running_of buffers clashing t)
   all_heard trees.none = tt

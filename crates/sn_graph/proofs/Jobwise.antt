@@ -4,7 +4,7 @@ use Rattle.std.proofs.lemmas.Bool.{cond-true, cond-false, false_from_ne_true}
 use Rattle.std.proofs.lemmas.List.{append-nil}
 use Rattle.std.proofs.lemmas.List.Elements.{filter-append}
 use Rattle.sn_round.specs.declared.jobs.Job.{Job}
-use Rattle.sn_round.specs.Jobs.{foot_at, job_at}
+use Rattle.sn_round.specs.Jobs.{foot_at, job_at, lanes_at}
 use Rattle.sn_graph.specs.declared.nodes.Voice.{Voice}
 use Rattle.sn_graph.specs.Voices.{HeardNodes, foot_of, has, ids_of, Once, voices}
 use Rattle.sn_graph.specs.Rows.{Row}
@@ -37,12 +37,13 @@ between before ss after once =
     ∙ (ap (λ (l : List Voice). l ++ synths_with ids after) (all_with ids ss (λ v a. listed-ids ss v.id ∙ among_has ss v a))
     ∙ (ap (λ (l : List Voice). ss ++ l) (none_with ids after (λ v a. not_one ss v.id (λ h. once-both ss after v.id rest h (among_has after v a)))) ∙ append-nil ss))))
 
-pub feet_are : (nodes : HeardNodes) → Once (voices nodes) → (i : ℕ) → i < length (plan_of nodes) → foot_at (plan_of nodes) i ≡ foot_of (synths_with (job_at (plan_of nodes) i).synths (voices nodes))
+pub feet_are : (nodes : HeardNodes) → Once (voices nodes) → (i : ℕ) → i < length (plan_of nodes) → foot_at (plan_of nodes) i ≡ foot_of (synths_with (job_at (plan_of nodes) i).synths (voices nodes)) (lanes_at (plan_of nodes) i)
 feet_are nodes once i l =
     let js : List Job = plan_of nodes in
     let row : Row = row_of [] nodes in
     let m : Made (job_at js) i (heard row) = job_is (job_at js) 0 [] row i (whole row) (omega arith) (omega (arith, length-jobs 0 [] row)) in
-    let is : voices nodes ≡ m.3 ++ (m.0 ++ m.4) = sym (heard-row [] nodes) ∙ m.5 in
+    let is : voices nodes ≡ m.4 ++ (m.0 ++ m.5) = sym (heard-row [] nodes) ∙ m.6 in
     let same : synths_with (job_at js i).synths (voices nodes) ≡ m.0 =
-    ap (λ (j : Job). synths_with j.synths (voices nodes)) m.2 ∙ (ap (synths_with (ids_of m.0)) is ∙ between m.3 m.0 m.4 (subst Once is once)) in
-    ap (λ (j : Job). j.foot) m.2 ∙ ap foot_of (sym same)
+    ap (λ (j : Job). synths_with j.synths (voices nodes)) m.3 ∙ (ap (synths_with (ids_of m.0)) is ∙ between m.4 m.0 m.5 (subst Once is once)) in
+    let lanes : lanes_at js i ≡ m.1 = ap (λ (j : Job). j.lanes) m.3 in
+    ap (λ (j : Job). j.foot) m.3 ∙ (λ t. foot_of (sym same t) (sym lanes t))

@@ -5,6 +5,17 @@ pub mod Numbers
 pub mod Filling
 pub mod Planning
 pub mod Freeing
+pub mod Racing
+pub mod Stepping
+pub mod Alike
+pub mod Meeting
+pub mod Laning
+pub mod Laying
+pub mod Fitting
+pub mod Lanewise
+pub mod Clearance
+pub mod Splitting
+pub mod Ending
 pub mod Drafting
 pub mod Lowest
 pub mod Jobwise
@@ -13,7 +24,6 @@ pub mod Resources
 pub mod Hearing
 pub mod Linking
 pub mod Flags
-pub mod Meeting
 pub mod Staging
 pub mod Labels
 pub mod Counting

@@ -13,9 +13,8 @@ use Rattle.sn_world.specs.declared.stage.Held.{Held}
 use Rattle.sn_graph.specs.declared.nodes.Voice.{Voice}
 use Rattle.sn_graph.specs.declared.parts.Part.{Part}
 use Rattle.sn_graph.specs.Voices.{HeardNodes, none, synth, group}
-use Rattle.sn_graph.specs.Sharing.{is_split}
-use Rattle.sn_graph.specs.Stages.{voice_of, with_group, with_node, running_of}
-use Rattle.sn_graph.specs.Pieces.{Piece, nothing, voice, below, group_piece, piece_of, pieces, before, linked, running_piece, piece, with_member, built}
+use Rattle.sn_graph.specs.Stages.{may_split, voice_of, with_group, with_node, running_of}
+use Rattle.sn_graph.specs.Pieces.{Piece, nothing, voice, group_piece, piece_of, pieces, before, linked, running_piece, piece, with_member, built}
 
 -- ---- the list of the kept ones
 
@@ -60,7 +59,7 @@ module _ (buffers : List (Option BufferPlace)) (clashing : List ℤ) where
   pub piece_group : (id : ℤ) (kind : NodeKind) (running : Bool) (held : Held) (inner : HeardNodes) → running ≡ true → kind ≡ kinds.Group → group_piece false inner ≡ piece buffers clashing (labelled id kind running held) inner
   piece_group id kind running held inner h e = running_is id kind kinds.Group running held inner (group_piece false inner) h e refl
 
-  pub piece_parallel : (id : ℤ) (kind : NodeKind) (running : Bool) (held : Held) (inner : HeardNodes) (b : Bool) → running ≡ true → kind ≡ kinds.Parallel → b ≡ is_split clashing id inner → group_piece b inner ≡ piece buffers clashing (labelled id kind running held) inner
+  pub piece_parallel : (id : ℤ) (kind : NodeKind) (running : Bool) (held : Held) (inner : HeardNodes) (b : Bool) → running ≡ true → kind ≡ kinds.Parallel → b ≡ may_split clashing id → group_piece b inner ≡ piece buffers clashing (labelled id kind running held) inner
   piece_parallel id kind running held inner b h e is = running_is id kind kinds.Parallel running held inner (group_piece b inner) h e (ap (λ c. group_piece c inner) is)
 
   -- ---- all nodes
@@ -77,7 +76,7 @@ module _ (buffers : List (Option BufferPlace)) (clashing : List ℤ) where
   before_by_kind : (kind : NodeKind) (label : Label Held) (inner after : HeardNodes) → before (running_piece buffers clashing kind label inner) after ≡ with_node buffers clashing kind label inner after
   before_by_kind kinds.Synth label inner after = refl
   before_by_kind kinds.Group label inner after = before_group false inner after
-  before_by_kind kinds.Parallel label inner after = before_group (is_split clashing label.id inner) inner after
+  before_by_kind kinds.Parallel label inner after = before_group (may_split clashing label.id) inner after
 
   before_if : (b : Bool) (p : Piece) (r after : HeardNodes) → before p after ≡ r → before (if b then p else nothing) after ≡ (if b then r else after)
   before_if true p r after e = e

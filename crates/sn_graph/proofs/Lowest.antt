@@ -1,5 +1,6 @@
 -- Where one synth stands before another, they are parted exactly where the lowest group that holds both is split.
 use Rattle.std.proofs.Common.{◌≡◌, ◌⊎◌, ℤ, Bool, true, false, ◌&&◌, List, [], ◌∷◌, ◌++◌, sym, refl, ◌∙◌, ⊎_elim, inl, inr, true≢false}
+use Rattle.std.specs.Prelude.{is_some}
 use Rattle.std.proofs.lemmas.Bool.{or_cases, or_parts, and_parts, and_from, or_left, or_right, false_from_ne_true}
 use Rattle.std.specs.Ordering.{int_eq}
 use Rattle.std.proofs.Math.Bool.{and-false, and-true, or-false}
@@ -76,15 +77,15 @@ parted_is_lowest g (group f inner rest) a b o h =
     (λ (k : comes xs a b ≡ true).
     let d = comes_has xs a b k in
     let n : has ys b ≡ false = apart_left xs ys b o d.1 in
-    rw (d.0, d.1, n, and-true g, and-false g, not_parted_b g rest a b n, or-false (is_parted f inner a b)) (parted_is_lowest f inner a b (once-left xs ys o) k))
+    rw (d.0, d.1, n, and-true g, and-false g, not_parted_b g rest a b n, or-false (is_parted (is_some f) inner a b)) (parted_is_lowest (is_some f) inner a b (once-left xs ys o) k))
     (λ (k : ((has xs a ≡ true) × (has ys b ≡ true)) ⊎ (comes ys a b ≡ true)). ⊎_elim
     (λ (d : (has xs a ≡ true) × (has ys b ≡ true)).
     let n : has ys a ≡ false = apart_left xs ys a o d.0 in
     let m : has xs b ≡ false = apart_right xs ys b o d.1 in
-    rw (d.0, d.1, m, and-true g, and-true g, not_parted_b f inner a b m, not_parted_a g rest a b n, lowest_here g rest a b n) (or-false g))
+    rw (d.0, d.1, m, and-true g, and-true g, not_parted_b (is_some f) inner a b m, not_parted_a g rest a b n, lowest_here g rest a b n) (or-false g))
     (λ (c : comes ys a b ≡ true).
     let d = comes_has ys a b c in
     let n : has xs a ≡ false = apart_right xs ys a o d.0 in
-    rw (n, and-false g, not_parted_a f inner a b n) (parted_is_lowest g rest a b (once-right xs ys o) c))
+    rw (n, and-false g, not_parted_a (is_some f) inner a b n) (parted_is_lowest g rest a b (once-right xs ys o) c))
     k)
     (comes_cases xs ys a b h)

@@ -3,6 +3,7 @@ use Rattle.std.proofs.Common.{◌≡◌, ◌⊎◌, ℕ, ◌+◌, ◌<◌, ◌�
 use Rattle.std.proofs.lemmas.Bool.{cases_lt, or_cases, or_parts, or_left, or_right, and_parts, and_from}
 use Rattle.std.specs.Ordering.{int_eq}
 use Rattle.std.proofs.lemmas.Bool.Decides.{Decides-int_eq}
+use Rattle.sn_mem.specs.declared.moves.Moved.{Moved}
 use Rattle.sn_round.specs.declared.jobs.Job.{Job}
 use Rattle.sn_graph.specs.declared.nodes.Voice.{Voice}
 use Rattle.sn_graph.specs.Voices.{ids_of, has, Once}
@@ -52,7 +53,7 @@ module _ (at : ℕ → Job) where
     pub fits : (n : ℕ) (e : List ℕ) (r : Row) → Stands at n e r → Fits before n e r
     fits n e done s = tt
     fits n e (job ss rest) s = (ap (λ (j : Job). j.before) s.0, fits (n + 1) (n ∷ []) rest s.1)
-    fits n e (split ms rest) s = (fits_all n e ms s.0, ap (λ (j : Job). j.before) s.1, fits (n + size_all ms + 1) ((n + size_all ms) ∷ []) rest s.2)
+    fits n e (split lanes ms rest) s = (fits_all n e ms s.0, ap (λ (j : Job). j.before) s.1, fits (n + size_all ms + 1) ((n + size_all ms) ∷ []) rest s.2)
 
     pub fits_all : (n : ℕ) (e : List ℕ) (ms : Members) → StandsAll at n e ms → FitsAll before n e ms
     fits_all n e (one r) s = fits n e r s
@@ -67,7 +68,7 @@ module _ (at : ℕ → Job) where
         (λ (g : n < k). has-right ss (heard rest) a (plays_in (n + 1) (n ∷ []) rest k a s.1 (omega arith) (omega arith) p))
         (λ (g : k ≤ n). let q : k ≡ n = omega arith in has-left ss (heard rest) a (sym (listed-ids ss a) ∙ (sym (ap (λ (j : Job). is_listed j.synths a) (ap at q ∙ s.0)) ∙ p)))
         (cases_lt n k)
-    plays_in n e (split ms rest) k a s l m p =
+    plays_in n e (split lanes ms rest) k a s l m p =
         ⊎_elim
         (λ (g : k < n + size_all ms). has-left (heard_all ms) (heard rest) a (plays_all n e ms k a s.0 l g p))
         (λ (g : n + size_all ms ≤ k). ⊎_elim
@@ -89,7 +90,7 @@ module _ (at : ℕ → Job) where
     pub apart_parts : (n : ℕ) (e : List ℕ) (r : Row) (i j : ℕ) (a b : ℤ) → Stands at n e r → Plays i a → Plays j b → Apart n r i j → parts r a b ≡ true
     apart_parts n e done i j a b s p q h = absurd h
     apart_parts n e (job ss rest) i j a b s p q h = apart_parts (n + 1) (n ∷ []) rest i j a b s.1 p q h
-    apart_parts n e (split ms rest) i j a b s p q h =
+    apart_parts n e (split lanes ms rest) i j a b s p q h =
         ⊎_elim
         (λ (d : ApartAll n ms i j). or_left (parts_all ms a b) (parts rest a b) (apart_parts_all n e ms i j a b s.0 p q d))
         (λ (d : Apart (n + size_all ms + 1) rest i j). or_right (parts_all ms a b) (parts rest a b) (apart_parts (n + size_all ms + 1) ((n + size_all ms) ∷ []) rest i j a b s.2 p q d))
@@ -113,7 +114,7 @@ mutual
   pub parts_heard : (r : Row) (a b : ℤ) → parts r a b ≡ true → (has (heard r) a ≡ true) × (has (heard r) b ≡ true)
   parts_heard done a b h = absurd (true≢false (sym h))
   parts_heard (job ss rest) a b h = let d = parts_heard rest a b h in (has-right ss (heard rest) a d.0, has-right ss (heard rest) b d.1)
-  parts_heard (split ms rest) a b h =
+  parts_heard (split lanes ms rest) a b h =
       ⊎_elim
       (λ (g : parts_all ms a b ≡ true). let d = parts_heard_all ms a b g in (has-left (heard_all ms) (heard rest) a d.0, has-left (heard_all ms) (heard rest) b d.1))
       (λ (g : parts rest a b ≡ true). let d = parts_heard rest a b g in (has-right (heard_all ms) (heard rest) a d.0, has-right (heard_all ms) (heard rest) b d.1))
@@ -132,9 +133,9 @@ mutual
 
 module _ (at : ℕ → Job) where
   -- a job of a split that plays what its members have, or what the rest has
-  pub in_members : (n : ℕ) (e : List ℕ) (ms : Members) (rest : Row) (k : ℕ) (a : ℤ) → Stands at n e (split ms rest) → Once (heard_all ms ++ heard rest) → n ≤ k → k < n + size (split ms rest)
+  pub in_members : (n : ℕ) (e : List ℕ) (lanes : List Moved) (ms : Members) (rest : Row) (k : ℕ) (a : ℤ) → Stands at n e (split lanes ms rest) → Once (heard_all ms ++ heard rest) → n ≤ k → k < n + size (split lanes ms rest)
       → Plays at k a → has (heard_all ms) a ≡ true → k < n + size_all ms
-  in_members n e ms rest k a s o l m p h =
+  in_members n e lanes ms rest k a s o l m p h =
       ⊎_elim
       (λ (g : k < n + size_all ms). g)
       (λ (g : n + size_all ms ≤ k). ⊎_elim
@@ -143,9 +144,9 @@ module _ (at : ℕ → Job) where
       (cases_lt (n + size_all ms) k))
       (cases_lt k (n + size_all ms))
 
-  pub in_rest : (n : ℕ) (e : List ℕ) (ms : Members) (rest : Row) (k : ℕ) (a : ℤ) → Stands at n e (split ms rest) → Once (heard_all ms ++ heard rest) → n ≤ k → k < n + size (split ms rest)
+  pub in_rest : (n : ℕ) (e : List ℕ) (lanes : List Moved) (ms : Members) (rest : Row) (k : ℕ) (a : ℤ) → Stands at n e (split lanes ms rest) → Once (heard_all ms ++ heard rest) → n ≤ k → k < n + size (split lanes ms rest)
       → Plays at k a → has (heard rest) a ≡ true → n + size_all ms + 1 ≤ k
-  in_rest n e ms rest k a s o l m p h =
+  in_rest n e lanes ms rest k a s o l m p h =
       ⊎_elim
       (λ (g : k < n + size_all ms). absurd (once-both (heard_all ms) (heard rest) a o (plays_all at n e ms k a s.0 l g p) h))
       (λ (g : n + size_all ms ≤ k). ⊎_elim
@@ -184,12 +185,12 @@ module _ (at : ℕ → Job) where
     parts_apart n e (job ss rest) i j a b s o l m u v p q h =
         let d : (has (heard rest) a ≡ true) × (has (heard rest) b ≡ true) = parts_heard rest a b h in
         parts_apart (n + 1) (n ∷ []) rest i j a b s.1 (once-right ss (heard rest) o) (past_first n e ss rest i a s o l p d.0) (omega arith) (past_first n e ss rest j b s o u q d.1) (omega arith) p q h
-    parts_apart n e (split ms rest) i j a b s o l m u v p q h =
+    parts_apart n e (split lanes ms rest) i j a b s o l m u v p q h =
         ⊎_elim
         (λ (g : parts_all ms a b ≡ true). let d : (has (heard_all ms) a ≡ true) × (has (heard_all ms) b ≡ true) = parts_heard_all ms a b g in
-        inl (parts_apart_all n e ms i j a b s.0 (once-left (heard_all ms) (heard rest) o) l (in_members n e ms rest i a s o l m p d.0) u (in_members n e ms rest j b s o u v q d.1) p q g))
+        inl (parts_apart_all n e ms i j a b s.0 (once-left (heard_all ms) (heard rest) o) l (in_members n e lanes ms rest i a s o l m p d.0) u (in_members n e lanes ms rest j b s o u v q d.1) p q g))
         (λ (g : parts rest a b ≡ true). let d : (has (heard rest) a ≡ true) × (has (heard rest) b ≡ true) = parts_heard rest a b g in
-        inr (parts_apart (n + size_all ms + 1) ((n + size_all ms) ∷ []) rest i j a b s.2 (once-right (heard_all ms) (heard rest) o) (in_rest n e ms rest i a s o l m p d.0) (omega arith) (in_rest n e ms rest j b s o u v q d.1) (omega arith) p q g))
+        inr (parts_apart (n + size_all ms + 1) ((n + size_all ms) ∷ []) rest i j a b s.2 (once-right (heard_all ms) (heard rest) o) (in_rest n e lanes ms rest i a s o l m p d.0) (omega arith) (in_rest n e lanes ms rest j b s o u v q d.1) (omega arith) p q g))
         (or_cases (parts_all ms a b) (parts rest a b) h)
 
     pub parts_apart_all : (n : ℕ) (e : List ℕ) (ms : Members) (i j : ℕ) (a b : ℤ) → StandsAll at n e ms → Once (heard_all ms) → n ≤ i → i < n + size_all ms → n ≤ j → j < n + size_all ms → Plays at i a → Plays at j b → parts_all ms a b ≡ true → ApartAll n ms i j

@@ -49,7 +49,7 @@ module _ (b : ℕ → List ℕ) where
     reach n e (job ss rest) x f c =
         let p : Path b x n = step (subst (λ (l : List ℕ). Contains l x) (sym f.0) c) in
         after x n _ p (reach (n + 1) (n ∷ []) rest n f.1 (itself n))
-    reach n e (split ms rest) x f c =
+    reach n e (split lanes ms rest) x f c =
         let p : Path b x (n + size_all ms) = to_here (n + size_all ms) (lasts n e ms) x f.1 (reach_all n e ms x f.0 c) in
         after x (n + size_all ms) _ p (reach (n + size_all ms + 1) ((n + size_all ms) ∷ []) rest (n + size_all ms) f.2 (itself (n + size_all ms)))
 
@@ -67,7 +67,7 @@ module _ (b : ℕ → List ℕ) where
         (λ (h : n < k). trans p (first (n + 1) (n ∷ []) rest n k f.1 (itself n) (omega arith) (omega arith)))
         (λ (h : k ≤ n). let q : n ≡ k = omega arith in subst (λ (y : ℕ). Path b x y) q p)
         (cases_lt n k)
-    first n e (split ms rest) x k f c l m =
+    first n e (split lanes ms rest) x k f c l m =
         let p : Path b x (n + size_all ms) = to_here (n + size_all ms) (lasts n e ms) x f.1 (reach_all n e ms x f.0 c) in
         ⊎_elim
         (λ (h : k < n + size_all ms). first_all n e ms x k f.0 c l h)
@@ -94,13 +94,13 @@ module _ (b : ℕ → List ℕ) where
         (λ (h : n < k). end (n + 1) (n ∷ []) rest k f.1 (omega arith) (omega arith))
         (λ (h : k ≤ n). let q : n ≡ k = omega arith in subst (λ (y : ℕ). Reaches y (last (n + 1) (n ∷ []) rest)) q (reach (n + 1) (n ∷ []) rest n f.1 (itself n)))
         (cases_lt n k)
-    end n e (split ms rest) k f l m =
-        let from_joint : Reaches (n + size_all ms) (last n e (split ms rest)) = reach (n + size_all ms + 1) ((n + size_all ms) ∷ []) rest (n + size_all ms) f.2 (itself (n + size_all ms)) in
+    end n e (split lanes ms rest) k f l m =
+        let from_joint : Reaches (n + size_all ms) (last n e (split lanes ms rest)) = reach (n + size_all ms + 1) ((n + size_all ms) ∷ []) rest (n + size_all ms) f.2 (itself (n + size_all ms)) in
         ⊎_elim
         (λ (h : k < n + size_all ms). after k (n + size_all ms) _ (to_here (n + size_all ms) (lasts n e ms) k f.1 (end_all n e ms k f.0 l h)) from_joint)
         (λ (h : n + size_all ms ≤ k). ⊎_elim
         (λ (g : n + size_all ms < k). end (n + size_all ms + 1) ((n + size_all ms) ∷ []) rest k f.2 (omega arith) (omega arith))
-        (λ (g : k ≤ n + size_all ms). let q : n + size_all ms ≡ k = omega arith in subst (λ (y : ℕ). Reaches y (last n e (split ms rest))) q from_joint)
+        (λ (g : k ≤ n + size_all ms). let q : n + size_all ms ≡ k = omega arith in subst (λ (y : ℕ). Reaches y (last n e (split lanes ms rest))) q from_joint)
         (cases_lt (n + size_all ms) k))
         (cases_lt k (n + size_all ms))
 
@@ -121,7 +121,7 @@ module _ (b : ℕ → List ℕ) where
         (λ (g : n < i). order (n + 1) (n ∷ []) rest i j f.1 (omega arith) m (omega arith))
         (λ (g : i ≤ n). let q : n ≡ i = omega arith in inl (subst (λ (y : ℕ). Path b y j) q (first (n + 1) (n ∷ []) rest n j f.1 (itself n) (omega arith) (omega arith))))
         (cases_lt n i)
-    order n e (split ms rest) i j f l m h =
+    order n e (split lanes ms rest) i j f l m h =
         let joint : ℕ = n + size_all ms in
         let tail : joint < j → Path b joint j = λ (g : joint < j). first (n + size_all ms + 1) ((n + size_all ms) ∷ []) rest (n + size_all ms) j f.2 (itself (n + size_all ms)) (omega arith) (omega arith) in
         let upto : (x : ℕ) → Path b x joint → joint ≤ j → Path b x j = λ (x : ℕ) (p : Path b x joint) (g : joint ≤ j). ⊎_elim
@@ -176,7 +176,7 @@ module _ (b : ℕ → List ℕ) where
         (λ (h : (n + 1 ≤ m) × (m < n + 1 + size rest)). inl (omega arith, omega arith))
         (λ (h : Contains (n ∷ []) m). let q : n ≡ m = only n m h in inl (omega arith, omega arith))
         (last_in (n + 1) (n ∷ []) rest m c)
-    last_in n e (split ms rest) m c =
+    last_in n e (split lanes ms rest) m c =
         ⊎_elim
         (λ (h : (n + size_all ms + 1 ≤ m) × (m < n + size_all ms + 1 + size rest)). inl (omega arith, omega arith))
         (λ (h : Contains ((n + size_all ms) ∷ []) m). let q : n + size_all ms ≡ m = only (n + size_all ms) m h in inl (omega arith, omega arith))
@@ -202,7 +202,7 @@ module _ (b : ℕ → List ℕ) where
         (stays (n + 1) (n ∷ []) rest k m f.1 (omega arith) (omega arith) c))
         (λ (g : k ≤ n). let q : k ≡ n = omega arith in inr (subst (λ (l : List ℕ). Contains l m) (ap b q ∙ f.0) c))
         (cases_lt n k)
-    stays n e (split ms rest) k m f l h c =
+    stays n e (split lanes ms rest) k m f l h c =
         ⊎_elim
         (λ (g : k < n + size_all ms). stays_all n e ms k m f.0 l g c)
         (λ (g : n + size_all ms ≤ k). ⊎_elim
@@ -239,7 +239,7 @@ module _ (b : ℕ → List ℕ) where
     pub apart : (n : ℕ) (e : List ℕ) (r : Row) (i j : ℕ) → IsLower → Fits b n e r → Below n e → Apart n r i j → Path b i j → ⊥
     apart n e done i j low f u a p = a
     apart n e (job ss rest) i j low f u a p = apart (n + 1) (n ∷ []) rest i j low f.1 (below_itself n) a p
-    apart n e (split ms rest) i j low f u a p =
+    apart n e (split lanes ms rest) i j low f u a p =
         ⊎_elim
         (λ (d : ApartAll n ms i j). apart_all n e ms i j low f.0 u d p)
         (λ (d : Apart (n + size_all ms + 1) rest i j). apart (n + size_all ms + 1) ((n + size_all ms) ∷ []) rest i j low f.2 (below_itself (n + size_all ms)) d p)

@@ -23,7 +23,7 @@ use Rattle.sn_foot.specs.Footprints.{Clash as FootprintsClash}
 use Rattle.sn_foot.proofs.Runs.{has_append}
 use Rattle.sn_foot.proofs.Containing.{its_words, in_range}
 use Rattle.sn_foot.proofs.Placing.{has_place}
-use Rattle.sn_graph.specs.Disjoint.{AreDisjoint}
+use Rattle.sn_graph.specs.Disjoint.{AreDisjoint, LieBelow}
 
 -- ---- how often a word is covered
 
@@ -33,6 +33,9 @@ covered_one false h = absurd (true≢false (sym h))
 
 pub overlaps_has : (x : ℕ) (es : List Extent) → has es x ≡ true → 1 ≤ overlaps x es
 overlaps_has x es h = let more = ltb-true 0 (overlaps x es) (sym (has-overlaps es x) ∙ h) in omega arith
+
+pub has_of_overlaps : (x : ℕ) (es : List Extent) → 1 ≤ overlaps x es → has es x ≡ true
+has_of_overlaps x es l = has-overlaps es x ∙ lt-ltb 0 (overlaps x es) (omega (arith, l))
 
 -- a word of a buffer is one of a place
 buffer_overlaps : (x n : ℕ) (ps : List (Option BufferPlace)) → lies_in x (buffer_words (slice_index_or ps n None)) ≡ true → 1 ≤ overlaps x (live_places ps)
@@ -354,3 +357,28 @@ module _ (buffers : List (Option BufferPlace)) (h : Held) where
       same_tests (has (foot_of buffers (h ∷ [])).mixes (65 * n)) (held_mixes h (Audio n))
       (λ t. let u = w.0 t in of_bus n u.0 u.1.0 u.1.1)
       (λ t. w.1 (Audio n, (and_from (is_there buffers (Audio n)) (list_any (λ k. held_mixes k (Audio n)) (h ∷ [])) (lt-ltb n 128 lt) (or_left (held_mixes h (Audio n)) false t), first_of n lt)))
+
+  whole_of : (n x : ℕ) (r : Resource) → n < 128 → (footprint_of buffers (h ∷ [])).mixes r ≡ true → lies_in (65 * n) (place_of buffers r) ≡ true → covers (audio_place n) x ≡ true → has (foot_of buffers (h ∷ [])).mixes x ≡ true
+  whole_of n x (Audio m) lt u l c =
+      let a = audio_range buffers m (65 * n) l in
+      let same : m ≡ n = omega (arith, a.1.0, a.1.1) in
+      let here : lies_in x (place_of buffers (Audio n)) ≡ true = ap (λ (p : Option Extent). lies_in x p) (cond-true (nat_lt n 128) (Some (audio_place n)) None (lt-ltb n 128 lt)) ∙ c in
+      ((its_words buffers (h ∷ [])).mixes x).1 (Audio n, (subst (λ k. (footprint_of buffers (h ∷ [])).mixes (Audio k) ≡ true) same u, here))
+  whole_of n x (Control m) lt u l c = absurd (one_only (λ k. held_mixes k (Control m)) h (and_parts (is_there buffers (Control m)) (list_any (λ k. held_mixes k (Control m)) (h ∷ [])) u).1 (mixes_no_control h m))
+  whole_of n x (Buffer m) lt u l c = absurd (one_only (λ k. held_mixes k (Buffer m)) h (and_parts (is_there buffers (Buffer m)) (list_any (λ k. held_mixes k (Buffer m)) (h ∷ [])) u).1 (mixes_no_buffer h m))
+
+  -- a bus is mixed whole
+  pub whole_bus : (n x : ℕ) → n < 128 → has (foot_of buffers (h ∷ [])).mixes (65 * n) ≡ true → covers (audio_place n) x ≡ true → has (foot_of buffers (h ∷ [])).mixes x ≡ true
+  whole_bus n x lt m c = let u = ((its_words buffers (h ∷ [])).mixes (65 * n)).0 m in whole_of n x u.0 lt u.1.0 u.1.1 c
+
+  resource_below : (first x : ℕ) (states : List Extent) → LieBelow first buffers states → (r : Resource) → lies_in x (place_of buffers r) ≡ true → x < first
+  resource_below first x states is (Audio n) l = let a = audio_range buffers n x l in omega (arith, a.0, a.1.1, is.buses)
+  resource_below first x states is (Control n) l = let a = control_range buffers n x l in omega (arith, a.0, a.1.1, is.buses)
+  resource_below first x states is (Buffer n) l = is.places x (has_of_overlaps x (live_places buffers) (buffer_overlaps x n buffers (buffer_range buffers n x l)))
+
+  -- its words lie below what the buses, the buffers and its state lie below
+  pub foot_below : (first x : ℕ) (states : List Extent) → LieBelow first buffers states → ((y : ℕ) → has (states_of (h ∷ [])) y ≡ true → has states y ≡ true) → touches (unmoved (foot_of buffers (h ∷ []))) x ≡ true → x < first
+  foot_below first x states is own t = ⊎_elim
+      (λ (u : IsOfUsed buffers (used_at_all (footprint_of buffers (h ∷ []))) x). resource_below first x states is u.0 u.1.1)
+      (λ (s : has (states_of (h ∷ [])) x ≡ true). is.held x (own x s))
+      (touched_by buffers (h ∷ []) x t)

@@ -1,11 +1,10 @@
 -- What is said of rows and their numbers on the way to the law of the plan.
-use Rattle.std.specs.Prelude.{◌≡◌, ◌⊎◌, ◌↔◌, ℕ, ◌+◌, ◌*◌, ◌<◌, ◌≤◌, ℤ, Bool, true, false, ◌&&◌, ◌||◌, List, [], ◌∷◌, ◌++◌, length}
+use Rattle.std.specs.Prelude.{◌≡◌, ◌⊎◌, ◌↔◌, ℕ, ◌+◌, ◌*◌, ◌<◌, ◌≤◌, ℤ, Bool, false, ◌&&◌, ◌||◌, List, [], ◌∷◌, ◌++◌, length, is_some}
 use Rattle.std.specs.Ordering.{int_eq}
-use Rattle.sn_mem.specs.Words.{Clash}
 use Rattle.sn_round.specs.declared.jobs.Job.{Job}
 use Rattle.sn_round.specs.Jobs.{Ordered}
 use Rattle.sn_graph.specs.declared.nodes.Voice.{Voice}
-use Rattle.sn_graph.specs.Voices.{HeardNodes, none, synth, group, voices, ids_of, has, own_foot}
+use Rattle.sn_graph.specs.Voices.{HeardNodes, none, synth, group, voices, ids_of, has}
 use Rattle.sn_graph.specs.Rows.{Row, Members, done, job, split, one, more, job_of, size, size_all, lasts}
 use Rattle.sn_graph.specs.Plans.{joined_synths, edges, Plays}
 
@@ -14,7 +13,7 @@ abbrev mutual
   pub Fits : (ℕ → List ℕ) → ℕ → List ℕ → Row → Type 0
   Fits b n e done = Unit {0}
   Fits b n e (job ss rest) = (b n ≡ e) × Fits b (n + 1) (n ∷ []) rest
-  Fits b n e (split ms rest) = FitsAll b n e ms × (b (n + size_all ms) ≡ lasts n e ms) × Fits b (n + size_all ms + 1) ((n + size_all ms) ∷ []) rest
+  Fits b n e (split lanes ms rest) = FitsAll b n e ms × (b (n + size_all ms) ≡ lasts n e ms) × Fits b (n + size_all ms + 1) ((n + size_all ms) ∷ []) rest
 
   pub FitsAll : (ℕ → List ℕ) → ℕ → List ℕ → Members → Type 0
   FitsAll b n e (one r) = Fits b n e r
@@ -29,7 +28,7 @@ abbrev mutual
   pub Apart : ℕ → Row → ℕ → ℕ → Type 0
   Apart n done i j = ⊥
   Apart n (job ss rest) i j = Apart (n + 1) rest i j
-  Apart n (split ms rest) i j = ApartAll n ms i j ⊎ Apart (n + size_all ms + 1) rest i j
+  Apart n (split lanes ms rest) i j = ApartAll n ms i j ⊎ Apart (n + size_all ms + 1) rest i j
 
   pub ApartAll : ℕ → Members → ℕ → ℕ → Type 0
   ApartAll n (one r) i j = Apart n r i j
@@ -40,7 +39,7 @@ abbrev mutual
   pub IsFull : Row → Type 0
   IsFull done = Unit {0}
   IsFull (job ss rest) = IsFull rest
-  IsFull (split ms rest) = AreFull ms × IsFull rest
+  IsFull (split lanes ms rest) = AreFull ms × IsFull rest
 
   pub AreFull : Members → Type 0
   AreFull (one r) = (1 ≤ size r) × IsFull r
@@ -56,14 +55,14 @@ weight (group g inner rest) = 1 + (weight inner + weight rest)
 abbrev pub is_parted : Bool → HeardNodes → ℤ → ℤ → Bool
 is_parted g none a b = false
 is_parted g (synth s rest) a b = (g && int_eq s.id a && has (voices rest) b) || is_parted g rest a b
-is_parted g (group h inner rest) a b = (g && has (voices inner) a && has (voices rest) b) || (is_parted h inner a b || is_parted g rest a b)
+is_parted g (group h inner rest) a b = (g && has (voices inner) a && has (voices rest) b) || (is_parted (is_some h) inner a b || is_parted g rest a b)
 
 -- the synths of the jobs, joined
 abbrev mutual
   pub heard : Row → List Voice
   heard done = []
   heard (job ss rest) = ss ++ heard rest
-  heard (split ms rest) = heard_all ms ++ heard rest
+  heard (split lanes ms rest) = heard_all ms ++ heard rest
 
   pub heard_all : Members → List Voice
   heard_all (one r) = heard r
@@ -77,7 +76,7 @@ abbrev mutual
   pub parts : Row → ℤ → ℤ → Bool
   parts done a b = false
   parts (job ss rest) a b = parts rest a b
-  parts (split ms rest) a b = parts_all ms a b || parts rest a b
+  parts (split lanes ms rest) a b = parts_all ms a b || parts rest a b
 
   pub parts_all : Members → ℤ → ℤ → Bool
   parts_all (one r) a b = parts r a b
@@ -91,8 +90,8 @@ parts_list (r ∷ rs) a b = (has (heard r) a && has (heard_list rs) b) || (parts
 abbrev mutual
   pub Stands : (ℕ → Job) → ℕ → List ℕ → Row → Type 0
   Stands at n e done = Unit {0}
-  Stands at n e (job ss rest) = (at n ≡ job_of ss e) × Stands at (n + 1) (n ∷ []) rest
-  Stands at n e (split ms rest) = StandsAll at n e ms × (at (n + size_all ms) ≡ job_of [] (lasts n e ms)) × Stands at (n + size_all ms + 1) ((n + size_all ms) ∷ []) rest
+  Stands at n e (job ss rest) = (at n ≡ job_of ss [] e) × Stands at (n + 1) (n ∷ []) rest
+  Stands at n e (split lanes ms rest) = StandsAll at n e ms × (at (n + size_all ms) ≡ job_of [] lanes (lasts n e ms)) × Stands at (n + size_all ms + 1) ((n + size_all ms) ∷ []) rest
 
   pub StandsAll : (ℕ → Job) → ℕ → List ℕ → Members → Type 0
   StandsAll at n e (one r) = Stands at n e r
@@ -101,10 +100,6 @@ abbrev mutual
 abbrev pub Among : List Voice → Voice → Type 0
 Among [] s = ⊥
 Among (x ∷ xs) s = (x ≡ s) ⊎ Among xs s
-
--- synths whose lowest group is split do not clash
-abbrev pub IsFree : HeardNodes → Type 0
-IsFree nodes = (s t : Voice) → Among (voices nodes) s → Among (voices nodes) t → is_parted false nodes s.id t.id ≡ true → Clash (own_foot s) (own_foot t) → ⊥
 
 -- a stands before b
 abbrev pub comes : List Voice → ℤ → ℤ → Bool

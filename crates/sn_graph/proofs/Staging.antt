@@ -19,8 +19,7 @@ use Rattle.sn_foot.specs.Footprints.{footprint_of, states_of, used_places}
 use Rattle.sn_foot.proofs.Finding.{all_parts, all_below}
 use Rattle.sn_foot.proofs.Placing.{used_ends}
 use Rattle.sn_graph.specs.Voices.{HeardNodes, voices, AreWithin}
-use Rattle.sn_graph.specs.Sharing.{is_split}
-use Rattle.sn_graph.specs.Stages.{voice_of, with_group, with_node, running_of}
+use Rattle.sn_graph.specs.Stages.{may_split, voice_of, with_group, with_node, running_of}
 use Rattle.sn_graph.proofs.Drafting.{within_both}
 use Rattle.sn_graph.proofs.Hearing.{voices_group}
 
@@ -94,7 +93,7 @@ module _ (buffers : List (Option BufferPlace)) (clashing : List ℤ) where
   within_node : (kind : NodeKind) (label : Label Held) (below after : HeardNodes) → AreWithin (voice_of buffers label.id label.payload ∷ []) → AreWithin (voices below) → AreWithin (voices after) → AreWithin (voices (with_node buffers clashing kind label below after))
   within_node kinds.Synth label below after v b a = (v.0, a)
   within_node kinds.Group label below after v b a = within_group false below after b a
-  within_node kinds.Parallel label below after v b a = within_group (is_split clashing label.id below) below after b a
+  within_node kinds.Parallel label below after v b a = within_group (may_split clashing label.id) below after b a
 
   within_all : (t : Nodes Held) → All Ends (live_places buffers) → All Ends (live_held t) → AreWithin (voices (running_of buffers clashing t))
   within_all trees.none places all = tt

@@ -2,6 +2,8 @@ pub mod Voices
 pub mod Rows
 pub mod Plans
 pub mod Sharing
+pub mod Lanes
+pub mod Fitting
 pub mod Inputs
 pub mod Disjoint
 pub mod Drafts

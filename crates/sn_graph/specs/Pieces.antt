@@ -8,10 +8,9 @@ use Rattle.sn_world.specs.declared.stage.Held.{Held}
 use Rattle.sn_graph.specs.declared.nodes.Voice.{Voice}
 use Rattle.sn_graph.specs.declared.parts.Part.TheVariants as given
 use Rattle.sn_graph.specs.declared.parts.Part.{Part}
-use Rattle.sn_graph.specs.Voices.{HeardNodes, none, synth, group, is_none}
+use Rattle.sn_graph.specs.Voices.{HeardNodes, none, synth, group, is_none, lanes_if}
 use Rattle.sn_graph.specs.Inputs.{nodes_of}
-use Rattle.sn_graph.specs.Sharing.{is_split}
-use Rattle.sn_graph.specs.Stages.{voice_of}
+use Rattle.sn_graph.specs.Stages.{may_split, voice_of}
 
 -- a node by itself, with what is kept below it, or nothing if it is left out
 pub data Piece : Type 0 where
@@ -32,7 +31,7 @@ pieces parts = reverse (map piece_of parts)
 abbrev pub before : Piece → HeardNodes → HeardNodes
 before nothing rest = rest
 before (voice v) rest = synth v rest
-before (below flag inner) rest = group flag inner rest
+before (below flag inner) rest = group (lanes_if flag) inner rest
 
 abbrev pub linked : List Piece → HeardNodes → HeardNodes
 linked [] rest = rest
@@ -45,7 +44,7 @@ module _ (buffers : List (Option BufferPlace)) (clashing : List ℤ) where
   abbrev pub running_piece : NodeKind → Label Held → HeardNodes → Piece
   running_piece kinds.Synth label inner = voice (voice_of buffers label.id label.payload)
   running_piece kinds.Group label inner = group_piece false inner
-  running_piece kinds.Parallel label inner = group_piece (is_split clashing label.id inner) inner
+  running_piece kinds.Parallel label inner = group_piece (may_split clashing label.id) inner
 
   abbrev pub piece : Label Held → HeardNodes → Piece
   piece label inner = if label.running then running_piece label.kind label inner else nothing

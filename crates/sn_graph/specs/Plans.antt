@@ -1,12 +1,14 @@
 -- The plan of running synths.
-use Rattle.std.specs.Prelude.{◌≡◌, ◌↔◌, ℕ, ◌+◌, ◌*◌, ◌<◌, ◌≤◌, ℤ, Bool, true, false, ◌&&◌, ◌||◌, if◌then◌else◌, List, [], ◌∷◌, ◌++◌, length}
+use Rattle.std.specs.Prelude.{◌≡◌, ◌↔◌, ◌⊎◌, ℕ, ◌+◌, ◌*◌, ◌<◌, ◌≤◌, ℤ, Bool, true, false, ◌&&◌, if◌then◌else◌, List, [], ◌∷◌, ◌++◌, length, map, Option, Some, None, is_some}
 use Rattle.std.specs.List.{filter, list_any}
 use Rattle.std.specs.Ordering.{int_eq}
+use Rattle.sn_mem.specs.declared.extents.Foot.{Foot}
+use Rattle.sn_mem.specs.declared.moves.Moved.{Moved}
 use Rattle.sn_mem.specs.Words.{Clash}
 use Rattle.sn_round.specs.declared.jobs.Job.{Job}
-use Rattle.sn_round.specs.Jobs.{foot_at, job_at, Ordered}
+use Rattle.sn_round.specs.Jobs.{foot_at, job_at, lanes_at, Ordered}
 use Rattle.sn_graph.specs.declared.nodes.Voice.{Voice}
-use Rattle.sn_graph.specs.Voices.{HeardNodes, none, synth, group, voices, foot_of, ids_of, has, own_foot}
+use Rattle.sn_graph.specs.Voices.{HeardNodes, none, synth, group, voices, foot_of, ids_of, joint_lanes, has, own_foot}
 use Rattle.sn_graph.specs.Rows.{Row, Members, done, job, split, one, more, jobs}
 
 -- an open run of synths is one job
@@ -17,23 +19,23 @@ close (v ∷ vs) r = job (v ∷ vs) r
 abbrev pub followed : Row → Row → Row
 followed done r = r
 followed (job vs a) r = job vs (followed a r)
-followed (split ms a) r = split ms (followed a r)
+followed (split lanes ms a) r = split lanes ms (followed a r)
 
 abbrev pub members : Row → List Row → Members
 members r [] = one r
 members r (q ∷ rs) = more r (members q rs)
 
--- two members or more are split
-abbrev pub joined : List Row → Row
-joined [] = done
-joined (r ∷ []) = r
-joined (r ∷ q ∷ rs) = split (more r (members q rs)) done
+-- two members or more are split, and these lanes are added behind them
+abbrev pub joined : List Moved → List Row → Row
+joined lanes [] = done
+joined lanes (r ∷ []) = r
+joined lanes (r ∷ q ∷ rs) = split lanes (more r (members q rs)) done
 
 -- a member without a job is left out
 abbrev pub keep : Row → List Row → List Row
 keep done rs = rs
 keep (job vs a) rs = job vs a ∷ rs
-keep (split ms a) rs = split ms a ∷ rs
+keep (split lanes ms a) rs = split lanes ms a ∷ rs
 
 -- The row of nodes that are rendered in order, after an open run of synths, which a group ends; and the rows of the members
 -- of a split group.
@@ -41,16 +43,16 @@ abbrev mutual
   pub row_of : List Voice → HeardNodes → Row
   row_of run none = close run done
   row_of run (synth v rest) = row_of (run ++ v ∷ []) rest
-  row_of run (group flag inner rest) = close run (followed (if flag then joined (rows_of inner) else row_of [] inner) (row_of [] rest))
+  row_of run (group lanes inner rest) = close run (followed (if is_some lanes then joined (joint_lanes lanes) (rows_of inner) else row_of [] inner) (row_of [] rest))
 
   pub rows_of : HeardNodes → List Row
   rows_of none = []
   rows_of (synth v rest) = job (v ∷ []) done ∷ rows_of rest
-  rows_of (group flag inner rest) = keep (if flag then joined (rows_of inner) else row_of [] inner) (rows_of rest)
+  rows_of (group lanes inner rest) = keep (if is_some lanes then joined (joint_lanes lanes) (rows_of inner) else row_of [] inner) (rows_of rest)
 
 -- the row of a group
-abbrev pub inner_row : Bool → HeardNodes → Row
-inner_row flag inner = if flag then joined (rows_of inner) else row_of [] inner
+abbrev pub inner_row : Option (List Moved) → HeardNodes → Row
+inner_row lanes inner = if is_some lanes then joined (joint_lanes lanes) (rows_of inner) else row_of [] inner
 
 -- the plan of these nodes
 abbrev pub plan_of : HeardNodes → List Job
@@ -83,36 +85,77 @@ Plays js i a = is_listed ((job_at js i).synths) a ≡ true
 abbrev pub lowest_is_split : Bool → HeardNodes → ℤ → ℤ → Bool
 lowest_is_split outer none a b = outer
 lowest_is_split outer (synth v rest) a b = lowest_is_split outer rest a b
-lowest_is_split outer (group flag inner rest) a b = if has (voices inner) a && has (voices inner) b then lowest_is_split flag inner a b else lowest_is_split outer rest a b
+lowest_is_split outer (group lanes inner rest) a b = if has (voices inner) a && has (voices inner) b then lowest_is_split (is_some lanes) inner a b else lowest_is_split outer rest a b
+
+-- ---- what jobs do
+
+-- one thing after the other: a synth runs, with buses moved onto lanes, or a lane is added to its bus
+pub data Step : Type 0 where
+  renders : ℤ → List Moved → Step
+  adds_lane : Moved → Step
+
+abbrev pub steps_of : HeardNodes → List Step
+steps_of none = []
+steps_of (synth v rest) = renders v.id v.moves ∷ steps_of rest
+steps_of (group lanes inner rest) = steps_of inner ++ (map adds_lane (joint_lanes lanes) ++ steps_of rest)
+
+-- the synths of a job, each with its moves
+abbrev pub runs_of : List ℤ → List (List Moved) → List Step
+runs_of [] moves = []
+runs_of (a ∷ ids) [] = renders a [] ∷ runs_of ids []
+runs_of (a ∷ ids) (ms ∷ moves) = renders a ms ∷ runs_of ids moves
+
+abbrev pub joined_steps : List Job → List Step
+joined_steps [] = []
+joined_steps (j ∷ js) = runs_of j.synths j.moves ++ (map adds_lane j.lanes ++ joined_steps js)
+
+-- a group with lanes to add has two members with jobs
+abbrev pub AreJoined : HeardNodes → Type 0
+AreJoined none = Unit {0}
+AreJoined (synth v rest) = AreJoined rest
+AreJoined (group lanes inner rest) = (length (rows_of inner) ≤ 1 → joint_lanes lanes ≡ []) × (AreJoined inner × AreJoined rest)
 
 pub record IsPlanned (nodes : HeardNodes) (js : List Job) : Type 0 where
   -- the synths of the jobs, joined, are those of the nodes in the order of the walk
   pub synths : joined_synths js ≡ ids_of (voices nodes)
   -- of jobs with synths, one is ordered before another exactly where it stands before it and the lowest group that holds the synths of both is not split
   pub ordered : (i j : ℕ) (a b : ℤ) → Plays js i a → Plays js j b → Ordered js i j ↔ ((i < j) × (lowest_is_split false nodes a b ≡ false))
-  -- what a job may touch is what its synths may touch
-  pub feet : (i : ℕ) → i < length js → foot_at js i ≡ foot_of (synths_with (job_at js i).synths (voices nodes))
+  -- what a job may touch is what its synths may touch, the lanes that it adds, and their buses
+  pub feet : (i : ℕ) → i < length js → foot_at js i ≡ foot_of (synths_with (job_at js i).synths (voices nodes)) (lanes_at js i)
+  -- what the jobs do, one after the other, is what the nodes do in the order of the walk, each lane behind the members of its group
+  pub steps : AreJoined nodes → joined_steps js ≡ steps_of nodes
   -- there are at most twice as many predecessors as jobs
   pub few : edges js ≤ 2 * length js
 
 -- ---- what makes it free of races
 
--- no synth of one member clashes with a synth of another
-abbrev pub IsClearOf : Voice → List Voice → Type 0
-IsClearOf s [] = Unit {0}
-IsClearOf s (t ∷ ts) = (Clash (own_foot s) (own_foot t) → ⊥) × IsClearOf s ts
+-- the feet of the synths below nodes, and of the joints of their groups
+abbrev pub joint_feet : Option (List Moved) → List Foot
+joint_feet None = []
+joint_feet (Some lanes) = foot_of [] lanes ∷ []
 
-abbrev pub AreClear : List Voice → List Voice → Type 0
-AreClear [] ts = Unit {0}
-AreClear (s ∷ ss) ts = IsClearOf s ts × AreClear ss ts
+abbrev pub feet_below : HeardNodes → List Foot
+feet_below none = []
+feet_below (synth v rest) = own_foot v ∷ feet_below rest
+feet_below (group lanes inner rest) = (feet_below inner ++ joint_feet lanes) ++ feet_below rest
 
+-- the foot is one of these
+abbrev pub IsAmong : List Foot → Foot → Type 0
+IsAmong [] f = ⊥
+IsAmong (g ∷ gs) f = (g ≡ f) ⊎ IsAmong gs f
+
+-- none of the first clashes with one of the second
+abbrev pub AreClear : List Foot → List Foot → Type 0
+AreClear fs gs = (f g : Foot) → IsAmong fs f → IsAmong gs g → Clash f g → ⊥
+
+-- nothing below a member clashes with what is below another
 abbrev pub MembersAreClear : HeardNodes → Type 0
 MembersAreClear none = Unit {0}
-MembersAreClear (synth s rest) = IsClearOf s (voices rest) × MembersAreClear rest
-MembersAreClear (group flag inner rest) = AreClear (voices inner) (voices rest) × MembersAreClear rest
+MembersAreClear (synth v rest) = AreClear (own_foot v ∷ []) (feet_below rest) × MembersAreClear rest
+MembersAreClear (group lanes inner rest) = AreClear (feet_below inner ++ joint_feet lanes) (feet_below rest) × MembersAreClear rest
 
--- nor does one in any split group
+-- nor does it in any split group
 abbrev pub SplitsAreClear : HeardNodes → Type 0
 SplitsAreClear none = Unit {0}
-SplitsAreClear (synth s rest) = SplitsAreClear rest
-SplitsAreClear (group flag inner rest) = (flag ≡ true → MembersAreClear inner) × (SplitsAreClear inner × SplitsAreClear rest)
+SplitsAreClear (synth v rest) = SplitsAreClear rest
+SplitsAreClear (group lanes inner rest) = (is_some lanes ≡ true → MembersAreClear inner) × (SplitsAreClear inner × SplitsAreClear rest)

@@ -1,13 +1,10 @@
 -- Which audio buses the members of a group mix together.
-use Rattle.std.specs.Prelude.{ℕ, ◌*◌, ℤ, Bool, false, not, ◌&&◌, ◌||◌, List}
+use Rattle.std.specs.Prelude.{ℕ, ◌*◌, Bool, false, ◌&&◌, ◌||◌, List}
 use Rattle.std.specs.List.{list_any}
-use Rattle.sn_ports.specs.Limits.{audio_bus_count}
-use Rattle.sn_mem.specs.Blocks.{table}
 use Rattle.sn_mem.specs.Layout.{audio_bus_words}
 use Rattle.sn_mem.specs.Words.{has}
 use Rattle.sn_graph.specs.declared.nodes.Voice.{Voice}
 use Rattle.sn_graph.specs.Voices.{HeardNodes, none, synth, group, voices}
-use Rattle.sn_graph.specs.Plans.{is_listed}
 
 -- a synth mixes audio bus n
 abbrev pub mixes : Voice → ℕ → Bool
@@ -21,12 +18,4 @@ one_mixes vs n = list_any (λ v. mixes v n) vs
 abbrev pub two_mix : HeardNodes → ℕ → Bool
 two_mix none n = false
 two_mix (synth v rest) n = (mixes v n && one_mixes (voices rest) n) || two_mix rest n
-two_mix (group flag inner rest) n = (one_mixes (voices inner) n && one_mixes (voices rest) n) || two_mix rest n
-
--- two members mix one of the buses
-unfoldable pub share_a_bus : HeardNodes → Bool
-share_a_bus nodes = list_any (λ b. b) (table (two_mix nodes) audio_bus_count)
-
--- A parallel group is split unless two of its members clash or mix one bus.
-abbrev pub is_split : List ℤ → ℤ → HeardNodes → Bool
-is_split clashing id inner = not (is_listed clashing id) && not (share_a_bus inner)
+two_mix (group lanes inner rest) n = (one_mixes (voices inner) n && one_mixes (voices rest) n) || two_mix rest n

@@ -2,6 +2,7 @@
 #![tactic(auto)]
 
 mod jobs;
+mod lanes;
 mod laws;
 mod linked;
 mod mixing;
@@ -11,9 +12,10 @@ mod parts;
 mod stages;
 
 pub use jobs::plan_of_nodes;
+pub use lanes::Lanes;
 pub use laws::{
     clashes_name_the_groups, feet_clash_as_footprints, nodes_clash_as_footprints,
     silent_groups_are_left_out, worlds_are_disjoint,
 };
-pub use nodes::{HeardNodes, Voice};
+pub use nodes::{HeardNodes, Joint, Voice};
 pub use stages::plan;

@@ -1,32 +1,44 @@
 //! Nodes that are put together from the last one on, and the buses that they mix.
-ghost use Rattle.std.specs.Prelude.{◌≡◌, IfOk};
-ghost use Rattle.sn_graph.specs.Inputs.{nodes_of};
-ghost use Rattle.sn_graph.specs.Sharing.{share_a_bus};
-ghost use Rattle.sn_graph.specs.Voices.{group, is_none, none, synth};
+ghost use Rattle.std.specs.Prelude.{◌≡◌, IfOk, Some, None, if◌then◌else◌};
+ghost use Rattle.sn_ports.specs.Limits.{audio_bus_count};
+ghost use Rattle.sn_mem.specs.Blocks.{table};
+ghost use Rattle.sn_graph.specs.Inputs.{AreNoted, nodes_of};
+ghost use Rattle.sn_graph.specs.Sharing.{two_mix};
+ghost use Rattle.sn_graph.specs.Voices.{group, is_none, lanes_if, none, synth};
 
-use crate::mixing::{BUSES, both, buses_of, either, is_any, no_buses};
-use crate::nodes::{HeardNodes, Voice};
+use crate::mixing::{BUSES, both, buses_of, either, no_buses};
+use crate::nodes::{HeardNodes, Joint, Voice};
+use sn_mem::Moves;
 use sn_ports::NoMemory;
 use std::alloc::Global;
 use std::marker::Model;
 
 /// A synth before others.
 fn synth_before(alloc: Global, voice: Voice, rest: HeardNodes) -> Result<HeardNodes, NoMemory>
-    ensures { IfOk result (λ nodes. nodes_of nodes ≡ synth voice (nodes_of rest)) }
+    ensures nodes { IfOk result (λ nodes. nodes_of nodes ≡ synth voice (nodes_of rest)) }
+    ensures noted { AreNoted rest → IfOk result AreNoted }
 {
     Ok(HeardNodes::Synth(voice, Box::new(alloc, rest)?))
+}
+
+/// No lanes, for a group that may be split.
+fn lanes_if(alloc: Global, split: bool) -> Option<Moves>
+    ensures { result ≡ lanes_if split }
+{
+    if split { Some(Moves::new(alloc)) } else { None }
 }
 
 /// A group before others.
 fn group_before(
     alloc: Global,
-    split: bool,
+    joint: Joint,
     inner: HeardNodes,
     rest: HeardNodes,
 ) -> Result<HeardNodes, NoMemory>
-    ensures { IfOk result (λ nodes. nodes_of nodes ≡ group split (nodes_of inner) (nodes_of rest)) }
+    ensures nodes { IfOk result (λ nodes. nodes_of nodes ≡ group joint.lanes (nodes_of inner) (nodes_of rest)) }
+    ensures noted { joint.shared ≡ table (two_mix (nodes_of inner)) audio_bus_count → AreNoted inner → AreNoted rest → IfOk result AreNoted }
 {
-    Ok(HeardNodes::Group(split, Box::new(alloc, inner)?, Box::new(alloc, rest)?))
+    Ok(HeardNodes::Group(joint, Box::new(alloc, inner)?, Box::new(alloc, rest)?))
 }
 
 /// Whether there are no nodes.
@@ -54,7 +66,7 @@ impl Model for Linked {
     ghost use Rattle.std.specs.Coded.{codes};
     ghost use Rattle.sn_ports.specs.Limits.{audio_bus_count};
     ghost use Rattle.sn_mem.specs.Blocks.{table};
-    ghost use Rattle.sn_graph.specs.Inputs.{nodes_of};
+    ghost use Rattle.sn_graph.specs.Inputs.{AreNoted, nodes_of};
     ghost use Rattle.sn_graph.specs.Sharing.{one_mixes, two_mix};
     ghost use Rattle.sn_graph.specs.Voices.{voices};
     ghost use Rattle.sn_graph.specs.contracts.nodes.HeardNodes as heard;
@@ -66,7 +78,7 @@ impl Model for Linked {
 
     ghost view = { λ l. l.nodes };
 
-    ghost invariant = { λ l. (l.mixed ≡ table (one_mixes (voices (nodes_of l.nodes))) audio_bus_count) × (l.shared ≡ table (two_mix (nodes_of l.nodes)) audio_bus_count) };
+    ghost invariant = { λ l. (l.mixed ≡ table (one_mixes (voices (nodes_of l.nodes))) audio_bus_count) × (l.shared ≡ table (two_mix (nodes_of l.nodes)) audio_bus_count) × AreNoted l.nodes };
 }
 
 impl Linked {
@@ -88,13 +100,6 @@ impl Linked {
         is_none(&self.nodes)
     }
 
-    /// Whether two of them mix one bus.
-    pub fn share_a_bus(&self) -> bool
-        ensures { result ≡ share_a_bus (nodes_of self.now) }
-    {
-        is_any(self.shared.as_slice())
-    }
-
     /// A synth before them.
     pub fn after_synth(self, alloc: Global, voice: Voice) -> Result<Linked, NoMemory>
         ensures { IfOk result (λ nodes. nodes_of nodes ≡ synth voice (nodes_of self)) }
@@ -112,14 +117,18 @@ impl Linked {
         Ok(linked)
     }
 
-    /// A group before them, with those below it.
+    /// A group before them, with those below it, which may be split or not.
     pub fn after_group(self, alloc: Global, split: bool, inner: Linked) -> Result<Linked, NoMemory>
-        ensures { IfOk result (λ nodes. nodes_of nodes ≡ group split (nodes_of inner) (nodes_of self)) }
+        ensures { IfOk result (λ nodes. nodes_of nodes ≡ group (lanes_if split) (nodes_of inner) (nodes_of self)) }
     {
         let more = both(&inner.mixed, &self.mixed);
         let shared = either(&more, &self.shared);
         let mixed = either(&inner.mixed, &self.mixed);
-        let nodes = group_before(alloc, split, inner.nodes, self.nodes)?;
+        let joint = Joint {
+            lanes: lanes_if(alloc, split),
+            shared: inner.shared,
+        };
+        let nodes = group_before(alloc, joint, inner.nodes, self.nodes)?;
         let linked = Linked {
             nodes,
             mixed,
@@ -130,7 +139,8 @@ impl Linked {
 
     /// The nodes.
     pub fn into_nodes(self) -> HeardNodes
-        ensures { result ≡ self }
+        ensures same { result ≡ self }
+        ensures noted { AreNoted result }
     {
         self.nodes
     }

@@ -36,7 +36,7 @@ fn first_word(bus: usize) -> u64
 }
 
 /// Whether a synth mixes an audio bus.
-fn mixes(voice: &Voice, bus: usize) -> bool
+pub fn mixes(voice: &Voice, bus: usize) -> bool
     requires { bus < audio_bus_count }
     ensures { result ≡ mixes voice.now bus }
 {
@@ -95,11 +95,4 @@ pub fn both(one: &[bool; BUSES], other: &[bool; BUSES]) -> [bool; BUSES]
         flags[bus] = is_both(one, other, bus);
     }
     flags
-}
-
-/// Whether there is a bus.
-pub fn is_any(flags: &[bool]) -> bool
-    ensures { result ≡ list_any (λ b. b) flags.now }
-{
-    flags.iter().any(|flag| *flag)
 }

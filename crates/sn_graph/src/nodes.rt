@@ -1,5 +1,7 @@
 //! The nodes that are heard, with what each synth touches.
+use crate::mixing::BUSES;
 use sn_foot::Reach;
+use sn_mem::Moves;
 
 /// A running synth, and the words that it may read, write and mix.
 #[derive(Drop)]
@@ -8,10 +10,20 @@ pub struct Voice {
     pub id: i32,
     /// The words.
     pub reach: Reach,
+    /// The buses that it mixes onto lanes.
+    pub moves: Moves,
 }
 
-/// The children of a group that are heard, in order. The flag of a group says whether it is split, so that its members may run
-/// beside each other.
+/// How the members of a group are joined.
+#[derive(Drop)]
+pub struct Joint {
+    /// The lanes that are added to their buses behind the members, if the group is split, so that these may run beside each other.
+    pub lanes: Option<Moves>,
+    /// Which audio buses two of the members mix.
+    pub shared: [bool; BUSES],
+}
+
+/// The children of a group that are heard, in order.
 #[derive(Drop)]
 pub enum HeardNodes {
     /// No more of them.
@@ -19,5 +31,5 @@ pub enum HeardNodes {
     /// A synth, and those after it.
     Synth(Voice, Box<HeardNodes>),
     /// A group with those below it, and those after it.
-    Group(bool, Box<HeardNodes>, Box<HeardNodes>),
+    Group(Joint, Box<HeardNodes>, Box<HeardNodes>),
 }

@@ -6,8 +6,7 @@ ghost use Rattle.sn_foot.specs.Canonical.{Ends};
 ghost use Rattle.sn_foot.specs.Footprints.{states_of};
 ghost use Rattle.sn_graph.specs.Voices.{none};
 ghost use Rattle.sn_graph.specs.Inputs.{nodes_of};
-ghost use Rattle.sn_graph.specs.Sharing.{is_split};
-ghost use Rattle.sn_graph.specs.Stages.{voice_of};
+ghost use Rattle.sn_graph.specs.Stages.{may_split, voice_of};
 ghost use Rattle.sn_clash.specs.Rows.{row_of};
 ghost use Rattle.sn_graph.specs.Pieces.{before, group_piece, linked, piece, piece_of, pieces, with_member};
 
@@ -15,7 +14,7 @@ use crate::linked::Linked;
 use crate::named::NamedGroups;
 use crate::nodes::Voice;
 use sn_foot::foot_of_nodes;
-use sn_mem::Buffers;
+use sn_mem::{Buffers, Moves};
 use sn_ports::NoMemory;
 use sn_tree::{Member, NodeKind};
 use sn_world::Held;
@@ -28,7 +27,7 @@ pub enum Part {
     Nothing,
     /// A synth.
     Synth(Voice),
-    /// A group, whether it is split, and those below it.
+    /// A group, whether it may be split, and those below it.
     Group(bool, Linked),
 }
 
@@ -91,6 +90,7 @@ fn voice_of(alloc: Global, buffers: &Buffers, member: &Member<'_, Held>) -> Resu
     Ok(Voice {
         id: member.id,
         reach,
+        moves: Moves::new(alloc),
     })
 }
 
@@ -104,11 +104,11 @@ fn group_of(split: bool, inner: Linked) -> Part
     Part::Group(split, inner)
 }
 
-/// Whether a parallel group with these below it is split: no two of its members clash, and none mix one bus.
-fn is_split(clashing: &NamedGroups<'_>, id: &i32, inner: &Linked) -> bool
-    ensures { result ≡ is_split clashing.now id.now (nodes_of inner.now) }
+/// Whether a parallel group may be split: no two of its members clash.
+fn may_split(clashing: &NamedGroups<'_>, id: &i32) -> bool
+    ensures { result ≡ may_split clashing.now id.now }
 {
-    !clashing.has(id) && !inner.share_a_bus()
+    !clashing.has(id)
 }
 
 /// A node with these below it.
@@ -130,7 +130,7 @@ fn part_of(
         NodeKind::Synth => Ok(Part::Synth(voice_of(alloc, buffers, member)?)),
         NodeKind::Group => Ok(group_of(false, inner)),
         NodeKind::Parallel => {
-            let split = is_split(clashing, &member.id, &inner);
+            let split = may_split(clashing, &member.id);
             Ok(group_of(split, inner))
         }
     }

@@ -57,7 +57,7 @@ by_agrees seen true b us ws at xs on a = agree_changed seen summed us ws (at + 1
 by_agrees seen false b us ws at xs on a =
     agree_set seen (changed (λ w. overwritten) us (at + 1) xs) (changed (λ w. overwritten) ws (at + 1) xs) at (b + 1) (agree_changed seen (λ w. overwritten) us ws (at + 1) xs (λ j p q. on j (omega arith) (omega arith)) a)
 
-block_agrees : (seen : ℕ → Bool) (adds : Bool) (b : ℕ) (us ws : List ℕ) (at : ℕ) (xs : List ℤ) → AreSeen seen at 65 → Agree seen us ws → Agree seen (onto_block adds b us at xs) (onto_block adds b ws at xs)
+pub block_agrees : (seen : ℕ → Bool) (adds : Bool) (b : ℕ) (us ws : List ℕ) (at : ℕ) (xs : List ℤ) → AreSeen seen at 65 → Agree seen us ws → Agree seen (onto_block adds b us at xs) (onto_block adds b ws at xs)
 unfolding onto_by
 block_agrees seen adds b us ws at xs on a =
     let P : ℕ → Type 0 = λ w. Agree seen (onto_by (adds && get_or us at 0 == b + 1) b us at xs) (onto_by (adds && w == b + 1) b ws at xs) in

@@ -19,4 +19,10 @@ pub mod Agreeing
 pub mod ByFoot
 pub mod BusByFoot
 pub mod BufferByFoot
+pub mod JointWords
+pub mod Queues
+pub mod QueueRuns
+pub mod LanesByFoot
+pub mod Exchanging
+pub mod Alike
 pub mod Unseen

@@ -3,7 +3,7 @@ use Rattle.std.proofs.Common.{◌≡◌, ◌≤◌, ◌<◌, ◌⊎◌, ℕ, zer
 use Rattle.std.proofs.lemmas.Bool.{eqb-true, ltb-true, cases_lt}
 use Rattle.std.proofs.lemmas.Int.{ints}
 use Rattle.sn_fixed.specs.Fixed.{sat}
-use Rattle.sn_mem.specs.Blocks.{block, sample_in, samples_at, table, changed}
+use Rattle.sn_mem.specs.Blocks.{block, put, sample_in, samples_at, table, changed, word_for}
 use Rattle.sn_mem.specs.Buses.{AudioBus, audio_bus, audio_buses, audio_number, silent}
 use Rattle.sn_mem.proofs.Steps.{length-put}
 use Rattle.sn_mem.proofs.Tables.{length-table}
@@ -13,7 +13,7 @@ use Rattle.sn_mem.proofs.BusLaws.{sample_in-word_for, audio_at, audio_set}
 use Rattle.sn_io.specs.Channels.{audio_channel, channels}
 use Rattle.sn_io.specs.BusOutputs.{mixed, replaced, change_audio}
 use Rattle.sn_io.specs.OverWords.{summed, overwritten, onto_block, onto_audio, onto_audio_channel}
-use Rattle.sn_io.proofs.Samples.{sat_fits}
+use Rattle.sn_io.proofs.Samples.{alone, once_more, sat_fits, sat_same}
 
 -- ---- the samples of a block after a change
 
@@ -38,7 +38,7 @@ same_bus w w' xs xs' p q = cc
 -- ---- one signal, where it is added to the bus and where not
 
 mixed_by : Bool → ℕ → List ℕ → ℕ → List ℤ → ℕ → ℤ
-mixed_by t b ws at xs k = sat (cond t (get_or (samples_at ws (at + 1)) k (pos 0)) (pos 0) +ℤ get_or xs k (pos 0))
+mixed_by t b ws at xs k = sat (cond t (get_or (samples_at ws (at + 1)) k (pos 0)) (pos 0) +ℤ sat (get_or xs k (pos 0)))
 
 unfoldable pub onto_by : Bool → ℕ → List ℕ → ℕ → List ℤ → List ℕ
 onto_by t b ws at xs = cond t (changed summed ws (at + 1) xs) (set (changed (λ w. overwritten) ws (at + 1) xs) at (b + 1))
@@ -48,28 +48,26 @@ onto_by_is : (t : Bool) (b : ℕ) (ws : List ℕ) (at : ℕ) (xs : List ℤ) →
 unfolding onto_by mixed_by
 onto_by_is true b ws at xs mark inside =
     let us : List ℕ = changed summed ws (at + 1) xs in
-    same_bus (get_or us at 0) (b + 1) (samples_at us (at + 1)) (table (λ k. sat (get_or (samples_at ws (at + 1)) k (pos 0) +ℤ get_or xs k (pos 0))) 64)
+    same_bus (get_or us at 0) (b + 1) (samples_at us (at + 1)) (table (λ k. sat (get_or (samples_at ws (at + 1)) k (pos 0) +ℤ sat (get_or xs k (pos 0)))) 64)
     (changed_apart summed ws (at + 1) xs at (inl (omega arith)) ∙ mark refl)
-    (table_same (λ k. sample_in (get_or us (at + 1 + k) 0)) (λ k. sat (get_or (samples_at ws (at + 1)) k (pos 0) +ℤ get_or xs k (pos 0))) 64
+    (table_same (λ k. sample_in (get_or us (at + 1 + k) 0)) (λ k. sat (get_or (samples_at ws (at + 1)) k (pos 0) +ℤ sat (get_or xs k (pos 0)))) 64
     (λ k lt.
-    let z : ℤ = sample_in (get_or ws (at + 1 + k) 0) +ℤ get_or xs k (pos 0) in
+    let z : ℤ = sample_in (get_or ws (at + 1 + k) 0) +ℤ sat (get_or xs k (pos 0)) in
     ap sample_in (changed_at summed ws (at + 1) xs k lt (omega arith))
     ∙ (sample_in-word_for (sat z) (sat_fits z)
-    ∙ ap (λ y. sat (y +ℤ get_or xs k (pos 0))) (sym (table_at (λ k. sample_in (get_or ws (at + 1 + k) 0)) 64 k (pos 0) lt)))))
+    ∙ ap (λ y. sat (y +ℤ sat (get_or xs k (pos 0)))) (sym (table_at (λ k. sample_in (get_or ws (at + 1 + k) 0)) 64 k (pos 0) lt)))))
 onto_by_is false b ws at xs mark inside =
     let vs : List ℕ = changed (λ w. overwritten) ws (at + 1) xs in
     let us : List ℕ = set vs at (b + 1) in
     let long : length vs ≡ length ws = changed_long (λ w. overwritten) ws (at + 1) xs in
-    same_bus (get_or us at 0) (b + 1) (samples_at us (at + 1)) (table (λ k. sat (pos 0 +ℤ get_or xs k (pos 0))) 64)
+    same_bus (get_or us at 0) (b + 1) (samples_at us (at + 1)) (table (λ k. sat (pos 0 +ℤ sat (get_or xs k (pos 0)))) 64)
     (get_or-set_same vs at (b + 1) 0 (omega (arith, long, inside)))
-    (table_same (λ k. sample_in (get_or us (at + 1 + k) 0)) (λ k. sat (pos 0 +ℤ get_or xs k (pos 0))) 64
+    (table_same (λ k. sample_in (get_or us (at + 1 + k) 0)) (λ k. sat (pos 0 +ℤ sat (get_or xs k (pos 0)))) 64
     (λ k lt.
     let z : ℤ = pos 0 +ℤ get_or xs k (pos 0) in
     ap sample_in (get_or-set_other vs at (at + 1 + k) (b + 1) 0 (omega arith) ∙ changed_at (λ w. overwritten) ws (at + 1) xs k lt (omega arith))
-    ∙ sample_in-word_for (sat z) (sat_fits z)))
-
-alone : (z : ℤ) → sat (pos 0 +ℤ z) ≡ sat z
-alone z = let e : pos 0 +ℤ z ≡ z = omega (arith, ints) in ap sat e
+    ∙ sample_in-word_for (sat z) (sat_fits z)
+    ∙ once_more (get_or xs k (pos 0))))
 
 apart_by : (t : Bool) (b : ℕ) (ws : List ℕ) (at : ℕ) (xs : List ℤ) (j : ℕ) → (j < at) ⊎ (at + 65 ≤ j) → get_or (onto_by t b ws at xs) j 0 ≡ get_or ws j 0
 unfolding onto_by
@@ -91,6 +89,16 @@ pub onto_long : (adds : Bool) (b : ℕ) (ws : List ℕ) (at : ℕ) (xs : List �
 unfolding onto_by
 onto_long adds b ws at xs = long_by (adds && get_or ws at 0 == b + 1) b ws at xs
 
+mark_by : (t : Bool) (b : ℕ) (ws : List ℕ) (at : ℕ) (xs : List ℤ) → (t ≡ true → get_or ws at 0 ≡ b + 1) → at < length ws → get_or (onto_by t b ws at xs) at 0 ≡ b + 1
+unfolding onto_by
+mark_by true b ws at xs mark lt = changed_apart summed ws (at + 1) xs at (inl (omega arith)) ∙ mark refl
+mark_by false b ws at xs mark lt = get_or-set_same (changed (λ w. overwritten) ws (at + 1) xs) at (b + 1) 0 (omega (arith, lt, changed_long (λ w. overwritten) ws (at + 1) xs))
+
+-- the bus is marked written
+pub onto_mark : (b : ℕ) (ws : List ℕ) (at : ℕ) (xs : List ℤ) → at < length ws → get_or (onto_block true b ws at xs) at 0 ≡ b + 1
+unfolding onto_by
+onto_mark b ws at xs lt = mark_by (get_or ws at 0 == b + 1) b ws at xs (λ h. eqb-true (get_or ws at 0) (b + 1) h) lt
+
 pub apart_from : (j at n : ℕ) → (at ≤ j → j < at + n → ⊥) → (j < at) ⊎ (at + n ≤ j)
 apart_from j at n off = ⊎_elim (λ (l : j < at). inl l) (λ (r : at ≤ j). ⊎_elim (λ (k : j < at + n). absurd (off r k)) (λ (k : at + n ≤ j). inr k) (cases_lt j (at + n))) (cases_lt j at)
 
@@ -106,8 +114,52 @@ pub replace_mixes : (b : ℕ) → Mixes false b (replaced b)
 unfolding Mixes onto_by mixed_by
 replace_mixes b ws n xs inside =
     onto_by_is false b ws (65 * n) xs (λ e. absurd cc) inside
-    ∙ same_bus (b + 1) (b + 1) (table (λ k. sat (pos 0 +ℤ get_or xs k (pos 0))) 64) (table (λ k. sat (get_or xs k (pos 0))) 64) refl
-    (table_same (λ k. sat (pos 0 +ℤ get_or xs k (pos 0))) (λ k. sat (get_or xs k (pos 0))) 64 (λ k lt. alone (get_or xs k (pos 0))))
+    ∙ same_bus (b + 1) (b + 1) (table (λ k. sat (pos 0 +ℤ sat (get_or xs k (pos 0)))) 64) (table (λ k. sat (get_or xs k (pos 0))) 64) refl
+    (table_same (λ k. sat (pos 0 +ℤ sat (get_or xs k (pos 0)))) (λ k. sat (get_or xs k (pos 0))) 64 (λ k lt. sym (once_more (get_or xs k (pos 0))) ∙ alone (get_or xs k (pos 0))))
+
+-- ---- by way of a lane
+
+-- a sample that is saturated adds as much as before
+summed_same : (w : ℕ) (x y : ℤ) → y ≡ sat x → summed w y ≡ summed w x
+summed_same w x y e = ap (λ z. word_for (sat (sample_in w +ℤ z))) (ap sat e ∙ sat_same (sat x) (sat_fits x))
+
+overwritten_same : (x y : ℤ) → y ≡ sat x → overwritten y ≡ overwritten x
+overwritten_same x y e = ap (λ z. word_for (sat (pos 0 +ℤ z))) e ∙ ap word_for (sym (once_more x))
+
+onto_same : (t : Bool) (b : ℕ) (ws : List ℕ) (at : ℕ) (xs ys : List ℤ) → ((k : ℕ) → k < 64 → get_or ys k (pos 0) ≡ sat (get_or xs k (pos 0))) → onto_by t b ws at ys ≡ onto_by t b ws at xs
+unfolding onto_by
+onto_same true b ws at xs ys same =
+    let f : List ℤ → ℕ → ℕ = λ zs k. summed (get_or ws (at + 1 + k) 0) (get_or zs k (pos 0)) in
+    ap (put ws (at + 1)) (table_same (f ys) (f xs) 64 (λ k lt. summed_same (get_or ws (at + 1 + k) 0) (get_or xs k (pos 0)) (get_or ys k (pos 0)) (same k lt)))
+onto_same false b ws at xs ys same =
+    let f : List ℤ → ℕ → ℕ = λ zs k. overwritten (get_or zs k (pos 0)) in
+    ap (λ (us : List ℕ). set (put ws (at + 1) us) at (b + 1)) (table_same (f ys) (f xs) 64 (λ k lt. overwritten_same (get_or xs k (pos 0)) (get_or ys k (pos 0)) (same k lt)))
+
+pub onto_saturated : (b : ℕ) (ws : List ℕ) (at : ℕ) (xs ys : List ℤ) → ((k : ℕ) → k < 64 → get_or ys k (pos 0) ≡ sat (get_or xs k (pos 0))) → onto_block true b ws at ys ≡ onto_block true b ws at xs
+unfolding onto_by
+onto_saturated b ws at xs ys same = onto_same (get_or ws at 0 == b + 1) b ws at xs ys same
+
+marked_off : (t : Bool) → (t ≡ true → ⊥) → t ≡ false
+marked_off true never = absurd (never refl)
+marked_off false never = refl
+
+-- a lane that was not written in this block holds what was put onto it, saturated
+pub lane_holds : (b : ℕ) (ls : List ℕ) (at : ℕ) (xs : List ℤ) → (get_or ls at 0 ≡ b + 1 → ⊥) → at + 65 ≤ length ls → (k : ℕ) → k < 64
+    → get_or (samples_at (onto_block true b ls at xs) (at + 1)) k (pos 0) ≡ sat (get_or xs k (pos 0))
+unfolding onto_by mixed_by
+lane_holds b ls at xs off inside k lt =
+    let t : Bool = get_or ls at 0 == b + 1 in
+    let x : ℤ = get_or xs k (pos 0) in
+    let never : t ≡ false = marked_off t (λ e. off (eqb-true (get_or ls at 0) (b + 1) e)) in
+    ap (λ (bus : AudioBus). get_or bus.samples k (pos 0)) (onto_by_is t b ls at xs (eqb-true (get_or ls at 0) (b + 1)) inside)
+    ∙ table_at (mixed_by t b ls at xs) 64 k (pos 0) lt
+    ∙ ap (λ u. sat (cond u (get_or (samples_at ls (at + 1)) k (pos 0)) (pos 0) +ℤ sat x)) never
+    ∙ (sym (once_more x) ∙ alone x)
+
+-- so adding the lane to a bus is adding what was put onto it
+pub added_by_lane : (b : ℕ) (ws ls : List ℕ) (at lane : ℕ) (xs : List ℤ) → (get_or ls lane 0 ≡ b + 1 → ⊥) → lane + 65 ≤ length ls
+    → onto_block true b ws at (samples_at (onto_block true b ls lane xs) (lane + 1)) ≡ onto_block true b ws at xs
+added_by_lane b ws ls at lane xs off inside = onto_saturated b ws at xs (samples_at (onto_block true b ls lane xs) (lane + 1)) (lane_holds b ls lane xs off inside)
 
 -- ---- one channel
 

@@ -1,5 +1,5 @@
 -- Sums of samples, as words hold them.
-use Rattle.std.proofs.Common.{◌≡◌, ℤ, pos, negsuc, ◌≤ℤ◌, SFits, w32, arith}
+use Rattle.std.proofs.Common.{◌≡◌, ℤ, pos, negsuc, ◌+ℤ◌, ◌≤ℤ◌, SFits, w32, ap, sym, ◌∙◌, arith}
 use Rattle.std.proofs.lemmas.Int.{ints, clamps}
 use Rattle.sn_fixed.specs.Fixed.{sat}
 
@@ -15,3 +15,10 @@ pub sat_same : (z : ℤ) → SFits w32 z → sat z ≡ z
 unfolding sat
 sat_same (pos n) fits = let h = fits.sfits in omega (arith, ints, clamps)
 sat_same (negsuc n) fits = let h = fits.sfits in omega (arith, ints, clamps)
+
+pub alone : (z : ℤ) → sat (pos 0 +ℤ z) ≡ sat z
+alone z = let e : pos 0 +ℤ z ≡ z = omega (arith, ints) in ap sat e
+
+-- what is saturated stays as it is if it is saturated once more
+pub once_more : (z : ℤ) → sat (pos 0 +ℤ z) ≡ sat (pos 0 +ℤ sat z)
+once_more z = alone z ∙ sym (sat_same (sat z) (sat_fits z)) ∙ sym (alone (sat z))

@@ -6,9 +6,10 @@ use Rattle.sn_mem.specs.Blocks.{table}
 use Rattle.sn_mem.specs.Buses.{AudioBus, ControlBus, silent, resting, heard}
 use Rattle.sn_io.specs.Channels.{audio_channel, control_channel, channels, signals}
 
--- Out.ar: a signal is added to what the bus holds in block b, and the bus is marked written. A bus that was not written in this block holds 0 there: it is overwritten.
+-- Out.ar: a signal is added to what the bus holds in block b, and the bus is marked written. A bus that was not written in this block holds 0 there:
+-- it is overwritten. A sample of a signal has 32 bits, so the inner sat leaves it as it is.
 abbrev pub mixed : ℕ → AudioBus → List ℤ → AudioBus
-mixed b bus signal = record { written = b + 1; samples = table (λ k. sat (heard b bus k +ℤ slice_index_or signal k (pos 0))) block_frames }
+mixed b bus signal = record { written = b + 1; samples = table (λ k. sat (heard b bus k +ℤ sat (slice_index_or signal k (pos 0)))) block_frames }
 
 -- ReplaceOut: a signal takes the place of what the bus holds, and the bus is marked written. A sample has 32 bits, so sat leaves it as it is.
 abbrev pub replaced : ℕ → AudioBus → List ℤ → AudioBus

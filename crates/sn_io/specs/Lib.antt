@@ -4,8 +4,10 @@ pub mod BusOutputs
 pub mod Triggers
 pub mod BusUnits
 pub mod OverWords
+pub mod Joints
 pub mod Positions
 pub mod BufferUnits
 pub mod BuffersOverWords
 pub mod Conditions
 pub mod ByFoot
+pub mod Queues

@@ -12,7 +12,7 @@ use Rattle.sn_io.specs.BusInputs.{audio_inputs, control_inputs}
 use Rattle.sn_io.specs.Triggers.{trigger_block}
 
 abbrev pub summed : ℕ → ℤ → ℕ
-summed w x = word_for (sat (sample_in w +ℤ x))
+summed w x = word_for (sat (sample_in w +ℤ sat x))
 
 abbrev pub overwritten : ℤ → ℕ
 overwritten x = word_for (sat (pos 0 +ℤ x))

@@ -1,18 +1,23 @@
 //! Laws of changes of words that see and change a foot alone, and of units that do; and of units that end.
-ghost use Rattle.std.specs.Prelude.{◌≡◌, ℕ, List, ℤ, Option};
+ghost use Rattle.std.specs.List.{All};
+ghost use Rattle.std.specs.Prelude.{◌≡◌, ◌≤◌, ℕ, ◌+◌, true, List, ℤ, Option, length, slice_index};
+ghost use Rattle.sn_mem.specs.Layout.{audio_bus_words};
 ghost use Rattle.sn_def.specs.declared.kind.Kind.{Kind};
 ghost use Rattle.sn_def.specs.declared.kind.Kind.TheVariants as kinds;
 ghost use Rattle.sn_def.specs.declared.control.Now.{Now};
 ghost use Rattle.sn_mem.specs.declared.extents.Foot.{Foot};
 ghost use Rattle.sn_mem.specs.declared.buffers.BufferPlace.{BufferPlace};
+ghost use Rattle.sn_mem.specs.declared.moves.Moved.{Moved};
 ghost use Rattle.sn_mem.specs.Words.{MayWrite, touches};
 ghost use Rattle.sn_mem.specs.ThroughFoot.{kept_to};
+ghost use Rattle.sn_mem.specs.Blocks.{samples_at};
 ghost use Rattle.sn_mem.specs.Buffers.{Buffer};
 ghost use Rattle.sn_done.specs.Done.{IsUnseen};
 ghost use Rattle.sn_io.specs.Triggers.{trigger_block};
 ghost use Rattle.sn_io.specs.BufferUnits.{buffer_unit};
 ghost use Rattle.sn_io.specs.ByFoot.{Agree, BlocksAgree, IsByFoot, IsPart};
-ghost use Rattle.sn_io.specs.OverWords.{bus_unit_over};
+ghost use Rattle.sn_io.specs.Joints.{MayAdd, with_lanes};
+ghost use Rattle.sn_io.specs.OverWords.{bus_unit_over, onto_block};
 ghost use Rattle.sn_io.specs.BuffersOverWords.{buffer_unit_over};
 ghost use Rattle.sn_io.specs.Conditions.{MayReach, MayReachBuffer};
 
@@ -36,6 +41,17 @@ pub fn by_foot_in_turn()
 /// A law: a change that sees and changes a part of a foot alone sees and changes the foot alone.
 pub fn by_wider_foot()
     ensures { (part whole : Foot) (change : List ℕ → List ℕ) → IsPart part whole → IsByFoot part change → IsByFoot whole change }
+{}
+
+/// A law: to add lanes to their buses sees and changes a foot alone that may read the lanes and write the buses.
+pub fn lanes_by_foot()
+    ensures { (f : Foot) (b : ℕ) (lanes : List Moved) → All (MayAdd f) lanes → IsByFoot f (with_lanes b lanes) }
+{}
+
+/// A law: a signal that was put onto a lane, which was not written in this block, and is added to a bus from there, is
+/// added as it is.
+pub fn lanes_add_what_was_put()
+    ensures { (b : ℕ) (ws ls : List ℕ) (at lane : ℕ) (signal : List ℤ) → (slice_index ls lane ≡ b + 1 → ⊥) → lane + audio_bus_words ≤ length ls → onto_block true b ws at (samples_at (onto_block true b ls lane signal) (lane + 1)) ≡ onto_block true b ws at signal }
 {}
 
 /// A law: if words agree where a foot may touch them, and the foot has what a unit on buses reaches,

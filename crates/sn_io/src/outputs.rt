@@ -14,10 +14,10 @@ use sn_fixed::add;
 use sn_mem::{Block, Blocks, Places, Port, sample_of, word_of};
 use sn_ports::limits::BLOCK_FRAMES;
 
-/// The sums of two blocks, sample by sample.
+/// The sums of two blocks, sample by sample. A sample has 32 bits, so the inner sat leaves it as it is.
 #[inline(always)]
 fn sums(a: &Block, b: &Block) -> Block
-    ensures { result ≡ table (λ k. sat (slice_index_or a.now k (pos 0) +ℤ slice_index_or b.now k (pos 0))) block_frames }
+    ensures { result ≡ table (λ k. sat (slice_index_or a.now k (pos 0) +ℤ sat (slice_index_or b.now k (pos 0)))) block_frames }
 {
     let mut samples = [0i32; BLOCK_FRAMES];
     for frame in 0..BLOCK_FRAMES {
@@ -48,7 +48,7 @@ fn set_block<P: Port>(port: &mut P, at: u32, signal: &Block)
 
 /// Puts a signal onto the audio bus at a place. With `adds` it adds to what was written in this
 /// block, and overwrites else.
-fn put_block<P: Port>(port: &mut P, adds: bool, block: u64, at: u32, signal: &Block)
+pub(crate) fn put_block<P: Port>(port: &mut P, adds: bool, block: u64, at: u32, signal: &Block)
     requires block { block < 2 ^ 63 }
     requires bus { MayWrite (P.foot port.old) at audio_bus_words }
     ensures words { P.words port.new ≡ onto_block adds block (P.words port.old) at signal.now }

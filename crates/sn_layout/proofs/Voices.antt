@@ -31,8 +31,7 @@ use Rattle.sn_clash.specs.Clashing.{clashes, clashes_of, content_uses}
 use Rattle.sn_clash.proofs.Worlds.{same_clashes}
 use Rattle.sn_graph.specs.declared.nodes.Voice.{Voice}
 use Rattle.sn_graph.specs.Voices.{HeardNodes, none, synth}
-use Rattle.sn_graph.specs.Sharing.{is_split}
-use Rattle.sn_graph.specs.Stages.{voice_of, with_group, with_node, running_of, clashing_in, nodes_in}
+use Rattle.sn_graph.specs.Stages.{may_split, voice_of, with_group, with_node, running_of, clashing_in, nodes_in}
 use Rattle.sn_layout.specs.Layout.{Layout, extent_of, laid, layout_of}
 use Rattle.sn_layout.proofs.Mapped.{at_map, there_map, clashes_mapped}
 use Rattle.sn_layout.proofs.Reading.{quiet_laid, uses_same}
@@ -76,6 +75,7 @@ voice_with there place id uses state = record {
     writes = canonical (placed place (λ r. there r && (uses Write r || false)) ++ state);
     mixes = canonical (placed place (λ r. there r && (uses Mix r || false)));
   };
+  moves = [];
 }
 
 abbrev voice_from : List (Option Extent) → ℤ → Content → Voice
@@ -86,7 +86,7 @@ module _ (buffers : List (Option Extent)) (clashing : List ℤ) where
   abbrev node_from : NodeKind → ℤ → Content → HeardNodes → HeardNodes → HeardNodes
   node_from kinds.Synth id c below after = synth (voice_from buffers id c) after
   node_from kinds.Group id c below after = with_group false below after
-  node_from kinds.Parallel id c below after = with_group (is_split clashing id below) below after
+  node_from kinds.Parallel id c below after = with_group (may_split clashing id) below after
 
   abbrev running_from : Nodes Content → HeardNodes
   running_from trees.none = none
@@ -145,7 +145,7 @@ module _ (places : List (Option BufferPlace)) (words : List ℕ) where
     kind_same : (kind : NodeKind) (label : Label Held) (b b' a a' : HeardNodes) → b ≡ b' → a ≡ a' → with_node places clashing kind label b a ≡ node_from extents clashing kind label.id (seen label.payload) b' a'
     kind_same kinds.Synth label b b' a a' p q = λ i. synth (voice_same label.id label.payload i) (q i)
     kind_same kinds.Group label b b' a a' p q = λ i. with_group false (p i) (q i)
-    kind_same kinds.Parallel label b b' a a' p q = λ i. with_group (is_split clashing label.id (p i)) (p i) (q i)
+    kind_same kinds.Parallel label b b' a a' p q = λ i. with_group (may_split clashing label.id) (p i) (q i)
 
     running_same : (t : Nodes Held) → running_of places clashing t ≡ running_from extents clashing (with_payloads laid (with_payloads (content_of words) t))
     running_same trees.none = refl

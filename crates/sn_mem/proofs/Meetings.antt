@@ -23,7 +23,7 @@ meet_is a b m =
     let l = ltb-true (max a.at b.at) (a.at + a.len) p.0 in let r = ltb-true (max a.at b.at) (b.at + b.len) p.1 in
     (covered a (max a.at b.at) (omega arith) l, covered b (max a.at b.at) (omega arith) r)
 
-is_meet : (a b : Extent) (x : ℕ) → covers a x ≡ true → covers b x ≡ true → meet a b ≡ true
+pub is_meet : (a b : Extent) (x : ℕ) → covers a x ≡ true → covers b x ≡ true → meet a b ≡ true
 is_meet a b x c d =
     let p = and_parts (nat_le a.at x) (nat_lt x (a.at + a.len)) c in let q = and_parts (nat_le b.at x) (nat_lt x (b.at + b.len)) d in
     let p0 = leb-true a.at x p.0 in let p1 = ltb-true x (a.at + a.len) p.1 in let q0 = leb-true b.at x q.0 in let q1 = ltb-true x (b.at + b.len) q.1 in
@@ -37,7 +37,7 @@ one_is a (f ∷ fs) e = ⊎_elim
     (λ (m : list_any (meet a) fs ≡ true). let (x, c, h) = one_is a fs m in (x, c, or_right (covers f x) (has fs x) h))
     (or_cases (meet a f) (list_any (meet a) fs) e)
 
-is_one : (a : Extent) (fs : List Extent) (x : ℕ) → covers a x ≡ true → has fs x ≡ true → list_any (meet a) fs ≡ true
+pub is_one : (a : Extent) (fs : List Extent) (x : ℕ) → covers a x ≡ true → has fs x ≡ true → list_any (meet a) fs ≡ true
 is_one a [] x c h = absurd (true≢false (sym h))
 is_one a (f ∷ fs) x c h = ⊎_elim
     (λ (d : covers f x ≡ true). or_left (meet a f) (list_any (meet a) fs) (is_meet a f x c d))

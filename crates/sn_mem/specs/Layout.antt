@@ -24,3 +24,14 @@ audio_place n = record { at = audio_bus_words * n; len = audio_bus_words }
 
 abbrev pub control_place : ℕ → Extent
 control_place n = record { at = audio_words + control_bus_words * n; len = control_bus_words }
+
+-- how many lanes there may be, and the words of so many
+abbrev pub most_lanes : ℕ
+most_lanes = 4096
+
+abbrev pub lane_words : ℕ
+lane_words = most_lanes * audio_bus_words
+
+-- lane k of those that begin at a word: like an audio bus
+abbrev pub lane_place : ℕ → ℕ → Extent
+lane_place first k = record { at = first + audio_bus_words * k; len = audio_bus_words }

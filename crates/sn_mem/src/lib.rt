@@ -1,13 +1,16 @@
 //! Memory words: extents, feet, ports, and blocks of samples in them.
 #![tactic(auto)]
 
+mod below;
 mod blocks;
 mod buffers;
 mod clashes;
 mod done;
 mod extents;
 mod foot_port;
+mod lanes;
 mod local;
+mod moves;
 mod places;
 mod plain;
 mod port;
@@ -17,14 +20,17 @@ mod samples;
 mod scratch;
 mod stored;
 
+pub use below::{Below, BelowRest};
 pub use blocks::{Block, Blocks};
 pub use buffers::{BufferPlace, Buffers};
 pub use clashes::clash;
 pub use done::ended;
 pub use extents::{Extent, Extents, Foot};
 pub use foot_port::{FootPort, FootRest};
+pub use lanes::{LanePort, LaneRest};
 pub use local::{LocalPort, LocalRest};
-pub use places::{BUS_WORDS, Places};
+pub use moves::{AllMoves, Moved, Moves};
+pub use places::{BUS_WORDS, LANE_WORDS, MOST_LANES, Places};
 pub use plain::PlainPort;
 pub use port::Port;
 pub use recurrence::{Recurrence, run_recurrence};

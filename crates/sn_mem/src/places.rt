@@ -1,7 +1,7 @@
 //! Where the buses lie in the words.
-ghost use Rattle.std.specs.Prelude.{◌≡◌, ◌<◌};
+ghost use Rattle.std.specs.Prelude.{◌≡◌, ◌<◌, ◌+◌, ◌^◌};
 ghost use Rattle.sn_ports.specs.Limits.{audio_bus_count, control_bus_count};
-ghost use Rattle.sn_mem.specs.Layout.{audio_place, control_place};
+ghost use Rattle.sn_mem.specs.Layout.{audio_place, control_place, lane_place, lane_words, most_lanes};
 
 use crate::extents::Extent;
 use sn_ports::limits::{AUDIO_BUS_COUNT, BLOCK_FRAMES, CONTROL_BUS_COUNT};
@@ -17,6 +17,12 @@ const AUDIO_WORDS: u32 = AUDIO_BUS_COUNT * AUDIO_BUS_WORDS;
 
 /// The words of all buses.
 pub const BUS_WORDS: usize = (AUDIO_WORDS + CONTROL_BUS_COUNT * CONTROL_BUS_WORDS) as usize;
+
+/// How many lanes there may be.
+pub const MOST_LANES: u32 = 4096;
+
+/// The words of so many lanes.
+pub const LANE_WORDS: u32 = MOST_LANES * AUDIO_BUS_WORDS;
 
 /// The places of buses in the memory words: audio buses from word 0 on, then control buses.
 #[derive(Clone, Copy)]
@@ -42,6 +48,18 @@ impl Places {
         Extent {
             at: AUDIO_WORDS + CONTROL_BUS_WORDS * n,
             len: CONTROL_BUS_WORDS,
+        }
+    }
+
+    /// Lane `k` of those that begin at word `first`: like an audio bus, which a synth mixes there.
+    pub fn lane(first: u32, k: u32) -> Extent
+        requires number { k < most_lanes }
+        requires end { first + lane_words < 2 ^ 32 }
+        ensures { result ≡ lane_place first k }
+    {
+        Extent {
+            at: first + AUDIO_BUS_WORDS * k,
+            len: AUDIO_BUS_WORDS,
         }
     }
 }

@@ -1,8 +1,7 @@
 -- One among others.
-use Rattle.std.proofs.Common.{◌≡◌, ◌⊎◌, inl, inr, ⊎_elim, Bool, List, [], ◌∷◌, ◌++◌, map, refl, ap, subst, All}
+use Rattle.std.proofs.Common.{◌≡◌, ◌⊎◌, inl, inr, ⊎_elim, Bool, List, [], ◌∷◌, ◌++◌, map, refl, ap}
 use Rattle.std.specs.List.{filter}
 use Rattle.std.proofs.lemmas.Bool.{cond_both}
-use Rattle.std.proofs.lemmas.List.Elements.{All-nil, All-cons, All-head, All-tail}
 
 abbrev pub Among : {A : Type 0} → List A → A → Type 0
 Among [] x = ⊥
@@ -38,12 +37,3 @@ among_from f (x ∷ xs) y m = ⊎_elim
     (λ (e : f x ≡ y). (x, (inl refl, e)))
     (λ (n : Among (map f xs) y). let r = among_from f xs y n in (r.0, (inr r.1.0, r.1.1)))
     m
-
--- what holds for each
-pub all_mapped : {A B : Type 0} (P : B → Type 0) (f : A → B) (xs : List A) → ((x : A) → Among xs x → P (f x)) → All P (map f xs)
-all_mapped P f [] h = All-nil P
-all_mapped P f (x ∷ xs) h = All-cons P (f x) (map f xs) (h x (inl refl)) (all_mapped P f xs (λ y m. h y (inr m)))
-
-pub all_among : {A : Type 0} (P : A → Type 0) (xs : List A) (x : A) → All P xs → Among xs x → P x
-all_among P [] x h m = absurd m
-all_among P (y ∷ ys) x h m = ⊎_elim (λ (e : y ≡ x). subst P e (All-head P y ys h)) (λ (n : Among ys x). all_among P ys x (All-tail P y ys h) n) m

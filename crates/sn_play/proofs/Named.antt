@@ -1,13 +1,12 @@
 -- Nodes that run by their ids.
-use Rattle.std.proofs.Common.{◌≡◌, inl, inr, ℕ, ℤ, List, [], ◌∷◌, refl, ap, ◌∙◌, All}
-use Rattle.std.proofs.lemmas.List.Elements.{All-nil, All-cons}
+use Rattle.std.proofs.Common.{◌≡◌, inl, inr, ℕ, List, [], ◌∷◌, refl, ap, ◌∙◌}
 use Rattle.sn_tree.specs.Trees.{Label}
 use Rattle.sn_world.specs.WalkWords.{held_words, walk_words}
 use Rattle.sn_world.specs.declared.stage.Held.{Held}
 use Rattle.sn_world.specs.declared.stage.Stage.{Stage}
 use Rattle.sn_graph.specs.Voices.{ids_of}
 use Rattle.sn_play.specs.Named.{held_at, words_by_ids}
-use Rattle.sn_play.specs.Shares.{voices_of}
+use Rattle.sn_play.specs.Synths.{voices_of}
 use Rattle.sn_play.proofs.Among.{Among}
 
 module _ (stage : Stage) (b : ℕ) where
@@ -17,8 +16,3 @@ module _ (stage : Stage) (b : ℕ) where
   by_their_ids (l ∷ ls) ws h =
       ap (λ (k : Held). words_by_ids stage b (ids_of (voices_of stage.buffers ls)) (held_words stage.rate b l.id stage.buffers k ws)) (h l (inl refl))
       ∙ by_their_ids ls (held_words stage.rate b l.id stage.buffers l.payload ws) (λ k m. h k (inr m))
-
--- what holds for the id of each
-pub all_ids : (stage : Stage) (Q : ℤ → Type 0) (ls : List (Label Held)) → ((l : Label Held) → Among ls l → Q l.id) → All Q (ids_of (voices_of stage.buffers ls))
-all_ids stage Q [] h = All-nil Q
-all_ids stage Q (l ∷ ls) h = All-cons Q l.id (ids_of (voices_of stage.buffers ls)) (h l (inl refl)) (all_ids stage Q ls (λ k m. h k (inr m)))

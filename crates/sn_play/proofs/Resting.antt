@@ -54,7 +54,7 @@ own_to : (rate : ℕ) (region : Extent) (h : Held) (x : ℕ) → IsHeld rate reg
 own_to rate region held.Group x is more = absurd (omega (arith, more))
 own_to rate region (held.Synth def controls state) x is more = omega (arith, is.within.1, covered_to state x more)
 
-held_to : (rate : ℕ) (region : Extent) (t : Nodes Held) (x : ℕ) → AreHeld rate region t → 0 < overlaps x (live_held t) → x < region.at + region.len
+pub held_to : (rate : ℕ) (region : Extent) (t : Nodes Held) (x : ℕ) → AreHeld rate region t → 0 < overlaps x (live_held t) → x < region.at + region.len
 held_to rate region none x are more = absurd (omega (arith, more))
 held_to rate region (node l below after) x are more =
     let own = held_extents l.payload in
@@ -71,7 +71,7 @@ place_to : (region : Extent) (p : Option BufferPlace) (x : ℕ) → MayBeBuffer 
 place_to region None x is more = absurd (omega (arith, more))
 place_to region (Some p) x is more = omega (arith, is.within.1, covered_to p.extent x more)
 
-places_to : (region : Extent) (ps : List (Option BufferPlace)) (x : ℕ) → AreEach region ps → 0 < overlaps x (live_places ps) → x < region.at + region.len
+pub places_to : (region : Extent) (ps : List (Option BufferPlace)) (x : ℕ) → AreEach region ps → 0 < overlaps x (live_places ps) → x < region.at + region.len
 unfolding AreEach
 places_to region [] x are more = absurd (omega (arith, more, nothing-overlaps x))
 places_to region (p ∷ ps) x are more = elim (leb_tells 1 (overlaps x (place_extents p))) [

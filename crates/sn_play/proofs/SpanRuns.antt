@@ -1,6 +1,7 @@
 -- A job of a span runs as a job of its block, or as the capture of it.
 use Rattle.std.proofs.Common.{◌≡◌, ◌≢◌, inl, ⊎_elim, ℕ, zero, suc, ◌+◌, ◌*◌, ◌/◌, ◌%◌, ◌<◌, ◌≤◌, true, false, List, [], ◌∷◌, length, get_or, pos, sym, ap, subst, ◌∙◌, arith}
 use Rattle.std.specs.List.{All}
+use Rattle.std.specs.Ordering.{int_eq}
 use Rattle.std.proofs.Math.Nat.{mod-lt}
 use Rattle.std.proofs.lemmas.Bool.{cases_eq, cases_lt, or_left, or_right}
 use Rattle.std.proofs.lemmas.Nat.{div-add-mod'}
@@ -13,7 +14,8 @@ use Rattle.sn_round.specs.Jobs.{AreJobs, foot_at}
 use Rattle.sn_span.specs.Captures.{CanCapture, captured}
 use Rattle.sn_span.specs.Unrolling.{capture_foot, copy_at, start, unrolled}
 use Rattle.sn_span.proofs.Places.{at_capture, at_job, block_capture, block_job, length-unrolled, start_less, start_next}
-use Rattle.sn_tree.specs.Trees.{subtree}
+use Rattle.sn_tree.specs.Trees.{ids, subtree}
+use Rattle.sn_tree.specs.Steps.{AllDistinct}
 use Rattle.sn_play.specs.declared.span.Span.{Span}
 use Rattle.sn_play.specs.Blocks.{outcome_of}
 use Rattle.sn_play.specs.Spans.{IsSpanReady, block_at, made_in, outcome_in}
@@ -75,10 +77,10 @@ module _ (w : Span) (ready : IsSpanReady w) where
   short : All (λ e. e.at + e.len ≤ 520) outputs
   short = subst (λ (es : List Extent). All (λ e. e.at + e.len ≤ 520) es) (sym ready.outputs_are) (buses_short ready.channels ready.few)
 
-  module _ (top : subtree (pos 0) w.first.stage.now.tree.attached ≡ w.first.stage.now.tree.attached) where
+  module _ (top : subtree (pos 0) w.first.stage.now.tree.attached ≡ w.first.stage.now.tree.attached) (distinct : AllDistinct int_eq (ids w.first.stage.now.tree.attached)) where
     can_capture : (k : ℕ) → k < w.blocks → CanCapture (capture_foot outputs w.copies k) outputs (w.copies + 512 * k)
     can_capture k l =
-        let are = are_outputs w top ready in record {
+        let are = are_outputs w top distinct ready in record {
           buses = are.buses;
           reads = λ i d m. record {
             below = let low : (get_or outputs i d).at + (get_or outputs i d).len ≤ 520 = short i d m in let long : (get_or outputs i d).len ≡ 65 = are.buses i d m in omega (arith, low, long);
@@ -86,7 +88,7 @@ module _ (w : Span) (ready : IsSpanReady w) where
                 (has_at outputs i ((get_or outputs i d).at + x) d m (let long : (get_or outputs i d).len ≡ 65 = are.buses i d m in covered (get_or outputs i d) ((get_or outputs i d).at + x) (omega arith) (omega (arith, low, long))));
           };
           writes = record {
-            below = omega (arith, ready.bounded, are.few, l);
+            below = omega (arith, ready.before, ready.bounded, are.few, l);
             each = λ i low. or_left (covers (copy_at w.copies k) (w.copies + 512 * k + i)) false (covered (copy_at w.copies k) (w.copies + 512 * k + i) (omega arith) (omega (arith, low, are.few)));
           };
           beside = λ i d m. inl (let low : (get_or outputs i d).at + (get_or outputs i d).len ≤ 520 = short i d m in omega (arith, low, ready.behind));
@@ -101,7 +103,7 @@ module _ (w : Span) (ready : IsSpanReady w) where
 
     pub capture_makes : (j k : ℕ) (ws : List ℕ) → j < length w.all.now → j ≡ start n k + n → captured outputs (w.copies + 512 * k) (w.first.block + k) ws ≡ outcome_in w j ws
     capture_makes j k ws l e =
-        sym (kept w top ready j ws (subst (λ (js : List Job). j < length js) ready.all_are l)
+        sym (kept w top distinct ready j ws (subst (λ (js : List Job). j < length js) ready.all_are l)
         ∙ (ap (λ m. made_in w m ws) e
         ∙ ap (λ (h : List ℕ → List ℕ). h ws) (block_capture (λ k. outcome_of (block_at w.first k)) (λ k. captured outputs (w.copies + 512 * k) (w.first.block + k)) n k)))
 
@@ -111,6 +113,6 @@ module _ (w : Span) (ready : IsSpanReady w) where
 
     pub job_makes : (j k i : ℕ) (ws : List ℕ) → j < length w.all.now → j ≡ start n k + i → i < n → outcome_of (block_at w.first k) i ws ≡ outcome_in w j ws
     job_makes j k i ws l e m =
-        sym (kept w top ready j ws (subst (λ (js : List Job). j < length js) ready.all_are l)
+        sym (kept w top distinct ready j ws (subst (λ (js : List Job). j < length js) ready.all_are l)
         ∙ (ap (λ m. made_in w m ws) e
         ∙ ap (λ (h : List ℕ → List ℕ). h ws) (block_job (λ k. outcome_of (block_at w.first k)) (λ k. captured outputs (w.copies + 512 * k) (w.first.block + k)) n k i m)))

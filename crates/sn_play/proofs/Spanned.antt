@@ -1,8 +1,9 @@
 -- The jobs of a span make of the words what the walks of its blocks make of them, and copy the sound of each.
-use Rattle.std.proofs.Common.{◌≡◌, ⊎_elim, true≢false, inl, ℕ, zero, suc, ◌+◌, ◌*◌, ◌<◌, ◌≤◌, Bool, true, false, List, [], ◌∷◌, length, get_or, pos, refl, sym, ap, subst, ◌∙◌, arith}
+use Rattle.std.proofs.Common.{◌≡◌, ⊎_elim, true≢false, inl, inr, ◌⊎◌, ℕ, zero, suc, ◌+◌, ◌*◌, ◌<◌, ◌≤◌, Bool, true, false, List, [], ◌∷◌, length, get_or, pos, refl, sym, ap, subst, ◌∙◌, arith}
 use Rattle.std.specs.Prelude.{nat_le, nat_lt}
 use Rattle.std.specs.List.{All}
-use Rattle.std.proofs.lemmas.Bool.{and_parts, cases_Bool, leb-true, ltb-true, or_cases}
+use Rattle.std.specs.Ordering.{int_eq}
+use Rattle.std.proofs.lemmas.Bool.{and_parts, cases_Bool, false_from_ne_true, leb-true, ltb-true, or_cases}
 use Rattle.sn_mem.specs.declared.extents.Extent.{Extent}
 use Rattle.sn_mem.specs.declared.extents.Foot.{Foot}
 use Rattle.sn_mem.specs.Words.{covers, has, touches, writes}
@@ -23,7 +24,8 @@ use Rattle.sn_span.specs.Rounds.{EndsAsRounds, HasCopies, KeepsToFoot, KeepToFee
 use Rattle.sn_span.specs.Unrolling.{AreApart, unrolled}
 use Rattle.sn_span.proofs.Rounding.{after_jobs, inside, list_is}
 use Rattle.sn_span.proofs.Spanning.{ends_as_rounds, rounds_long}
-use Rattle.sn_tree.specs.Trees.{subtree}
+use Rattle.sn_tree.specs.Trees.{ids, subtree}
+use Rattle.sn_tree.specs.Steps.{AllDistinct}
 use Rattle.sn_world.specs.Pictures.{Pictures}
 use Rattle.sn_world.specs.Walk.{walk}
 use Rattle.sn_world.specs.World.{World, world_of}
@@ -31,10 +33,10 @@ use Rattle.sn_world.specs.declared.stage.Stage.{Stage}
 use Rattle.sn_world.proofs.Changes.{pictured_again}
 use Rattle.sn_quiet.specs.Walks.{walks}
 use Rattle.sn_play.specs.declared.span.Span.{Span}
-use Rattle.sn_play.specs.Blocks.{outcome_of, outcome_by_foot}
+use Rattle.sn_play.specs.Blocks.{AreResting, IsReady, outcome_of, outcome_by_foot}
 use Rattle.sn_play.specs.Spans.{ArePlayed, IsSpanReady, block_at, made_in, outcome_in}
-use Rattle.sn_play.proofs.Resting.{pictured_in, world_same}
-use Rattle.sn_play.proofs.Stages.{feet_within, walks as block_walks}
+use Rattle.sn_play.proofs.Resting.{world_same}
+use Rattle.sn_play.proofs.LanedRuns as laned
 
 -- ---- feet
 
@@ -93,7 +95,7 @@ refuted false x m past h = refl
 
 -- ---- the span
 
-module _ (w : Span) (top : subtree (pos 0) w.first.stage.now.tree.attached ≡ w.first.stage.now.tree.attached) (ready : IsSpanReady w) where
+module _ (w : Span) (top : subtree (pos 0) w.first.stage.now.tree.attached ≡ w.first.stage.now.tree.attached) (distinct : AllDistinct int_eq (ids w.first.stage.now.tree.attached)) (ready : IsSpanReady w) where
   abbrev stage : Stage
   stage = w.first.stage.now
 
@@ -115,18 +117,29 @@ module _ (w : Span) (top : subtree (pos 0) w.first.stage.now.tree.attached ≡ w
   abbrev all : List Job
   all = unrolled js outputs w.copies w.blocks
 
-  abbrev size : ℕ
-  size = 10368 + stage.pool.region.len
+  lies : 10368 + stage.pool.region.len ≤ ready.first
+  lies = omega (arith, ready.behind, ready.before)
 
-  -- the words of the buses and of the pool alone
-  abbrev least : List ℕ
-  least = table (λ x. 0) size
+  bounded : ready.first + 65 * ready.most < 4294967296
+  bounded = omega (arith, ready.most_few, ready.bounded)
 
-  least_long : length least ≡ size
-  least_long = length-table (λ x. 0) size
+  touched_where : (i x : ℕ) → i < length js → touches (foot_at js i) x ≡ true → (x < 10368 + stage.pool.region.len) ⊎ ((ready.first ≤ x) × (x < ready.first + 65 * ready.most))
+  touched_where = laned.touched_where stage top distinct ready.words ready.pictures ready.first ready.most lies ready.room bounded ready.bounded ready.most_few js ready.planned
 
-  least_pictures : Pictures stage least
-  least_pictures = pictured_in stage least ready.words (omega (arith, least_long)) ready.pictures
+  -- each block is ready
+  pub block_ready : (k : ℕ) → k < w.blocks → IsReady (block_at w.first k)
+  block_ready k lt = record {
+    words = ready.words;
+    pictures = ready.pictures;
+    first = ready.first;
+    most = ready.most;
+    lies = lies;
+    room = ready.room;
+    few = ready.most_few;
+    bounded = ready.bounded;
+    planned = ready.planned;
+    early = omega (arith, ready.early, lt);
+  }
 
   keep : KeepToFeet js w.blocks f
   keep k i l m = keeps_to_foot (foot_at js i) (f k i) (outcome_by_foot (block_at w.first k) i)
@@ -137,12 +150,17 @@ module _ (w : Span) (top : subtree (pos 0) w.first.stage.now.tree.attached ≡ w
   copies_from : (x : ℕ) → covers copies x ≡ true → w.copies ≤ x
   copies_from x c = leb-true w.copies x (and_parts (nat_le w.copies x) (nat_lt x (w.copies + 512 * w.blocks)) c).0
 
+  copies_to : (x : ℕ) → covers copies x ≡ true → x < w.copies + 512 * w.blocks
+  copies_to x c = ltb-true x (w.copies + 512 * w.blocks) (and_parts (nat_le w.copies x) (nat_lt x (w.copies + 512 * w.blocks)) c).1
+
   apart : AreApart js outputs copies
   apart = record {
     of_outputs = λ x c. refuted (has outputs x) x 520 (omega (arith, copies_from x c, ready.behind))
         (λ h. outputs_below outputs x 520 (subst (λ (es : List Extent). All (λ e. e.at + e.len ≤ 520) es) (sym ready.outputs_are) (buses_short ready.channels ready.few)) h);
-    of_jobs = λ j x l c. refuted (touches (foot_at js j) x) x (length least) (omega (arith, copies_from x c, ready.behind, least_long))
-        (λ t. feet_within stage top least least_pictures js ready.planned j x l t);
+    of_jobs = λ j x l c. false_from_ne_true (touches (foot_at js j) x) (λ t. ⊎_elim
+        (λ (m : x < 10368 + stage.pool.region.len). omega (arith, m, ready.behind, copies_from x c))
+        (λ (m : (ready.first ≤ x) × (x < ready.first + 65 * ready.most)). omega (arith, m.0, ready.before, copies_to x c))
+        (touched_where j x l t));
   }
 
   -- words that are just enough
@@ -158,15 +176,15 @@ module _ (w : Span) (top : subtree (pos 0) w.first.stage.now.tree.attached ≡ w
       ap (λ (js : List Job). kept_to (foot_at js j) (made_in w j) vs) ready.all_are
       ∙ kept_same (foot_at all j) (made_in w j) vs (by_its_foot (foot_at all j) (made_in w j) (feet j l))
 
-  module _ (words : List ℕ) (p : Pictures stage words) (fits : w.copies + 512 * w.blocks ≤ length words) where
+  module _ (words : List ℕ) (p : Pictures stage words) (fits : ready.first + 65 * ready.most ≤ length words) where
     has_copies : HasCopies js outputs copies w.blocks (length words)
-    has_copies = record { are_outputs = are_outputs; room = omega arith; inside = fits; apart = apart }
+    has_copies = record { are_outputs = are_outputs; room = omega arith; inside = omega (arith, fits, ready.before); apart = apart }
 
     ends : EndsAsRounds js outputs w.copies w.blocks b f words all
     ends = ends_as_rounds js outputs copies w.blocks b f words has_copies keep
 
     pub in_memory : AreWithin (length words) w.all.now
-    in_memory = subst (λ (js : List Job). AreWithin (length words) js) (sym ready.all_are) (inside js outputs w.copies w.blocks (length words) (feet_within stage top words p js ready.planned) low fits)
+    in_memory = subst (λ (js : List Job). AreWithin (length words) js) (sym ready.all_are) (inside js outputs w.copies w.blocks (length words) (laned.feet_within stage top distinct words p ready.first ready.most lies fits bounded ready.bounded ready.most_few js ready.planned) low (omega (arith, fits, ready.before)))
       where
         low : (x : ℕ) → has outputs x ≡ true → x < length words
         low x h =
@@ -179,41 +197,56 @@ module _ (w : Span) (top : subtree (pos 0) w.first.stage.now.tree.attached ≡ w
     round_pictures : (k : ℕ) → k ≤ w.blocks → Pictures stage (round k)
     round_pictures k l = pictured_again stage (round k) words (rounds_long js w.blocks f words keep k l) p
 
-    round_world : (k : ℕ) → k ≤ w.blocks → world_of stage (round k) ≡ walks b k (world_of stage words)
-    unfolding rounds walks
-    round_world zero l = refl
-    round_world (suc k) l =
-        let m : k ≤ w.blocks = omega (arith, l) in
-        block_walks stage top (round k) (round_pictures k m) js ready.planned (b + k) ∙ ap (walk (b + k)) (round_world k m)
+    module _ (resting : AreResting ready.first ready.most b words) where
+      round_both : (k : ℕ) → k ≤ w.blocks → (world_of stage (round k) ≡ walks b k (world_of stage words)) × AreResting ready.first ready.most (b + k) (round k)
+      unfolding rounds walks
+      round_both zero l = (refl, (λ j lt. omega (arith, resting j lt)))
+      round_both (suc k) l =
+          let m : k ≤ w.blocks = omega (arith, l) in
+          let q = round_both k m in
+          let room : ready.first + 65 * ready.most ≤ length (round k) = omega (arith, fits, rounds_long js w.blocks f words keep k m) in (
+            laned.block_walks stage top distinct (round k) (round_pictures k m) ready.first ready.most lies room bounded ready.bounded ready.most_few js ready.planned (b + k) q.1 ∙ ap (walk (b + k)) q.0,
+            (λ j lt. omega (arith, laned.block_rests stage top distinct (round k) (round_pictures k m) ready.first ready.most lies room bounded ready.bounded ready.most_few js ready.planned (b + k) q.1 j lt)),
+          )
 
-    abbrev us : List ℕ
-    us = last_of (outcome_in w) (length w.all.now) words
+      round_world : (k : ℕ) → k ≤ w.blocks → world_of stage (round k) ≡ walks b k (world_of stage words)
+      round_world k l = (round_both k l).0
 
-    last_is : us ≡ last_of (made_in w) (length all) words
-    last_is =
-        ap (λ (js : List Job). last_of (outcome_in w) (length js) words) ready.all_are
-        ∙ last_same (outcome_in w) (made_in w) (length all) words kept
+      abbrev us : List ℕ
+      us = last_of (outcome_in w) (length w.all.now) words
 
-    long : length us ≡ length words
-    long = ap length last_is ∙ ends.words.long
+      last_is : us ≡ last_of (made_in w) (length all) words
+      last_is =
+          ap (λ (js : List Job). last_of (outcome_in w) (length js) words) ready.all_are
+          ∙ last_same (outcome_in w) (made_in w) (length all) words kept
 
-    world : world_of stage us ≡ walks b w.blocks (world_of stage words)
-    world =
-        world_same stage us (round w.blocks) (round_pictures w.blocks (omega arith)) (λ x l. ap (λ (vs : List ℕ). get_or vs x 0) last_is ∙ ends.words.outside x (inl (omega (arith, l, ready.behind))))
-        ∙ round_world w.blocks (omega arith)
+      long : length us ≡ length words
+      long = ap length last_is ∙ ends.words.long
 
-    output_is : (c : ℕ) → c < ready.channels → output_at outputs c ≡ audio_place c
-    output_is c l = ap (λ (es : List Extent). output_at es c) ready.outputs_are ∙ table_at audio_place ready.channels c no_extent l
+      world : world_of stage us ≡ walks b w.blocks (world_of stage words)
+      world =
+          world_same stage us (round w.blocks) (round_pictures w.blocks (omega arith)) (λ x l. ap (λ (vs : List ℕ). get_or vs x 0) last_is ∙ ends.words.outside x (inl (omega (arith, l, ready.behind))))
+          ∙ round_world w.blocks (omega arith)
 
-    sound : (k c frame : ℕ) → k < w.blocks → c < ready.channels → frame < 64 → sample_in (get_or us (w.copies + 512 * k + 64 * c + frame) 0) ≡ heard (b + k) (get_or (walks b (k + 1) (world_of stage words)).audio_buses c silent) frame
-    sound k c frame l m low =
-        let many : length outputs ≡ ready.channels = ap length ready.outputs_are ∙ length-table audio_place ready.channels in
-        let after : List ℕ = round (k + 1) in
-        ap (λ (vs : List ℕ). sample_in (get_or vs (w.copies + 512 * k + 64 * c + frame) 0)) last_is
-        ∙ (ends.words.copied k c frame l (omega (arith, m, many)) low
-        ∙ (ap (λ (e : Extent). heard (b + k) (bus_at after e) frame) (output_is c m)
-        ∙ (ap (λ (bus : AudioBus). heard (b + k) bus frame) (sym (audio_at after c silent (omega (arith, m, ready.few))))
-        ∙ ap (λ (v : World). heard (b + k) (get_or v.audio_buses c silent) frame) (round_world (k + 1) (omega (arith, l))))))
+      output_is : (c : ℕ) → c < ready.channels → output_at outputs c ≡ audio_place c
+      output_is c l = ap (λ (es : List Extent). output_at es c) ready.outputs_are ∙ table_at audio_place ready.channels c no_extent l
 
-    pub played : ArePlayed stage b w.blocks w.copies ready.channels words us
-    played = record { world = world; pictures = pictured_again stage us words long p; sound = sound }
+      sound : (k c frame : ℕ) → k < w.blocks → c < ready.channels → frame < 64 → sample_in (get_or us (w.copies + 512 * k + 64 * c + frame) 0) ≡ heard (b + k) (get_or (walks b (k + 1) (world_of stage words)).audio_buses c silent) frame
+      sound k c frame l m low =
+          let many : length outputs ≡ ready.channels = ap length ready.outputs_are ∙ length-table audio_place ready.channels in
+          let after : List ℕ = round (k + 1) in
+          ap (λ (vs : List ℕ). sample_in (get_or vs (w.copies + 512 * k + 64 * c + frame) 0)) last_is
+          ∙ (ends.words.copied k c frame l (omega (arith, m, many)) low
+          ∙ (ap (λ (e : Extent). heard (b + k) (bus_at after e) frame) (output_is c m)
+          ∙ (ap (λ (bus : AudioBus). heard (b + k) bus frame) (sym (audio_at after c silent (omega (arith, m, ready.few))))
+          ∙ ap (λ (v : World). heard (b + k) (get_or v.audio_buses c silent) frame) (round_world (k + 1) (omega (arith, l))))))
+
+      pub played : ArePlayed stage b w.blocks w.copies ready.channels words us
+      played = record { world = world; pictures = pictured_again stage us words long p; sound = sound }
+
+      -- the lanes rest again
+      pub rests : AreResting ready.first ready.most (b + w.blocks) us
+      rests j lt =
+          let x : ℕ = ready.first + 65 * j in
+          let same : get_or us x 0 ≡ get_or (round w.blocks) x 0 = ap (λ (vs : List ℕ). get_or vs x 0) last_is ∙ ends.words.outside x (inr (omega (arith, ready.before))) in
+          omega (arith, same, (round_both w.blocks (omega arith)).1 j lt)

@@ -13,11 +13,10 @@ use Rattle.sn_world.specs.declared.stage.Held.{Held}
 use Rattle.sn_world.specs.declared.stage.Held.TheVariants as held
 use Rattle.sn_graph.specs.declared.nodes.Voice.{Voice}
 use Rattle.sn_graph.specs.Voices.{HeardNodes, voices}
-use Rattle.sn_graph.specs.Stages.{voice_of, with_group, with_node, running_of}
-use Rattle.sn_graph.specs.Sharing.{is_split}
+use Rattle.sn_graph.specs.Stages.{may_split, voice_of, with_group, with_node, running_of}
 use Rattle.sn_graph.proofs.Hearing.{voices_group}
 use Rattle.sn_world.specs.Pictures.{has_synth, KindAgrees}
-use Rattle.sn_play.specs.Shares.{voices_of, synths_in}
+use Rattle.sn_play.specs.Synths.{voices_of, synths_in}
 
 -- ---- groups
 
@@ -64,7 +63,7 @@ module _ (buffers : List (Option BufferPlace)) (clashing : List ℤ) where
       let P : Nodes Held → Type 0 = λ (below : Nodes Held). v ∷ voices a ≡ voices_of buffers (synths_in (label ∷ (running_labels below ++ ys))) in
       subst P (sym is.1) (ap (λ (vs : List Voice). v ∷ vs) f ∙ last)
   of_node kinds.Group label below after b a is e f = inner false label b a (running_labels below) (running_labels after) is e f
-  of_node kinds.Parallel label below after b a is e f = inner (is_split clashing label.id b) label b a (running_labels below) (running_labels after) is e f
+  of_node kinds.Parallel label below after b a is e f = inner (may_split clashing label.id) label b a (running_labels below) (running_labels after) is e f
 
   of_if : (run : Bool) (x y : HeardNodes) (xs ys : List (Label Held)) → voices x ≡ voices_of buffers (synths_in xs) → voices y ≡ voices_of buffers (synths_in ys) → voices (if run then x else y) ≡ voices_of buffers (synths_in (if run then xs else ys))
   of_if true x y xs ys e f = e

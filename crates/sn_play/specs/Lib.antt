@@ -1,4 +1,5 @@
-pub mod Shares
+pub mod Synths
 pub mod Named
+pub mod Steps
 pub mod Blocks
 pub mod Spans

@@ -4,7 +4,7 @@ use Rattle.sn_ports.specs.Limits.{block_samples, block_frames, most_channels}
 use Rattle.sn_mem.specs.Blocks.{sample_in, table}
 use Rattle.sn_mem.specs.Buses.{heard, silent}
 use Rattle.sn_mem.specs.ThroughFoot.{kept_to}
-use Rattle.sn_mem.specs.Layout.{audio_place, bus_words}
+use Rattle.sn_mem.specs.Layout.{audio_place, bus_words, audio_bus_words, lane_words, most_lanes}
 use Rattle.sn_round.specs.Jobs.{foot_at}
 use Rattle.sn_span.specs.Rounds.{in_span}
 use Rattle.sn_span.specs.Unrolling.{unrolled}
@@ -13,7 +13,7 @@ use Rattle.sn_world.specs.World.{world_of}
 use Rattle.sn_world.specs.declared.stage.Stage.{Stage}
 use Rattle.sn_quiet.specs.Walks.{walks}
 use Rattle.sn_graph.specs.Plans.{IsPlanned}
-use Rattle.sn_graph.specs.Stages.{nodes_in}
+use Rattle.sn_graph.specs.Stages.{nodes_with}
 use Rattle.sn_play.specs.declared.block.Block.{Block}
 use Rattle.sn_play.specs.declared.span.Span.{Span}
 use Rattle.sn_play.specs.Blocks.{outcome_of}
@@ -30,18 +30,24 @@ made_in w = in_span w.outputs.now w.copies w.first.block (λ k. outcome_of (bloc
 abbrev pub outcome_in : Span → ℕ → List ℕ → List ℕ
 outcome_in w j ws = kept_to (foot_at w.all.now j) (made_in w j) ws
 
--- The stage of a span stands for a world with some words. The jobs are those of a plan of the stage in so many blocks. The first audio buses are its outputs, and their copies stand behind all other words.
+-- The stage of a span stands for a world with some words. The jobs are those of a plan of the stage in so many blocks. The first audio buses are its
+-- outputs. Their copies stand behind the words of the buses and of the pool, and the lanes behind the copies.
 pub record IsSpanReady (w : Span) : Type 0 where
   pub channels : ℕ
   pub few : channels ≤ most_channels
   pub outputs_are : w.outputs.now ≡ table audio_place channels
   pub words : List ℕ
   pub pictures : Pictures w.first.stage.now words
-  pub planned : IsPlanned (nodes_in w.first.stage.now) w.first.plan.now
+  pub first : ℕ
+  pub most : ℕ
+  pub room : first + audio_bus_words * most ≤ length words
+  pub most_few : most ≤ most_lanes
+  pub bounded : first + lane_words < 4294967296
+  pub planned : IsPlanned (nodes_with first most w.first.stage.now) w.first.plan.now
   pub early : w.first.block + w.blocks < 2 ^ 63
   pub all_are : w.all.now ≡ unrolled w.first.plan.now w.outputs.now w.copies w.blocks
   pub behind : bus_words + w.first.stage.now.pool.region.len ≤ w.copies
-  pub bounded : w.copies + block_samples * w.blocks < 4294967296
+  pub before : w.copies + block_samples * w.blocks ≤ first
 
 -- Words stand for the world after n walks from block b on over other words, and in the copies stands what is heard of the first audio buses after each walk.
 pub record ArePlayed (stage : Stage) (b n copies channels : ℕ) (words us : List ℕ) : Type 0 where

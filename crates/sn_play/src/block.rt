@@ -1,6 +1,7 @@
 //! The jobs of a block, as the work of a round.
 ghost use Rattle.std.specs.Prelude.{◌≡◌};
 
+use crate::joining::join_lanes;
 use crate::playing::run_job;
 use sn_mem::{Foot, Port, Scratch};
 use sn_round::{Plan, Work};
@@ -40,14 +41,18 @@ impl Work for Block<'_> {
         self.stage.tree.ids_are_distinct();
         let foot = self.plan.foot(job);
         let synths = self.plan.synths(job);
+        let moves = self.plan.all_moves(job);
+        let lanes = self.plan.lanes(job);
         run_job(
             port,
             foot,
             self.stage,
             self.block,
             synths.as_slice(),
+            moves,
             scratch,
         );
+        join_lanes(port, foot, self.block, lanes.as_slice(), scratch);
     }
 
     ghost as_long = { λ w j ws h. (outcome_by_foot w j).long ws };

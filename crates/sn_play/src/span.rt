@@ -62,6 +62,7 @@ impl Work for Span<'_> {
 
     fn run<P: Port>(&self, job: u32, port: &mut P, scratch: &mut Scratch) {
         self.first.stage.tree.root_holds_all();
+        self.first.stage.tree.ids_are_distinct();
         self.all.is_well_formed();
         let jobs = self.first.plan.jobs();
         let place = place_of(jobs, job);

@@ -1,10 +1,10 @@
 -- The nodes of a stage that are heard mix the buses that are told of its nodes.
-use Rattle.std.proofs.Common.{◌≡◌, ◌<◌, ℕ, ℤ, Bool, true, false, not, ◌&&◌, ◌||◌, List, ◌∷◌, [], Option, sym, refl, ap, ◌∙◌, if◌then◌else◌}
-use Rattle.std.specs.List.{list_any}
+use Rattle.std.proofs.Common.{◌≡◌, ◌<◌, ℕ, ◌+◌, ℤ, Bool, true, false, not, ◌&&◌, ◌||◌, List, length, Option, sym, refl, ap, ◌∙◌, if◌then◌else◌, arith}
+use Rattle.std.specs.Prelude.{slice_index_or}
+use Rattle.std.specs.List.{filter}
 use Rattle.std.proofs.lemmas.List.Folds.{list_any-append}
 use Rattle.sn_mem.specs.declared.buffers.BufferPlace.{BufferPlace}
 use Rattle.sn_mem.specs.Blocks.{table}
-use Rattle.sn_mem.proofs.Windows.{table_same}
 use Rattle.sn_tree.specs.declared.node.NodeKind.{NodeKind}
 use Rattle.sn_tree.specs.declared.node.NodeKind.TheVariants as kinds
 use Rattle.sn_tree.specs.Trees as trees
@@ -15,14 +15,17 @@ use Rattle.sn_foot.specs.declared.resource.Resource.TheVariants.{Audio}
 use Rattle.sn_foot.specs.Footprints.{held_mixes}
 use Rattle.sn_graph.specs.declared.nodes.Voice.{Voice}
 use Rattle.sn_graph.specs.Voices.{HeardNodes, none, synth, group, voices}
-use Rattle.sn_graph.specs.Plans.{is_listed}
 use Rattle.sn_graph.specs.Sharing as sharing
-use Rattle.sn_graph.specs.Sharing.{mixes, one_mixes, share_a_bus}
-use Rattle.sn_graph.specs.Stages.{running_of, voice_of, with_group, with_node}
+use Rattle.sn_graph.specs.Sharing.{mixes, one_mixes}
+use Rattle.sn_graph.specs.Lanes as lanes
+use Rattle.sn_graph.specs.Lanes.{mixed_of}
+use Rattle.sn_graph.specs.Stages.{may_split, running_of, voice_of, with_group, with_node}
+use Rattle.sn_graph.proofs.Alike.{pairs-append}
 use Rattle.sn_graph.proofs.Hearing.{voices_group}
+use Rattle.sn_graph.proofs.Laning.{AreLow, filter_low, low_numbers}
 use Rattle.sn_graph.proofs.Resources.{mixes_bus}
-use Rattle.sn_report.specs.Mixing.{mix_one_bus, node_mixes, some_mix, two_mix}
-use Rattle.sn_report.specs.Reports.{Sight, held_sight, is_split, seen_mixes}
+use Rattle.sn_report.specs.Mixing.{node_mixes, node_pairs, pairs, shared_by, some_mix, two_mix}
+use Rattle.sn_report.specs.Reports.{Sight, held_sight, seen_mixes}
 
 abbrev pub seen : Label Held → Label Sight
 seen label = record { id = label.id; kind = label.kind; running = label.running; payload = held_sight label.payload }
@@ -60,7 +63,7 @@ module _ (buffers : List (Option BufferPlace)) (clashing : List ℤ) (n : ℕ) (
       → some_of (with_node buffers clashing kind label b a) ≡ (node_mixes seen_mixes kind (seen label) below n || after)
   some_node kinds.Synth label b a below after e f = λ i. voice_mixes label.id label.payload i || f i
   some_node kinds.Group label b a below after e f = some_group false b a ∙ (λ i. e i || f i)
-  some_node kinds.Parallel label b a below after e f = some_group (sharing.is_split clashing label.id b) b a ∙ (λ i. e i || f i)
+  some_node kinds.Parallel label b a below after e f = some_group (may_split clashing label.id) b a ∙ (λ i. e i || f i)
 
   some_if : (run : Bool) (x y : HeardNodes) (p q : Bool) → some_of x ≡ (p || q) → some_of y ≡ q → some_of (if run then x else y) ≡ ((run && p) || q)
   some_if true x y p q e f = e
@@ -84,7 +87,7 @@ module _ (buffers : List (Option BufferPlace)) (clashing : List ℤ) (n : ℕ) (
       → sharing.two_mix (with_node buffers clashing kind label b a) n ≡ ((node_mixes seen_mixes kind (seen label) below n && after) || later)
   two_node kinds.Synth label b a below after later e f g = λ i. (voice_mixes label.id label.payload i && f i) || g i
   two_node kinds.Group label b a below after later e f g = two_group false b a ∙ (λ i. (e i && f i) || g i)
-  two_node kinds.Parallel label b a below after later e f g = two_group (sharing.is_split clashing label.id b) b a ∙ (λ i. (e i && f i) || g i)
+  two_node kinds.Parallel label b a below after later e f g = two_group (may_split clashing label.id) b a ∙ (λ i. (e i && f i) || g i)
 
   two_if : (run : Bool) (x y : HeardNodes) (p q : Bool) → sharing.two_mix x n ≡ (p || q) → sharing.two_mix y n ≡ q → sharing.two_mix (if run then x else y) n ≡ ((run && p) || q)
   two_if true x y p q e f = e
@@ -100,12 +103,37 @@ module _ (buffers : List (Option BufferPlace)) (clashing : List ℤ) (n : ℕ) (
 -- ---- all buses
 
 module _ (buffers : List (Option BufferPlace)) (clashing : List ℤ) where
-  same_sharing : (t : Nodes Held) → share_a_bus (running_of buffers clashing t) ≡ mix_one_bus seen_mixes (with_payloads held_sight t)
-  unfolding share_a_bus mix_one_bus
-  same_sharing t =
-      ap (λ (bs : List Bool). list_any (λ b. b) bs)
-      (table_same (sharing.two_mix (running_of buffers clashing t)) (two_mix seen_mixes (with_payloads held_sight t)) 128 (λ k lt. two_heard buffers clashing k lt t))
+  -- the members of a group share the buses that are told
+  pub same_shared : (above : List Bool) (t : Nodes Held) → shared_by seen_mixes above (with_payloads held_sight t) ≡ lanes.shared_by above (running_of buffers clashing t)
+  same_shared above t =
+      filter_low (λ n. two_mix seen_mixes (with_payloads held_sight t) n && not (slice_index_or above n false)) (λ n. sharing.two_mix (running_of buffers clashing t) n && not (slice_index_or above n false))
+      (table (λ n. n) 128) (low_numbers 128 (omega arith)) (λ n lt. ap (λ b. b && not (slice_index_or above n false)) (sym (two_heard buffers clashing n lt t)))
 
-  -- a group is told as split where its members are beside each other in the plan
-  pub same_split : (id : ℤ) (t : Nodes Held) → is_split clashing id (with_payloads held_sight t) ≡ sharing.is_split clashing id (running_of buffers clashing t)
-  same_split id t = sym (ap (λ b. not (is_listed clashing id) && not b) (same_sharing t))
+  module _ (ns : List ℕ) (low : AreLow ns) where
+    abbrev pairs_of : HeardNodes → ℕ
+    pairs_of nodes = lanes.pairs ns (voices nodes)
+
+    pairs_group : (flag : Bool) (b a : HeardNodes) → pairs_of (with_group flag b a) ≡ pairs_of b + pairs_of a
+    pairs_group flag b a = ap (lanes.pairs ns) (voices_group flag b a) ∙ pairs-append ns (voices b) (voices a)
+
+    pairs_node : (kind : NodeKind) (label : Label Held) (b a : HeardNodes) (below after : ℕ) → pairs_of b ≡ below → pairs_of a ≡ after
+        → pairs_of (with_node buffers clashing kind label b a) ≡ node_pairs seen_mixes kind (seen label) ns below + after
+    pairs_node kinds.Synth label b a below after e f =
+        let same : mixed_of ns (voice_of buffers label.id label.payload) ≡ filter (seen_mixes (held_sight label.payload)) ns =
+        filter_low (mixes (voice_of buffers label.id label.payload)) (seen_mixes (held_sight label.payload)) ns low (λ n lt. voice_mixes buffers clashing n lt label.id label.payload) in
+        λ i. length (same i) + f i
+    pairs_node kinds.Group label b a below after e f = pairs_group false b a ∙ (λ i. e i + f i)
+    pairs_node kinds.Parallel label b a below after e f = pairs_group (may_split clashing label.id) b a ∙ (λ i. e i + f i)
+
+    pairs_if : (run : Bool) (x y : HeardNodes) (p q : ℕ) → pairs_of x ≡ p + q → pairs_of y ≡ q → pairs_of (if run then x else y) ≡ (if run then p else 0) + q
+    pairs_if true x y p q e f = e
+    pairs_if false x y p q e f = omega (arith, f)
+
+    -- as many pairs are told
+    pub same_pairs : (t : Nodes Held) → pairs_of (running_of buffers clashing t) ≡ pairs seen_mixes ns (with_payloads held_sight t)
+    same_pairs trees.none = refl
+    same_pairs (trees.node label below after) =
+        pairs_if label.running (with_node buffers clashing label.kind label (running_of buffers clashing below) (running_of buffers clashing after)) (running_of buffers clashing after)
+        (node_pairs seen_mixes label.kind (seen label) ns (pairs seen_mixes ns (with_payloads held_sight below))) (pairs seen_mixes ns (with_payloads held_sight after))
+        (pairs_node label.kind label (running_of buffers clashing below) (running_of buffers clashing after) (pairs seen_mixes ns (with_payloads held_sight below)) (pairs seen_mixes ns (with_payloads held_sight after)) (same_pairs below) (same_pairs after))
+        (same_pairs after)

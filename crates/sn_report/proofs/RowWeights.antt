@@ -3,6 +3,7 @@ use Rattle.std.proofs.Common.{◌≡◌, ◌⊎◌, ℕ, ◌+◌, ◌-◌, ◌<�
 use Rattle.std.specs.Prelude.{Contains, max, nat_lt}
 use Rattle.std.proofs.lemmas.Bool.{cases_lt, cond_both, cond-true, cond-false, le-ltb, lt-ltb, ltb-true, ltb-false}
 use Rattle.std.proofs.lemmas.List.{append-nil}
+use Rattle.sn_mem.specs.declared.moves.Moved.{Moved}
 use Rattle.sn_round.specs.declared.jobs.Job.{Job}
 use Rattle.sn_round.specs.Jobs.{job_at, predecessors}
 use Rattle.sn_graph.specs.declared.nodes.Voice.{Voice}
@@ -28,7 +29,7 @@ abbrev mutual
   pub row_weight : (ℤ → ℕ) → Row → Weight
   row_weight units done = nothing
   row_weight units (job vs rest) = both (run_weight units vs) (row_weight units rest)
-  row_weight units (split ms rest) = both (members_weight units ms) (row_weight units rest)
+  row_weight units (split lanes ms rest) = both (members_weight units ms) (row_weight units rest)
 
   pub members_weight : (ℤ → ℕ) → Members → Weight
   members_weight units (one r) = row_weight units r
@@ -59,12 +60,12 @@ played-append js (i ∷ is) ks = ap (λ l. (job_at js i).synths ++ l) (played-ap
 last_one : (n m : ℕ) (r : Row) → (k : ℕ) × (last n (m ∷ []) r ≡ k ∷ [])
 last_one n m done = (m, refl)
 last_one n m (job vs rest) = last_one (n + 1) n rest
-last_one n m (split ms rest) = last_one (n + size_all ms + 1) (n + size_all ms) rest
+last_one n m (split lanes ms rest) = last_one (n + size_all ms + 1) (n + size_all ms) rest
 
 last_of : (n : ℕ) (e : List ℕ) (r : Row) → 1 ≤ size r → (k : ℕ) × (last n e r ≡ k ∷ [])
 last_of n e done l = absurd (omega arith)
 last_of n e (job vs rest) l = last_one (n + 1) n rest
-last_of n e (split ms rest) l = last_one (n + size_all ms + 1) (n + size_all ms) rest
+last_of n e (split lanes ms rest) l = last_one (n + size_all ms + 1) (n + size_all ms) rest
 
 -- ---- traces
 
@@ -99,8 +100,8 @@ module _ (units : ℤ → ℕ) (js : List Job) (levels : List ℕ) (least : AreL
   mutual
     pub row_level : (n : ℕ) (e : List ℕ) (r : Row) → Stands (job_at js) n e r → greatest_of levels (last n e r) ≡ greatest_of levels e + (row_weight units r).cost
     row_level n e done s = omega arith
-    row_level n e (job vs rest) s = omega (arith, job_level n (job_of vs e) s.0, row_level (n + 1) (n ∷ []) rest s.1)
-    row_level n e (split ms rest) s = omega (arith, members_level n e ms s.0, job_level (n + size_all ms) (job_of [] (lasts n e ms)) s.1, row_level (n + size_all ms + 1) ((n + size_all ms) ∷ []) rest s.2)
+    row_level n e (job vs rest) s = omega (arith, job_level n (job_of vs [] e) s.0, row_level (n + 1) (n ∷ []) rest s.1)
+    row_level n e (split lanes ms rest) s = omega (arith, members_level n e ms s.0, job_level (n + size_all ms) (job_of [] lanes (lasts n e ms)) s.1, row_level (n + size_all ms + 1) ((n + size_all ms) ∷ []) rest s.2)
 
     pub members_level : (n : ℕ) (e : List ℕ) (ms : Members) → StandsAll (job_at js) n e ms → greatest_of levels (lasts n e ms) ≡ greatest_of levels e + (members_weight units ms).cost
     members_level n e (one r) s = row_level n e r s
@@ -112,8 +113,8 @@ module _ (units : ℤ → ℕ) (js : List Job) (levels : List ℕ) (least : AreL
   Through e chain w = (front : List ℕ) × Comes js levels e front × (played js chain ≡ played js front ++ w.chain)
 
   -- one more job behind what comes before it
-  behind : (n : ℕ) (e : List ℕ) (vs : List Voice) (chain : List ℕ) (w : Weight) → job_at js n ≡ job_of vs e → Through (n ∷ []) chain w → (front : List ℕ) × Comes js levels e front × (played js chain ≡ (played js front ++ ids_of vs) ++ w.chain)
-  behind n e vs chain w s t =
+  behind : (n : ℕ) (e : List ℕ) (vs : List Voice) (lanes : List Moved) (chain : List ℕ) (w : Weight) → job_at js n ≡ job_of vs lanes e → Through (n ∷ []) chain w → (front : List ℕ) × Comes js levels e front × (played js chain ≡ (played js front ++ ids_of vs) ++ w.chain)
+  behind n e vs lanes chain w s t =
       let (front, c, is) = comes_one js levels n t.0 t.1 in (
         front,
         subst (λ (l : List ℕ). Comes js levels l front) (ap (λ (j : Job). j.before) s) c,
@@ -124,10 +125,10 @@ module _ (units : ℤ → ℕ) (js : List Job) (levels : List ℕ) (least : AreL
     pub row_chain : (n : ℕ) (e : List ℕ) (r : Row) (chain : List ℕ) → Stands (job_at js) n e r → IsFull r → Comes js levels (last n e r) chain → Through e chain (row_weight units r)
     row_chain n e done chain s f c = (chain, c, sym (append-nil (played js chain)))
     row_chain n e (job vs rest) chain s f c =
-        let (front, d, is) = behind n e vs chain (row_weight units rest) s.0 (row_chain (n + 1) (n ∷ []) rest chain s.1 f c) in
+        let (front, d, is) = behind n e vs [] chain (row_weight units rest) s.0 (row_chain (n + 1) (n ∷ []) rest chain s.1 f c) in
         (front, d, is ∙ append_assoc (played js front) (ids_of vs) (row_weight units rest).chain)
-    row_chain n e (split ms rest) chain s f c =
-        let (joint, d, is) = behind (n + size_all ms) (lasts n e ms) [] chain (row_weight units rest) s.1 (row_chain (n + size_all ms + 1) ((n + size_all ms) ∷ []) rest chain s.2 f.1 c) in
+    row_chain n e (split lanes ms rest) chain s f c =
+        let (joint, d, is) = behind (n + size_all ms) (lasts n e ms) [] lanes chain (row_weight units rest) s.1 (row_chain (n + size_all ms + 1) ((n + size_all ms) ∷ []) rest chain s.2 f.1 c) in
         let (front, g, was) = members_chain n e ms joint s.0 f.0 d in (
           front,
           g,
@@ -180,7 +181,7 @@ only_first js levels is m chain f (after e c) = after (sym f ∙ e) c
 no_last : (r : Row) → size r ≤ 0 → last 0 [] r ≡ []
 no_last done l = refl
 no_last (job vs rest) l = absurd (omega arith)
-no_last (split ms rest) l = absurd (omega arith)
+no_last (split lanes ms rest) l = absurd (omega arith)
 
 nothing_before : (js : List Job) (levels front : List ℕ) → Comes js levels [] front → front ≡ []
 nothing_before js levels front none = refl

@@ -1,12 +1,13 @@
 -- Synths of which no two can run beside each other.
 use Rattle.std.specs.Prelude.{◌≡◌, ◌⊎◌, ℕ, ◌+◌, ◌<◌, ◌≤◌, ℤ, true, false, if◌then◌else◌, List, [], ◌∷◌, length}
+use Rattle.sn_mem.specs.Layout.{most_lanes}
 use Rattle.sn_round.specs.declared.jobs.Job.{Job}
 use Rattle.sn_round.specs.Jobs.{Ordered}
 use Rattle.sn_world.specs.declared.stage.Stage.{Stage}
 use Rattle.sn_world.specs.Pictures.{Pictures}
 use Rattle.sn_world.specs.World.{World, world_of}
 use Rattle.sn_graph.specs.Plans.{is_listed, plan_of}
-use Rattle.sn_graph.specs.Stages.{nodes_in}
+use Rattle.sn_graph.specs.Stages.{nodes_with}
 use Rattle.sn_report.specs.Costs.{cost_of, units_in}
 use Rattle.sn_report.specs.Reports.{report_of, world_weight}
 use Rattle.sn_report.specs.Weights.{Weight}
@@ -32,6 +33,10 @@ pub record IsLongest (units : ℤ → ℕ) (jobs : List Job) (w : Weight) : Type
   pub line : AreInLine jobs w.chain
   pub most : (ids : List ℤ) → AreOnce ids → AreInLine jobs ids → cost_of units ids ≤ w.cost
 
+-- jobs are the plan of a stage, with lanes from some word on
+abbrev pub IsPlanIn : Stage → List Job → Type 0
+IsPlanIn stage jobs = (first : ℕ) × (jobs ≡ plan_of (nodes_with first most_lanes stage))
+
 -- a stage stands for a world with some words
 pub record IsPictured (stage : Stage) : Type 0 where
   pub words : List ℕ
@@ -42,7 +47,9 @@ pub record HasLongest (world : World) : Type 0 where
   pub stage : Stage
   pub words : List ℕ
   pub stands : world_of stage words ≡ world
-  pub longest : IsLongest (units_in stage) (plan_of (nodes_in stage)) (world_weight world)
+  pub jobs : List Job
+  pub plan : IsPlanIn stage jobs
+  pub longest : IsLongest (units_in stage) jobs (world_weight world)
 
 -- bytes are the report of each world that a stage stands for, and each of them has its longest chain
 abbrev pub TellsEach : Stage → List ℕ → Type 0

@@ -1,6 +1,7 @@
 -- What may run beside what, told in lines.
-use Rattle.std.specs.Prelude.{ℕ, ◌+◌, ℤ, Bool, true, false, not, ◌&&◌, if◌then◌else◌, List, [], ◌∷◌, ◌++◌, map, length, codes, filter}
+use Rattle.std.specs.Prelude.{ℕ, ◌+◌, ℤ, Bool, true, false, ◌&&◌, if◌then◌else◌, List, [], ◌∷◌, ◌++◌, map, length, replicate, codes, filter}
 use Rattle.std.specs.Fmt.{decimal, signed_decimal}
+use Rattle.sn_ports.specs.Limits.{audio_bus_count}
 use Rattle.sn_def.specs.declared.control.Control.{Control as SynthControl}
 use Rattle.sn_def.specs.Definition.{Definition}
 use Rattle.sn_def.specs.Defs.{definition_of}
@@ -16,10 +17,8 @@ use Rattle.sn_foot.specs.declared.uses.Role.{Role}
 use Rattle.sn_foot.specs.declared.uses.Role.TheVariants.{Read, Write, Mix}
 use Rattle.sn_foot.specs.Footprints.{Footprint, is_there}
 use Rattle.sn_clash.specs.Clashing.{clashes_of, resources, synth_uses}
-use Rattle.sn_graph.specs.Plans.{is_listed}
 use Rattle.sn_graph.specs.Stages.{clashing_in}
-use Rattle.sn_report.specs.Mixing.{mix_one_bus}
-use Rattle.sn_report.specs.Weights.{Weight, in_order, weights}
+use Rattle.sn_report.specs.Weights.{Weight, in_order, weighed}
 
 -- ---- what is told of a node
 
@@ -117,13 +116,9 @@ module _ (there : Resource → Bool) where
   abbrev pub lines : List (Label Sight) → Weight → List ℕ
   lines labels w = head_line (synths_among labels) (units_among labels) w.cost ++ node_lines labels ++ chain_line w.chain
 
--- A parallel group is split unless it is one of these, whose members clash, or two of its members mix one bus.
-abbrev pub is_split : List ℤ → ℤ → Nodes Sight → Bool
-is_split clashing id below = not (is_listed clashing id) && not (mix_one_bus seen_mixes below)
-
 -- the weight of nodes, of which these parallel groups have members that clash
 abbrev pub weight_of : Nodes Sight → List ℤ → Weight
-weight_of nodes clashing = in_order (weights seen_units (is_split clashing) nodes)
+weight_of nodes clashing = in_order (weighed seen_units seen_mixes clashing (replicate audio_bus_count false) 0 nodes).weights
 
 -- ---- of a world and of a stage
 

@@ -1,18 +1,17 @@
 //! The report of a stage.
 ghost use Rattle.std.specs.Prelude.{◌≡◌, ◌++◌, IfOk, OnOk};
 ghost use Rattle.sn_round.specs.Jobs.{job_at};
-ghost use Rattle.sn_graph.specs.Plans.{plan_of};
-ghost use Rattle.sn_graph.specs.Stages.{nodes_in};
 ghost use Rattle.sn_report.specs.Costs.{units_in};
 ghost use Rattle.sn_report.specs.Certificates.{played};
-ghost use Rattle.sn_report.specs.Lines.{EachHasLongest, IsLongest, IsPictured, TellsEach};
+ghost use Rattle.sn_report.specs.Lines.{EachHasLongest, IsLongest, IsPictured, IsPlanIn, TellsEach};
 ghost use Rattle.sn_report.specs.Reports.{report_in, stage_weight};
 
 use crate::certifying::longest;
 use crate::costs::cost_of;
 use crate::lines::{put_chain_line, put_head, put_nodes, running, synths_among, units_among};
 use sn_clash::clashes;
-use sn_graph::{plan, worlds_are_disjoint};
+use sn_graph::{Lanes, plan, worlds_are_disjoint};
+use sn_mem::MOST_LANES;
 use sn_ports::{NoMemory, Text};
 use sn_round::{Ids, Plan};
 use sn_world::Stage;
@@ -41,7 +40,7 @@ fn played(alloc: Global, plan: &Plan, chain: &[u32]) -> Result<Ids, NoMemory>
 
 /// The synths of the longest chain.
 fn longest_synths(alloc: Global, plan: &Plan, stage: &Stage) -> Result<Ids, NoMemory>
-    requires { plan.now ≡ plan_of (nodes_in stage.now) }
+    requires { IsPlanIn stage.now plan.now }
     ensures chain { IfOk result (λ ids. ids ≡ (stage_weight stage.now).chain) }
     ensures longest { OnOk result (IsLongest (units_in stage.now) plan.now (stage_weight stage.now)) }
 {
@@ -59,7 +58,7 @@ fn longest_synths(alloc: Global, plan: &Plan, stage: &Stage) -> Result<Ids, NoMe
 ///
 /// Memory runs out; a sum of 2^64 units or more is taken for that, since so many lie in no memory.
 pub fn report(alloc: Global, plan: &Plan, stage: &Stage) -> Result<Text, NoMemory>
-    requires { plan.now ≡ plan_of (nodes_in stage.now) }
+    requires { IsPlanIn stage.now plan.now }
     ensures text { IfOk result (λ text. text.bytes ≡ report_in stage.now) }
     ensures longest { OnOk result (IsLongest (units_in stage.now) plan.now (stage_weight stage.now)) }
 {
@@ -77,7 +76,7 @@ pub fn report(alloc: Global, plan: &Plan, stage: &Stage) -> Result<Text, NoMemor
 }
 
 /// The report of a stage that stands for a world. A parallel group is told as split, so that its members may run beside each other,
-/// unless two of them clash or mix one bus.
+/// unless two of them clash, or the lanes that are left are too few. Where the lanes begin is the same for the report.
 ///
 /// # Errors
 ///
@@ -90,6 +89,10 @@ pub fn stage_report(alloc: Global, stage: &Stage) -> Result<Text, NoMemory>
     // Hints for the proof alone: what a stage that stands for a world meets.
     worlds_are_disjoint(stage);
     let clashes = clashes(alloc, stage)?;
-    let plan = plan(alloc, stage, clashes.as_slice())?;
+    let lanes = Lanes {
+        first: 0,
+        most: MOST_LANES,
+    };
+    let plan = plan(alloc, stage, clashes.as_slice(), lanes)?;
     report(alloc, &plan, stage)
 }

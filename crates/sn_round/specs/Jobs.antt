@@ -1,6 +1,7 @@
 -- Jobs, and what it means that they may run in any order that their predecessors allow.
 use Rattle.std.specs.Prelude.{◌≡◌, ◌≢◌, ◌⊎◌, ℕ, ◌+◌, ◌^◌, ◌<◌, ◌≤◌, ◌==◌, Bool, true, false, ◌||◌, if◌then◌else◌, List, [], ◌∷◌, ◌++◌, length, slice_index_or, Contains}
 use Rattle.sn_mem.specs.declared.extents.Foot.{Foot}
+use Rattle.sn_mem.specs.declared.moves.Moved.{Moved}
 use Rattle.sn_mem.specs.Words.{Clash, touches}
 use Rattle.sn_mem.specs.Blocks.{table}
 use Rattle.sn_round.specs.declared.jobs.Job.{Job}
@@ -10,10 +11,17 @@ abbrev pub no_foot : Foot
 no_foot = record { reads = []; writes = [] }
 
 abbrev pub no_job : Job
-no_job = record { synths = []; foot = no_foot; before = [] }
+no_job = record { synths = []; moves = []; lanes = []; foot = no_foot; before = [] }
 
 abbrev pub job_at : List Job → ℕ → Job
 job_at jobs j = slice_index_or jobs j no_job
+
+-- the buses that a synth of a job mixes onto lanes, and the lanes that a job adds
+abbrev pub moves_at : List Job → ℕ → ℕ → List Moved
+moves_at jobs j k = slice_index_or (job_at jobs j).moves k []
+
+abbrev pub lanes_at : List Job → ℕ → List Moved
+lanes_at jobs j = (job_at jobs j).lanes
 
 abbrev pub predecessors : List Job → ℕ → List ℕ
 predecessors jobs j = (job_at jobs j).before

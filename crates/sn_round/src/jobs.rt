@@ -2,6 +2,7 @@
 ghost use Rattle.std.specs.Prelude.{◌≡◌, ◌++◌, ◌∷◌, [], IfOk, OnOk, OnErr};
 
 use crate::shared_foot::SharedFoot;
+use sn_mem::{AllMoves, Moves};
 use sn_ports::NoMemory;
 use std::alloc::Global;
 use std::marker::Model;
@@ -124,13 +125,18 @@ impl Jobs {
     }
 }
 
-/// A job of a round: the synths that it renders in order, the words that it may touch, and the jobs that end before it begins.
+/// A job of a round: the synths that it renders in order, each with some of its buses moved onto lanes; the lanes that it adds to
+/// their buses behind them; the words that it may touch; and the jobs that end before it begins.
 ///
 /// A joint is a job that has no synths.
 #[derive(Drop)]
 pub struct Job {
     /// The synths that it renders.
     pub synths: Ids,
+    /// The buses that each of them mixes onto lanes.
+    pub moves: AllMoves,
+    /// The lanes that it adds.
+    pub lanes: Moves,
     /// The words that it may touch.
     pub foot: SharedFoot,
     /// Its predecessors.
@@ -144,6 +150,8 @@ impl Job {
     {
         Ok(Job {
             synths: self.synths.copied(alloc)?,
+            moves: self.moves.copied(alloc)?,
+            lanes: self.lanes.copied(alloc)?,
             foot: self.foot.again()?,
             before: self.before.copied(alloc)?,
         })

@@ -1,11 +1,11 @@
 //! The jobs of a round, with their successors.
 ghost use Rattle.std.specs.Prelude.{◌≡◌, ◌<◌, IfOk, length};
-ghost use Rattle.sn_round.specs.Jobs.{AreJobs, job_at, foot_at, predecessors, successors};
+ghost use Rattle.sn_round.specs.Jobs.{AreJobs, job_at, foot_at, lanes_at, moves_at, predecessors, successors};
 
 use crate::jobs::{Ids, Job, Jobs};
 use crate::shared_foot::SharedFoot;
 use crate::successors::successors_of;
-use sn_mem::Foot;
+use sn_mem::{AllMoves, Foot, Moved, Moves};
 use sn_ports::NoMemory;
 use std::alloc::Global;
 use std::marker::Model;
@@ -72,6 +72,32 @@ impl Plan {
     {
         let job = &self.jobs[job as usize];
         &job.synths
+    }
+
+    /// The buses that the synths of a job mix onto lanes.
+    pub fn all_moves(&self, job: u32) -> &AllMoves
+        requires { job < length self.now }
+        ensures { result.now ≡ (job_at self.now job).moves }
+    {
+        let job = &self.jobs[job as usize];
+        &job.moves
+    }
+
+    /// The buses that a synth of a job, by its place among them, mixes onto lanes.
+    pub fn moves(&self, job: u32, synth: usize) -> &[Moved]
+        requires { job < length self.now }
+        ensures { result.now ≡ moves_at self.now job synth }
+    {
+        self.all_moves(job).of(synth)
+    }
+
+    /// The lanes that a job adds to their buses, in the order in which it adds them.
+    pub fn lanes(&self, job: u32) -> &Moves
+        requires { job < length self.now }
+        ensures { result.now ≡ lanes_at self.now job }
+    {
+        let job = &self.jobs[job as usize];
+        &job.lanes
     }
 
     /// The jobs that end before a job begins.

@@ -6,7 +6,7 @@ use Rattle.sn_mem.specs.declared.extents.Foot.{Foot}
 use Rattle.sn_mem.specs.Blocks.{table}
 use Rattle.sn_mem.specs.Words.{covers, has, touches}
 use Rattle.sn_round.specs.declared.jobs.Job.{Job}
-use Rattle.sn_round.specs.Jobs.{foot_at, job_at, predecessors, successors}
+use Rattle.sn_round.specs.Jobs.{foot_at, job_at, lanes_at, predecessors, successors}
 
 -- the number of the first job of block k, where a block has n jobs and its capture
 abbrev pub start : ℕ → ℕ → ℕ
@@ -28,7 +28,7 @@ predecessors_in n k (p ∷ ps) = map (λ q. start n k + q) (p ∷ ps)
 
 -- job i of block k
 abbrev pub job_in : List Job → ℕ → ℕ → Job
-job_in jobs k i = record { synths = (job_at jobs i).synths; foot = foot_at jobs i; before = predecessors_in (length jobs) k (predecessors jobs i) }
+job_in jobs k i = record { synths = (job_at jobs i).synths; moves = (job_at jobs i).moves; lanes = lanes_at jobs i; foot = foot_at jobs i; before = predecessors_in (length jobs) k (predecessors jobs i) }
 
 -- the jobs that have no successors
 unfoldable pub last_jobs : List Job → List ℕ
@@ -48,7 +48,7 @@ capture_foot outputs at k = record { reads = outputs; writes = copy_at at k ∷ 
 
 -- the capture of block k, after the last jobs of the block
 abbrev pub capture_of : List Job → List Extent → ℕ → ℕ → Job
-capture_of jobs outputs at k = record { synths = []; foot = capture_foot outputs at k; before = predecessors_in (length jobs) k (last_jobs jobs) }
+capture_of jobs outputs at k = record { synths = []; moves = []; lanes = []; foot = capture_foot outputs at k; before = predecessors_in (length jobs) k (last_jobs jobs) }
 
 -- the jobs of block k, and then its capture
 abbrev pub block_of : List Job → List Extent → ℕ → ℕ → List Job

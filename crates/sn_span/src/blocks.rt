@@ -7,7 +7,7 @@ ghost use Rattle.sn_round.specs.Jobs.{IsRaceFree};
 ghost use Rattle.sn_span.specs.Rounds.{EndsAsRounds, HasCopies, KeepToFeet};
 ghost use Rattle.sn_span.specs.Unrolling.{block_of, capture_foot, capture_of, copy_at, entry, job_in, last_jobs, predecessors_in, start, unrolled};
 
-use sn_mem::{Extent, Extents, Foot};
+use sn_mem::{AllMoves, Extent, Extents, Foot, Moves};
 use sn_ports::NoMemory;
 use sn_ports::limits::BLOCK_SAMPLES;
 use sn_round::{Ids, Job, Jobs, Plan, SharedFoot};
@@ -63,6 +63,8 @@ fn job_in(alloc: Global, plan: &Plan, block: u32, job: u32) -> Result<Job, NoMem
     plan.is_well_formed();
     Ok(Job {
         synths: plan.synths(job).copied(alloc)?,
+        moves: plan.all_moves(job).copied(alloc)?,
+        lanes: plan.lanes(job).copied(alloc)?,
         foot: plan.shared_foot(job).again()?,
         before: predecessors_in(alloc, plan.jobs(), block, plan.predecessors(job))?,
     })
@@ -142,6 +144,8 @@ fn put_block(
     put_jobs(alloc, plan, block, jobs)?;
     let capture = Job {
         synths: Ids::new(alloc),
+        moves: AllMoves::new(alloc),
+        lanes: Moves::new(alloc),
         foot: capture_foot(alloc, outputs, at, block)?,
         before: predecessors_in(alloc, plan.jobs(), block, last)?,
     };

@@ -4,7 +4,7 @@ ghost use Rattle.sn_ports.specs.Limits.{most_nodes};
 
 use crate::plans::{planned, put};
 use sn_def::{Controls, Def, read};
-use sn_mem::Extent;
+use sn_mem::{Extent, MOST_LANES};
 use sn_ports::NoMemory;
 use sn_tree::{NodeKind, Tree};
 use sn_world::Held;
@@ -93,24 +93,27 @@ fn jobs_of(alloc: Global, tree: Option<Tree<Held>>) -> Result<Option<u32>, NoMem
     let Some(tree) = tree else {
         return Ok(None);
     };
-    match planned(alloc, tree)? {
+    match planned(alloc, tree, MOST_LANES)? {
         Some(plan) => Ok(Some(plan.jobs())),
         None => Ok(None),
     }
 }
 
-/// Each reader is a job, and one more joins them. The writers mix one bus, so that they are one job.
+/// Each reader is a job, and one more joins them. The writers mix eight buses, so that 512 of them have lanes, and one more
+/// than these are one job.
 #[test]
 fn a_group_may_have_as_many_members_as_there_are_nodes(rt: HostRuntime) -> Result<(), Fail> {
     let readers = members(rt.alloc(), READER, 4094)?;
     assert_eq!(rt; jobs_of(rt.alloc(), readers)?, Some(4095));
-    let writers = members(rt.alloc(), WRITER, 4094)?;
-    assert_eq!(rt; jobs_of(rt.alloc(), writers)?, Some(1));
+    let writers = members(rt.alloc(), WRITER, 512)?;
+    assert_eq!(rt; jobs_of(rt.alloc(), writers)?, Some(513));
+    let more = members(rt.alloc(), WRITER, 513)?;
+    assert_eq!(rt; jobs_of(rt.alloc(), more)?, Some(1));
     Ok(())
 }
 
 /// Each group has a synth and the next group. The readers are jobs, and but for the last group one more joins them. The
-/// writers mix one bus, so that they are jobs one after the other.
+/// writers mix eight buses, so that the last 512 have lanes, and the others are jobs one after the other.
 #[test]
 fn groups_may_be_nested_as_deep_as_there_are_nodes(rt: HostRuntime) -> Result<(), Fail> {
     let empty = nested(rt.alloc(), READER, 4095, 0)?;
@@ -120,6 +123,6 @@ fn groups_may_be_nested_as_deep_as_there_are_nodes(rt: HostRuntime) -> Result<()
     let readers = nested(rt.alloc(), READER, 2047, 2047)?;
     assert_eq!(rt; jobs_of(rt.alloc(), readers)?, Some(4093));
     let writers = nested(rt.alloc(), WRITER, 2047, 2047)?;
-    assert_eq!(rt; jobs_of(rt.alloc(), writers)?, Some(2047));
+    assert_eq!(rt; jobs_of(rt.alloc(), writers)?, Some(2558));
     Ok(())
 }

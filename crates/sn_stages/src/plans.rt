@@ -1,13 +1,14 @@
 //! The plans of stages.
-ghost use Rattle.std.specs.Prelude.{◌≡◌, ◌+◌, ◌&&◌, true, None, nat_lt};
+ghost use Rattle.std.specs.Prelude.{◌≡◌, ◌≤◌, ◌+◌, ◌&&◌, true, None, nat_lt};
 ghost use Rattle.std.specs.List.{All, list_all};
+ghost use Rattle.sn_mem.specs.Layout.{most_lanes};
 ghost use Rattle.sn_world.specs.Pictures.{held_extents, live_held};
 ghost use Rattle.sn_foot.specs.Canonical.{Ends};
 
 use sn_clash::clashes;
 use sn_def::{Control, Controls, read};
-use sn_graph::plan;
-use sn_mem::Extent;
+use sn_graph::{Lanes, plan};
+use sn_mem::{Extent, Moved};
 use sn_ports::NoMemory;
 use sn_round::Plan;
 use sn_tree::{AddAction, NodeKind, Spot, Tally, Tree};
@@ -52,15 +53,24 @@ pub fn all_end(tree: &Tree<Held>) -> bool
     ending.all
 }
 
-/// The plan of the nodes, or nothing where a state ends behind the words. There are no buffers.
-pub fn planned(alloc: Global, tree: Tree<Held>) -> Result<Option<Plan>, NoMemory> {
+/// The first word of the lanes.
+const FIRST_LANE: u32 = 40_000;
+
+/// The plan of the nodes with so many lanes, or nothing where a state ends behind the words. There are no buffers.
+pub fn planned(alloc: Global, tree: Tree<Held>, most: u32) -> Result<Option<Plan>, NoMemory>
+    requires most { most ≤ most_lanes }
+{
     if !all_end(&tree) {
         return Ok(None);
     }
     let mut stage = Stage::new(alloc, 48_000, 0, 0)?;
     stage.tree = tree;
     let found = clashes(alloc, &stage)?;
-    Ok(Some(plan(alloc, &stage, found.as_slice())?))
+    let lanes = Lanes {
+        first: FIRST_LANE,
+        most,
+    };
+    Ok(Some(plan(alloc, &stage, found.as_slice(), lanes)?))
 }
 
 /// A synth that mixes an audio bus, with two words of state from word `at` on.
@@ -148,11 +158,24 @@ fn tree_of(alloc: Global, shape: &Shape<'_>) -> Result<Option<Tree<Held>>, NoMem
     if all { Ok(Some(tree)) } else { Ok(None) }
 }
 
-fn plan_of(alloc: Global, shape: &Shape<'_>) -> Result<Option<Plan>, NoMemory> {
+fn plan_of(alloc: Global, shape: &Shape<'_>, most: u32) -> Result<Option<Plan>, NoMemory>
+    requires most { most ≤ most_lanes }
+{
     match tree_of(alloc, shape)? {
-        Some(tree) => planned(alloc, tree),
+        Some(tree) => planned(alloc, tree, most),
         None => Ok(None),
     }
+}
+
+/// Whether these are moves of buses onto lanes, each given by its bus and its lane.
+fn move_them(moves: &[Moved], wanted: &[(u8, u8)]) -> bool {
+    let mut same = moves.len() == wanted.len();
+    for (moved, (bus, lane)) in moves.iter().zip(wanted) {
+        same = same
+            && lie(&[moved.bus], &[(65 * u32::from(*bus), 65)])
+            && lie(&[moved.lane], &[(FIRST_LANE + 65 * u32::from(*lane), 65)]);
+    }
+    same
 }
 
 /// Whether these are the jobs: the synths of each, and its predecessors.
@@ -221,7 +244,13 @@ const ONE_BUS: Case<'_> = Case {
         ],
         paused: &[],
     },
-    jobs: &[(&[1, 2, 3], &[]), (&[9], &[0])],
+    jobs: &[
+        (&[1], &[]),
+        (&[2], &[]),
+        (&[3], &[]),
+        (&[], &[0, 1, 2]),
+        (&[9], &[3]),
+    ],
 };
 
 /// Eight members beside each other, then a synth and a group without one, then a synth.
@@ -319,7 +348,13 @@ const INNER_BUS: Case<'_> = Case {
         ],
         paused: &[],
     },
-    jobs: &[(&[1, 2], &[]), (&[3], &[]), (&[], &[0, 1])],
+    jobs: &[
+        (&[1], &[]),
+        (&[2], &[]),
+        (&[], &[0, 1]),
+        (&[3], &[]),
+        (&[], &[2, 3]),
+    ],
 };
 
 /// The inner one and the member after it mix one bus.
@@ -334,7 +369,13 @@ const OUTER_BUS: Case<'_> = Case {
         ],
         paused: &[],
     },
-    jobs: &[(&[1], &[]), (&[2], &[]), (&[], &[0, 1]), (&[3], &[2])],
+    jobs: &[
+        (&[1], &[]),
+        (&[2], &[]),
+        (&[], &[0, 1]),
+        (&[3], &[]),
+        (&[], &[2, 3]),
+    ],
 };
 
 /// A member that mixes the bus of another is paused, and so is a group of which two members mix one bus.
@@ -365,13 +406,103 @@ fn jobs_stand_before_those_that_follow_them(rt: HostRuntime) -> Result<(), Fail>
         THREE, ONE_BUS, EIGHT, EMPTY, INNER, INNER_BUS, OUTER_BUS, PAUSED_BUS, paused,
     ];
     for case in &cases {
-        let plan = plan_of(rt.alloc(), &case.shape)?;
-        let Some(plan) = plan else {
-            assert!(rt; false);
-            return Ok(());
-        };
-        assert!(rt; are(&plan, case.jobs));
+        assert!(rt; is_planned(rt.alloc(), &case.shape, 64, case.jobs)?);
     }
+    Ok(())
+}
+
+/// Whether these are the jobs of the nodes with so many lanes.
+fn is_planned(
+    alloc: Global,
+    shape: &Shape<'_>,
+    most: u32,
+    jobs: &[(&[i32], &[u32])],
+) -> Result<bool, NoMemory>
+    requires most { most ≤ most_lanes }
+{
+    match plan_of(alloc, shape, most)? {
+        Some(plan) => Ok(are(&plan, jobs)),
+        None => Ok(false),
+    }
+}
+
+/// One lane fewer than the members of a group mix together: they are rendered in order.
+#[test]
+fn a_group_is_split_if_there_are_lanes_enough(rt: HostRuntime) -> Result<(), Fail> {
+    assert!(rt;
+        is_planned(
+            rt.alloc(),
+            &ONE_BUS.shape,
+            2,
+            &[(&[1, 2, 3], &[]), (&[9], &[0])]
+        )?
+    );
+    assert!(rt;
+        is_planned(
+            rt.alloc(),
+            &INNER_BUS.shape,
+            1,
+            &[(&[1, 2], &[]), (&[3], &[]), (&[], &[0, 1])]
+        )?
+    );
+    assert!(rt;
+        is_planned(
+            rt.alloc(),
+            &OUTER_BUS.shape,
+            1,
+            &[(&[1], &[]), (&[2], &[]), (&[], &[0, 1]), (&[3], &[2])]
+        )?
+    );
+    Ok(())
+}
+
+/// Two groups in a parallel group mix bus 1, in one of them two synths beside each other.
+const BUSES: Shape<'_> = Shape {
+    nodes: &[
+        Node(50, Sort::Parallel, 0),
+        Node(51, Sort::Parallel, 50),
+        Node(1, Sort::Tone(1), 51),
+        Node(2, Sort::Tone(1), 51),
+        Node(3, Sort::Tone(2), 51),
+        Node(4, Sort::Tone(2), 51),
+        Node(52, Sort::Group, 50),
+        Node(5, Sort::Tone(1), 52),
+        Node(6, Sort::Tone(3), 52),
+    ],
+    paused: &[],
+};
+
+/// A bus that the outer group shares has its lanes there, and the other one in the inner group.
+#[test]
+fn a_lane_is_added_in_the_outermost_group_that_shares_its_bus(rt: HostRuntime) -> Result<(), Fail> {
+    let plan = plan_of(rt.alloc(), &BUSES, 64)?;
+    let Some(plan) = plan else {
+        assert!(rt; false);
+        return Ok(());
+    };
+    assert!(rt;
+        are(
+            &plan,
+            &[
+                (&[1], &[]),
+                (&[2], &[]),
+                (&[3], &[]),
+                (&[4], &[]),
+                (&[], &[0, 1, 2, 3]),
+                (&[5, 6], &[]),
+                (&[], &[4, 5]),
+            ]
+        )
+    );
+    assert_eq!(rt; plan.jobs(), 7);
+    assert!(rt; move_them(plan.moves(0, 0), &[(1, 0)]));
+    assert!(rt; move_them(plan.moves(1, 0), &[(1, 1)]));
+    assert!(rt; move_them(plan.moves(2, 0), &[(2, 3)]));
+    assert!(rt; move_them(plan.moves(3, 0), &[(2, 4)]));
+    assert!(rt; move_them(plan.lanes(4).as_slice(), &[(2, 3), (2, 4)]));
+    assert!(rt; move_them(plan.moves(5, 0), &[(1, 2)]));
+    assert!(rt; move_them(plan.moves(5, 1), &[]));
+    assert!(rt; move_them(plan.lanes(6).as_slice(), &[(1, 0), (1, 1), (1, 2)]));
     Ok(())
 }
 
@@ -387,7 +518,7 @@ pub fn lie(extents: &[Extent], wanted: &[(u32, u32)]) -> bool {
 #[test]
 fn a_job_touches_what_its_synths_touch(rt: HostRuntime) -> Result<(), Fail> {
     // Audio bus n has the words from 65 n on.
-    let plan = plan_of(rt.alloc(), &PAUSED)?;
+    let plan = plan_of(rt.alloc(), &PAUSED, 0)?;
     let Some(plan) = plan else {
         assert!(rt; false);
         return Ok(());
@@ -395,5 +526,26 @@ fn a_job_touches_what_its_synths_touch(rt: HostRuntime) -> Result<(), Fail> {
     assert_eq!(rt; plan.jobs(), 2);
     assert!(rt; lie(plan.foot(1).reads.as_slice(), &[(6500, 65)]));
     assert!(rt; lie(plan.foot(1).writes.as_slice(), &[(195, 130), (20006, 4)]));
+    Ok(())
+}
+
+/// A member touches its lane in place of its bus, and the joint all lanes and the bus.
+#[test]
+fn a_lane_is_touched_in_place_of_its_bus(rt: HostRuntime) -> Result<(), Fail> {
+    let plan = plan_of(rt.alloc(), &ONE_BUS.shape, 3)?;
+    let Some(plan) = plan else {
+        assert!(rt; false);
+        return Ok(());
+    };
+    assert_eq!(rt; plan.jobs(), 5);
+    assert!(rt; lie(plan.foot(1).reads.as_slice(), &[(6500, 65)]));
+    assert!(rt;
+        lie(
+            plan.foot(1).writes.as_slice(),
+            &[(20004, 2), (FIRST_LANE + 65, 65)]
+        )
+    );
+    assert!(rt; lie(plan.foot(3).reads.as_slice(), &[(FIRST_LANE, 195)]));
+    assert!(rt; lie(plan.foot(3).writes.as_slice(), &[(1040, 65)]));
     Ok(())
 }

@@ -60,7 +60,7 @@ unit_by_foot k now f c places us ws at n inputs state may a =
 -- ---- units in order
 
 -- where a synth stands, over these words
-standing : List (List ℤ) → ℕ → ℕ → List ℕ → Going
+unfoldable pub standing : List (List ℤ) → ℕ → ℕ → List ℕ → Going
 standing wires at number words = record { words = words; wires = wires; at = at; number = number }
 
 units_by_foot : (rate b : ℕ) (node : ℤ) (places : List (Option BufferPlace)) (values : List ℤ) (f : Foot) (lines : List UnitLine) (wires : List (List ℤ)) (at number : ℕ) (us ws : List ℕ) → MayWrite f at (units_words rate lines) → All (MayOutput f places values) lines → Agree (touches f) us ws
@@ -92,7 +92,7 @@ unit_long k now c places ws at n inputs =
     (bus_unit_long k now c ws at n inputs)
     (length-put ws at (inner k now (window ws at n) inputs).0))
 
-units_long : (rate b : ℕ) (node : ℤ) (places : List (Option BufferPlace)) (values : List ℤ) (lines : List UnitLine) (g : Going) → length (after_units rate b node places values lines g).words ≡ length g.words
+pub units_long : (rate b : ℕ) (node : ℤ) (places : List (Option BufferPlace)) (values : List ℤ) (lines : List UnitLine) (g : Going) → length (after_units rate b node places values lines g).words ≡ length g.words
 unfolding after_unit
 units_long rate b node places values [] g = refl
 units_long rate b node places values (u ∷ lines) g =
@@ -105,7 +105,7 @@ value_same : (f : Foot) (us ws : List ℕ) (own : ℤ) (o : Option ℕ) → MayR
 value_same f us ws own None may is a = refl
 value_same f us ws own (Some n) may is a = ap (λ (bus : ControlBus). bus.value) (control_read f us ws n is may a)
 
-values_same : (f : Foot) (us ws : List ℕ) (controls : List SynthControl) → MayFollow f controls → All (λ (c : SynthControl). IsFollowed c.bus) controls → Agree (touches f) us ws → control_values (control_buses us) controls ≡ control_values (control_buses ws) controls
+pub values_same : (f : Foot) (us ws : List ℕ) (controls : List SynthControl) → MayFollow f controls → All (λ (c : SynthControl). IsFollowed c.bus) controls → Agree (touches f) us ws → control_values (control_buses us) controls ≡ control_values (control_buses ws) controls
 values_same f us ws [] may are a = refl
 values_same f us ws (c ∷ controls) may are a = λ i.
     value_same f us ws c.value c.bus (All-head (λ (c : SynthControl). MayReadControl f c.bus) c controls may) (All-head (λ (c : SynthControl). IsFollowed c.bus) c controls are) a i

@@ -58,7 +58,7 @@ has_index_of : (u : UnitLine) (ms : List Mark) (k : ℕ) → (row_of u.kind).inp
 unfolding has_index
 has_index_of u ms k e h = let P : List Mark → Type 0 = λ (marks : List Mark). list_any (λ p. is_index_input k p.0 p.1) (zip marks u.inputs) ≡ true in subst P (sym e) h
 
-index_is : (d : Definition) (controls : List SynthControl) (buses : List ControlBus) (wires : List (List ℤ)) (ms : List Mark) (k : ℕ) (e : UnitLine) → AreControlsOf d controls → UnitsFit (length d.controls) 0 d.units → k < length d.units → (row_of (get_or d.units k e).kind).inputs ≡ Index ∷ ms
+pub index_is : (d : Definition) (controls : List SynthControl) (buses : List ControlBus) (wires : List (List ℤ)) (ms : List Mark) (k : ℕ) (e : UnitLine) → AreControlsOf d controls → UnitsFit (length d.controls) 0 d.units → k < length d.units → (row_of (get_or d.units k e).kind).inputs ≡ Index ∷ ms
     → sample (input_blocks (control_values buses controls) wires (get_or d.units k e).inputs) 0 0 ≡ index_of controls (get_or d.units k e)
 index_is d controls buses wires ms k e are fit lt first =
     let u : UnitLine = get_or d.units k e in
@@ -83,7 +83,7 @@ whole None ps are = tt
 whole (Some n) ps are = whole_at n ps are
 
 -- what a unit reaches, by the blocks of its inputs
-reaches : (f : Foot) (places : List (Option BufferPlace)) (d : Definition) (controls : List SynthControl) (buses : List ControlBus) (wires : List (List ℤ)) (k : ℕ) (e : UnitLine) → AreControlsOf d controls → UnitsFit (length d.controls) 0 d.units → k < length d.units → All MayBePlace places → MayPlay f places controls (get_or d.units k e)
+pub reaches : (f : Foot) (places : List (Option BufferPlace)) (d : Definition) (controls : List SynthControl) (buses : List ControlBus) (wires : List (List ℤ)) (k : ℕ) (e : UnitLine) → AreControlsOf d controls → UnitsFit (length d.controls) 0 d.units → k < length d.units → All MayBePlace places → MayPlay f places controls (get_or d.units k e)
     → Reaches (get_or d.units k e).kind f places (get_or d.units k e).outputs (input_blocks (control_values buses controls) wires (get_or d.units k e).inputs)
 reaches f places d controls buses wires k e are fit lt each may =
     let u : UnitLine = get_or d.units k e in

@@ -6,4 +6,5 @@ pub mod Picturing
 pub mod Plain
 pub mod Keeping
 pub mod ByFoot
+pub mod Alike
 pub mod Widening

@@ -11,7 +11,7 @@ use crate::mixing::{FAR, Mixing, NEAR};
 use sn_crew::Crew;
 use sn_jobs::{no_jobs, put};
 use sn_machine::{are_within, is_race_free};
-use sn_mem::{Extent, Extents, Foot, Scratch};
+use sn_mem::{AllMoves, Extent, Extents, Foot, Moves, Scratch};
 use sn_ports::{Gate, NoMemory};
 use sn_round::{Ids, Job, Jobs, Plan, SharedFoot};
 use sn_table::{MainSeat, Shared};
@@ -43,6 +43,8 @@ fn mixing_job(alloc: Global, job: u32) -> Result<Job, NoMemory> {
     }
     Ok(Job {
         synths: Ids::new(alloc),
+        moves: AllMoves::new(alloc),
+        lanes: Moves::new(alloc),
         foot: SharedFoot::new(alloc, Foot { reads, writes })?,
         before,
     })

@@ -7,8 +7,9 @@ use Rattle.sn_world.specs.Walk.{walk}
 use Rattle.sn_world.specs.World.{World, world_of}
 use Rattle.sn_world.specs.declared.stage.Stage.{Stage}
 use Rattle.sn_engine.specs.Outputs.{frames_of, outputs}
-use Rattle.sn_engine.specs.Planning.{IsPlanOf}
+use Rattle.sn_engine.specs.Planning.{HasLanes, IsPlanOf, LanesRest}
 use Rattle.sn_engine.specs.Remembered.{Remembered}
+use Rattle.sn_engine.proofs.LaneLemmas.{still_laned}
 use Rattle.sn_engine.proofs.RenderLemmas.{few_bytes, no_rounds, no_sounds, no_walks, rounds_more, sound_more, walk_more, walked_at}
 use Rattle.sn_engine.proofs.rendering.render_each.Goals as goal
 
@@ -16,7 +17,9 @@ pub loop-number-init : goal.loop-number-init
 loop-number-init g c =
     let part = c.args.part.now in
     let w : World = world_of part.stage.now c.args.memory.now.words in
+    let none : part.first ≡ part.first + 0 = omega arith in
     record {
+      resting = subst (λ b. LanesRest part.stage.now b c.args.memory.now.words) none c.requires.resting;
       world = no_walks part.first w;
       pictures = c.requires.pictures;
       long = refl;
@@ -46,7 +49,10 @@ loop-number-preserved g c =
     let samples : c.deref.result.now ≡ outputs part.settings.now (part.first + k) v = same ∙ (heard.samples ∙ ap (λ m. frames_of part.settings.now.channels m v 64) b.ensures.block) in
     let few : length c.deref.result.now ≤ 512 = omega (arith, ap (λ (xs : List ℤ). length xs) same, heard.few) in
     let rested : List Job → ℕ → List Rested = λ js n. c.loop-number.memory.rounds ++ record { jobs = js; crew = n } ∷ [] in
+    let next_at : b.result.block + 1 ≡ part.first + (k + 1) = omega (arith, b.ensures.block) in
     record {
+      resting = subst (λ (m : Remembered). LanesRest part.stage.now (part.first + (k + 1)) m.words) (sym heard.same)
+          (subst (λ (s : Stage). LanesRest s (part.first + (k + 1)) us) b.ensures.stage (subst (λ n. LanesRest b.result.stage.now n us) next_at c.round.ensures.resting));
       world = after ∙ walked;
       pictures = subst (λ (m : Remembered). Pictures part.stage.now m.words) (sym heard.same) (subst (λ (s : Stage). Pictures s us) b.ensures.stage c.round.ensures.pictures);
       long = ap (λ (m : Remembered). length m.words) heard.same ∙ (c.round.ensures.length ∙ i.long);
@@ -69,6 +75,24 @@ round-requires-clause-planned g c κs within =
 
 pub round-requires-clause-early : goal.round-requires-clause-early
 round-requires-clause-early g c κs within = omega (arith, c.block-block.ensures.block, c.requires.early, c.loop-number-test.true)
+
+pub round-requires-clause-lanes : goal.round-requires-clause-lanes
+round-requires-clause-lanes g c κs within =
+    let stage = c.args.part.now.stage.now in
+    let ws : List ℕ = c.loop-number.memory.words in
+    subst (λ (s : Stage). HasLanes s ws) (sym c.block-block.ensures.stage) (still_laned stage stage c.args.memory.now.words ws refl c.loop-number.invariant.long c.requires.lanes)
+
+pub round-requires-clause-resting : goal.round-requires-clause-resting
+round-requires-clause-resting g c κs within =
+    let b = c.block-block in
+    let ws : List ℕ = c.loop-number.memory.words in
+    subst (λ (s : Stage). LanesRest s b.result.block ws) (sym b.ensures.stage) (subst (λ n. LanesRest c.args.part.now.stage.now n ws) (sym b.ensures.block) c.loop-number.invariant.resting)
+
+pub returns-clause-resting : goal.returns-clause-resting
+returns-clause-resting g c =
+    let part = c.args.part.now in
+    let last : c.loop-number.number ≡ part.blocks = omega (arith, c.loop-number-test.false, c.loop-number.auto.number-end) in
+    subst (λ n. LanesRest part.stage.now (part.first + n) c.loop-number.memory.words) last c.loop-number.invariant.resting
 
 pub hear_block-requires-clause-wide : goal.hear_block-requires-clause-wide
 hear_block-requires-clause-wide g c = omega (arith, c.round.ensures.pictures.fits)

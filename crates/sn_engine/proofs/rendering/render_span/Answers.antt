@@ -1,4 +1,4 @@
-use Rattle.std.proofs.Common.{◌≡◌, ◌≤◌, ◌∙◌, List, length, sym, ap, subst, arith}
+use Rattle.std.proofs.Common.{◌≡◌, ◌≤◌, ◌+◌, ◌∙◌, ℕ, List, length, sym, ap, subst, arith}
 use Rattle.sn_round.specs.declared.jobs.Job.{Job}
 use Rattle.sn_span.specs.Unrolling.{unrolled}
 use Rattle.sn_span.proofs.Places.{length-unrolled}
@@ -7,6 +7,7 @@ use Rattle.sn_world.proofs.Changes.{pictured_again}
 use Rattle.sn_world.specs.World.{world_of}
 use Rattle.sn_world.specs.declared.stage.Stage.{Stage}
 use Rattle.sn_play.specs.Spans.{ArePlayed}
+use Rattle.sn_engine.specs.Planning.{HasLanes, LanesRest}
 use Rattle.sn_engine.specs.Remembered.{Remembered}
 use Rattle.sn_engine.proofs.RowLemmas.{played_from, span_ready}
 use Rattle.sn_engine.proofs.rendering.render_span.Goals as goal
@@ -19,7 +20,7 @@ span-requires-clause-ready g c κs within =
     let part = c.args.part.now in
     let s = c.requires.spanned in
     let two : 2 ≤ part.planned.now.blocks = omega (arith, c.requires.some, c.requires.blocks) in
-    span_ready _ part.settings.now.channels part.stage.now part.planned.now.jobs c.args.memory.now.words c.block-first.ensures.stage c.block-first.ensures.plan c.requires.pictures c.requires.planned c.requires.copies
+    span_ready _ part.settings.now.channels part.stage.now part.planned.now.jobs c.args.memory.now.words c.block-first.ensures.stage c.block-first.ensures.plan c.requires.pictures c.requires.planned c.requires.copies c.requires.lanes
     (s.all_are two ∙ ap (λ n. unrolled part.planned.now.jobs part.outputs.now part.copies n) c.requires.blocks)
     (omega (arith, s.few two, c.requires.blocks))
     (omega (arith, c.block-first.ensures.block, c.requires.early))
@@ -34,10 +35,15 @@ span-requires-clause-few g c κs within =
     let two : 2 ≤ part.planned.now.blocks = omega (arith, c.requires.some, c.requires.blocks) in
     omega (arith, s.room two, ap (λ (js : List Job). length js) (s.all_are two), length-unrolled part.planned.now.jobs part.outputs.now part.copies part.planned.now.blocks)
 
-pub span-requires-clause-fits : goal.span-requires-clause-fits
-span-requires-clause-fits g c κs within =
-    let two : 2 ≤ c.args.part.now.planned.now.blocks = omega (arith, c.requires.some, c.requires.blocks) in
-    omega (arith, c.requires.copies.fits, c.requires.spanned.few two, c.requires.blocks)
+pub span-requires-clause-lanes : goal.span-requires-clause-lanes
+span-requires-clause-lanes g c κs within = subst (λ (s : Stage). HasLanes s c.args.memory.now.words) (sym c.block-first.ensures.stage) c.requires.lanes
+
+pub span-requires-clause-resting : goal.span-requires-clause-resting
+span-requires-clause-resting g c κs within =
+    let part = c.args.part.now in
+    let ws : List ℕ = c.args.memory.now.words in
+    let at : c.block-first.result.block ≡ part.first = omega (arith, c.block-first.ensures.block) in
+    subst (λ (s : Stage). LanesRest s c.block-first.result.block ws) (sym c.block-first.ensures.stage) (subst (λ n. LanesRest part.stage.now n ws) (sym at) c.requires.resting)
 
 pub hear_copies-requires-clause-inside : goal.hear_copies-requires-clause-inside
 hear_copies-requires-clause-inside g c =
@@ -62,6 +68,14 @@ returns-clause-world g c =
 
 pub returns-clause-pictures : goal.returns-clause-pictures
 returns-clause-pictures g c = pictured_again c.args.part.now.stage.now c.hear_copies.new.memory.words c.args.memory.now.words (ap (λ (m : Remembered). length m.words) c.hear_copies.ensures.same ∙ c.span.ensures.length) c.requires.pictures
+
+pub returns-clause-resting : goal.returns-clause-resting
+returns-clause-resting g c =
+    let part = c.args.part.now in
+    let at : c.block-first.result.block ≡ part.first = omega (arith, c.block-first.ensures.block) in
+    let played : List ℕ = c.span.new.self.words in
+    subst (λ (m : Remembered). LanesRest part.stage.now (part.first + part.blocks) m.words) (sym c.hear_copies.ensures.same)
+    (subst (λ (s : Stage). LanesRest s (part.first + part.blocks) played) c.block-first.ensures.stage (subst (λ n. LanesRest c.block-first.result.stage.now (n + part.blocks) played) at c.span.ensures.resting))
 
 pub returns-clause-length : goal.returns-clause-length
 returns-clause-length g c = ap (λ (m : Remembered). length m.words) c.hear_copies.ensures.same ∙ c.span.ensures.length

@@ -9,5 +9,5 @@ pub returns : goal.returns
 returns c =
     put_run c.args.jobs.now.items c.push.new.self.items c.args.entry _ (behind c.args.run.now)
     (let h : 1 ≤ length c.args.run.now = search rules in omega (arith, length-behind c.args.run.now))
-    (c.in_ok-push.ensures.items ∙ (let made : c.in_ok-job.job ≡ job_of (behind c.args.run.now) (listed c.args.entry) = c.in_ok-job.ensures ∙ ap (job_of (behind c.args.run.now)) c.in_ok-before.ensures in ap (λ (j : Job). c.args.jobs.now.items ++ j ∷ []) made))
+    (c.in_ok-push.ensures.items ∙ (let made : c.in_ok-job.job ≡ job_of (behind c.args.run.now) [] (listed c.args.entry) = c.in_ok-job.ensures ∙ ap (job_of (behind c.args.run.now) []) c.in_ok-before.ensures in ap (λ (j : Job). c.args.jobs.now.items ++ j ∷ []) made))
     (let q : c.len-number.result ≡ length c.args.jobs.now.items = omega arith in ap Some q)

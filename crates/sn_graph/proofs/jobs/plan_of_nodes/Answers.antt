@@ -6,8 +6,8 @@ use Rattle.sn_graph.specs.Voices.{HeardNodes}
 use Rattle.sn_graph.specs.Rows.{jobs}
 use Rattle.sn_graph.specs.Plans.{IsPlanned, plan_of, row_of}
 use Rattle.sn_graph.specs.Inputs.{nodes_of}
-use Rattle.sn_graph.proofs.Planning.{race_free, in_order, length-jobs}
-use Rattle.sn_graph.proofs.Freeing.{is_free}
+use Rattle.sn_graph.proofs.Planning.{in_order, length-jobs}
+use Rattle.sn_graph.proofs.Racing.{race_free}
 use Rattle.sn_graph.proofs.Coming.{is_planned}
 use Rattle.sn_graph.proofs.jobs.plan_of_nodes.Goals as goal
 
@@ -37,4 +37,4 @@ pub returns-clause-race_free : goal.returns-clause-race_free
 returns-clause-race_free c = λ clear.
     let nodes : HeardNodes = nodes_of c.args.nodes.now in
     let is = made nodes c.new-jobs.result.items c.put_row.new.jobs.items c.new-jobs.ensures.items c.in_ok-put_row.ensures.jobs_put in
-    IfOk-weaker c.new.result (λ (plan : List Job). plan ≡ c.put_row.new.jobs.items) IsRaceFree (λ plan e. subst IsRaceFree (sym (e ∙ is)) (race_free nodes c.requires.once (is_free nodes clear c.requires.once))) c.new.ensures
+    IfOk-weaker c.new.result (λ (plan : List Job). plan ≡ c.put_row.new.jobs.items) IsRaceFree (λ plan e. subst IsRaceFree (sym (e ∙ is)) (race_free nodes clear)) c.new.ensures

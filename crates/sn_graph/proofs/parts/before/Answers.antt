@@ -1,6 +1,6 @@
 use Rattle.std.proofs.Common.{◌≡◌, ◌∙◌, ap, sym}
 use Rattle.std.proofs.lemmas.Result.{IfOk-weaker}
-use Rattle.sn_graph.specs.Voices.{synth, group}
+use Rattle.sn_graph.specs.Voices.{synth, group, lanes_if}
 use Rattle.sn_graph.specs.Inputs.{nodes_of}
 use Rattle.sn_graph.specs.Pieces.{before, piece_of}
 use Rattle.sn_graph.proofs.parts.before.Goals as goal
@@ -16,6 +16,6 @@ returns-in-Synth c = IfOk-weaker c.after_synth.result
 
 pub returns-in-Group : goal.returns-in-Group
 returns-in-Group c = IfOk-weaker c.after_group.result
-    (λ nodes. nodes_of nodes ≡ group c.in-Group.split (nodes_of c.in-Group.inner) (nodes_of c.args.rest))
+    (λ nodes. nodes_of nodes ≡ group (lanes_if c.in-Group.split) (nodes_of c.in-Group.inner) (nodes_of c.args.rest))
     (λ nodes. nodes_of nodes ≡ before (piece_of c.args.part) (nodes_of c.args.rest))
     (λ nodes e. e ∙ ap (λ p. before (piece_of p) (nodes_of c.args.rest)) (sym c.in-Group.is)) c.after_group.ensures

@@ -13,4 +13,4 @@ pub returns-in-Group : goal.returns-in-Group
 returns-in-Group c = c.group_of.ensures ∙ piece_group c.args.buffers.now c.args.clashing.now c.args.member.now.id c.args.member.now.kind c.args.member.now.running c.args.member.now.payload.now (nodes_of c.args.inner) c.if-not-member.false c.in-Group.is
 
 pub returns-in-Parallel : goal.returns-in-Parallel
-returns-in-Parallel c = c.group_of-in-Parallel.ensures ∙ piece_parallel c.args.buffers.now c.args.clashing.now c.args.member.now.id c.args.member.now.kind c.args.member.now.running c.args.member.now.payload.now (nodes_of c.args.inner) c.is_split-split.result c.if-not-member.false c.in-Parallel.is c.is_split-split.ensures
+returns-in-Parallel c = c.group_of-in-Parallel.ensures ∙ piece_parallel c.args.buffers.now c.args.clashing.now c.args.member.now.id c.args.member.now.kind c.args.member.now.running c.args.member.now.payload.now (nodes_of c.args.inner) c.may_split-split.result c.if-not-member.false c.in-Parallel.is c.may_split-split.ensures

@@ -40,12 +40,15 @@ loop-member-preserved c =
       states = (states_parts (map row_of c.pop.new.self.items) (row_of c.in-Some.member) (subst (λ (ms : List (Label Held × ℕ)). All Ends (states_at ms)) e i.states)).0;
     }
 
-pub returns : goal.returns
-returns c =
+pub returns-clause-nodes : goal.returns-clause-nodes
+returns-clause-nodes c =
     let stage = c.args.stage.now in
     let t = subtree (pos 0) stage.tree.attached in
     let none_is : c.loop-member.members.items ≡ [] = nil_from_length c.loop-member.members.items (omega (arith, c.in_default.ensures.cases.0, c.loop-member.members.ok.0)) in
     let all = sym (ap (λ ms. built stage.buffers c.args.clashing.now (map row_of ms) (pieces c.loop-member.parts.items)) none_is) ∙ c.loop-member.invariant.all in
     let few : length (pieces c.loop-member.parts.items) ≤ c.len-count.result = omega (arith, length-pieces c.loop-member.parts.items, c.len-count.ensures, c.loop-member.parts.ok.0) in
     let whole = linked_whole stage.buffers c.args.clashing.now t (pieces c.loop-member.parts.items) c.len-count.result few all in
-    ap nodes_of c.into_nodes.ensures ∙ c.in_ok-nodes.ensures.nodes ∙ whole
+    ap nodes_of c.into_nodes.ensures.same ∙ c.in_ok-nodes.ensures.nodes ∙ whole
+
+pub returns-clause-noted : goal.returns-clause-noted
+returns-clause-noted c = c.into_nodes.ensures.noted

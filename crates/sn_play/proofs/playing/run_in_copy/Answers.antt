@@ -1,15 +1,23 @@
-use Rattle.std.proofs.Common.{◌≡◌, ℕ, List, ap, subst, sym, ◌∙◌}
-use Rattle.std.specs.List.{All}
+use Rattle.std.proofs.Common.{◌≡◌, ℕ, List, length, ap, subst, sym, ◌∙◌}
 use Rattle.sn_mem.specs.declared.extents.Foot.{Foot}
 use Rattle.sn_mem.specs.declared.local.LocalRest.{LocalRest}
 use Rattle.sn_mem.specs.ThroughFoot.{outside}
 use Rattle.sn_mem.specs.Copies.{localized}
-use Rattle.sn_play.specs.Named.{CanRun, held_at, words_by_ids}
+use Rattle.sn_graph.specs.Plans.{runs_of}
+use Rattle.sn_play.specs.Steps.{CanMoveAll, lane_steps}
 use Rattle.sn_play.proofs.Copied.{seen_outside}
 use Rattle.sn_play.proofs.playing.run_in_copy.Goals as goal
 
 pub run_nodes-requires-clause-nodes : goal.run_nodes-requires-clause-nodes
-run_nodes-requires-clause-nodes g c = subst (λ (f : Foot). All (λ id. CanRun c.args.stage.now f (held_at c.args.stage.now id)) c.args.nodes.now) (sym c.new-local.ensures.foot) c.requires.nodes
+run_nodes-requires-clause-nodes g c =
+    let f = g.P.Port.foot c.args.port.now in
+    let base = g.P.Port.words c.args.port.now in
+    let first = c.new-local.result in
+    let seen : localized (g.P.Port.foot first.port.now) (g.P.Port.words first.port.now) first.copy.now ≡ base =
+    ap (λ (h : Foot). localized h (g.P.Port.words first.port.now) first.copy.now) c.new-local.ensures.foot
+    ∙ (ap (λ (ws : List ℕ). localized f ws first.copy.now) c.new-local.ensures.port ∙ c.new-local.ensures.words) in
+    subst (λ (n : ℕ). CanMoveAll c.args.stage.now c.args.block c.args.nodes.now c.args.moves.now (g.P.Port.foot first.port.now) n) (sym (ap (λ (ws : List ℕ). length ws) seen))
+    (subst (λ (h : Foot). CanMoveAll c.args.stage.now c.args.block c.args.nodes.now c.args.moves.now h (length base)) (sym c.new-local.ensures.foot) c.requires.nodes)
 
 pub flush-requires-clause-outside : goal.flush-requires-clause-outside
 flush-requires-clause-outside g c =
@@ -17,7 +25,7 @@ flush-requires-clause-outside g c =
     let base = g.P.Port.words c.args.port.now in
     let first = c.new-local.result in
     let last = c.run_nodes.new.port in
-    let change : List ℕ → List ℕ = λ (ws : List ℕ). words_by_ids c.args.stage.now c.args.block c.args.nodes.now ws in
+    let change : List ℕ → List ℕ = λ (ws : List ℕ). lane_steps c.args.stage.now c.args.block (runs_of c.args.nodes.now c.args.moves.now) ws in
     let seen : localized (g.P.Port.foot first.port.now) (g.P.Port.words first.port.now) first.copy.now ≡ base =
     ap (λ (h : Foot). localized h (g.P.Port.words first.port.now) first.copy.now) c.new-local.ensures.foot
     ∙ (ap (λ (ws : List ℕ). localized f ws first.copy.now) c.new-local.ensures.port ∙ c.new-local.ensures.words) in

@@ -1,7 +1,6 @@
-use Rattle.std.proofs.Common.{◌≡◌, ◌∙◌, refl, subst, sym, List}
+use Rattle.std.proofs.Common.{◌≡◌, ◌∙◌, refl, subst, sym}
 use Rattle.std.proofs.lemmas.Result.{IfOk-weaker}
 use Rattle.sn_ports.specs.Octets.{Octets}
-use Rattle.sn_round.specs.declared.jobs.Job.{Job}
 use Rattle.sn_report.specs.Costs.{units_in}
 use Rattle.sn_report.specs.Lines.{EachHasLongest, IsLongest, TellsEach}
 use Rattle.sn_report.specs.Reports.{report_in, stage_weight}
@@ -24,6 +23,9 @@ returns-clause-text c =
     IfOk-weaker c.report.result (λ (t : Octets). t.bytes ≡ report_in stage) (λ (t : Octets). TellsEach stage t.bytes)
     (λ t e words. e ∙ sym (same_report stage words)) c.report.ensures.text
 
+pub report-requires : goal.report-requires
+report-requires c = (0, c.in_ok-plan.ensures.jobs)
+
 pub returns-clause-longest : goal.returns-clause-longest
 returns-clause-longest c =
     let stage = c.args.stage.now in
@@ -32,6 +34,8 @@ returns-clause-longest c =
       stage = stage;
       words = words;
       stands = refl;
-      longest = subst (λ (p : List Job × Weight). IsLongest (units_in stage) p.0 p.1) (λ i. (c.in_ok-plan.ensures.jobs i, sym (same_weight stage words) i)) longest;
+      jobs = c.in_ok-plan.plan;
+      plan = (0, c.in_ok-plan.ensures.jobs);
+      longest = subst (λ (w : Weight). IsLongest (units_in stage) c.in_ok-plan.plan w) (sym (same_weight stage words)) longest;
     })
     c.report.ensures.longest

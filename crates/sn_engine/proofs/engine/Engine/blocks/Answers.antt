@@ -1,12 +1,14 @@
-use Rattle.std.proofs.Common.{◌≡◌, ◌+◌, ◌∙◌, length, refl, ap, subst, arith, rules}
+use Rattle.std.proofs.Common.{◌≡◌, ◌+◌, ◌∙◌, length, refl, ap, sym, subst, arith, rules}
 use Rattle.std.specs.Prelude.{vec_capacity}
 use Rattle.sn_tree.specs.Trees.{running_labels}
 use Rattle.sn_world.specs.SettleWords.{walk_room}
 use Rattle.sn_world.specs.World.{world_of}
 use Rattle.sn_engine.specs.Keeping.{HasRoom, IsRoom}
+use Rattle.sn_engine.specs.Planning.{LanesRest}
 use Rattle.sn_engine.specs.Playing.{Playing}
 use Rattle.sn_engine.specs.declared.standing.Standing.{Standing}
 use Rattle.sn_engine.specs.declared.standing.Standing.TheVariants.{Bounded}
+use Rattle.sn_engine.proofs.LaneLemmas.{still_laned}
 use Rattle.sn_engine.proofs.Pasts.{running_is, past_is}
 use Rattle.sn_engine.proofs.RowLemmas.{at_least_one, at_most_many, row_played, rounds_rested, still_copied}
 use Rattle.sn_engine.proofs.engine.Engine.blocks.Goals as goal
@@ -26,6 +28,12 @@ render-requires-clause-spanned g c κs within =
 
 pub render-requires-clause-copies : goal.render-requires-clause-copies
 render-requires-clause-copies g c κs within = c.self.invariant.10
+
+pub render-requires-clause-lanes : goal.render-requires-clause-lanes
+render-requires-clause-lanes g c κs within = c.self.invariant.11
+
+pub render-requires-clause-resting : goal.render-requires-clause-resting
+render-requires-clause-resting g c κs within = c.self.invariant.12
 
 pub render-requires-clause-some : goal.render-requires-clause-some
 render-requires-clause-some g c κs within = at_least_one c.args.self.now c.args.n c.requires.quiet
@@ -61,6 +69,7 @@ invariant_of-self g c =
     let standing : e.standing ≡ Bounded = ap (λ (p : Playing). p.running.standing) c.self.view_is ∙ c.requires.bounded in
     let room : HasRoom Bounded e.sound.spare (vec_capacity e.samples) most e.endings.spare e.replies.items =
     subst (λ (s : Standing). HasRoom s e.sound.spare (vec_capacity e.samples) most e.endings.spare e.replies.items) standing i.2 in
+    let number : c.from.result ≡ c.args.n = search rules in
     let kept : IsRoom Bounded e.room most = subst (λ (s : Standing). IsRoom s e.room most) standing i.3 in (
       c.render.ensures.pictures,
       i.1,
@@ -73,6 +82,8 @@ invariant_of-self g c =
       λ e. absurd cc,
       i.9,
       still_copied e.settings.channels e.stage e.stage e.memory.words c.render.new.memory.words e.outputs e.copies refl c.render.ensures.length i.10,
+      still_laned e.stage e.stage e.memory.words c.render.new.memory.words refl c.render.ensures.length i.11,
+      subst (λ n. LanesRest e.stage (e.block + n) c.render.new.memory.words) (sym number) c.render.ensures.resting,
     )
 
 pub returns-clause-running : goal.returns-clause-running

@@ -16,6 +16,7 @@ use Rattle.sn_engine.specs.Running.{Running, at_boundary}
 use Rattle.sn_engine.specs.declared.standing.Standing.TheVariants.{Bounded, Spent}
 use Rattle.sn_engine.proofs.Bounded.{bounded, rest_kept}
 use Rattle.sn_engine.proofs.ClientLemmas.{none_lost, none_sent, front_waits, all_waits}
+use Rattle.sn_engine.proofs.LaneLemmas.{rest_on, still_laned}
 use Rattle.sn_engine.proofs.OfferLemmas.{on_err}
 use Rattle.sn_engine.proofs.Pasts.{running_is, past_is, rested_kept}
 use Rattle.sn_engine.proofs.PlanLemmas.{planned_again}
@@ -207,15 +208,21 @@ unroll-requires-clause-spanned c = c.in_ok-quits.ensures.spanned c.self.inside.o
 pub act_boundary-requires-clause-planned : goal.act_boundary-requires-clause-planned
 act_boundary-requires-clause-planned c = c.self.invariant.7
 
+pub act_boundary-requires-clause-copies : goal.act_boundary-requires-clause-copies
+act_boundary-requires-clause-copies c = c.self.invariant.10.at
+
+pub act_boundary-requires-clause-lanes : goal.act_boundary-requires-clause-lanes
+act_boundary-requires-clause-lanes c = omega (arith, c.self.invariant.11.bounded, c.self.invariant.10.at)
+
 -- ---- what holds when it returns
 
 pub invariant_of-self : goal.invariant_of-self
 invariant_of-self c =
-    let i = c.self.invariant in (i.0, i.1, tt, tt, i.4, i.5, i.6, i.7, λ e. absurd cc, i.9, i.10)
+    let i = c.self.invariant in (i.0, i.1, tt, tt, i.4, i.5, i.6, i.7, λ e. absurd cc, i.9, i.10, i.11, i.12)
 
 pub invariant_of-self-in_err-reserve-2 : goal.invariant_of-self-in_err-reserve-2
 invariant_of-self-in_err-reserve-2 c =
-    let i = c.self.invariant in (i.0, i.1, tt, tt, i.4, i.5, i.6, i.7, λ e. absurd cc, i.9, i.10)
+    let i = c.self.invariant in (i.0, i.1, tt, tt, i.4, i.5, i.6, i.7, λ e. absurd cc, i.9, i.10, i.11, i.12)
 
 pub invariant_of-self-in_err-quits : goal.invariant_of-self-in_err-quits
 invariant_of-self-in_err-quits c =
@@ -233,6 +240,8 @@ invariant_of-self-in_err-quits c =
       λ e. absurd cc,
       λ on. absurd cc,
       still_copied e.settings.channels e.stage acted.new.stage e.memory.words acted.new.port.words e.outputs e.copies acted.ensures.region acted.ensures.len i.10,
+      still_laned e.stage acted.new.stage e.memory.words acted.new.port.words acted.ensures.region acted.ensures.len i.11,
+      rest_on e.stage acted.new.stage e.block e.memory.words acted.new.port.words i.0.base acted.ensures.region acted.ensures.others i.12,
     )
 
 pub invariant_of-self-in_err-unroll : goal.invariant_of-self-in_err-unroll
@@ -251,6 +260,8 @@ invariant_of-self-in_err-unroll c =
       λ e. absurd cc,
       λ on. absurd cc,
       still_copied e.settings.channels e.stage acted.new.stage e.memory.words acted.new.port.words e.outputs e.copies acted.ensures.region acted.ensures.len i.10,
+      still_laned e.stage acted.new.stage e.memory.words acted.new.port.words acted.ensures.region acted.ensures.len i.11,
+      rest_on e.stage acted.new.stage e.block e.memory.words acted.new.port.words i.0.base acted.ensures.region acted.ensures.others i.12,
     )
 
 pub invariant_of-self-in_err-send : goal.invariant_of-self-in_err-send
@@ -272,6 +283,8 @@ invariant_of-self-in_err-send c =
       λ e. absurd cc,
       λ on. absurd cc,
       still_copied e.settings.channels e.stage acted.new.stage e.memory.words acted.new.port.words e.outputs e.copies acted.ensures.region acted.ensures.len i.10,
+      still_laned e.stage acted.new.stage e.memory.words acted.new.port.words acted.ensures.region acted.ensures.len i.11,
+      rest_on e.stage acted.new.stage e.block e.memory.words acted.new.port.words i.0.base acted.ensures.region acted.ensures.others i.12,
     )
 
 pub invariant_of-self-in_err-self-inside : goal.invariant_of-self-in_err-self-inside
@@ -295,6 +308,8 @@ invariant_of-self-in_err-self-inside c =
       λ e. absurd cc,
       λ on. absurd cc,
       still_copied e.settings.channels e.stage acted.new.stage e.memory.words acted.new.port.words e.outputs e.copies acted.ensures.region acted.ensures.len i.10,
+      still_laned e.stage acted.new.stage e.memory.words acted.new.port.words acted.ensures.region acted.ensures.len i.11,
+      rest_on e.stage acted.new.stage e.block e.memory.words acted.new.port.words i.0.base acted.ensures.region acted.ensures.others i.12,
     )
 
 pub invariant_of-self-2 : goal.invariant_of-self-2
@@ -322,4 +337,6 @@ invariant_of-self-2 c =
       λ e. refl,
       λ on. c.in_ok-unroll.ensures.spanned,
       still_copied e.settings.channels e.stage acted.new.stage e.memory.words acted.new.port.words e.outputs e.copies acted.ensures.region acted.ensures.len i.10,
+      still_laned e.stage acted.new.stage e.memory.words acted.new.port.words acted.ensures.region acted.ensures.len i.11,
+      rest_on e.stage acted.new.stage e.block e.memory.words acted.new.port.words i.0.base acted.ensures.region acted.ensures.others i.12,
     )

@@ -24,6 +24,8 @@ invariant_of-self g c =
       i.8,
       i.9,
       i.10,
+      i.11,
+      i.12,
     )
 
 abbrev with_replies : Running → List (List ℕ) → Running

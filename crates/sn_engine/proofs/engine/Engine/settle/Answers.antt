@@ -6,6 +6,7 @@ use Rattle.sn_ports.specs.Octets.{Octets}
 use Rattle.sn_world.specs.declared.stage.Stage.{Stage}
 use Rattle.sn_engine.specs.Holding.{AreClashesOf}
 use Rattle.sn_engine.specs.Planning.{IsPlannedFor}
+use Rattle.sn_engine.proofs.LaneLemmas.{rest_on, still_laned}
 use Rattle.sn_engine.proofs.Pasts.{past_is, rounds_kept}
 use Rattle.sn_engine.proofs.RowLemmas.{still_copied}
 use Rattle.sn_engine.proofs.engine.Engine.settle.Goals.{then-self, else-self}
@@ -39,6 +40,8 @@ invariant_of-self c =
         | else-self w ↦ absurd cc
       ],
       still_copied e.settings.channels e.stage c.settle_before-ended.new.stage e.memory.words c.settle_before-ended.new.port.words e.outputs e.copies c.settle_before-ended.ensures.region c.settle_before-ended.ensures.len i.10,
+      still_laned e.stage c.settle_before-ended.new.stage e.memory.words c.settle_before-ended.new.port.words c.settle_before-ended.ensures.region c.settle_before-ended.ensures.len i.11,
+      rest_on e.stage c.settle_before-ended.new.stage e.block e.memory.words c.settle_before-ended.new.port.words i.0.base c.settle_before-ended.ensures.region c.settle_before-ended.ensures.others i.12,
     )
 
 pub returns-clause-past : goal.returns-clause-past

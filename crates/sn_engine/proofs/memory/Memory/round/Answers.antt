@@ -1,4 +1,4 @@
-use Rattle.std.proofs.Common.{◌≡◌, ◌++◌, ◌∷◌, [], ℕ, List, length, refl, ap, sym, subst, ◌∙◌, arith}
+use Rattle.std.proofs.Common.{◌≡◌, ◌+◌, ◌++◌, ◌∷◌, [], ℕ, List, length, refl, ap, sym, subst, ◌∙◌, arith}
 use Rattle.sn_machine.specs.States.{memory_in}
 use Rattle.sn_round.specs.Jobs.{AreWithin}
 use Rattle.sn_table.specs.Answers.{main_view}
@@ -6,17 +6,18 @@ use Rattle.sn_world.specs.Pictures.{Pictures}
 use Rattle.sn_world.specs.Walk.{walk}
 use Rattle.sn_world.specs.World.{world_of}
 use Rattle.sn_world.proofs.Changes.{pictured_again}
-use Rattle.sn_play.specs.Blocks.{IsReady}
+use Rattle.sn_engine.specs.Planning.{HasLanes, LanesRest}
 use Rattle.sn_engine.specs.Remembered.{Remembered}
 use Rattle.sn_engine.proofs.HearingLemmas.{words_same}
+use Rattle.sn_engine.proofs.LaneLemmas.{block_ready}
 use Rattle.sn_engine.proofs.Memories.{wide}
 use Rattle.sn_engine.proofs.memory.Memory.round.Goals as goal
 
 pub round-requires-clause-may : goal.round-requires-clause-may
 round-requires-clause-may g c κs within =
     let before : List ℕ = memory_in (main_view c.self.inside.main).main.phase in
-    let pictures : Pictures c.args.block.now.stage.now before = subst (Pictures c.args.block.now.stage.now) (sym (words_same c.self.view_is)) c.requires.pictures in
-    c.block_is_the_walk.ensures.ready before pictures c.requires.planned.planned c.requires.early
+    let same : before ≡ c.args.self.now.words = words_same c.self.view_is in
+    block_ready c.args.block.now before (subst (Pictures c.args.block.now.stage.now) (sym same) c.requires.pictures) (subst (HasLanes c.args.block.now.stage.now) (sym same) c.requires.lanes) c.requires.planned c.requires.early
 
 pub round-requires-clause-main : goal.round-requires-clause-main
 round-requires-clause-main g c κs within = c.self.invariant.0
@@ -30,12 +31,13 @@ round-requires-clause-plan g c κs within =
     let i = c.self.invariant in
     let planned = c.requires.planned in
     let before : List ℕ = memory_in (main_view e.main).main.phase in
-    let pictures : Pictures c.args.block.now.stage.now before = subst (Pictures c.args.block.now.stage.now) (sym (words_same c.self.view_is)) c.requires.pictures in
-    let ready : IsReady c.args.block.now = c.block_is_the_walk.ensures.ready before pictures planned.planned c.requires.early in
+    let same : before ≡ c.args.self.now.words = words_same c.self.view_is in
+    let pictures : Pictures c.args.block.now.stage.now before = subst (Pictures c.args.block.now.stage.now) (sym same) c.requires.pictures in
+    let lanes : HasLanes c.args.block.now.stage.now before = subst (HasLanes c.args.block.now.stage.now) (sym same) c.requires.lanes in
     record {
       order = planned.order;
       free = planned.free;
-      within = subst (λ (n : ℕ). AreWithin n c.args.block.now.plan.now) (wide e.shared e.main i.0 i.1) (c.block_is_the_walk.ensures.feet before pictures ready);
+      within = subst (λ (n : ℕ). AreWithin n c.args.block.now.plan.now) (wide e.shared e.main i.0 i.1) (c.block_is_the_walk.ensures.feet before (block_ready c.args.block.now before pictures lanes planned c.requires.early) pictures (omega (arith, lanes.fits)));
       roomy = omega (arith, planned.few, i.2);
     }
 
@@ -51,10 +53,22 @@ returns-clause-world g c =
     let before : List ℕ = memory_in (main_view c.self.inside.main).main.phase in
     let same : before ≡ c.args.self.now.words = words_same c.self.view_is in
     let pictures : Pictures stage before = subst (Pictures stage) (sym same) c.requires.pictures in
-    let ready : IsReady c.args.block.now = c.block_is_the_walk.ensures.ready before pictures c.requires.planned.planned c.requires.early in
+    let lanes : HasLanes stage before = subst (HasLanes stage) (sym same) c.requires.lanes in
+    let resting : LanesRest stage c.args.block.now.block before = subst (LanesRest stage c.args.block.now.block) (sym same) c.requires.resting in
     ap (world_of stage) c.round.ensures.round.memory_is
-    ∙ c.block_is_the_walk.ensures.walk before pictures ready
+    ∙ c.block_is_the_walk.ensures.walk before (block_ready c.args.block.now before pictures lanes c.requires.planned c.requires.early) pictures (omega (arith, lanes.fits)) resting
     ∙ ap (λ (ws : List ℕ). walk c.args.block.now.block (world_of stage ws)) same
+
+pub returns-clause-resting : goal.returns-clause-resting
+returns-clause-resting g c =
+    let stage = c.args.block.now.stage.now in
+    let before : List ℕ = memory_in (main_view c.self.inside.main).main.phase in
+    let same : before ≡ c.args.self.now.words = words_same c.self.view_is in
+    let pictures : Pictures stage before = subst (Pictures stage) (sym same) c.requires.pictures in
+    let lanes : HasLanes stage before = subst (HasLanes stage) (sym same) c.requires.lanes in
+    let resting : LanesRest stage c.args.block.now.block before = subst (LanesRest stage c.args.block.now.block) (sym same) c.requires.resting in
+    subst (LanesRest stage (c.args.block.now.block + 1)) (sym c.round.ensures.round.memory_is)
+    (c.block_is_the_walk.ensures.rests before (block_ready c.args.block.now before pictures lanes c.requires.planned c.requires.early) pictures (omega (arith, lanes.fits)) resting)
 
 pub returns-clause-pictures : goal.returns-clause-pictures
 returns-clause-pictures g c =

@@ -1,5 +1,13 @@
-use Rattle.std.proofs.Common.{◌∙◌, arith}
+use Rattle.std.proofs.Common.{◌≡◌, ◌∙◌, ap, subst, arith}
+use Rattle.sn_graph.specs.declared.lanes.Lanes.{Lanes}
+use Rattle.sn_graph.specs.Plans.{IsPlanned, plan_of}
+use Rattle.sn_graph.specs.Stages.{nodes_with}
+use Rattle.sn_graph.specs.Voices.{HeardNodes}
+use Rattle.sn_engine.specs.Planning.{first_lane, laned_nodes}
 use Rattle.sn_engine.proofs.planning.Planned.of.Goals as goal
+
+pub lanes_behind-requires : goal.lanes_behind-requires
+lanes_behind-requires c = omega (arith, c.requires.lanes)
 
 pub plan-requires-clause-buffers : goal.plan-requires-clause-buffers
 plan-requires-clause-buffers c = c.worlds_are_disjoint.ensures.buffers c.requires.stands.words c.requires.stands.pictures
@@ -10,14 +18,28 @@ plan-requires-clause-states c = c.worlds_are_disjoint.ensures.states c.requires.
 pub plan-requires-clause-clashes : goal.plan-requires-clause-clashes
 plan-requires-clause-clashes c = c.as_slice.ensures ∙ (c.requires.clashes c.requires.stands.words ∙ c.world_has_the_clashes.ensures c.requires.stands.words)
 
+pub plan-requires-clause-most : goal.plan-requires-clause-most
+plan-requires-clause-most c = omega (arith, ap (λ (l : Lanes). l.most) c.lanes_behind.ensures)
+
+pub plan-requires-clause-end : goal.plan-requires-clause-end
+plan-requires-clause-end c = omega (arith, ap (λ (l : Lanes). l.first) c.lanes_behind.ensures, c.requires.lanes)
+
 pub returns-clause-planned : goal.returns-clause-planned
-returns-clause-planned c = record {
-  plan = record {
-    jobs_are = c.in_ok-jobs.ensures.jobs;
-    planned = c.in_ok-jobs.ensures.planned;
-    order = c.is_well_formed.ensures;
-    free = c.in_ok-jobs.ensures.race_free (c.worlds_are_disjoint.ensures.disjoint c.requires.stands.words c.requires.stands.pictures);
-    few = omega (arith, c.in_ok-jobs.ensures.few, c.len-count.ensures.value, c.len-count.ensures.bound);
-  };
-  quiet_is = c.is_quiet-quiet.ensures;
-}
+returns-clause-planned c =
+    let stage = c.args.stage.now in
+    let lanes = c.lanes_behind.result in
+    let words = c.requires.stands.words in
+    let pictures = c.requires.stands.pictures in
+    let first : lanes.first ≡ first_lane stage = omega (arith, ap (λ (l : Lanes). l.first) c.lanes_behind.ensures, c.requires.copies) in
+    let most : lanes.most ≡ 4096 = ap (λ (l : Lanes). l.most) c.lanes_behind.ensures in
+    let nodes : nodes_with lanes.first lanes.most stage ≡ laned_nodes stage = λ i. nodes_with (first i) (most i) stage in
+    record {
+      plan = record {
+        jobs_are = c.in_ok-jobs.ensures.jobs ∙ ap plan_of nodes;
+        planned = subst (λ (n : HeardNodes). IsPlanned n c.in_ok-jobs.jobs) nodes c.in_ok-jobs.ensures.planned;
+        order = c.is_well_formed.ensures;
+        free = c.in_ok-jobs.ensures.race_free (c.worlds_are_disjoint.ensures.disjoint words pictures) (c.worlds_lie_below.ensures words lanes.first pictures (omega (arith, first)));
+        few = omega (arith, c.in_ok-jobs.ensures.few, c.len-count.ensures.value, c.len-count.ensures.bound);
+      };
+      quiet_is = c.is_quiet-quiet.ensures;
+    }

@@ -3,7 +3,8 @@ use Rattle.sn_mem.specs.declared.extents.Extent.{Extent}
 use Rattle.sn_span.specs.Captures.{CanCapture, captured}
 use Rattle.sn_span.specs.Unrolling.{start}
 use Rattle.sn_play.specs.declared.span.Span.{Span}
-use Rattle.sn_play.specs.Blocks.{outcome_of}
+use Rattle.sn_play.specs.Blocks.{IsReady, outcome_of}
+use Rattle.sn_play.proofs.Spanned.{block_ready}
 use Rattle.sn_play.proofs.SpanRuns.{capture_can, capture_makes, few_jobs, in_block, job_foot, job_makes}
 use Rattle.sn_play.proofs.span.SpanWork.run.Goals as goal
 
@@ -23,14 +24,14 @@ overflow_mul-at g c =
     let w : Span = c.args.self.now in
     let p = c.place_of-place in
     let low : p.result.block < w.blocks = in_block w c.requires.ready c.args.job p.result.block p.result.number c.requires.job (at_place (length w.first.plan.now) c.jobs-jobs.result c.args.job p.result.block p.result.number c.jobs-jobs.ensures p.ensures.place) in
-    omega (arith, low, c.requires.ready.bounded)
+    omega (arith, low, c.requires.ready.before, c.requires.ready.bounded)
 
 pub overflow_add-at : goal.overflow_add-at
 overflow_add-at g c =
     let w : Span = c.args.self.now in
     let p = c.place_of-place in
     let low : p.result.block < w.blocks = in_block w c.requires.ready c.args.job p.result.block p.result.number c.requires.job (at_place (length w.first.plan.now) c.jobs-jobs.result c.args.job p.result.block p.result.number c.jobs-jobs.ensures p.ensures.place) in
-    omega (arith, low, c.requires.ready.bounded)
+    omega (arith, low, c.requires.ready.before, c.requires.ready.bounded)
 
 pub capture-requires-clause-can : goal.capture-requires-clause-can
 capture-requires-clause-can g c =
@@ -38,7 +39,7 @@ capture-requires-clause-can g c =
     let p = c.place_of-place in
     let e : c.args.job ≡ start (length w.first.plan.now) p.result.block + length w.first.plan.now = at_end (length w.first.plan.now) c.jobs-jobs.result c.args.job p.result.block p.result.number c.jobs-jobs.ensures p.ensures.place c.if-place-jobs.true in
     subst (λ (es : List Extent). CanCapture (g.P.Port.foot c.args.port.now) es (w.copies + 512 * p.result.block)) (sym c.as_slice.ensures)
-    (capture_can w c.requires.ready c.root_holds_all.ensures c.args.job p.result.block (g.P.Port.foot c.args.port.now) c.requires.job e c.requires.foot)
+    (capture_can w c.requires.ready c.root_holds_all.ensures c.ids_are_distinct.ensures c.args.job p.result.block (g.P.Port.foot c.args.port.now) c.requires.job e c.requires.foot)
 
 pub capture-requires-clause-block : goal.capture-requires-clause-block
 capture-requires-clause-block g c =
@@ -53,13 +54,13 @@ run-requires-clause-ready g c =
     let r = c.requires.ready in
     let p = c.place_of-place in
     let low : p.result.block < w.blocks = in_block w r c.args.job p.result.block p.result.number c.requires.job (at_place (length w.first.plan.now) c.jobs-jobs.result c.args.job p.result.block p.result.number c.jobs-jobs.ensures p.ensures.place) in
-    record { words = r.words; pictures = r.pictures; planned = r.planned; early = omega (arith, r.early, low, c.from.ensures) }
+    subst (λ (n : ℕ). IsReady (record w.first { block = n })) (ap (λ (k : ℕ). w.first.block + k) (sym c.from.ensures)) (block_ready w c.root_holds_all.ensures c.ids_are_distinct.ensures r p.result.block low)
 
 pub run-requires-clause-foot : goal.run-requires-clause-foot
 run-requires-clause-foot g c =
     let w : Span = c.args.self.now in
     let p = c.place_of-place in
-    job_foot w c.requires.ready c.root_holds_all.ensures c.args.job p.result.block p.result.number (g.P.Port.foot c.args.port.now) c.requires.job
+    job_foot w c.requires.ready c.root_holds_all.ensures c.ids_are_distinct.ensures c.args.job p.result.block p.result.number (g.P.Port.foot c.args.port.now) c.requires.job
     (at_place (length w.first.plan.now) c.jobs-jobs.result c.args.job p.result.block p.result.number c.jobs-jobs.ensures p.ensures.place)
     (omega (arith, p.ensures.number, c.if-place-jobs.false, c.jobs-jobs.ensures))
     c.requires.foot
@@ -73,7 +74,7 @@ returns-then-place-jobs-clause-words g c =
     c.capture.ensures.words
     ∙ (ap (λ (es : List Extent). captured es (w.copies + 512 * p.result.block) (w.first.block + c.from.result) ws) c.as_slice.ensures
     ∙ (ap (λ b. captured w.outputs.now (w.copies + 512 * p.result.block) (w.first.block + b) ws) c.from.ensures
-    ∙ capture_makes w c.requires.ready c.root_holds_all.ensures c.args.job p.result.block ws c.requires.job e))
+    ∙ capture_makes w c.requires.ready c.root_holds_all.ensures c.ids_are_distinct.ensures c.args.job p.result.block ws c.requires.job e))
 
 pub returns-else-place-jobs-clause-words : goal.returns-else-place-jobs-clause-words
 returns-else-place-jobs-clause-words g c =
@@ -82,6 +83,6 @@ returns-else-place-jobs-clause-words g c =
     let ws : List ℕ = g.P.Port.words c.args.port.now in
     c.run.ensures.words
     ∙ (ap (λ b. outcome_of (record w.first { block = w.first.block + b }) p.result.number ws) c.from.ensures
-    ∙ job_makes w c.requires.ready c.root_holds_all.ensures c.args.job p.result.block p.result.number ws c.requires.job
+    ∙ job_makes w c.requires.ready c.root_holds_all.ensures c.ids_are_distinct.ensures c.args.job p.result.block p.result.number ws c.requires.job
     (at_place (length w.first.plan.now) c.jobs-jobs.result c.args.job p.result.block p.result.number c.jobs-jobs.ensures p.ensures.place)
     (omega (arith, p.ensures.number, c.if-place-jobs.false, c.jobs-jobs.ensures)))

@@ -1,0 +1,121 @@
+//! A port on which buses are moved onto lanes.
+ghost use Rattle.std.specs.List.{All};
+ghost use Rattle.std.specs.Prelude.{◌≡◌, ◌+◌, ◌-◌, true};
+ghost use Rattle.sn_mem.specs.Words.{covers};
+ghost use Rattle.sn_mem.specs.Lanes.{HasRoom, place_in};
+
+use crate::extents::{Extent, Foot};
+use crate::moves::Moved;
+use crate::port::Port;
+use std::collections::LinkedList;
+
+fn covers(extent: Extent, at: u32) -> bool
+    ensures { result ≡ covers extent at }
+{
+    let begin = extent.at as u64;
+    begin <= at as u64 && (at as u64) < begin + extent.len as u64
+}
+
+/// Where a word of a bus stands on its lane.
+fn in_lane(moved: &Moved, at: u32) -> u32
+    requires room { HasRoom moved.now }
+    requires covers { covers moved.now.bus at ≡ true }
+    ensures { result ≡ moved.now.lane.at + (at - moved.now.bus.at) }
+{
+    let offset = at - moved.bus.at;
+    moved.lane.at + offset
+}
+
+/// Where a word of a lane stands on its bus.
+fn in_bus(moved: &Moved, at: u32) -> u32
+    requires room { HasRoom moved.now }
+    requires covers { covers moved.now.lane at ≡ true }
+    ensures { result ≡ moved.now.bus.at + (at - moved.now.lane.at) }
+{
+    let offset = at - moved.lane.at;
+    moved.bus.at + offset
+}
+
+/// Where a word of the view stands: a bus and its lane change places.
+fn place_in(moves: &[Moved], at: u32) -> u32
+    requires { All HasRoom moves.now }
+    ensures { result ≡ place_in moves.now at }
+{
+    for moved in moves {
+        if covers(moved.bus, at) {
+            return in_lane(moved, at);
+        }
+        if covers(moved.lane, at) {
+            return in_bus(moved, at);
+        }
+    }
+    at
+}
+
+/// What calls of such a port leave as it is: the type of a value of which contracts alone speak. No value of it is made when the program
+/// runs, so its linked list is never built.
+pub struct LaneRest<R> {
+    /// The name of the reference to the port.
+    pub port: u64,
+    /// The buses that are moved.
+    pub moves: LinkedList<Moved>,
+    /// What may be read and written on the port.
+    pub foot: Foot,
+    /// What the port itself keeps.
+    pub rest: R,
+}
+
+/// A port on which buses are moved onto lanes: what is loaded from a bus, or stored in it, is a word of its lane.
+///
+/// Buses and lanes have 65 words each, which lie in the port's words, and no two of them share a word. If they don't, nothing may be loaded or
+/// stored. Lanes can't be seen by themselves.
+pub struct LanePort<'a, P> {
+    /// The port.
+    pub port: &'a mut P,
+    /// The buses that are moved, with their lanes.
+    pub moves: &'a [Moved],
+}
+
+impl<'a, P: Port> LanePort<'a, P> {
+    /// The port, with these buses moved.
+    pub fn new(port: &'a mut P, moves: &'a [Moved]) -> LanePort<'a, P>
+        ensures same_reference { result.port.ghost_name ≡ port.entry.ghost_name }
+        ensures same { result.port.now ≡ port.old }
+        ensures moves { result.moves.now ≡ moves.now }
+    {
+        LanePort { port, moves }
+    }
+}
+
+impl<P> Drop for LanePort<'_, P> {
+    fn drop(self)
+        ensures { self.exit.0.now ≡ self.entry.port.now }
+    {
+        let LanePort { port: _, moves: _ } = self;
+    }
+}
+
+impl<P: Port> Port for LanePort<'_, P> {
+    ghost use Rattle.std.specs.Prelude.{length};
+    ghost use Rattle.sn_mem.specs.Lanes.{exchanged, foot_through};
+
+    type Rest = LaneRest<P::Rest>;
+
+    ghost words = { λ p. exchanged p.moves.now (P.words p.port.now) };
+
+    ghost foot = { λ p. foot_through p.moves.now (length (P.words p.port.now)) (P.foot p.port.now) };
+
+    ghost rest = { λ p. record { port = p.port.ghost_name; moves = p.moves.now; foot = P.foot p.port.now; rest = P.rest p.port.now } };
+
+    fn load(&mut self, at: u32) -> u64 {
+        self.port.load(place_in(self.moves, at))
+    }
+
+    fn store(&mut self, at: u32, value: u64) {
+        self.port.store(place_in(self.moves, at), value);
+    }
+
+    ghost use Rattle.sn_mem.specs.Through.{through_inside};
+
+    ghost inside = { λ p x t. through_inside p.moves.now (P.words p.port.now) (P.foot p.port.now) x t };
+}

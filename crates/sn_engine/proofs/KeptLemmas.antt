@@ -16,6 +16,7 @@ use Rattle.sn_graph.specs.Lanes.{with_lanes}
 use Rattle.sn_graph.specs.Voices.{HeardNodes}
 use Rattle.sn_graph.specs.Plans.{IsPlanned, plan_of}
 use Rattle.sn_layout.specs.Layout.{layout_of}
+use Rattle.sn_settle.specs.declared.eventful.Eventful.{Eventful}
 use Rattle.sn_layout.specs.Leaving.{LeavesLayout}
 use Rattle.sn_layout.proofs.Voices.{clashes_alike, quiet_alike, nodes_alike, clashes_anyhow, quiet_anyhow}
 use Rattle.sn_engine.specs.declared.acting.Asked.{Asked}
@@ -24,6 +25,7 @@ use Rattle.sn_engine.specs.Clashing.{told_clashes}
 use Rattle.sn_engine.specs.Holding.{AreClashesOf, LayoutStays}
 use Rattle.sn_engine.specs.Planning.{IsPlanOf, IsPlannedFor, first_lane, laned_nodes}
 use Rattle.sn_engine.proofs.ActingLemmas.{both-assoc}
+use Rattle.sn_engine.proofs.EventfulLemmas.{eventful_stays}
 use Rattle.sn_engine.proofs.CompletionLemmas.{none_carried}
 use Rattle.sn_engine.proofs.ToldLemmas.{none_told}
 
@@ -84,10 +86,11 @@ module _ (old new : Stage) (us vs : List ℕ) (same : layout_of (world_of new vs
         few = h.few;
       }
 
-  pub planned_stays : (jobs : List Job) (quiet : Bool) → new.pool.region ≡ old.pool.region → IsPlannedFor old jobs quiet → IsPlannedFor new jobs quiet
-  planned_stays jobs quiet region h = record {
+  pub planned_stays : (jobs : List Job) (quiet : Bool) (eventful : Eventful) → new.pool.region ≡ old.pool.region → IsPlannedFor old jobs quiet eventful → IsPlannedFor new jobs quiet eventful
+  planned_stays jobs quiet eventful region h = record {
     plan = plan_stays jobs region h.plan;
     quiet_is = λ words. h.quiet_is us ∙ quiet_alike (world_of old us) (world_of new vs) (sym same) ∙ quiet_anyhow new vs words;
+    eventful_is = eventful_stays old new us vs same eventful h.eventful_is;
   }
 
 -- clashes that stay are not told again

@@ -17,6 +17,7 @@ pub mod QuietLemmas
 pub mod Pasts
 pub mod Memories
 pub mod PlanLemmas
+pub mod EventfulLemmas
 pub mod LaneLemmas
 pub mod KeptLemmas
 pub mod SpanLaws

@@ -3,6 +3,7 @@ use Rattle.std.proofs.Common.{◌≡◌, ℕ, Bool, List, [], sym, subst, arith}
 use Rattle.sn_mem.specs.declared.extents.Extent.{Extent}
 use Rattle.sn_round.specs.declared.jobs.Job.{Job}
 use Rattle.sn_round.specs.Jobs.{AreJobs}
+use Rattle.sn_settle.specs.declared.eventful.Eventful.{Eventful}
 use Rattle.sn_world.specs.declared.stage.Stage.{Stage}
 use Rattle.sn_engine.specs.Planning.{IsPlannedFor, IsSpanned}
 
@@ -17,6 +18,7 @@ none_spanned jobs outputs copies all blocks none = record {
   free = λ two. absurd (omega (arith, two, none));
 }
 
--- the same where the jobs are, and whether they are quiet
-pub planned_again : (stage : Stage) (old new : List Job) (before after : Bool) → new ≡ old → after ≡ before → IsPlannedFor stage old before → IsPlannedFor stage new after
-planned_again stage old new before after jobs quiet h = subst (λ (js : List Job). IsPlannedFor stage js after) (sym jobs) (subst (λ (b : Bool). IsPlannedFor stage old b) (sym quiet) h)
+-- the same where the jobs are, whether they are quiet, and the synths that are listed
+pub planned_again : (stage : Stage) (old new : List Job) (before after : Bool) (some same : Eventful) → new ≡ old → after ≡ before → same ≡ some → IsPlannedFor stage old before some → IsPlannedFor stage new after same
+planned_again stage old new before after some same jobs quiet eventful h =
+    subst (λ (js : List Job). IsPlannedFor stage js after same) (sym jobs) (subst (λ (b : Bool). IsPlannedFor stage old b same) (sym quiet) (subst (IsPlannedFor stage old before) (sym eventful) h))

@@ -15,6 +15,8 @@ use Rattle.sn_quiet.specs.Quiet.{are_quiet}
 use Rattle.sn_world.specs.declared.stage.Stage.{Stage}
 use Rattle.sn_world.specs.Pictures.{Pictures}
 use Rattle.sn_world.specs.World.{World, world_of}
+use Rattle.sn_settle.specs.declared.eventful.Eventful.{Eventful}
+use Rattle.sn_settle.specs.Eventful.{IsEventfulOf}
 use Rattle.sn_graph.specs.Plans.{IsPlanned, plan_of}
 use Rattle.sn_graph.specs.Stages.{nodes_with}
 use Rattle.sn_graph.specs.Voices.{HeardNodes}
@@ -22,7 +24,7 @@ use Rattle.sn_play.specs.declared.span.Span.{Span}
 use Rattle.sn_play.specs.Blocks.{AreResting}
 use Rattle.sn_play.specs.Spans.{IsSpanReady}
 use Rattle.sn_engine.specs.declared.standing.Standing.{Standing}
-use Rattle.sn_engine.specs.declared.standing.Standing.TheVariants.{Bounded}
+use Rattle.sn_engine.specs.declared.standing.Standing.TheVariants.{Bounded, Rendered}
 
 -- a stage stands for a world with some words
 pub record IsPictured (stage : Stage) : Type 0 where
@@ -54,14 +56,16 @@ pub record IsPlanOf (stage : Stage) (jobs : List Job) : Type 0 where
   pub free : IsRaceFree jobs
   pub few : length jobs ≤ most_jobs
 
--- jobs are the plan of a stage, and it is told whether its nodes are quiet: no synth that runs sends a trigger, or pauses or frees itself
-pub record IsPlannedFor (stage : Stage) (jobs : List Job) (quiet : Bool) : Type 0 where
+-- Jobs are the plan of a stage. It is told whether its nodes are quiet: no synth that runs sends a trigger, or pauses or frees itself. The synths
+-- of which something may come when a block is settled are listed.
+pub record IsPlannedFor (stage : Stage) (jobs : List Job) (quiet : Bool) (eventful : Eventful) : Type 0 where
   pub plan : IsPlanOf stage jobs
   pub quiet_is : (words : List ℕ) → quiet ≡ are_quiet (world_of stage words).nodes
+  pub eventful_is : IsEventfulOf stage eventful
 
 -- so they are, where nothing is said to have changed since the plan was made
-abbrev pub StillPlanned : Bool → Stage → List Job → Bool → Type 0
-StillPlanned hold stage jobs quiet = hold ≡ true → IsPlannedFor stage jobs quiet
+abbrev pub StillPlanned : Bool → Stage → List Job → Bool → Eventful → Type 0
+StillPlanned hold stage jobs quiet eventful = hold ≡ true → IsPlannedFor stage jobs quiet eventful
 
 -- n blocks from block b on may come in a row: a round has room for their jobs, no entry is due between them, and nothing is told or done at the settlings between them
 pub record IsSpanOf (jobs : List Job) (quiet : Bool) (waiting : WaitingList) (b n : ℕ) : Type 0 where
@@ -98,6 +102,10 @@ pub record HasCopies (channels : ℕ) (stage : Stage) (words : List ℕ) (output
 -- and nothing has, behind a boundary
 abbrev pub HoldsBounded : Standing → Bool → Type 0
 HoldsBounded standing hold = standing ≡ Bounded → hold ≡ true
+
+-- nor behind its blocks, until they are settled
+abbrev pub HoldsRendered : Standing → Bool → Type 0
+HoldsRendered standing hold = standing ≡ Rendered → hold ≡ true
 
 -- a stage stands for a world
 pub record IsStageOf (world : World) (stage : Stage) : Type 0 where

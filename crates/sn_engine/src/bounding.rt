@@ -42,7 +42,7 @@ pub fn act_boundary<P: Port>(
     requires silent { said.old ≡ [] }
     requires waiting { AllAnswerable queue.old.waiting }
     requires hold { StillHold hold stage.old held.old }
-    requires planned { StillPlanned hold stage.old planned.old.jobs planned.old.quiet }
+    requires planned { StillPlanned hold stage.old planned.old.jobs planned.old.quiet planned.old.eventful }
     requires pictures { Pictures stage.old (P.words port.old) }
     requires foot { WritesWorld (P.foot port.old) stage.old.pool.region }
     requires copies { copies ≡ bus_words + stage.old.pool.region.len }
@@ -53,7 +53,7 @@ pub fn act_boundary<P: Port>(
     ensures kept { queue.new ≡ record queue.old { waiting = queue.new.waiting } }
     ensures clashes { OnOk result (held.new ≡ clashes_at now queue.old (world_of stage.old (P.words port.old))) }
     ensures hold { OnOk result (StillHold true stage.new held.new) }
-    ensures planned { OnOk result (IsPlannedFor stage.new planned.new.jobs planned.new.quiet) }
+    ensures planned { OnOk result (IsPlannedFor stage.new planned.new.jobs planned.new.quiet planned.new.eventful) }
     ensures spanned { OnOk result ((outputs : List Extent) (copies : ℕ) → StillSpanned hold planned.old.jobs outputs copies planned.old.all planned.old.blocks → IsSpanned planned.new.jobs outputs copies planned.new.all planned.new.blocks) }
     ensures replies { OnOk result (said.new ≡ replies_at now queue.old held.old (world_of stage.old (P.words port.old))) }
     ensures waiting { AllAnswerable queue.new.waiting }

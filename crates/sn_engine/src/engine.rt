@@ -98,7 +98,7 @@ impl Model for Engine {
     ghost use Rattle.sn_world.specs.SettleWords.{walk_room};
     ghost use Rattle.sn_engine.specs.Keeping.{HasRoom, IsRoom};
     ghost use Rattle.sn_engine.specs.Holding.{StillHold};
-    ghost use Rattle.sn_engine.specs.Planning.{HasCopies, HasLanes, LanesRest, StillPlanned, StillSpanned, HoldsBounded};
+    ghost use Rattle.sn_engine.specs.Planning.{HasCopies, HasLanes, LanesRest, StillPlanned, StillSpanned, HoldsBounded, HoldsRendered};
     ghost use Rattle.sn_ports.specs.Limits.{most_clients};
 
     ghost Value = { Playing };
@@ -112,9 +112,9 @@ impl Model for Engine {
 
     ghost invariant = { λ e. Pictures e.stage e.memory.words × AllAnswerable e.queue.waiting × HasRoom e.standing e.sound.spare (vec_capacity e.samples) (walk_room (running_labels e.stage.tree.attached)) e.endings.spare e.replies.items
         × IsRoom e.standing e.room (walk_room (running_labels e.stage.tree.attached)) × (e.room < 2 ^ 30) × (length e.replies.items ≤ most_clients)
-        × StillHold e.holds e.stage e.clashes × StillPlanned e.holds e.stage e.planned.jobs e.planned.quiet × HoldsBounded e.standing e.holds
+        × StillHold e.holds e.stage e.clashes × StillPlanned e.holds e.stage e.planned.jobs e.planned.quiet e.planned.eventful × HoldsBounded e.standing e.holds
         × StillSpanned e.holds e.planned.jobs e.outputs e.copies e.planned.all e.planned.blocks
-        × HasCopies e.settings.channels e.stage e.memory.words e.outputs e.copies × HasLanes e.stage e.memory.words × LanesRest e.stage e.block e.memory.words };
+        × HasCopies e.settings.channels e.stage e.memory.words e.outputs e.copies × HasLanes e.stage e.memory.words × LanesRest e.stage e.block e.memory.words × HoldsRendered e.standing e.holds };
 }
 
 /// Whether a boundary was done, and its blocks are next.
@@ -347,7 +347,8 @@ impl Engine {
         self.planned
             .unroll(alloc, blocks, workers, &self.outputs, self.copies)?;
         send(&mut self.replies, 0, said)?;
-        self.room = reserve_settling(&self.stage, &mut self.endings, &mut self.replies)?;
+        let most = self.planned.eventful.room();
+        self.room = reserve_settling(most, &mut self.endings, &mut self.replies)?;
         self.holds = true;
         self.standing = Standing::Bounded;
         Ok(if quits { Flow::Quit } else { Flow::On })
@@ -430,6 +431,7 @@ impl Engine {
     {
         let ended = settle_before(
             &mut self.stage,
+            &self.planned.eventful,
             &mut self.memory,
             self.block,
             &mut self.endings,

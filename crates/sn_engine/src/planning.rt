@@ -18,6 +18,7 @@ use sn_ports::limits::{MOST_COUNT, MOST_SPAN};
 use sn_queue::Queue;
 use sn_quiet::is_quiet;
 use sn_round::Plan;
+use sn_settle::Eventful;
 use sn_span::{COPY_WORDS, unroll};
 use sn_world::Stage;
 use std::alloc::Global;
@@ -29,6 +30,8 @@ pub struct Planned {
     pub jobs: Plan,
     /// Whether no synth that runs sends a trigger, or pauses or frees itself at the end of a unit.
     pub quiet: bool,
+    /// The synths of which something may come when a block is settled.
+    pub eventful: Eventful,
     /// How many units can run beside the longest chain of jobs.
     pub beside: u32,
     /// The jobs in several blocks.
@@ -65,6 +68,7 @@ impl Planned {
         Ok(Planned {
             jobs,
             quiet: false,
+            eventful: Eventful::nothing(alloc),
             beside: 0,
             all: no_plan(alloc)?,
             blocks: 0,
@@ -82,7 +86,7 @@ impl Planned {
         requires clashes { AreClashesOf stage.now clashes.now }
         requires copies { copies ≡ bus_words + stage.now.pool.region.len }
         requires lanes { copies + most_span * block_samples + lane_words < 4294967296 }
-        ensures planned { IfOk result (λ p. IsPlannedFor stage.now p.jobs p.quiet) }
+        ensures planned { IfOk result (λ p. IsPlannedFor stage.now p.jobs p.quiet p.eventful) }
         ensures none { IfOk result (λ p. p.blocks ≡ 0) }
     {
         // Hints for the proof alone: what a stage that stands for a world meets, and how few nodes a tree has.
@@ -95,9 +99,11 @@ impl Planned {
         let beside = units_beside(alloc, stage, &jobs)?;
         let all = no_plan(alloc)?;
         let quiet = is_quiet(stage);
+        let eventful = Eventful::of(alloc, stage)?;
         Ok(Planned {
             jobs,
             quiet,
+            eventful,
             beside,
             all,
             blocks: 0,
@@ -143,6 +149,7 @@ impl Planned {
         requires spanned { IsSpanned self.old.jobs outputs.now copies self.old.all self.old.blocks }
         ensures jobs { self.new.jobs ≡ self.old.jobs }
         ensures quiet { self.new.quiet ≡ self.old.quiet }
+        ensures eventful { self.new.eventful ≡ self.old.eventful }
         ensures spanned { OnOk result (IsSpanned self.new.jobs outputs.now copies self.new.all self.new.blocks) }
     {
         if blocks < 2 || self.blocks == blocks {

@@ -1,14 +1,11 @@
 //! Room for what the settling of a block may tell.
-ghost use Rattle.std.specs.Prelude.{◌≡◌, ◌<◌, ◌*◌, ◌^◌, map, length, IfOk, OnOk};
+ghost use Rattle.std.specs.Prelude.{◌≡◌, ◌≤◌, ◌<◌, ◌*◌, ◌^◌, map, length, IfOk, OnOk};
 ghost use Rattle.sn_ports.specs.Octets.{bytes_of};
 ghost use Rattle.sn_reply.specs.Frames.{EachHasRoom};
-ghost use Rattle.sn_tree.specs.Trees.{running_labels};
-ghost use Rattle.sn_world.specs.SettleWords.{walk_room};
 ghost use Rattle.sn_engine.specs.Keeping.{CanSettle};
 
 use sn_ports::{NoMemory, Text};
-use sn_settle::settling_room;
-use sn_world::{Endings, Stage};
+use sn_world::Endings;
 
 /// The most bytes of an event's frame.
 const EVENT_BYTES: u32 = 48;
@@ -26,19 +23,19 @@ fn reserve_each(texts: &mut [Text], room: u32) -> Result<(), NoMemory>
     reserve_each(rest, room)
 }
 
-/// Makes room for what may come of the next block. Gives how many bytes each client may be sent of it.
+/// Makes room for so many triggers and ends, which may come of the next block. Gives how many bytes each client may be sent of it.
 pub fn reserve_settling(
-    stage: &Stage,
+    most: u32,
     endings: &mut Endings,
     replies: &mut [Text],
 ) -> Result<u32, NoMemory>
+    requires few { most ≤ 2097152 }
     ensures len { length replies.new ≡ length replies.old }
     ensures bytes { map bytes_of replies.new ≡ map bytes_of replies.old }
-    ensures room { IfOk result (λ room. room ≡ 48 * walk_room (running_labels stage.now.tree.attached)) }
+    ensures room { IfOk result (λ room. room ≡ 48 * most) }
     ensures few { IfOk result (λ room. room < 2 ^ 30) }
-    ensures settles { OnOk result (CanSettle (walk_room (running_labels stage.now.tree.attached)) endings.new.spare replies.new) }
+    ensures settles { OnOk result (CanSettle most endings.new.spare replies.new) }
 {
-    let most = settling_room(stage);
     endings.reserve(most as usize)?;
     reserve_each(replies, EVENT_BYTES * most)?;
     Ok(EVENT_BYTES * most)

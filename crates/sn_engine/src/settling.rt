@@ -9,23 +9,26 @@ ghost use Rattle.sn_world.specs.Pictures.{KeepsOutside, Pictures, WritesWorld};
 ghost use Rattle.sn_world.specs.Settling.{endings_in, settled};
 ghost use Rattle.sn_world.specs.SettleWords.{walk_room};
 ghost use Rattle.sn_world.specs.World.{world_of, turn_of};
+ghost use Rattle.sn_settle.specs.Eventful.{IsEventfulOf};
 ghost use Rattle.sn_engine.specs.Keeping.{CanSettle};
 
 use sn_mem::Port;
 use sn_ports::Text;
-use sn_settle::settle;
+use sn_settle::{Eventful, settle};
 use sn_world::{Endings, Stage};
 
 /// Settles the block before block `next`: clients are sent what they are told of it. Answers `false` only where the stage stays
-/// as it is, and always where no unit ended. It takes no memory.
+/// as it is, and always where no unit ended. The eventful synths are those of the stage. It takes no memory.
 pub fn settle_before<P: Port>(
     stage: &mut Stage,
+    eventful: &Eventful,
     port: &mut P,
     next: u64,
     endings: &mut Endings,
     replies: &mut [Text],
 ) -> bool
     requires pictures { Pictures stage.old (P.words port.old) }
+    requires eventful { IsEventfulOf stage.old eventful.now }
     requires foot { WritesWorld (P.foot port.old) stage.old.pool.region }
     requires next { next < 2 ^ 63 }
     requires clients { length replies.old ≤ most_clients }
@@ -41,5 +44,12 @@ pub fn settle_before<P: Port>(
     ensures port { SameButWords P.foot P.rest port.old port.new }
     ensures others { KeepsOutside stage.old.pool.region (P.words port.old) (P.words port.new) }
 {
-    settle(stage, port, next.saturating_sub(1), endings, replies)
+    settle(
+        stage,
+        eventful,
+        port,
+        next.saturating_sub(1),
+        endings,
+        replies,
+    )
 }

@@ -4,3 +4,4 @@ pub mod Few
 pub mod Acted
 pub mod Rooted
 pub mod Settled
+pub mod Events

@@ -1,3 +1,4 @@
 pub mod Telling
 pub mod Looking
 pub mod Acting
+pub mod Eventful

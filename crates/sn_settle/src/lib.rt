@@ -2,11 +2,12 @@
 #![tactic(auto)]
 
 mod acting;
+mod eventful;
 mod looking;
 mod room;
 mod settling;
 mod telling;
 mod words;
 
-pub use room::settling_room;
+pub use eventful::{Eventful, EventfulSynth};
 pub use settling::settle;

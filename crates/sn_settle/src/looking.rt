@@ -1,23 +1,25 @@
 //! What a block left in the state words of the units: triggers that are told, and ends that are noted.
-ghost use Rattle.std.specs.Prelude.{◌≡◌, ◌≤◌, ◌<◌, ◌+◌, ◌*◌, ◌^◌, ℕ, length};
+ghost use Rattle.std.specs.Prelude.{◌≡◌, ◌≤◌, ◌<◌, ◌+◌, ◌*◌, ◌^◌, ℕ, length, map};
 ghost use Rattle.sn_ports.specs.Limits.{most_clients};
 ghost use Rattle.sn_def.specs.StateWords.{unit_words, units_words};
 ghost use Rattle.sn_mem.specs.Words.{MayRead, SameButWords};
 ghost use Rattle.sn_reply.specs.declared.events.Notice.{Notice};
 ghost use Rattle.sn_world.specs.Settling.{triggers_at, endings_at, unit_triggers, unit_endings};
 ghost use Rattle.sn_tree.specs.Trees.{running_labels};
-ghost use Rattle.sn_world.specs.Pictures.{Pictures, WritesWorld, IsHeld};
-ghost use Rattle.sn_world.specs.SettleWords.{held_triggers, held_endings, walk_triggers, walk_endings};
+ghost use Rattle.sn_world.specs.Pictures.{Pictures, WritesWorld};
+ghost use Rattle.sn_world.specs.SettleWords.{walk_triggers, walk_endings};
 ghost use Rattle.sn_world.specs.declared.endings.Ending.{Ending};
 ghost use Rattle.sn_settle.specs.Telling.{HaveRoom, AreTold, AreNoted, CanLook, AreSeen};
 ghost use Rattle.sn_settle.specs.Looking.{listed};
+ghost use Rattle.sn_settle.specs.Eventful.{AreWithin, IsEventfulOf, IsWithin, all_endings, all_triggers, synth_at, synth_endings, synth_triggers};
 
+use crate::eventful::{Eventful, EventfulSynth};
 use crate::telling::tell;
 use sn_def::{Def, Now, Unit};
 use sn_mem::{Port, sample_of};
 use sn_ports::Text;
 use sn_reply::Notice;
-use sn_world::{Ending, Endings, Flags, Held, Stage};
+use sn_world::{Ending, Endings, Flags, Stage};
 
 /// The trigger that a unit sent in a block, its state's words being those from a place on.
 fn trigger_at<P: Port>(port: &mut P, now: &Now, unit: &Unit, at: u32) -> Option<Notice>
@@ -134,51 +136,77 @@ fn look_at_units<P: Port>(
     }
 }
 
-/// Looks at what a node holds, by itself.
-fn look_at_held<P: Port>(
+/// Tells the triggers of a synth, and notes the ends of its units.
+fn look_at_synth<P: Port>(
     port: &mut P,
     stage: &Stage,
-    now: &Now,
-    held: &Held,
+    block: u64,
+    synth: &EventfulSynth,
     endings: &mut Endings,
     outs: &mut [Text],
 )
-    requires held { IsHeld now.now.rate stage.now.pool.region held.now }
+    requires within { IsWithin stage.now.rate stage.now.pool.region (synth_at synth.now) }
     requires bounded { stage.now.pool.region.at + stage.now.pool.region.len < 4294967296 }
     requires foot { WritesWorld (P.foot port.old) stage.now.pool.region }
-    requires block { now.now.block < 2 ^ 63 }
-    requires can { CanLook (held_triggers now.now.rate now.now.block now.now.node held.now (P.words port.old)) (held_endings now.now.rate now.now.node held.now (P.words port.old)) outs.old endings.old }
-    ensures seen { AreSeen stage.now.notify (held_triggers now.now.rate now.now.block now.now.node held.now (P.words port.old)) (held_endings now.now.rate now.now.node held.now (P.words port.old)) outs.old outs.new endings.old endings.new }
+    requires block { block < 2 ^ 63 }
+    requires can { CanLook (synth_triggers stage.now.rate block (synth_at synth.now) (P.words port.old)) (synth_endings stage.now.rate (synth_at synth.now) (P.words port.old)) outs.old endings.old }
+    ensures seen { AreSeen stage.now.notify (synth_triggers stage.now.rate block (synth_at synth.now) (P.words port.old)) (synth_endings stage.now.rate (synth_at synth.now) (P.words port.old)) outs.old outs.new endings.old endings.new }
     ensures words { P.words port.new ≡ P.words port.old }
     ensures port { SameButWords P.foot P.rest port.old port.new }
 {
-    match held {
-        Held::Group => {}
-        Held::Synth { def, state, .. } => {
-            let units = def.units.as_slice();
-            look_at_units(
-                port,
-                &stage.notify,
-                now,
-                def,
-                units,
-                state.at,
-                endings,
-                outs,
-            );
-        }
+    let now = Now {
+        rate: stage.rate,
+        block,
+        node: synth.node,
+        unit: 0,
+    };
+    let def = &synth.def;
+    look_at_units(
+        port,
+        &stage.notify,
+        &now,
+        def,
+        def.units.as_slice(),
+        synth.state.at,
+        endings,
+        outs,
+    );
+}
+
+/// Looks at synths, one after the other.
+fn look_at_synths<P: Port>(
+    port: &mut P,
+    stage: &Stage,
+    block: u64,
+    synths: &[EventfulSynth],
+    endings: &mut Endings,
+    outs: &mut [Text],
+)
+    requires within { AreWithin stage.now.rate stage.now.pool.region (map synth_at synths.now) }
+    requires bounded { stage.now.pool.region.at + stage.now.pool.region.len < 4294967296 }
+    requires foot { WritesWorld (P.foot port.old) stage.now.pool.region }
+    requires block { block < 2 ^ 63 }
+    requires can { CanLook (all_triggers stage.now.rate block (map synth_at synths.now) (P.words port.old)) (all_endings stage.now.rate (map synth_at synths.now) (P.words port.old)) outs.old endings.old }
+    ensures seen { AreSeen stage.now.notify (all_triggers stage.now.rate block (map synth_at synths.now) (P.words port.old)) (all_endings stage.now.rate (map synth_at synths.now) (P.words port.old)) outs.old outs.new endings.old endings.new }
+    ensures words { P.words port.new ≡ P.words port.old }
+    ensures port { SameButWords P.foot P.rest port.old port.new }
+{
+    for synth in synths {
+        look_at_synth(port, stage, block, synth, endings, outs);
     }
 }
 
-/// Tells the triggers of all synths that ran in a block, and notes the ends of their units.
+/// Tells the triggers of all synths that ran in a block, and notes the ends of their units. Only the eventful ones are looked at.
 pub fn look_at_all<P: Port>(
     port: &mut P,
     stage: &Stage,
+    eventful: &Eventful,
     block: u64,
     endings: &mut Endings,
     outs: &mut [Text],
 )
     requires pictures { Pictures stage.now (P.words port.old) }
+    requires eventful { IsEventfulOf stage.now eventful.now }
     requires foot { WritesWorld (P.foot port.old) stage.now.pool.region }
     requires block { block < 2 ^ 63 }
     requires can { CanLook (walk_triggers stage.now.rate block (running_labels stage.now.tree.attached) (P.words port.old)) (walk_endings stage.now.rate (running_labels stage.now.tree.attached) (P.words port.old)) outs.old endings.old }
@@ -186,13 +214,5 @@ pub fn look_at_all<P: Port>(
     ensures words { P.words port.new ≡ P.words port.old }
     ensures port { SameButWords P.foot P.rest port.old port.new }
 {
-    for visit in stage.tree.walk() {
-        let now = Now {
-            rate: stage.rate,
-            block,
-            node: visit.id,
-            unit: 0,
-        };
-        look_at_held(port, stage, &now, visit.payload, endings, outs);
-    }
+    look_at_synths(port, stage, block, eventful.as_slice(), endings, outs);
 }

@@ -31,7 +31,7 @@ fn units_room(units: &[Unit]) -> u32
 }
 
 /// How many may come of what a node holds.
-fn held_room(held: &Held) -> u32
+pub fn held_room(held: &Held) -> u32
     ensures room { result ≡ held_room held.now }
     ensures few { result ≤ most_wires }
 {

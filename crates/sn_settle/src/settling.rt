@@ -8,8 +8,10 @@ ghost use Rattle.sn_world.specs.Settling.{endings_in, settled};
 ghost use Rattle.sn_world.specs.SettleWords.{walk_room};
 ghost use Rattle.sn_world.specs.World.{world_of, turn_of};
 ghost use Rattle.sn_settle.specs.Telling.{HaveRoom, AreSent};
+ghost use Rattle.sn_settle.specs.Eventful.{IsEventfulOf};
 
 use crate::acting::act_all;
+use crate::eventful::Eventful;
 use crate::looking::look_at_all;
 use crate::words::settle_words;
 use sn_mem::Port;
@@ -17,19 +19,21 @@ use sn_ports::Text;
 use sn_world::{Endings, Stage};
 
 /// Settles a block that was just walked: first its triggers are told. Then the units that ended in it pause or free their synths, which
-/// is told too. What is told is put behind the bytes that wait for each client, by their numbers. Answers `false` only where the
-/// stage stays as it is, and always where no unit ended.
+/// is told too. What is told is put behind the bytes that wait for each client, by their numbers. Of the synths only the eventful ones
+/// are looked at, which are given. Answers `false` only where the stage stays as it is, and always where no unit ended.
 ///
 /// It takes no memory: each client's bytes have room for 48 bytes for each unit of a running synth that sends triggers or ends, and
 /// `endings` has room for as many. What `endings` holds then are the ends of this block, and no room of it is lost.
 pub fn settle<P: Port>(
     stage: &mut Stage,
+    eventful: &Eventful,
     port: &mut P,
     block: u64,
     endings: &mut Endings,
     outs: &mut [Text],
 ) -> bool
     requires pictures { Pictures stage.old (P.words port.old) }
+    requires eventful { IsEventfulOf stage.old eventful.now }
     requires foot { WritesWorld (P.foot port.old) stage.old.pool.region }
     requires block { block < 2 ^ 63 }
     requires clients { length outs.old ≤ most_clients }
@@ -49,11 +53,11 @@ pub fn settle<P: Port>(
     ensures port { SameButWords P.foot P.rest port.old port.new }
 {
     endings.clear();
-    look_at_all(port, stage, block, endings, outs);
+    look_at_all(port, stage, eventful, block, endings, outs);
     if endings.as_slice().is_empty() {
         return false;
     }
-    settle_words(port, stage);
+    settle_words(port, stage, eventful);
     // Hints for the proof alone: the root is a group, and holds all other nodes.
     stage.tree.root_holds_all();
     stage.tree.root_is_a_group();

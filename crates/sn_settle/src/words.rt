@@ -1,15 +1,17 @@
 //! Done words of units that ended in the last block.
-ghost use Rattle.std.specs.Prelude.{◌≡◌, ◌<◌, ◌+◌, ℕ};
+ghost use Rattle.std.specs.Prelude.{◌≡◌, ◌<◌, ◌+◌, ℕ, map};
 ghost use Rattle.sn_def.specs.StateWords.{unit_words, units_words};
 ghost use Rattle.sn_mem.specs.Words.{MayWrite, SameButWords};
 ghost use Rattle.sn_tree.specs.Trees.{running_labels};
-ghost use Rattle.sn_world.specs.Pictures.{Pictures, WritesWorld, IsHeld};
+ghost use Rattle.sn_world.specs.Pictures.{Pictures, WritesWorld};
 ghost use Rattle.sn_world.specs.Settling.{settled_at, settled_units};
-ghost use Rattle.sn_world.specs.SettleWords.{settled_held, settled_walk};
+ghost use Rattle.sn_world.specs.SettleWords.{settled_walk};
+ghost use Rattle.sn_settle.specs.Eventful.{AreWithin, IsEventfulOf, IsWithin, all_settled, settled_synth, synth_at};
 
+use crate::eventful::{Eventful, EventfulSynth};
 use sn_def::{Def, Unit};
 use sn_mem::Port;
-use sn_world::{Held, Stage};
+use sn_world::Stage;
 
 /// Makes a done word 1 of a unit 2.
 fn settle_unit<P: Port>(port: &mut P, unit: &Unit, at: u32)
@@ -40,30 +42,38 @@ fn settle_units<P: Port>(port: &mut P, rate: u32, def: &Def, units: &[Unit], at:
     }
 }
 
-/// The same of what a node holds, by itself.
-fn settle_held<P: Port>(port: &mut P, stage: &Stage, held: &Held)
-    requires held { IsHeld stage.now.rate stage.now.pool.region held.now }
+/// The same of a synth.
+fn settle_synth<P: Port>(port: &mut P, stage: &Stage, synth: &EventfulSynth)
+    requires within { IsWithin stage.now.rate stage.now.pool.region (synth_at synth.now) }
     requires bounded { stage.now.pool.region.at + stage.now.pool.region.len < 4294967296 }
     requires foot { WritesWorld (P.foot port.old) stage.now.pool.region }
-    ensures words { P.words port.new ≡ settled_held stage.now.rate held.now (P.words port.old) }
+    ensures words { P.words port.new ≡ settled_synth stage.now.rate (synth_at synth.now) (P.words port.old) }
     ensures port { SameButWords P.foot P.rest port.old port.new }
 {
-    match held {
-        Held::Group => {}
-        Held::Synth { def, state, .. } => {
-            settle_units(port, stage.rate, def, def.units.as_slice(), state.at);
-        }
+    let def = &synth.def;
+    settle_units(port, stage.rate, def, def.units.as_slice(), synth.state.at);
+}
+
+/// The same of synths, one after the other.
+fn settle_synths<P: Port>(port: &mut P, stage: &Stage, synths: &[EventfulSynth])
+    requires within { AreWithin stage.now.rate stage.now.pool.region (map synth_at synths.now) }
+    requires bounded { stage.now.pool.region.at + stage.now.pool.region.len < 4294967296 }
+    requires foot { WritesWorld (P.foot port.old) stage.now.pool.region }
+    ensures words { P.words port.new ≡ all_settled stage.now.rate (map synth_at synths.now) (P.words port.old) }
+    ensures port { SameButWords P.foot P.rest port.old port.new }
+{
+    for synth in synths {
+        settle_synth(port, stage, synth);
     }
 }
 
 /// Makes each done word 1 of all synths that ran 2.
-pub fn settle_words<P: Port>(port: &mut P, stage: &Stage)
+pub fn settle_words<P: Port>(port: &mut P, stage: &Stage, eventful: &Eventful)
     requires pictures { Pictures stage.now (P.words port.old) }
+    requires eventful { IsEventfulOf stage.now eventful.now }
     requires foot { WritesWorld (P.foot port.old) stage.now.pool.region }
     ensures words { P.words port.new ≡ settled_walk stage.now.rate (running_labels stage.now.tree.attached) (P.words port.old) }
     ensures port { SameButWords P.foot P.rest port.old port.new }
 {
-    for visit in stage.tree.walk() {
-        settle_held(port, stage, visit.payload);
-    }
+    settle_synths(port, stage, eventful.as_slice());
 }

@@ -104,7 +104,7 @@ returns-then-stays-clause-hold g c =
 pub returns-then-stays-clause-planned : goal.returns-then-stays-clause-planned
 returns-then-stays-clause-planned g c =
     let kept = c.in_ok-quits.ensures.layout c.if-stays.true in
-    planned_stays c.args.stage.now c.act_below.new.stage (g.P.Port.words c.args.port.now) (g.P.Port.words c.act_below.new.port) kept.1 c.args.planned.now.jobs c.args.planned.now.quiet c.act_below.ensures.region (c.requires.planned (sym c.new-watch.ensures ∙ kept.0))
+    planned_stays c.args.stage.now c.act_below.new.stage (g.P.Port.words c.args.port.now) (g.P.Port.words c.act_below.new.port) kept.1 c.args.planned.now.jobs c.args.planned.now.quiet c.args.planned.now.eventful c.act_below.ensures.region (c.requires.planned (sym c.new-watch.ensures ∙ kept.0))
 
 pub returns-then-stays-clause-spanned : goal.returns-then-stays-clause-spanned
 returns-then-stays-clause-spanned g c = λ outputs copies still. still (sym c.new-watch.ensures ∙ (c.in_ok-quits.ensures.layout c.if-stays.true).0)

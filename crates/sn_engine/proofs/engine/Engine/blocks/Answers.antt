@@ -84,6 +84,7 @@ invariant_of-self g c =
       still_copied e.settings.channels e.stage e.stage e.memory.words c.render.new.memory.words e.outputs e.copies refl c.render.ensures.length i.10,
       still_laned e.stage e.stage e.memory.words c.render.new.memory.words refl c.render.ensures.length i.11,
       subst (λ n. LanesRest e.stage (e.block + n) c.render.new.memory.words) (sym number) c.render.ensures.resting,
+      λ e. i.8 standing,
     )
 
 pub returns-clause-running : goal.returns-clause-running

@@ -1,4 +1,4 @@
-use Rattle.std.proofs.Common.{◌≡◌, ◌≤◌, ◌∙◌, ap, map, refl, sym, subst, length, List, ℕ, arith, rules}
+use Rattle.std.proofs.Common.{◌≡◌, ◌≤◌, ◌*◌, ◌∙◌, ap, map, refl, sym, subst, length, List, ℕ, arith, rules}
 use Rattle.std.specs.Prelude.{vec_capacity}
 use Rattle.std.specs.Vec.{with_items}
 use Rattle.std.proofs.lemmas.List.{with_items_is, places}
@@ -9,6 +9,7 @@ use Rattle.sn_tree.specs.Trees.{running_labels}
 use Rattle.sn_world.specs.SettleWords.{walk_room}
 use Rattle.sn_world.specs.World.{world_of}
 use Rattle.sn_round.specs.declared.jobs.Job.{Job}
+use Rattle.sn_settle.specs.declared.eventful.Eventful.{Eventful}
 use Rattle.sn_engine.specs.Boundary.{replies_at}
 use Rattle.sn_engine.specs.Keeping.{CanSettle}
 use Rattle.sn_engine.specs.Planning.{IsPlanOf}
@@ -214,15 +215,19 @@ act_boundary-requires-clause-copies c = c.self.invariant.10.at
 pub act_boundary-requires-clause-lanes : goal.act_boundary-requires-clause-lanes
 act_boundary-requires-clause-lanes c = omega (arith, c.self.invariant.11.bounded, c.self.invariant.10.at)
 
+pub reserve_settling-requires : goal.reserve_settling-requires
+reserve_settling-requires c =
+    record { few = omega (arith, c.room-most.ensures, ap (λ (e : Eventful). e.room) c.unroll.ensures.eventful, c.in_ok-quits.ensures.planned.eventful_is.few) }
+
 -- ---- what holds when it returns
 
 pub invariant_of-self : goal.invariant_of-self
 invariant_of-self c =
-    let i = c.self.invariant in (i.0, i.1, tt, tt, i.4, i.5, i.6, i.7, λ e. absurd cc, i.9, i.10, i.11, i.12)
+    let i = c.self.invariant in (i.0, i.1, tt, tt, i.4, i.5, i.6, i.7, λ e. absurd cc, i.9, i.10, i.11, i.12, λ e. absurd cc)
 
 pub invariant_of-self-in_err-reserve-2 : goal.invariant_of-self-in_err-reserve-2
 invariant_of-self-in_err-reserve-2 c =
-    let i = c.self.invariant in (i.0, i.1, tt, tt, i.4, i.5, i.6, i.7, λ e. absurd cc, i.9, i.10, i.11, i.12)
+    let i = c.self.invariant in (i.0, i.1, tt, tt, i.4, i.5, i.6, i.7, λ e. absurd cc, i.9, i.10, i.11, i.12, λ e. absurd cc)
 
 pub invariant_of-self-in_err-quits : goal.invariant_of-self-in_err-quits
 invariant_of-self-in_err-quits c =
@@ -242,6 +247,7 @@ invariant_of-self-in_err-quits c =
       still_copied e.settings.channels e.stage acted.new.stage e.memory.words acted.new.port.words e.outputs e.copies acted.ensures.region acted.ensures.len i.10,
       still_laned e.stage acted.new.stage e.memory.words acted.new.port.words acted.ensures.region acted.ensures.len i.11,
       rest_on e.stage acted.new.stage e.block e.memory.words acted.new.port.words i.0.base acted.ensures.region acted.ensures.others i.12,
+      λ e. absurd cc,
     )
 
 pub invariant_of-self-in_err-unroll : goal.invariant_of-self-in_err-unroll
@@ -262,6 +268,7 @@ invariant_of-self-in_err-unroll c =
       still_copied e.settings.channels e.stage acted.new.stage e.memory.words acted.new.port.words e.outputs e.copies acted.ensures.region acted.ensures.len i.10,
       still_laned e.stage acted.new.stage e.memory.words acted.new.port.words acted.ensures.region acted.ensures.len i.11,
       rest_on e.stage acted.new.stage e.block e.memory.words acted.new.port.words i.0.base acted.ensures.region acted.ensures.others i.12,
+      λ e. absurd cc,
     )
 
 pub invariant_of-self-in_err-send : goal.invariant_of-self-in_err-send
@@ -285,6 +292,7 @@ invariant_of-self-in_err-send c =
       still_copied e.settings.channels e.stage acted.new.stage e.memory.words acted.new.port.words e.outputs e.copies acted.ensures.region acted.ensures.len i.10,
       still_laned e.stage acted.new.stage e.memory.words acted.new.port.words acted.ensures.region acted.ensures.len i.11,
       rest_on e.stage acted.new.stage e.block e.memory.words acted.new.port.words i.0.base acted.ensures.region acted.ensures.others i.12,
+      λ e. absurd cc,
     )
 
 pub invariant_of-self-in_err-self-inside : goal.invariant_of-self-in_err-self-inside
@@ -310,6 +318,7 @@ invariant_of-self-in_err-self-inside c =
       still_copied e.settings.channels e.stage acted.new.stage e.memory.words acted.new.port.words e.outputs e.copies acted.ensures.region acted.ensures.len i.10,
       still_laned e.stage acted.new.stage e.memory.words acted.new.port.words acted.ensures.region acted.ensures.len i.11,
       rest_on e.stage acted.new.stage e.block e.memory.words acted.new.port.words i.0.base acted.ensures.region acted.ensures.others i.12,
+      λ e. absurd cc,
     )
 
 pub invariant_of-self-2 : goal.invariant_of-self-2
@@ -324,19 +333,21 @@ invariant_of-self-2 c =
     let few : length out.items ≤ 4 = omega (arith, ap (λ (ts : List Octets). length ts) one, c.send.ensures.len, ap (λ (ts : List Octets). length ts) first, i.5) in
     let most : ℕ = walk_room (running_labels acted.new.stage.tree.attached) in
     let samples : 512 ≤ vec_capacity c.reserve.new.self = search rules in
+    let room : c.room-most.result ≡ most = c.room-most.ensures ∙ ap (λ (e : Eventful). e.room) c.unroll.ensures.eventful ∙ c.in_ok-quits.ensures.planned.eventful_is.room_is in
     let settles : CanSettle most c.reserve_settling.new.endings.spare (with_items out c.reserve_settling.new.replies).items =
-    subst (CanSettle most c.reserve_settling.new.endings.spare) (sym two) c.in_ok-self-inside.ensures.settles in (
+    subst (λ n. CanSettle n c.reserve_settling.new.endings.spare (with_items out c.reserve_settling.new.replies).items) room (subst (CanSettle c.room-most.result c.reserve_settling.new.endings.spare) (sym two) c.in_ok-self-inside.ensures.settles) in (
       acted.ensures.pictures,
       acted.ensures.waiting,
       (c.in_ok-reserve-2.ensures.room, samples, settles),
-      c.in_ok-self-inside.ensures.room,
+      c.in_ok-self-inside.ensures.room ∙ ap (λ n. 48 * n) room,
       c.in_ok-self-inside.ensures.few,
       omega (arith, ap (λ (ts : List Octets). length ts) two, c.reserve_settling.ensures.len, ap (λ (ts : List Octets). length ts) c.deref_mut-2.ensures.value, few),
       c.in_ok-quits.ensures.hold,
-      λ on. planned_again _ _ _ _ _ c.unroll.ensures.jobs c.unroll.ensures.quiet c.in_ok-quits.ensures.planned,
+      λ on. planned_again _ _ _ _ _ _ _ c.unroll.ensures.jobs c.unroll.ensures.quiet c.unroll.ensures.eventful c.in_ok-quits.ensures.planned,
       λ e. refl,
       λ on. c.in_ok-unroll.ensures.spanned,
       still_copied e.settings.channels e.stage acted.new.stage e.memory.words acted.new.port.words e.outputs e.copies acted.ensures.region acted.ensures.len i.10,
       still_laned e.stage acted.new.stage e.memory.words acted.new.port.words acted.ensures.region acted.ensures.len i.11,
       rest_on e.stage acted.new.stage e.block e.memory.words acted.new.port.words i.0.base acted.ensures.region acted.ensures.others i.12,
+      λ e. absurd cc,
     )

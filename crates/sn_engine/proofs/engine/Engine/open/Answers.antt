@@ -44,4 +44,5 @@ invariant_of-result c =
       opens_copies s.channels s.memory s.rate c.args.clients (10368 + s.memory) c.in_ok-stage.stage c.in_ok-memory.memory.words c.in_ok-outputs.outputs s.channels_are s.memory_is c.in_ok-stage.ensures refl (words_same c.in_ok-memory.ensures) c.in_ok-outputs.ensures,
       lanes,
       rest_at_first c.in_ok-stage.stage (10368 + s.memory + 16384 + 266240) c.in_ok-memory.memory.words (words_same c.in_ok-memory.ensures) (omega (arith, region)),
+      λ e. absurd cc,
     )

@@ -26,6 +26,7 @@ invariant_of-self g c =
       i.10,
       i.11,
       i.12,
+      i.13,
     )
 
 abbrev with_replies : Running → List (List ℕ) → Running

@@ -6,6 +6,7 @@ use Rattle.sn_ports.specs.Octets.{Octets}
 use Rattle.sn_world.specs.declared.stage.Stage.{Stage}
 use Rattle.sn_engine.specs.Holding.{AreClashesOf}
 use Rattle.sn_engine.specs.Planning.{IsPlannedFor}
+use Rattle.sn_engine.specs.Playing.{Playing}
 use Rattle.sn_engine.proofs.LaneLemmas.{rest_on, still_laned}
 use Rattle.sn_engine.proofs.Pasts.{past_is, rounds_kept}
 use Rattle.sn_engine.proofs.RowLemmas.{still_copied}
@@ -31,7 +32,7 @@ invariant_of-self c =
         | else-self w ↦ absurd cc
       ],
       λ on. elim c.if-self.branch [
-        | then-self w ↦ subst (λ (s : Stage). IsPlannedFor s e.planned.jobs e.planned.quiet) (sym (c.settle_before-ended.ensures.same (not-true c.settle_before-ended.result (sym w.self-is ∙ on)))) (i.7 w.if-self.true)
+        | then-self w ↦ subst (λ (s : Stage). IsPlannedFor s e.planned.jobs e.planned.quiet e.planned.eventful) (sym (c.settle_before-ended.ensures.same (not-true c.settle_before-ended.result (sym w.self-is ∙ on)))) (i.7 w.if-self.true)
         | else-self w ↦ absurd cc
       ],
       λ e. absurd cc,
@@ -42,7 +43,13 @@ invariant_of-self c =
       still_copied e.settings.channels e.stage c.settle_before-ended.new.stage e.memory.words c.settle_before-ended.new.port.words e.outputs e.copies c.settle_before-ended.ensures.region c.settle_before-ended.ensures.len i.10,
       still_laned e.stage c.settle_before-ended.new.stage e.memory.words c.settle_before-ended.new.port.words c.settle_before-ended.ensures.region c.settle_before-ended.ensures.len i.11,
       rest_on e.stage c.settle_before-ended.new.stage e.block e.memory.words c.settle_before-ended.new.port.words i.0.base c.settle_before-ended.ensures.region c.settle_before-ended.ensures.others i.12,
+      λ e. absurd cc,
     )
+
+pub settle_before-ended-requires-clause-eventful : goal.settle_before-ended-requires-clause-eventful
+settle_before-ended-requires-clause-eventful c =
+    let i = c.self.invariant in
+    (i.7 (i.13 (ap (λ (p : Playing). p.running.standing) c.self.view_is ∙ c.requires.rendered))).eventful_is
 
 pub returns-clause-past : goal.returns-clause-past
 returns-clause-past c =

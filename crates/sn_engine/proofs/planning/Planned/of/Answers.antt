@@ -42,4 +42,5 @@ returns-clause-planned c =
         few = omega (arith, c.in_ok-jobs.ensures.few, c.len-count.ensures.value, c.len-count.ensures.bound);
       };
       quiet_is = c.is_quiet-quiet.ensures;
+      eventful_is = c.in_ok-eventful.ensures;
     }

@@ -3,7 +3,7 @@
 
     python3 examples/render.py [--unproved] NAME..
 
-If `snova` isn't built yet, the kit's `rt ci snova` proves and builds it first, which takes one to two and a half hours on four processors; it is said
+If `snova` isn't built yet, the kit's `rt ci` proves and builds it first, which takes one to two and a half hours on four processors; it is said
 before it begins. It runs in this directory, where pieces find the files in sounds/. With --unproved the kit's `rt try` builds it for each
 piece, which takes a minute or two and proves nothing; it runs where no piece finds a file. It exits with 1 if a piece isn't rendered to its
 end, or if a command of it is refused.
@@ -23,8 +23,8 @@ def is_built():
     """Whether the proved program stands there, after its proof if it wasn't there yet."""
     if BUILT.exists():
         return True
-    print(f"render: snova isn't built yet. `rt ci snova` proves and builds it now: {TAKES}; with --unproved a build takes a minute or two", flush=True)
-    return subprocess.run(["rt", "ci", "snova"], cwd=make.HERE.parent).returncode == 0
+    print(f"render: snova isn't built yet. `rt ci` proves and builds it now: {TAKES}; with --unproved a build takes a minute or two", flush=True)
+    return subprocess.run(["rt", "ci"], cwd=make.HERE.parent).returncode == 0
 
 
 def run(words, is_proved):

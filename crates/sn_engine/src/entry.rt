@@ -28,13 +28,21 @@ struct Parts {
     enclosed: Vec<Enclosed>,
 }
 
-/// Sorts out the elements of a bundle that counts as `tag`.
+fn is_message(packet: &Packet) -> bool {
+    match packet {
+        Packet::Message(_) => true,
+        Packet::Bundle(_) => false,
+    }
+}
+
+/// Sorts out the elements of a bundle that counts as `tag`. Room for its messages is taken once.
 fn sort_out(alloc: Global, tag: u64, elements: Elements) -> Result<Parts, NoMemory>
     ensures messages { IfOk result (λ p. map message_of p.messages.items ≡ messages_in (shapes elements.items)) }
     ensures enclosed { IfOk result (λ p. entries_ahead p.enclosed.items ≡ enclosed_entries tag (shapes elements.items)) }
     ensures fewer { IfOk result (λ p. bundles_left p.enclosed.items ≡ bundles_in (shapes elements.items)) }
 {
-    let mut messages = Vec::new(alloc);
+    let count = elements.iter().filter(|packet| is_message(packet)).count();
+    let mut messages = Vec::with_capacity(alloc, count)?;
     let mut enclosed = Vec::new(alloc);
     for packet in elements {
         match packet {

@@ -1,17 +1,19 @@
 -- What a move makes of the tree.
-use Rattle.std.proofs.Common.{◌≡◌, ◌+◌, ◌||◌, ◌&&◌, ℕ, ℤ, pos, Bool, true, false, not, List, [], ◌∷◌, None, refl, ap, sym, ◌∙◌, arith}
+use Rattle.std.proofs.Common.{◌≡◌, ◌+◌, ◌||◌, ◌&&◌, ℕ, ℤ, pos, Bool, true, false, not, List, [], ◌∷◌, Option, Some, None, Result, Ok, Err, refl, ap, sym, subst, ◌∙◌, arith}
 use Rattle.std.specs.Prelude.{if◌then◌else◌}
+use Rattle.std.specs.List.{list_any}
 use Rattle.std.specs.Option.{option_map}
 use Rattle.std.specs.Ordering.{int_eq}
 use Rattle.std.proofs.lemmas.Bool.{cond_both}
 use Rattle.sn_mem.specs.declared.extents.Extent.{Extent}
 use Rattle.sn_reply.specs.Replies.{ReplyShape}
+use Rattle.sn_reply.specs.declared.reason.Reason.{Reason}
 use Rattle.sn_reply.specs.declared.reason.Reason.TheVariants as Reasons
 use Rattle.sn_tree.specs.declared.node.TreeFault.TheVariants as faults
 use Rattle.sn_tree.specs.Trees.{Nodes, none, node, holds, count, put, subtree, without, label_of}
 use Rattle.sn_tree.specs.Faults.{first_fault, move_fault, is_missing, is_inside, is_in_synth, is_beside_root, labels_synth}
-use Rattle.sn_tree.specs.Model.{NodeTree}
-use Rattle.sn_tree.specs.Steps.{moved, moving}
+use Rattle.sn_tree.specs.Model.{Journal, NodeTree}
+use Rattle.sn_tree.specs.Steps.{HasRoom, followed, moved, moving}
 use Rattle.sn_tree.proofs.Moving.{kept_in}
 use Rattle.sn_tree.proofs.PayloadLaws.{holds-payloads, synth-payloads, put-payloads, without-payloads, subtree-payloads}
 use Rattle.sn_world.specs.declared.notices.NodeEvent.TheVariants.{Moved}
@@ -20,17 +22,19 @@ use Rattle.sn_world.specs.declared.stage.Held.{Held}
 use Rattle.sn_world.specs.declared.stage.Stage.{Stage}
 use Rattle.sn_world.specs.Nodes.{Content, content_of}
 use Rattle.sn_world.specs.Notices.{told}
-use Rattle.sn_world.specs.Moving.{move_refusal, act_move}
-use Rattle.sn_world.specs.Pictures.{AreHeld}
-use Rattle.sn_world.specs.Rows.{first_of}
+use Rattle.sn_world.specs.Moving.{move_refusal, judge_move, act_move}
+use Rattle.sn_world.specs.Pictures.{AreHeld, Pictures}
+use Rattle.sn_world.specs.Rows.{first_of, steps, unless}
 use Rattle.sn_world.specs.World.{Turn, world_of, turn_of}
 use Rattle.sn_world.proofs.Counting.{amount-put, amount-without}
 use Rattle.sn_world.proofs.Inserting.{held-put}
-use Rattle.sn_nodecmd.specs.Folding.{KeepsTree, Keeps}
+use Rattle.sn_nodecmd.specs.Folding.{IsAtRest, KeepsTree, Keeps}
 use Rattle.sn_nodecmd.specs.Faults.{reason_of}
 use Rattle.sn_world.proofs.Replacing.{held-without}
 use Rattle.sn_nodecmd.proofs.Judged.{outside_synth}
 use Rattle.sn_nodecmd.proofs.Stepping.{count-put, saved_followed, room_followed, keeps_with}
+use Rattle.sn_nodecmd.proofs.ToldLemmas.{told_unheard}
+use Rattle.sn_nodecmd.proofs.Underway.{keeps_pictures}
 
 -- ---- a subtree that is taken out, and what is left
 
@@ -177,3 +181,26 @@ node_moved old new m old_replies new_replies is told_now words =
     ap (λ (n : Nodes Content). told Moved m.id (let t : Turn = record { world = record (world_of old words) { nodes = n }; replies = old_replies } in t)) (moved_in words m old)
     ∙ ap (λ (s : Stage). told Moved m.id (turn_of s words old_replies)) (sym is)
     ∙ sym (told_now words)
+
+-- ---- a move by itself, of which no client is told
+
+module _ (old new : Stage) (m : NodeMove) (rest : IsAtRest old) (allowed : None ≡ move_refusal m old.tree.attached) (is : new ≡ record old { tree = moved m.id m.action m.target old.tree }) where
+  pub moved_unheard : list_any (λ (on : Bool). on) old.notify ≡ false → (words : List ℕ) (replies : List ReplyShape) → steps judge_move act_move (m ∷ []) (turn_of old words replies) ≡ Ok (turn_of new words replies)
+  moved_unheard off words replies =
+      ap (λ (o : Option Reason). unless o (Ok (act_move m (turn_of old words replies)))) (move_refusal_in old words m ∙ sym allowed)
+      ∙ ap (λ (t : Turn). let r : Result Turn Reason = Ok t in r)
+      (node_moved old new m replies replies is (told_unheard new Moved m.id replies (ap (λ (s : Stage). list_any (λ (on : Bool). on) s.notify) is ∙ off)) words)
+
+  pub moved_pictures : (words : List ℕ) → Pictures old words → Pictures new words
+  moved_pictures words p =
+      keeps_pictures old new words (keeps_move old new m (sym allowed) is)
+      (ap (λ (s : Stage). s.tree.detached) is ∙ rest.detached)
+      (ap (λ (s : Stage). s.tree.journal) is ∙ ap (followed 1 (moving m.id m.action m.target)) rest.settled)
+      p
+
+pub move_refused : (stage : Stage) (m : NodeMove) (reason : Reason) → Some reason ≡ move_refusal m stage.tree.attached → (words : List ℕ) (replies : List ReplyShape) → steps judge_move act_move (m ∷ []) (turn_of stage words replies) ≡ Err reason
+move_refused stage m reason against words replies =
+    ap (λ (o : Option Reason). unless o (Ok (act_move m (turn_of stage words replies)))) (move_refusal_in stage words m ∙ sym against)
+
+pub settled_room : (journal : Option (Journal Held)) → journal ≡ None → HasRoom journal
+settled_room journal is = subst HasRoom (sym is) tt

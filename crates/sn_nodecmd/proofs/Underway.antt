@@ -72,3 +72,34 @@ underway_more left mark old now new is keeps = record {
   notify = keeps.notify ∙ is.notify;
   rate = keeps.rate ∙ is.rate;
 }
+
+-- ---- a stage whose journals stay closed
+
+kept_times : (old new : Stage) → Keeps old new → (e : Extent) → times e (live_held new.tree.attached) + times e (live_held new.tree.detached) ≡ times e (live_held old.tree.attached) + times e (live_held old.tree.detached)
+kept_times old new keeps e = omega (arith, keeps.tree.extents (λ y. if same_extent e y then 1 else 0), times-amount e (live_held new.tree.attached), times-amount e (live_held new.tree.detached), times-amount e (live_held old.tree.attached), times-amount e (live_held old.tree.detached))
+
+kept_overlaps : (old new : Stage) → Keeps old new → (x : ℕ) → overlaps x (live_held new.tree.attached) + overlaps x (live_held new.tree.detached) ≡ overlaps x (live_held old.tree.attached) + overlaps x (live_held old.tree.detached)
+kept_overlaps old new keeps x = omega (arith, keeps.tree.extents (λ e. if covers e x then 1 else 0), overlaps-amount x (live_held new.tree.attached), overlaps-amount x (live_held new.tree.detached), overlaps-amount x (live_held old.tree.attached), overlaps-amount x (live_held old.tree.detached))
+
+none_times : (t : Nodes Held) → t ≡ none → (e : Extent) → times e (live_held t) ≡ 0
+unfolding times
+none_times t is e = ap (λ (n : Nodes Held). times e (live_held n)) is
+
+none_overlap : (t : Nodes Held) → t ≡ none → (x : ℕ) → overlaps x (live_held t) ≡ 0
+none_overlap t is x = ap (λ (n : Nodes Held). overlaps x (live_held n)) is
+
+pub keeps_pictures : (old new : Stage) (words : List ℕ) → Keeps old new → new.tree.detached ≡ none → new.tree.journal ≡ None → Pictures old words → Pictures new words
+keeps_pictures old new words keeps gone settled p = record {
+  rate = omega (arith, keeps.rate, p.rate);
+  rate_fits = omega (arith, keeps.rate, p.rate_fits);
+  base = ap (λ (q : PoolState). q.region.at) keeps.pool ∙ p.base;
+  bounded = omega (arith, ap (λ (q : PoolState). q.region.len) keeps.pool, p.bounded);
+  fits = omega (arith, ap (λ (q : PoolState). q.region.len) keeps.pool, p.fits);
+  synths = subst (λ (r : ℕ). AreHeld r new.pool.region new.tree.attached) (sym keeps.rate) (subst (λ (q : PoolState). AreHeld old.rate q.region new.tree.attached) (sym keeps.pool) (keeps.tree.held old.rate old.pool.region p.synths));
+  buffers = subst (λ (q : PoolState). AreBuffers q.region new.buffers) (sym keeps.pool) (subst (AreBuffers old.pool.region) (sym keeps.buffers) p.buffers);
+  live = λ e some. omega (arith, ap (λ (ps : List (Option BufferPlace)). times e (live_places ps)) keeps.buffers, ap (λ (q : PoolState). times e q.live) keeps.pool, kept_times old new keeps e, none_times new.tree.detached gone e, none_times old.tree.detached p.attached e, p.live e some);
+  apart = λ x. omega (arith, ap (λ (ps : List (Option BufferPlace)). overlaps x (live_places ps)) keeps.buffers, kept_overlaps old new keeps x, none_overlap new.tree.detached gone x, none_overlap old.tree.detached p.attached x, p.apart x);
+  attached = gone;
+  settled = settled;
+  closed = ap (λ (q : PoolState). q.journal) keeps.pool ∙ p.closed;
+}

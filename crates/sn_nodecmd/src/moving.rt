@@ -1,14 +1,16 @@
 //! Nodes that are moved.
-ghost use Rattle.std.specs.Prelude.{◌≡◌, ◌<◌, ◌+◌, ◌*◌, ◌^◌, length, map, OnOk, OnErr, IfOk, List, ℕ};
+ghost use Rattle.std.specs.Prelude.{◌≡◌, ◌<◌, ◌+◌, ◌*◌, ◌^◌, ◌∷◌, [], length, map, false, Ok, OnOk, OnErr, IfOk, List, ℕ};
+ghost use Rattle.std.specs.List.{list_any};
 ghost use Rattle.std.specs.Option.{option_map};
 ghost use Rattle.sn_tree.specs.Faults.{fault_of, move_fault};
 ghost use Rattle.sn_tree.specs.Steps.{HasRoom, moved};
+ghost use Rattle.sn_reply.specs.Replies.{ReplyShape};
 ghost use Rattle.sn_world.specs.Notices.{told};
 ghost use Rattle.sn_world.specs.declared.notices.NodeEvent.TheVariants.{Moved};
 ghost use Rattle.sn_osc.specs.Shape.{argument_of};
 ghost use Rattle.sn_world.specs.World.{turn_of};
 ghost use Rattle.sn_world.specs.Pictures.{Pictures};
-ghost use Rattle.sn_world.specs.Rows.{row, pairs, some_of};
+ghost use Rattle.sn_world.specs.Rows.{row, steps, pairs, some_of};
 ghost use Rattle.sn_world.specs.Moving.{move_refusal, node_move, move_from, judge_move, act_move};
 ghost use Rattle.sn_world.specs.Answers.{Continues, Follows, UnlessFollowed};
 ghost use Rattle.sn_nodecmd.specs.Alone.{pair};
@@ -17,7 +19,7 @@ ghost use Rattle.sn_nodecmd.specs.Relocating.{refused_by};
 
 use crate::faults::reason_of;
 use crate::folding::{Repetition, each, run};
-use crate::telling::tell;
+use crate::telling::{is_heard, tell};
 use sn_osc::Arg;
 use sn_ports::NoMemory;
 use sn_reply::{Reason, Replies};
@@ -154,7 +156,45 @@ fn alone(action: AddAction, arguments: &[Arg]) -> Option<NodeMove>
     }
 }
 
-/// `/n_before` and `/n_after` (id target).., `/g_head` and `/g_tail` (group id).. One move takes no memory for a list.
+/// Moves a node, where nothing is against it, and tells no client. It takes no memory, and there is nothing to undo.
+fn move_unheard(stage: &mut Stage, to: &NodeMove) -> Option<Reason>
+    requires rest { IsAtRest stage.old }
+    requires unheard { list_any (λ on. on) stage.old.notify ≡ false }
+    ensures row { (words : List ℕ) (replies : List ReplyShape) → Follows (Ok result) (steps judge_move act_move (to.now ∷ []) (turn_of stage.old words replies)) (turn_of stage.new words replies) }
+    ensures unchanged { UnlessFollowed (Ok result) (stage.new ≡ stage.old) }
+    ensures pictures { (words : List ℕ) → Pictures stage.old words → Pictures stage.new words }
+    ensures clients { stage.new.notify ≡ stage.old.notify }
+    ensures region { stage.new.pool.region ≡ stage.old.pool.region }
+{
+    match relocate(&mut stage.tree, to) {
+        Ok(()) => None,
+        Err(reason) => Some(reason),
+    }
+}
+
+/// One move, whole or not at all. It takes no memory if no client is told.
+fn run_alone(
+    alloc: Global,
+    stage: &mut Stage,
+    one: NodeMove,
+    replies: &mut Replies,
+) -> Result<Option<Reason>, NoMemory>
+    requires rest { IsAtRest stage.old }
+    ensures row { (words : List ℕ) → Follows result (steps judge_move act_move (one ∷ []) (turn_of stage.old words replies.old)) (turn_of stage.new words replies.new) }
+    ensures unchanged { UnlessFollowed result (stage.new ≡ stage.old) }
+    ensures untold { UnlessFollowed result (replies.new ≡ replies.old) }
+    ensures pictures { (words : List ℕ) → Pictures stage.old words → Pictures stage.new words }
+    ensures clients { stage.new.notify ≡ stage.old.notify }
+    ensures region { stage.new.pool.region ≡ stage.old.pool.region }
+{
+    if !is_heard(&stage.notify) {
+        return Ok(move_unheard(stage, &one));
+    }
+    each(alloc, stage, &[one], replies)
+}
+
+/// `/n_before` and `/n_after` (id target).., `/g_head` and `/g_tail` (group id).. One move takes no memory for a list,
+/// and none at all if no client is told.
 pub fn run_moves(
     alloc: Global,
     stage: &mut Stage,
@@ -172,7 +212,7 @@ pub fn run_moves(
     ensures region { stage.new.pool.region ≡ stage.old.pool.region }
 {
     if let Some(one) = alone(action, arguments) {
-        return each(alloc, stage, &[one], replies);
+        return run_alone(alloc, stage, one, replies);
     }
     let found = moves(alloc, action, arguments)?;
     run(alloc, stage, found, replies)

@@ -49,9 +49,9 @@ unless-followed P Q (Ok (Some reason)) f p = f p
 unless-followed P Q (Err e) f p = f p
 
 -- want of memory leaves a stage as it was, but for how its definitions are kept
-pub stage-still : (r : Result (Option Reason) NoMemory) (s : Stage) → OnErr r (s ≡ record s { defs = s.defs })
-stage-still (Ok x) s = tt
-stage-still (Err e) s = refl
+pub stage_still : (r : Result (Option Reason) NoMemory) (s : Stage) → OnErr r (s ≡ record s { defs = s.defs })
+stage_still (Ok x) s = tt
+stage_still (Err e) s = refl
 
 pub stage-kept : (r : Result (Option Reason) NoMemory) (old new : Stage) → UnlessFollowed r (new ≡ old) → OnErr r (new ≡ record old { defs = new.defs })
 stage-kept (Ok x) old new same = tt

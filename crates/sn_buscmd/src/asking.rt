@@ -15,8 +15,8 @@ ghost use Rattle.sn_buscmd.specs.Setting.{number_refusal};
 
 use crate::judging::{first_refusal, value_place};
 use sn_mem::{Port, sample_of};
-use sn_osc::{Arg, Args, Body, Message};
-use sn_ports::{NoMemory, Text};
+use sn_osc::{Address, Arg, Args, Body, Message};
+use sn_ports::NoMemory;
 use sn_reply::{Reason, Replies, To};
 use sn_world::{BusNumber, singles, some_of};
 use std::alloc::Global;
@@ -76,7 +76,7 @@ fn answer<P: Port>(alloc: Global, port: &mut P, numbers: &[BusNumber]) -> Result
 {
     let arguments = buses_and_values(alloc, port, numbers)?;
     Ok(Message {
-        address: Text::from_slice(alloc, b"/c_set")?,
+        address: Address::from_slice(alloc, b"/c_set")?,
         body: Body::Args(arguments),
     })
 }

@@ -18,8 +18,8 @@ use crate::asking::value_at;
 use crate::counting::asks_few;
 use crate::judging::first_refusal;
 use sn_mem::Port;
-use sn_osc::{Arg, Args, Body, Message};
-use sn_ports::{NoMemory, Text};
+use sn_osc::{Address, Arg, Args, Body, Message};
+use sn_ports::NoMemory;
 use sn_reply::{Reason, Replies, To};
 use sn_world::{Run, pairs, some_of};
 use std::alloc::Global;
@@ -70,7 +70,7 @@ fn answer<P: Port>(alloc: Global, port: &mut P, runs: &[Run]) -> Result<Message,
 {
     let arguments = runs_and_values(alloc, port, runs)?;
     Ok(Message {
-        address: Text::from_slice(alloc, b"/c_setn")?,
+        address: Address::from_slice(alloc, b"/c_setn")?,
         body: Body::Args(arguments),
     })
 }

@@ -49,6 +49,7 @@ pub fn server_command_of(address: &[u8]) -> Option<ServerCommand>
 }
 
 /// A command with its arguments, whole or not at all.
+#[tactic(auto, using(crate::proofs::RunningLemmas::stage_still))]
 fn run_row<P: Port>(
     alloc: Global,
     stage: &mut Stage,

@@ -14,7 +14,7 @@ ghost use Rattle.sn_world.specs.Answers.{Follows, UnlessFollowed};
 ghost use Rattle.sn_buscmd.specs.Refusing.{IfRefused};
 
 use sn_def::{Def, Unread, read};
-use sn_osc::{Arg, Args, Body, Message};
+use sn_osc::{Address, Arg, Args, Body, Message};
 use sn_ports::{NoMemory, Text};
 use sn_reply::{Reason, Replies, To};
 use sn_world::{Defs, Stage};
@@ -38,7 +38,7 @@ fn done(alloc: Global) -> Result<Message, NoMemory>
     let mut arguments = Vec::new(alloc);
     arguments.push(Arg::Text(Text::from_slice(alloc, b"/d_recv")?))?;
     Ok(Message {
-        address: Text::from_slice(alloc, b"/done")?,
+        address: Address::from_slice(alloc, b"/done")?,
         body: Body::Args(Args::from_vec(arguments)),
     })
 }

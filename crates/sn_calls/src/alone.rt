@@ -4,7 +4,7 @@ use crate::texts::TONE;
 use crate::trees::{attached, attached_and_undone, walked, written_and_undone};
 use sn_def::{DefKind, Unread, print, read};
 use sn_mem::{Extent, Extents, Foot, FootPort, PlainPort, clash, load_words, store_words};
-use sn_osc::{Body, Bundle, Frame, Message, Packet, frames_of, spellable};
+use sn_osc::{Address, Body, Bundle, Frame, Message, Packet, frames_of, spellable};
 use sn_ports::{FileSink, FileSource, NoMemory, Text, fill, show, write_all};
 use sn_queue::Messages;
 use std::alloc::Global;
@@ -97,7 +97,7 @@ fn arrays_at_fault(alloc: Global) -> Result<bool, Unanswered> {
 }
 
 fn is_spellable(alloc: Global, address: &[u8]) -> Result<bool, NoMemory> {
-    let address = Text::from_slice(alloc, address)?;
+    let address = Address::from_slice(alloc, address)?;
     Ok(spellable(&Packet::Message(Message {
         address,
         body: Body::Bare,
@@ -189,7 +189,7 @@ fn footed_words(alloc: Global) -> Result<bool, Unanswered> {
 
 /// A list of messages gives them back.
 fn listed(alloc: Global) -> Result<bool, Unanswered> {
-    let address = Text::from_slice(alloc, b"/quit")?;
+    let address = Address::from_slice(alloc, b"/quit")?;
     let mut items = Vec::new(alloc);
     items.push(Message {
         address,

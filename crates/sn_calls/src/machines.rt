@@ -3,7 +3,7 @@ ghost use Rattle.sn_calls.specs.Ready.{Always};
 
 use crate::holding::holds;
 use crate::line::{Answer, Line, Rows, Unanswered, number, said};
-use crate::rounds::{no_jobs, put};
+use sn_jobs::{no_jobs, put};
 use sn_machine::{Machine, Script, View, Words, may_write};
 use sn_mem::{AllMoves, Extent, Extents, Foot, Moves, clash};
 use sn_ports::NoMemory;

@@ -1,9 +1,9 @@
 //! Rows of plans of rounds.
-ghost use Rattle.std.specs.Prelude.{◌≡◌, ◌<◌, ◌≤◌, ◌+◌, ℕ, true, IfOk, OnOk, length};
-ghost use Rattle.std.specs.List.{All};
-ghost use Rattle.sn_round.specs.Jobs.{AreJobs, times};
+ghost use Rattle.std.specs.Prelude.{◌≡◌, IfOk};
+ghost use Rattle.sn_round.specs.Jobs.{AreJobs};
 
 use crate::line::{Answer, Line, Rows, Unanswered, number, said};
+use sn_jobs::{no_jobs, put};
 use sn_mem::{AllMoves, Extent, Extents, Foot, Moves};
 use sn_ports::NoMemory;
 use sn_ports::limits::MOST_SPAN;
@@ -20,14 +20,6 @@ pub struct RoundRows {
     plan: Plan,
 }
 
-/// No jobs.
-#[tactic(auto, using(crate::proofs::Rising::no_jobs_are))]
-pub fn no_jobs(alloc: Global) -> Vec<Job>
-    ensures { AreJobs result.items }
-{
-    Vec::new(alloc)
-}
-
 impl RoundRows {
     /// No jobs.
     pub fn new(alloc: Global) -> Result<RoundRows, NoMemory>
@@ -38,18 +30,6 @@ impl RoundRows {
             jobs: no_jobs(alloc),
             plan: Plan::new(alloc, no_jobs(alloc))?,
         })
-    }
-}
-
-/// Whether numbers rise, from one on and below another.
-fn rise(from: u32, end: u32, numbers: &[u32]) -> bool
-    ensures from { result ≡ true → All (λ n. from ≤ n) numbers.now }
-    ensures below { result ≡ true → All (λ n. n < end) numbers.now }
-    ensures once { result ≡ true → (n : ℕ) → times n numbers.now ≤ 1 }
-{
-    match numbers {
-        [] => true,
-        [first, rest @ ..] => from <= *first && *first < end && rise(*first + 1, end, rest),
     }
 }
 
@@ -79,19 +59,6 @@ fn foot(alloc: Global, at: u32) -> Result<SharedFoot, NoMemory> {
     writes.push(Extent { at, len: 10 })?;
     let reads = Extents::new(alloc);
     SharedFoot::new(alloc, Foot { reads, writes })
-}
-
-/// Puts a job at the end, where its predecessors stand before it. It answers whether they do.
-#[tactic(auto, using(crate::proofs::Rising::jobs_more))]
-pub fn put(jobs: &mut Vec<Job>, job: Job) -> Result<bool, NoMemory>
-    requires jobs { AreJobs jobs.old.items }
-    ensures jobs { AreJobs jobs.new.items }
-{
-    if jobs.len() > 1000 || !rise(0, jobs.len() as u32, job.before.as_slice()) {
-        return Ok(false);
-    }
-    jobs.push(job)?;
-    Ok(true)
 }
 
 /// A job by its synths and its predecessors. It writes ten words of its own.

@@ -3,7 +3,7 @@ use Rattle.std.proofs.Common.{◌≡◌, ℕ, zero, suc, ◌<◌, ◌==◌, Bool
 use Rattle.std.specs.Prelude.{slice_index_or, slice_set}
 use Rattle.std.proofs.lemmas.List.{get_or-set_other, get_or-set_same, map-append}
 use Rattle.sn_clients.specs.declared.turns.Turn.{Turn}
-use Rattle.sn_clients.specs.PlayMany.{Act, Played, Streams, acted, acts_from, after_act, after_acts, arrives, blocks, next_act}
+use Rattle.sn_clients.specs.PlayMany.{Act, Played, Streams, WhileOpen, acted, acts_from, after_act, after_acts, arrives, blocks, next_act}
 use Rattle.sn_clients.specs.Looping.{frames_in, numbers_in, turn_of}
 use Rattle.sn_clients.specs.Notes.{IsFront}
 
@@ -17,6 +17,28 @@ one_act_more (a ∷ acts) act p = one_act_more acts act (after_act a p)
 -- one more act of a session that goes on
 pub acts_go_on : (acts : List Act) (act : Act) (p : Played) → (after_acts acts p).quit ≡ false → after_acts (acts ++ act ∷ []) p ≡ acted act (after_acts acts p)
 acts_go_on acts act p e = one_act_more acts act p ∙ act_done act (after_acts acts p) e
+
+-- nothing comes after `/quit` was accepted
+stays_quit : (acts : List Act) (p : Played) → p.quit ≡ true → after_acts acts p ≡ p
+stays_quit [] p e = refl
+stays_quit (act ∷ acts) p e = ap (after_acts acts) (ap (λ (b : Bool). if b then p else acted act p) e) ∙ stays_quit acts p e
+
+was_open : (acts : List Act) (p : Played) → (after_acts acts p).quit ≡ false → p.quit ≡ false
+was_open acts p e = by p.quit refl
+  where
+    by : (b : Bool) → p.quit ≡ b → p.quit ≡ false
+    by false q = q
+    by true q = absurd (true≢false (sym q ∙ sym (ap (λ (r : Played). r.quit) (stays_quit acts p q)) ∙ e))
+
+-- a session that goes on was open at all its acts
+pub open_all : (acts : List Act) (p : Played) → (after_acts acts p).quit ≡ false → WhileOpen acts p
+open_all [] p e = tt
+open_all (act ∷ acts) p e = (was_open (act ∷ acts) p e, open_all acts (after_act act p) e)
+
+-- and so is one that does one more
+pub open_last : (acts : List Act) (act : Act) (p : Played) → (after_acts acts p).quit ≡ false → WhileOpen (acts ++ act ∷ []) p
+open_last [] act p e = (e, tt)
+open_last (a ∷ acts) act p e = (was_open (a ∷ acts) p e, open_last acts act (after_act a p) e)
 
 grown : (b : Bool) (frame : List ℕ) (fs more : List (List ℕ)) → (if b then frame ∷ (fs ++ more) else fs ++ more) ≡ (if b then frame ∷ fs else fs) ++ more
 grown true frame fs more = refl

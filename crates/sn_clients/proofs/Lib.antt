@@ -3,6 +3,7 @@ pub mod NoteLemmas
 pub mod Moves
 pub mod StopMoves
 pub mod Opening
+pub mod FaultLemmas
 pub mod ReadLemmas
 pub mod EachLemmas
 pub mod WrittenLemmas

@@ -3,7 +3,7 @@ use Rattle.std.proofs.Common.{◌≡◌, ◌≢◌, ◌⊎◌, ℕ, ◌+◌, ◌
 use Rattle.std.specs.Io.KnownBytes.{Appends, Consumes, IsAtEnd, Keeps}
 use Rattle.std.proofs.KnownBytes.{Appends-nil, Consumes-kept, Consumes-trans}
 use Rattle.std.specs.Int.{w64, to_be_bytes}
-use Rattle.std.specs.Prelude.{IfErr, replicate}
+use Rattle.std.specs.Prelude.{IfErr, OnErr, replicate}
 use Rattle.sn_osc.specs.Bytes.{bundle_head, elements_bytes}
 use Rattle.sn_osc.proofs.Encoded.{packet_is}
 use Rattle.sn_osc.specs.Grammar.{Spells}
@@ -21,6 +21,7 @@ use Rattle.sn_engine.specs.declared.standing.Standing.TheVariants.{Settled}
 use Rattle.sn_engine.proofs.PutLemmas.{entries_few}
 use Rattle.sn_queue.specs.Steps.{put}
 use Rattle.sn_render.proofs.ArrivingLemmas.{StaysAt}
+use Rattle.sn_ports.specs.Causes.{Rose}
 use Rattle.sn_ports.specs.Limits.{most_packet, most_ticks}
 use Rattle.sn_ports.specs.declared.failed.NoMemory.{NoMemory}
 use Rattle.sn_clients.specs.declared.desk.Desk.{Desk}
@@ -37,8 +38,8 @@ use Rattle.sn_clients.specs.Notes.{frames_of}
 use Rattle.sn_clients.specs.Looping.{Asked, Closed, Closes, ClosesAt, EndsTo, Gave, HaltsAt, HasClosed, HasDone, HasHalted, HasReceived, IsPlaying, IsSteady, PlaysOn, PlaysTo, Received, RunsTo, SameInlets, StaysAs, frames_in, numbers_in, turn_of}
 use Rattle.sn_clients.specs.PlayMany.{Act, Played, acted, after_acts, arrived, arrives, blocks, ticks, with_packet}
 use Rattle.sn_clients.specs.Pulses.{Gives, GivesToZero}
-use Rattle.sn_clients.specs.Written.{AllSend, IsGoing, Wrote, WroteFronts, emptied}
-use Rattle.sn_clients.proofs.ActLemmas.{acts_go_on, frames_in-append, numbers_in-append, turns-append}
+use Rattle.sn_clients.specs.Written.{AllSend, Fails, IsGoing, Wrote, WroteFronts, emptied}
+use Rattle.sn_clients.proofs.ActLemmas.{acts_go_on, frames_in-append, numbers_in-append, open_all, open_last, turns-append}
 use Rattle.sn_clients.proofs.EachLemmas.{arrived_step, boundary_step, grows, grows_not}
 use Rattle.sn_clients.proofs.NoteLemmas.{frames-append}
 use Rattle.sn_clients.proofs.WrittenLemmas.{going_on, wrote_fronts, wrote_on}
@@ -145,6 +146,10 @@ received_err P old new (Ok x) is s = absurd is
 received_err P old new (Err e) is s = s
 
 -- what holds in any case
+pub on_any_err : {T E P : Type 0} (r : Result T E) → P → OnErr r P
+on_any_err (Ok x) p = tt
+on_any_err (Err e) p = p
+
 pub on_any_ok : {T E P : Type 0} (r : Result T E) → P → OnOk r P
 on_any_ok (Ok x) p = p
 on_any_ok (Err e) p = tt
@@ -229,7 +234,7 @@ module _ {R : Type 0} (taken : R → Option (List ℕ)) (faults : R → ℕ) whe
   halts_before first sinks_old sinks_new sound_old sound_new at_zero left_old left_new old new s h =
       let same = playing_same first sinks_old sinks_new sound_old sound_new at_zero left_old left_new old new s h in
       let p = (after_acts same.acts first).play in
-      record { acts = same.acts; done = same.done; halts = wrote_fronts taken faults sinks_old sinks_new new.failed.items sound_old sound_new p p (grows_not p) same.going.wrote }
+      record { acts = same.acts; done = same.done; while_open = open_all same.acts first same.goes_on; halts = wrote_fronts taken faults sinks_old sinks_new new.failed.items sound_old sound_new p p (grows_not p) same.going.wrote }
 
   -- an end of any kind, told of another answer
   pub halted : {X : Type 0} (first : Played) (sinks_old sinks_new : List R) (sound_old sound_new : Option (List ℕ)) (at_zero : Bool) (left_old left_new : Option (List ℕ)) (desk : Desk) (r : Result X Halt) (halt : Halt) → IsErrAnd r (λ h. h ≡ halt)
@@ -257,6 +262,7 @@ module _ {R : Type 0} (taken : R → Option (List ℕ)) (faults : R → ℕ) whe
       record {
         acts = h.acts ++ act ∷ [];
         done = done_moved at_zero left_old left_new mid new (h.acts ++ act ∷ []) done turns end;
+        while_open = open_last h.acts act first h.goes_on;
         halts = subst (λ (q : List Bool × Played). WroteFronts taken faults sinks_old sinks_new q.0 sound_old sound_new q.1.play) (λ i. (sym (flags ∙ r.failed) i, sym (acts_go_on h.acts act first h.goes_on) i)) fronts;
       }
 
@@ -289,7 +295,7 @@ module _ {R : Type 0} (taken : R → Option (List ℕ)) (faults : R → ℕ) whe
   -- as many turns as may be were done
   pub halts_full : (first : Played) (sinks_old sinks_new : List R) (sound_old sound_new : Option (List ℕ)) (at_zero : Bool) (left_old left_new : Option (List ℕ)) (desk : Desk) → IsPlaying taken faults first sinks_old sinks_new sound_old sound_new at_zero left_old left_new desk
       → HasHalted taken faults first sinks_old sinks_new sound_old sound_new at_zero left_old left_new desk halts.TurnsFull
-  halts_full first sinks_old sinks_new sound_old sound_new at_zero left_old left_new desk h = record { acts = h.acts; done = h.done; halts = (h.goes_on, h.going.wrote) }
+  halts_full first sinks_old sinks_new sound_old sound_new at_zero left_old left_new desk h = record { acts = h.acts; done = h.done; while_open = open_all h.acts first h.goes_on; halts = (h.goes_on, h.going.wrote) }
 
   -- ---- blocks
 
@@ -313,6 +319,7 @@ module _ {R : Type 0} (taken : R → Option (List ℕ)) (faults : R → ℕ) whe
   halts_in_blocks first sinks_old sinks_new sound_old sound_new left_old left_mid left_new old new n acts halt done going turned same some gives h = record {
     acts = acts ++ blocks n ∷ [];
     done = done_blocks left_old left_mid left_new old new n acts done turned same some gives;
+    while_open = open_last acts (blocks n) first going;
     halts = subst (λ (q : Played). HaltsAt taken faults sinks_old sinks_new new.failed.items sound_old sound_new q halt) (sym (acts_go_on acts (blocks n) first going)) h;
   }
 
@@ -328,15 +335,17 @@ module _ {R : Type 0} (taken : R → Option (List ℕ)) (faults : R → ℕ) whe
 
   -- ---- the whole loop
 
-  pub runs_halted : (first : Played) (sinks_old sinks_new : List R) (sound_old sound_new : Option (List ℕ)) (at_zero : Bool) (left_old left_new : Option (List ℕ)) (desk : Desk) (r : Result (Unit {0}) Halt) (halt : Halt) → IsErrAnd r (λ h. h ≡ halt)
-      → HasHalted taken faults first sinks_old sinks_new sound_old sound_new at_zero left_old left_new desk halt → RunsTo taken faults first sinks_old sinks_new sound_old sound_new left_old left_new desk r
-  runs_halted first sinks_old sinks_new sound_old sound_new at_zero left_old left_new desk (Ok x) halt is h = absurd is
-  runs_halted first sinks_old sinks_new sound_old sound_new at_zero left_old left_new desk (Err e) halt is h = (at_zero, subst (HasHalted taken faults first sinks_old sinks_new sound_old sound_new at_zero left_old left_new desk) (sym is) h)
+  pub runs_halted : (first : Played) (sinks_old sinks_new : List R) (sound_old sound_new : Option (List ℕ)) (at_zero : Bool) (left_old left_new : Option (List ℕ)) (zeros_old zeros_new : ℕ) (desk : Desk) (r : Result (Unit {0}) Halt) (halt : Halt)
+      → IsErrAnd r (λ h. h ≡ halt) → Fails at_zero zeros_old zeros_new → HasHalted taken faults first sinks_old sinks_new sound_old sound_new at_zero left_old left_new desk halt
+      → RunsTo taken faults first sinks_old sinks_new sound_old sound_new left_old left_new zeros_old zeros_new desk r
+  runs_halted first sinks_old sinks_new sound_old sound_new at_zero left_old left_new zeros_old zeros_new desk (Ok x) halt is counted h = absurd is
+  runs_halted first sinks_old sinks_new sound_old sound_new at_zero left_old left_new zeros_old zeros_new desk (Err e) halt is counted h =
+      (at_zero, counted, subst (HasHalted taken faults first sinks_old sinks_new sound_old sound_new at_zero left_old left_new desk) (sym is) h)
 
-  pub runs_rest : (first : Played) (sinks_old sinks_new : List R) (sound_old sound_new left_old left_new : Option (List ℕ)) (desk : Desk) (r : Result (Unit {0}) Halt) → PlaysOn taken faults first sinks_old sinks_new sound_old sound_new true left_old left_new desk r
-      → RunsTo taken faults first sinks_old sinks_new sound_old sound_new left_old left_new desk r
-  runs_rest first sinks_old sinks_new sound_old sound_new left_old left_new desk (Ok x) h = h
-  runs_rest first sinks_old sinks_new sound_old sound_new left_old left_new desk (Err e) h = (true, h)
+  pub runs_rest : (first : Played) (sinks_old sinks_new : List R) (sound_old sound_new left_old left_new : Option (List ℕ)) (zeros_old zeros_new : ℕ) (desk : Desk) (r : Result (Unit {0}) Halt) → Rose zeros_old zeros_new
+      → PlaysOn taken faults first sinks_old sinks_new sound_old sound_new true left_old left_new desk r → RunsTo taken faults first sinks_old sinks_new sound_old sound_new left_old left_new zeros_old zeros_new desk r
+  runs_rest first sinks_old sinks_new sound_old sound_new left_old left_new zeros_old zeros_new desk (Ok x) rose h = (rose, h)
+  runs_rest first sinks_old sinks_new sound_old sound_new left_old left_new zeros_old zeros_new desk (Err e) rose h = (true, rose, h)
 
   pub asked_more : (first : Played) (sinks_old sinks_new : List R) (sound_old sound_new left_old left_new : Option (List ℕ)) (desk : Desk) (more : Bool) → Asked taken faults first sinks_old sinks_new sound_old sound_new left_old left_new desk (Ok more) → more ≡ true
       → IsPlaying taken faults first sinks_old sinks_new sound_old sound_new false left_old left_new desk
@@ -352,6 +361,7 @@ module _ {R : Type 0} (taken : R → Option (List ℕ)) (faults : R → ℕ) whe
   halted_moved first sinks_old sinks_new sound_old sound_new at_zero left_old left_new old new halt turns flags end h = record {
     acts = h.acts;
     done = done_moved at_zero left_old left_new old new h.acts h.done turns end;
+    while_open = h.while_open;
     halts = subst (λ (failed : List Bool). HaltsAt taken faults sinks_old sinks_new failed sound_old sound_new (after_acts h.acts first) halt) (sym flags) h.halts;
   }
 
@@ -394,6 +404,7 @@ module _ {R : Type 0} (taken : R → Option (List ℕ)) (faults : R → ℕ) whe
       record {
         acts = h.acts;
         done = done_moved true left_old left_new old new h.acts h.done turns end;
+        while_open = open_all h.acts first h.goes_on;
         halts = subst (λ (q : List R × List Bool). WroteFronts taken faults sinks_old q.0 q.1 sound_old sound_new p) (λ i. (sym c.0 i, sym c.1 i)) (wrote_fronts taken faults sinks_old sinks_mid old.failed.items sound_old sound_new p p (grows_not p) h.going.wrote);
       }
   closed_by (Err halts.SoundFault) first sinks_old sinks_mid sinks_new sound_old sound_new left_old left_new old new turns end c h = absurd c
@@ -412,10 +423,10 @@ module _ {R : Type 0} (taken : R → Option (List ℕ)) (faults : R → ℕ) whe
   halted_closes first sinks_old sinks_new sound_old sound_new left_old left_new desk (Ok x) halt is only h = absurd is
   halted_closes first sinks_old sinks_new sound_old sound_new left_old left_new desk (Err e) halt is only h = subst (λ (k : Halt). Closes taken faults first sinks_old sinks_new sound_old sound_new left_old left_new desk (Err k)) (sym is) (closes_halted halt first sinks_old sinks_new sound_old sound_new left_old left_new desk only h)
 
-  pub ends_by : (r : Result (Unit {0}) Halt) (first : Played) (sinks_old sinks_new : List R) (sound_old sound_new left_old left_new : Option (List ℕ)) (desk : Desk) → Closes taken faults first sinks_old sinks_new sound_old sound_new left_old left_new desk r
-      → EndsTo taken faults first sinks_old sinks_new sound_old sound_new left_old left_new desk r
-  ends_by (Ok x) first sinks_old sinks_new sound_old sound_new left_old left_new desk h = h
-  ends_by (Err halts.Quit) first sinks_old sinks_new sound_old sound_new left_old left_new desk h = inr (refl, h)
-  ends_by (Err halts.NoMemory) first sinks_old sinks_new sound_old sound_new left_old left_new desk h = inl (true, h)
-  ends_by (Err halts.SoundFault) first sinks_old sinks_new sound_old sound_new left_old left_new desk h = absurd h
-  ends_by (Err halts.TurnsFull) first sinks_old sinks_new sound_old sound_new left_old left_new desk h = inl (true, h)
+  pub ends_by : (r : Result (Unit {0}) Halt) (first : Played) (sinks_old sinks_new : List R) (sound_old sound_new left_old left_new : Option (List ℕ)) (zeros_old zeros_new : ℕ) (desk : Desk) → Rose zeros_old zeros_new
+      → Closes taken faults first sinks_old sinks_new sound_old sound_new left_old left_new desk r → EndsTo taken faults first sinks_old sinks_new sound_old sound_new left_old left_new zeros_old zeros_new desk r
+  ends_by (Ok x) first sinks_old sinks_new sound_old sound_new left_old left_new zeros_old zeros_new desk rose h = (rose, h)
+  ends_by (Err halts.Quit) first sinks_old sinks_new sound_old sound_new left_old left_new zeros_old zeros_new desk rose h = inr (refl, rose, h)
+  ends_by (Err halts.NoMemory) first sinks_old sinks_new sound_old sound_new left_old left_new zeros_old zeros_new desk rose h = inl (true, rose, h)
+  ends_by (Err halts.SoundFault) first sinks_old sinks_new sound_old sound_new left_old left_new zeros_old zeros_new desk rose h = absurd h
+  ends_by (Err halts.TurnsFull) first sinks_old sinks_new sound_old sound_new left_old left_new zeros_old zeros_new desk rose h = inl (true, rose, h)

@@ -69,7 +69,7 @@ weaker : (at_end f g s t : Type 0) (bytes : List ℕ) (packets : List (List ℕ)
 weaker at_end f g s t bytes packets rest Closed u v h = h
 weaker at_end f g s t bytes packets rest (Cut kept) u v h = h
 weaker at_end f g s t bytes packets rest (BadFrame size) u v h = h
-weaker at_end f g s t bytes packets rest ReadFault u v h = u h
+weaker at_end f g s t bytes packets rest ReadFault u v h = (u h.0, h.1)
 weaker at_end f g s t bytes packets rest SendFault u v h = h
 weaker at_end f g s t bytes packets rest Stopped u v h = v h
 weaker at_end f g s t bytes packets rest Worn u v h = h

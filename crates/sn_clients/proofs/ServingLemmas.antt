@@ -1,5 +1,5 @@
 -- A whole session: its clients, its turns and what was played over them.
-use Rattle.std.proofs.Common.{◌≡◌, ◌≢◌, ◌<◌, ◌≤◌, ◌++◌, ℕ, zero, suc, Bool, true, false, true≢false, if◌then◌else◌, List, [], ◌∷◌, All, length, map, replicate, Option, Some, None, Result, Ok, Err, OnOk, append-nil, refl, sym, ap, subst, ◌∙◌, inl, inr, lt_of_not-le, arith}
+use Rattle.std.proofs.Common.{◌≡◌, ◌≢◌, ◌⊎◌, ◌<◌, ◌≤◌, ◌++◌, ℕ, zero, suc, Bool, true, false, true≢false, if◌then◌else◌, List, [], ◌∷◌, All, length, map, replicate, Option, Some, None, Result, Ok, Err, OnOk, append-nil, refl, sym, ap, subst, ◌∙◌, inl, inr, lt_of_not-le, arith}
 use Rattle.std.specs.Prelude.{slice_get, slice_index_or}
 use Rattle.std.proofs.lemmas.List.Elements.{All-get_or, All-nil, All-push}
 use Rattle.std.proofs.lemmas.List.{get_or-replicate, length-replicate}
@@ -31,14 +31,14 @@ use Rattle.sn_clients.specs.Answers.{IsInletOf, IsNewInlet, end_of, has_found, s
 use Rattle.sn_clients.specs.Clients.{HasInlet, IsRead, ReadTo, Seated}
 use Rattle.sn_clients.specs.Delivery.{AllWereTaken, AreFronts, HasPut}
 use Rattle.sn_clients.specs.Ends.{clients_in, gathered_in, new_sender, taken_in, with_gathered}
-use Rattle.sn_clients.specs.Looping.{EndsTo, Gave, HaltsAt, HasClosed, HasDone, HasHalted, IsPlaying, IsSteady, RunsTo, frames_in, numbers_in, turn_of}
+use Rattle.sn_clients.specs.Looping.{Counted, EndsTo, Gave, HaltsAt, HasClosed, HasDone, HasHalted, IsPlaying, IsSteady, RunsTo, frames_in, numbers_in, turn_of}
 use Rattle.sn_clients.specs.Notes.{IsFront, frames_of}
-use Rattle.sn_clients.specs.PlayMany.{Act, Played, Streams, acts_from, after_acts, closed, start}
+use Rattle.sn_clients.specs.PlayMany.{Act, Played, Streams, WhileOpen, acts_from, after_acts, closed, start}
 use Rattle.sn_clients.specs.Reading.{HasRead}
 use Rattle.sn_clients.specs.Seating.{IsBegun, IsGathered, IsSeatOf, IsSeated, IsStopped, told}
 use Rattle.sn_clients.specs.Serving.{EndsWith, IsServed, PlaysMany, Reads, WroteAt, how_of}
 use Rattle.sn_clients.specs.Written.{AllHear, Fails, Hears, IsGoing, Wrote, WroteFronts}
-use Rattle.sn_clients.proofs.ActLemmas.{acts_are}
+use Rattle.sn_clients.proofs.ActLemmas.{acts_are, open_all}
 use Rattle.sn_clients.proofs.EachLemmas.{grows_not}
 use Rattle.sn_clients.proofs.LoopLemmas.{done_taken}
 use Rattle.sn_clients.proofs.ReadLemmas.{ends_weaker}
@@ -66,6 +66,10 @@ moved : {S : Type 0} (left : S → Option (List ℕ)) (faults : S → ℕ) (how 
     → HasRead (left b) (left d) (Rose (faults b) (faults d)) (how ≢ hows.Over) ys f
 moved left faults how a b c d xs ys e f one two three four h = subst (λ (p : _ × _ × List (List ℕ) × ClientEnd). HasRead (left p.0) (left p.1) (Rose (faults p.0) (faults p.1)) (how ≢ hows.Over) p.2 p.3) (λ i. (one i, two i, three i, four i)) h
 
+kept_so : {S : Type 0} (faults : S → ℕ) (e f : ClientEnd) (a b c d : S) → a ≡ b → d ≡ c → f ≡ e → (e ≡ client_ends.ReadFault) ⊎ (faults c ≡ faults a) → (f ≡ client_ends.ReadFault) ⊎ (faults d ≡ faults b)
+kept_so faults e f a b c d begun ended same (inl is) = inl (same ∙ is)
+kept_so faults e f a b c d begun ended same (inr kept) = inr (ap faults ended ∙ kept ∙ ap faults begun)
+
 -- the whole way of a client
 pub reads_one : {S : Type 0} (relay : Relay) (left : S → Option (List ℕ)) (faults : S → ℕ) (how : How) (failed : Bool) (number : ℕ) (stopped : Bool) (sender : Sender) (first seated read gathered last : Client S) → IsSeated relay number first seated
     → IsRead relay left faults number seated read → IsGathered stopped number read gathered sender → last ≡ told failed gathered → (how ≡ hows.Over → stopped ≡ false) → Reads left faults how failed first last sender.frames
@@ -79,6 +83,7 @@ reads_one relay left faults how failed number stopped sender first seated read g
     record {
       read = moved left faults how seated.source first.source read.source last.source (sender_of inlet).frames sender.frames read.read last.read begun (sym ended) (ap (λ (x : Sender). x.frames) b.0) (sym same) why;
       end = ap (λ (c : Client _). c.end) t ∙ ap (λ (e : ClientEnd). if failed then client_ends.SendFault else e) (ap (λ (c : Client _). c.end) g.left ∙ r.same ∙ sym same);
+      unfailed = kept_so faults read.read last.read seated.source first.source read.source last.source begun ended same r.unfailed;
     }
 
 -- one more inlet was gathered
@@ -108,14 +113,15 @@ is_over hows.TurnsFull = false
 module _ {R : Type 0} (taken : R → Option (List ℕ)) (faults : R → ℕ) where
   pub plays_many : (s : Settings) (base : ℕ) (streams : Streams) (turns : List Turn) (acts : List Act) (how : How) (sinks_old sinks_new : List R) (failed : List Bool) (sound_old sound_new : Option (List ℕ)) → turns ≡ map turn_of acts
       → ((c : ℕ) → IsFront (frames_in c acts) (slice_index_or streams c [])) → (how ≡ hows.Over → (c : ℕ) → c < length streams → frames_in c acts ≡ slice_index_or streams c [])
-      → EndsWith how (after_acts acts (start s base (length streams))) → WroteAt taken faults how sinks_old sinks_new failed sound_old sound_new (closed how (after_acts acts (start s base (length streams))))
+      → WhileOpen acts (start s base (length streams)) → EndsWith how (after_acts acts (start s base (length streams))) → WroteAt taken faults how sinks_old sinks_new failed sound_old sound_new (closed how (after_acts acts (start s base (length streams))))
       → PlaysMany taken faults s base streams turns how sinks_old sinks_new failed sound_old sound_new
-  plays_many s base streams turns acts how sinks_old sinks_new failed sound_old sound_new turned fronts whole ends wrote =
+  plays_many s base streams turns acts how sinks_old sinks_new failed sound_old sound_new turned fronts whole open_so ends wrote =
       let same : acts_from turns streams ≡ acts = ap (λ (ts : List Turn). acts_from ts streams) turned ∙ acts_are acts streams fronts in
       record {
         turned = ap (map turn_of) same ∙ sym turned;
         fronts = λ c. subst (λ (later : List Act). IsFront (frames_in c later) (slice_index_or streams c [])) (sym same) (fronts c);
         whole = λ over c inside. ap (frames_in c) same ∙ whole over c inside;
+        while_open = subst (λ (later : List Act). WhileOpen later (start s base (length streams))) (sym same) open_so;
         ends = subst (λ (later : List Act). EndsWith how (after_acts later (start s base (length streams)))) (sym same) ends;
         wrote = subst (λ (later : List Act). WroteAt taken faults how sinks_old sinks_new failed sound_old sound_new (closed how (after_acts later (start s base (length streams))))) (sym same) wrote;
       }
@@ -135,6 +141,13 @@ module _ {R : Type 0} (taken : R → Option (List ℕ)) (faults : R → ℕ) whe
   halt_ends halts.NoMemory p sinks_old sinks_new failed sound_old sound_new h = (tt, h)
   halt_ends halts.SoundFault p sinks_old sinks_new failed sound_old sound_new h = (tt, h)
 
+  -- a boundary of the turns accepted `/quit`
+  quit_at : (halt : Halt) (p : Played) (sinks_old sinks_new : List R) (failed : List Bool) (sound_old sound_new : Option (List ℕ)) → HaltsAt taken faults sinks_old sinks_new failed sound_old sound_new p halt → how_of (Err halt) ≡ hows.Quit → p.quit ≡ true
+  quit_at halts.Quit p sinks_old sinks_new failed sound_old sound_new h e = h.0
+  quit_at halts.NoMemory p sinks_old sinks_new failed sound_old sound_new h e = absurd cc
+  quit_at halts.SoundFault p sinks_old sinks_new failed sound_old sound_new h e = absurd cc
+  quit_at halts.TurnsFull p sinks_old sinks_new failed sound_old sound_new h e = absurd cc
+
   -- the last boundary, at which `/quit` was accepted
   pub quit_ends : (p : Played) (sinks_old sinks_new : List R) (failed : List Bool) (sound_old sound_new : Option (List ℕ)) → p.quit ≡ false → Wrote taken faults sinks_old sinks_new failed sound_old sound_new (at_boundary p.play)
       → WroteAt taken faults hows.Quit sinks_old sinks_new failed sound_old sound_new (closed hows.Quit p)
@@ -145,12 +158,14 @@ module _ {R : Type 0} (taken : R → Option (List ℕ)) (faults : R → ℕ) whe
       → HasHalted taken faults (start s base (length streams)) sinks_old sinks_new sound_old sound_new at_zero left_old left_new desk halt → clients_in (end_of desk.outlet) ≡ length streams
       → ((c : ℕ) → c < length streams → IsFront (frames_of c (taken_in (end_of desk.outlet))) (slice_index_or streams c []))
       → PlaysMany taken faults s base streams desk.turns.items (how_of (Err halt)) sinks_old sinks_new desk.failed.items sound_old sound_new × Gave at_zero left_old left_new (numbers_in (acts_from desk.turns.items streams))
+      × (how_of (Err halt) ≡ hows.Quit → (after_acts (acts_from desk.turns.items streams) (start s base (length streams))).quit ≡ true)
   plays_halted s base streams desk halt sinks_old sinks_new sound_old sound_new left_old left_new at_zero h many fronts =
       let all = fronts_of desk h.acts streams at_zero left_old left_new h.done many fronts in
       let ends = halt_ends halt (after_acts h.acts (start s base (length streams))) sinks_old sinks_new desk.failed.items sound_old sound_new h.halts in
       let same : acts_from desk.turns.items streams ≡ h.acts = ap (λ (ts : List Turn). acts_from ts streams) h.done.turned ∙ acts_are h.acts streams all in (
-        plays_many s base streams desk.turns.items h.acts (how_of (Err halt)) sinks_old sinks_new desk.failed.items sound_old sound_new h.done.turned all (λ over. never_over halt over) ends.0 ends.1,
+        plays_many s base streams desk.turns.items h.acts (how_of (Err halt)) sinks_old sinks_new desk.failed.items sound_old sound_new h.done.turned all (λ over. never_over halt over) h.while_open ends.0 ends.1,
         subst (λ (later : List Act). Gave at_zero left_old left_new (numbers_in later)) (sym same) h.done.numbers,
+        λ quit. ap (λ (later : List Act). (after_acts later (start s base (length streams))).quit) same ∙ quit_at halt (after_acts h.acts (start s base (length streams))) sinks_old sinks_new desk.failed.items sound_old sound_new h.halts quit,
       )
 
   -- behind the last boundary
@@ -163,33 +178,36 @@ module _ {R : Type 0} (taken : R → Option (List ℕ)) (faults : R → ℕ) whe
   plays_closed s base streams desk flow how sinks_old sinks_new sound_old sound_new left_old left_new h many fronts whole ends wrote =
       let all = fronts_of desk h.acts streams true left_old left_new h.done many fronts in
       let same : acts_from desk.turns.items streams ≡ h.acts = ap (λ (ts : List Turn). acts_from ts streams) h.done.turned ∙ acts_are h.acts streams all in (
-        plays_many s base streams desk.turns.items h.acts how sinks_old sinks_new desk.failed.items sound_old sound_new h.done.turned all (λ over c inside. h.done.frames c ∙ whole over c inside) ends wrote,
+        plays_many s base streams desk.turns.items h.acts how sinks_old sinks_new desk.failed.items sound_old sound_new h.done.turned all (λ over c inside. h.done.frames c ∙ whole over c inside) (open_all h.acts (start s base (length streams)) h.goes_on) ends wrote,
         subst (λ (later : List Act). Gave true left_old left_new (numbers_in later)) (sym same) h.done.numbers,
       )
 
   -- what is known of the turns at the end of a session
-  pub record IsPlayed (s : Settings) (base : ℕ) (streams : Streams) (desk : Desk) (how : How) (sinks_old sinks_new : List R) (sound_old sound_new left_old left_new : Option (List ℕ)) : Type 0 where
+  pub record IsPlayed (s : Settings) (base : ℕ) (streams : Streams) (desk : Desk) (how : How) (sinks_old sinks_new : List R) (sound_old sound_new left_old left_new : Option (List ℕ)) (zeros_old zeros_new : ℕ) : Type 0 where
     pub plays : PlaysMany taken faults s base streams desk.turns.items how sinks_old sinks_new desk.failed.items sound_old sound_new
     pub at_zero : Bool
     pub gave : Gave at_zero left_old left_new (numbers_in (acts_from desk.turns.items streams))
+    pub zeros : Fails at_zero zeros_old zeros_new
     pub over : how ≡ hows.Over → at_zero ≡ true
+    pub quit : how ≡ hows.Quit → (after_acts (acts_from desk.turns.items streams) (start s base (length streams))).quit ≡ false → at_zero ≡ true
 
-  pub ends_played : (s : Settings) (base : ℕ) (streams : Streams) (desk : Desk) (r : Result (Unit {0}) Halt) (sinks_old sinks_new : List R) (sound_old sound_new left_old left_new : Option (List ℕ))
-      → EndsTo taken faults (start s base (length streams)) sinks_old sinks_new sound_old sound_new left_old left_new desk r → clients_in (end_of desk.outlet) ≡ length streams
+  pub ends_played : (s : Settings) (base : ℕ) (streams : Streams) (desk : Desk) (r : Result (Unit {0}) Halt) (sinks_old sinks_new : List R) (sound_old sound_new left_old left_new : Option (List ℕ)) (zeros_old zeros_new : ℕ)
+      → EndsTo taken faults (start s base (length streams)) sinks_old sinks_new sound_old sound_new left_old left_new zeros_old zeros_new desk r → clients_in (end_of desk.outlet) ≡ length streams
       → ((c : ℕ) → c < length streams → IsFront (frames_of c (taken_in (end_of desk.outlet))) (slice_index_or streams c []))
-      → OnOk r ((c : ℕ) → c < length streams → frames_of c (taken_in (end_of desk.outlet)) ≡ slice_index_or streams c []) → IsPlayed s base streams desk (how_of r) sinks_old sinks_new sound_old sound_new left_old left_new
-  ends_played s base streams desk (Ok x) sinks_old sinks_new sound_old sound_new left_old left_new h many fronts whole =
+      → OnOk r ((c : ℕ) → c < length streams → frames_of c (taken_in (end_of desk.outlet)) ≡ slice_index_or streams c []) → IsPlayed s base streams desk (how_of r) sinks_old sinks_new sound_old sound_new left_old left_new zeros_old zeros_new
+  ends_played s base streams desk (Ok x) sinks_old sinks_new sound_old sound_new left_old left_new zeros_old zeros_new z many fronts whole =
+      let (rose, h) = z in
       let p = plays_closed s base streams desk flows.On hows.Over sinks_old sinks_new sound_old sound_new left_old left_new h many fronts (λ over. whole) (h.goes_on, h.flow_is) h.wrote in
-      record { plays = p.0; at_zero = true; gave = p.1; over = λ over. refl }
-  ends_played s base streams desk (Err halt) sinks_old sinks_new sound_old sound_new left_old left_new (inl z) many fronts whole =
-      let (at_zero, h) = z in
+      record { plays = p.0; at_zero = true; gave = p.1; zeros = rose; over = λ over. refl; quit = λ quit going. refl }
+  ends_played s base streams desk (Err halt) sinks_old sinks_new sound_old sound_new left_old left_new zeros_old zeros_new (inl z) many fronts whole =
+      let (at_zero, counted, h) = z in
       let p = plays_halted s base streams desk halt sinks_old sinks_new sound_old sound_new left_old left_new at_zero h many fronts in
-      record { plays = p.0; at_zero = at_zero; gave = p.1; over = λ over. never_over halt over }
-  ends_played s base streams desk (Err halt) sinks_old sinks_new sound_old sound_new left_old left_new (inr z) many fronts whole =
-      let h = z.1 in
+      record { plays = p.0; at_zero = at_zero; gave = p.1; zeros = counted; over = λ over. never_over halt over; quit = λ quit going. absurd (true≢false (sym (p.2 quit) ∙ going)) }
+  ends_played s base streams desk (Err halt) sinks_old sinks_new sound_old sound_new left_old left_new zeros_old zeros_new (inr z) many fronts whole =
+      let (is, rose, h) = z in
       let p = plays_closed s base streams desk flows.Quit hows.Quit sinks_old sinks_new sound_old sound_new left_old left_new h many fronts (λ over. absurd (true≢false (sym (ap is_over over)))) (inr h.flow_is)
       (quit_ends (after_acts h.acts (start s base (length streams))) sinks_old sinks_new desk.failed.items sound_old sound_new h.goes_on h.wrote) in
-      subst (λ (k : Halt). IsPlayed s base streams desk (how_of (Err k)) sinks_old sinks_new sound_old sound_new left_old left_new) (sym z.0) (record { plays = p.0; at_zero = true; gave = p.1; over = λ over. refl })
+      subst (λ (k : Halt). IsPlayed s base streams desk (how_of (Err k)) sinks_old sinks_new sound_old sound_new left_old left_new zeros_old zeros_new) (sym is) (record { plays = p.0; at_zero = true; gave = p.1; zeros = rose; over = λ over. refl; quit = λ quit going. refl })
 
   -- ---- the beginning
 
@@ -228,21 +246,27 @@ module _ {R : Type 0} (taken : R → Option (List ℕ)) (faults : R → ℕ) whe
   }
 
 -- the outlet changed, and neither what it took nor how many inlets were made
-pub runs_gathered : {R : Type 0} (taken : R → Option (List ℕ)) (faults : R → ℕ) (first : Played) (sinks_old sinks_new : List R) (sound_old sound_new left_old left_new : Option (List ℕ)) (old new : Desk) (r : Result (Unit {0}) Halt)
+pub runs_gathered : {R : Type 0} (taken : R → Option (List ℕ)) (faults : R → ℕ) (first : Played) (sinks_old sinks_new : List R) (sound_old sound_new left_old left_new : Option (List ℕ)) (zeros_old zeros_new : ℕ) (old new : Desk) (r : Result (Unit {0}) Halt)
     → new.turns.items ≡ old.turns.items → new.failed.items ≡ old.failed.items → new.engine.running ≡ old.engine.running → taken_in (end_of new.outlet) ≡ taken_in (end_of old.outlet) → clients_in (end_of new.outlet) ≡ clients_in (end_of old.outlet)
-    → RunsTo taken faults first sinks_old sinks_new sound_old sound_new left_old left_new old r → RunsTo taken faults first sinks_old sinks_new sound_old sound_new left_old left_new new r
-runs_gathered taken faults first sinks_old sinks_new sound_old sound_new left_old left_new old new (Ok x) turns flags engine took many h = record {
-  acts = h.acts;
-  done = done_taken true left_old left_new old new h.acts h.done turns took many;
-  goes_on = h.goes_on;
-  going = subst (λ (p : List Bool × Running). IsGoing taken faults sinks_old sinks_new p.0 sound_old sound_new (after_acts h.acts first).play p.1) (λ i. (sym flags i, sym engine i)) h.going;
-}
-runs_gathered taken faults first sinks_old sinks_new sound_old sound_new left_old left_new old new (Err halt) turns flags engine took many h =
-    let (at_zero, k) = h in (
+    → RunsTo taken faults first sinks_old sinks_new sound_old sound_new left_old left_new zeros_old zeros_new old r → RunsTo taken faults first sinks_old sinks_new sound_old sound_new left_old left_new zeros_old zeros_new new r
+runs_gathered taken faults first sinks_old sinks_new sound_old sound_new left_old left_new zeros_old zeros_new old new (Ok x) turns flags engine took many h =
+    let (rose, k) = h in (
+      rose,
+      record {
+        acts = k.acts;
+        done = done_taken true left_old left_new old new k.acts k.done turns took many;
+        goes_on = k.goes_on;
+        going = subst (λ (p : List Bool × Running). IsGoing taken faults sinks_old sinks_new p.0 sound_old sound_new (after_acts k.acts first).play p.1) (λ i. (sym flags i, sym engine i)) k.going;
+      },
+    )
+runs_gathered taken faults first sinks_old sinks_new sound_old sound_new left_old left_new zeros_old zeros_new old new (Err halt) turns flags engine took many h =
+    let (at_zero, counted, k) = h in (
       at_zero,
+      counted,
       record {
         acts = k.acts;
         done = done_taken at_zero left_old left_new old new k.acts k.done turns took many;
+        while_open = k.while_open;
         halts = subst (λ (failed : List Bool). HaltsAt taken faults sinks_old sinks_new failed sound_old sound_new (after_acts k.acts first) halt) (sym flags) k.halts;
       },
     )
@@ -269,6 +293,17 @@ fault_is (Err halts.Quit) e = absurd cc
 fault_is (Err halts.NoMemory) e = absurd cc
 fault_is (Err halts.SoundFault) e = refl
 fault_is (Err halts.TurnsFull) e = absurd cc
+
+-- what is counted of the sink for the sound at an end
+pub sound_rose : (r : Result (Unit {0}) Halt) (before now : ℕ) → Counted r before now → how_of r ≡ hows.SoundFault → Rose before now
+sound_rose r before now h e = subst (λ (q : Result (Unit {0}) Halt). Counted q before now) (fault_is r e) h
+
+pub sound_kept : (r : Result (Unit {0}) Halt) (before now : ℕ) → Counted r before now → (how_of r ≡ hows.SoundFault) ⊎ (now ≡ before)
+sound_kept (Ok x) before now h = inr h
+sound_kept (Err halts.Quit) before now h = inr h
+sound_kept (Err halts.NoMemory) before now h = inr h
+sound_kept (Err halts.SoundFault) before now h = inl refl
+sound_kept (Err halts.TurnsFull) before now h = inr h
 
 -- some element of a list that has one
 pub some_of : {X : Type 0} (xs : List X) (c : ℕ) → c < length xs → X
@@ -321,14 +356,14 @@ whole_at end senders same turn taken c inside =
 -- ---- all together
 
 pub served : {S R : Type 0} (relay : Relay) (left : S → Option (List ℕ)) (faults : S → ℕ) (taken : R → Option (List ℕ)) (sink_faults : R → ℕ) (s : Settings) (base : ℕ) (first seated read gathered last : List (Client S)) (senders : List Sender) (stopped : Bool)
-    (desk : Desk) (how : How) (sinks_old sinks_new : List R) (sound_old sound_new left_old left_new : Option (List ℕ)) → length seated ≡ length first → length read ≡ length seated → length gathered ≡ length read → length last ≡ length gathered → length senders ≡ length read
+    (desk : Desk) (how : How) (sinks_old sinks_new : List R) (sound_old sound_new left_old left_new : Option (List ℕ)) (zeros_old zeros_new : ℕ) → length seated ≡ length first → length read ≡ length seated → length gathered ≡ length read → length last ≡ length gathered → length senders ≡ length read
     → ((c : ℕ) (d : Client S) → c < length first → IsSeated relay c (slice_index_or first c d) (slice_index_or seated c d))
     → ((c : ℕ) (d : Client S) → c < length seated → IsRead relay left faults c (slice_index_or seated c d) (slice_index_or read c d))
     → ((c : ℕ) (d : Client S) (k : Sender) → c < length read → IsGathered stopped c (slice_index_or read c d) (slice_index_or gathered c d) (slice_index_or senders c k))
     → ((c : ℕ) (d : Client S) → c < length gathered → slice_index_or last c d ≡ told (slice_index_or desk.failed.items c false) (slice_index_or gathered c d)) → (how ≡ hows.Over → stopped ≡ false)
-    → IsPlayed taken sink_faults s base (map (λ (k : Sender). k.frames) senders) desk how sinks_old sinks_new sound_old sound_new left_old left_new
-    → IsServed left faults taken sink_faults s base first last sinks_old sinks_new sound_old sound_new left_old left_new how desk.turns.items
-served relay left faults taken sink_faults s base first seated read gathered last senders stopped desk how sinks_old sinks_new sound_old sound_new left_old left_new one two three four many seats reads gathers tells still p = record {
+    → IsPlayed taken sink_faults s base (map (λ (k : Sender). k.frames) senders) desk how sinks_old sinks_new sound_old sound_new left_old left_new zeros_old zeros_new
+    → IsServed left faults taken sink_faults s base first last sinks_old sinks_new sound_old sound_new left_old left_new zeros_old zeros_new how desk.turns.items
+served relay left faults taken sink_faults s base first seated read gathered last senders stopped desk how sinks_old sinks_new sound_old sound_new left_old left_new zeros_old zeros_new one two three four many seats reads gathers tells still p = record {
   streams = map (λ (k : Sender). k.frames) senders;
   failed = desk.failed.items;
   clients = (many_streams senders ∙ many ∙ two ∙ one, four ∙ three ∙ two ∙ one);
@@ -342,10 +377,15 @@ served relay left faults taken sink_faults s base first seated read gathered las
   plays = p.plays;
   at_zero = p.at_zero;
   gave = p.gave;
+  zeros = p.zeros;
   over = p.over;
+  quit = p.quit;
 }
 
 -- ---- no memory
+
+never_quit : hows.NoMemory ≡ hows.Quit → ⊥
+never_quit e = cc
 
 nothing_read : {S : Type 0} (left : S → Option (List ℕ)) (faults : S → ℕ) (old new : Client S) → IsStopped old new → HasRead (left old.source) (left new.source) (Rose (faults old.source) (faults new.source)) (hows.NoMemory ≢ hows.Over) [] new.read
 nothing_read left faults old new h =
@@ -359,9 +399,9 @@ nothing_read left faults old new h =
     moved left faults hows.NoMemory old.source old.source old.source new.source [] [] client_ends.Stopped new.read refl (sym h.source) refl (sym h.read) none
 
 -- a session that has not begun
-pub served_not : {S R : Type 0} (left : S → Option (List ℕ)) (faults : S → ℕ) (taken : R → Option (List ℕ)) (sink_faults : R → ℕ) (s : Settings) (base : ℕ) (first last : List (Client S)) (sinks : List R) (sound numbers : Option (List ℕ)) → length last ≡ length first → length sinks ≡ length first
-    → ((c : ℕ) (d : Client S) → c < length first → IsStopped (slice_index_or first c d) (slice_index_or last c d)) → IsServed left faults taken sink_faults s base first last sinks sinks sound sound numbers numbers hows.NoMemory []
-served_not left faults taken sink_faults s base first last sinks sound numbers many as_many_sinks stopped =
+pub served_not : {S R : Type 0} (left : S → Option (List ℕ)) (faults : S → ℕ) (taken : R → Option (List ℕ)) (sink_faults : R → ℕ) (s : Settings) (base : ℕ) (first last : List (Client S)) (sinks : List R) (sound numbers : Option (List ℕ)) (given : ℕ) → length last ≡ length first → length sinks ≡ length first
+    → ((c : ℕ) (d : Client S) → c < length first → IsStopped (slice_index_or first c d) (slice_index_or last c d)) → IsServed left faults taken sink_faults s base first last sinks sinks sound sound numbers numbers given given hows.NoMemory []
+served_not left faults taken sink_faults s base first last sinks sound numbers given many as_many_sinks stopped =
     let n = length first in
     let streams : Streams = replicate n [] in
     let same : length streams ≡ n = length-replicate n [] in
@@ -380,10 +420,13 @@ served_not left faults taken sink_faults s base first last sinks sound numbers m
             read = subst (λ (frames : List (List ℕ)). HasRead (left (slice_index_or first c d).source) (left (slice_index_or last c d).source) (Rose (faults (slice_index_or first c d).source) (faults (slice_index_or last c d).source)) (hows.NoMemory ≢ hows.Over) frames (slice_index_or last c d).read)
                 (sym (get_or-replicate n c [] [] inside)) (nothing_read left faults (slice_index_or first c d) (slice_index_or last c d) h);
             end = h.end ∙ sym h.read ∙ ap (λ (b : Bool). if b then client_ends.SendFault else (slice_index_or last c d).read) (sym quiet);
+            unfailed = inr (ap faults h.source);
           };
-      plays = plays_many taken sink_faults s base streams [] [] hows.NoMemory sinks sinks failed sound sound refl (λ c. (slice_index_or streams c [], refl)) (λ over. absurd (true≢false (sym (ap is_over over)))) tt
+      plays = plays_many taken sink_faults s base streams [] [] hows.NoMemory sinks sinks failed sound sound refl (λ c. (slice_index_or streams c [], refl)) (λ over. absurd (true≢false (sym (ap is_over over)))) tt tt
           (wrote_fronts taken sink_faults sinks sinks failed sound sound p p (grows_not p) nothing);
       at_zero = false;
       gave = Consumes-nil numbers;
+      zeros = refl;
       over = λ over. absurd (true≢false (sym (ap is_over over)));
+      quit = λ quit going. absurd (never_quit quit);
     }

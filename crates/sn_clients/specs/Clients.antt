@@ -1,9 +1,10 @@
 -- Clients before and after they are read.
-use Rattle.std.specs.Prelude.{◌≡◌, ◌≤◌, ℕ, true, List, [], Option, Some, None}
+use Rattle.std.specs.Prelude.{◌≡◌, ◌⊎◌, ◌≤◌, ℕ, true, List, [], Option, Some, None}
 use Rattle.sn_ports.specs.Causes.{Rose}
 use Rattle.sn_clients.specs.declared.seats.Inlet.{Inlet}
 use Rattle.sn_clients.specs.declared.seats.Relay.{Relay}
 use Rattle.sn_clients.specs.declared.clients.Client.{Client}
+use Rattle.sn_clients.specs.declared.clients.ClientEnd.TheVariants.{ReadFault}
 use Rattle.sn_clients.specs.Answers.{IsInletOf, has_found, sender_of}
 use Rattle.sn_clients.specs.Ends.{new_sender}
 use Rattle.sn_clients.specs.Reading.{HasRead}
@@ -28,3 +29,4 @@ module _ {S : Type 0} (relay : Relay) (left : S → Option (List ℕ)) (faults :
     pub inlet : Seated (ReadTo number old new) new.inlet
     pub same : new.end ≡ new.read
     pub later : faults old.source ≤ faults new.source
+    pub unfailed : (new.read ≡ ReadFault) ⊎ (faults new.source ≡ faults old.source)

@@ -22,9 +22,23 @@ use Rattle.sn_clients.specs.Delivery.{AllWereTaken, AreFronts, Taken}
 use Rattle.sn_clients.specs.Ends.{clients_in, gathered_in, taken_in}
 use Rattle.sn_clients.specs.declared.ends.End.{End}
 use Rattle.sn_clients.specs.Notes.{frames_of}
-use Rattle.sn_clients.specs.PlayMany.{Act, Played, after_acts, arrives, blocks}
+use Rattle.sn_clients.specs.PlayMany.{Act, Played, WhileOpen, after_acts, arrives, blocks}
 use Rattle.sn_clients.specs.Pulses.{GivesToZero}
-use Rattle.sn_clients.specs.Written.{AllSend, IsGoing, Wrote, WroteFronts, emptied}
+use Rattle.sn_clients.specs.Written.{AllSend, Fails, IsGoing, Wrote, WroteFronts, emptied}
+
+-- ---- faults of the sink for the sound
+
+-- how many are counted at an end: more if that is the end, and else as many
+abbrev pub CountedAt : Halt → ℕ → ℕ → Type 0
+CountedAt halts.SoundFault before now = Rose before now
+CountedAt halts.Quit before now = now ≡ before
+CountedAt halts.NoMemory before now = now ≡ before
+CountedAt halts.TurnsFull before now = now ≡ before
+
+-- and at any answer
+abbrev pub Counted : {X : Type 0} → Result X Halt → ℕ → ℕ → Type 0
+Counted (Ok x) before now = now ≡ before
+Counted (Err halt) before now = CountedAt halt before now
 
 -- ---- a boundary and its block
 
@@ -160,6 +174,7 @@ module _ {R : Type 0} (taken : R → Option (List ℕ)) (faults : R → ℕ) whe
   pub record HasHalted (first : Played) (sinks_old sinks_new : List R) (sound_old sound_new : Option (List ℕ)) (at_zero : Bool) (left_old left_new : Option (List ℕ)) (desk : Desk) (halt : Halt) : Type 0 where
     pub acts : List Act
     pub done : HasDone at_zero left_old left_new desk acts
+    pub while_open : WhileOpen acts first
     pub halts : HaltsAt taken faults sinks_old sinks_new desk.failed.items sound_old sound_new (after_acts acts first) halt
 
   abbrev pub PlaysOn : {X : Type 0} → Played → List R → List R → Option (List ℕ) → Option (List ℕ) → Bool → Option (List ℕ) → Option (List ℕ) → Desk → Result X Halt → Type 0
@@ -172,9 +187,10 @@ module _ {R : Type 0} (taken : R → Option (List ℕ)) (faults : R → ℕ) whe
   Asked first sinks_old sinks_new sound_old sound_new left_old left_new desk (Err halt) = HasHalted first sinks_old sinks_new sound_old sound_new false left_old left_new desk halt
 
   -- where the loop ends at the 0 of the pulse, or before it or behind it
-  abbrev pub RunsTo : Played → List R → List R → Option (List ℕ) → Option (List ℕ) → Option (List ℕ) → Option (List ℕ) → Desk → Result (Unit {0}) Halt → Type 0
-  RunsTo first sinks_old sinks_new sound_old sound_new left_old left_new desk (Ok x) = IsPlaying first sinks_old sinks_new sound_old sound_new true left_old left_new desk
-  RunsTo first sinks_old sinks_new sound_old sound_new left_old left_new desk (Err halt) = (at_zero : Bool) × HasHalted first sinks_old sinks_new sound_old sound_new at_zero left_old left_new desk halt
+  abbrev pub RunsTo : Played → List R → List R → Option (List ℕ) → Option (List ℕ) → Option (List ℕ) → Option (List ℕ) → ℕ → ℕ → Desk → Result (Unit {0}) Halt → Type 0
+  RunsTo first sinks_old sinks_new sound_old sound_new left_old left_new zeros_old zeros_new desk (Ok x) = Rose zeros_old zeros_new × IsPlaying first sinks_old sinks_new sound_old sound_new true left_old left_new desk
+  RunsTo first sinks_old sinks_new sound_old sound_new left_old left_new zeros_old zeros_new desk (Err halt) =
+      (at_zero : Bool) × Fails at_zero zeros_old zeros_new × HasHalted first sinks_old sinks_new sound_old sound_new at_zero left_old left_new desk halt
 
   -- ---- the last boundary
 
@@ -207,11 +223,11 @@ module _ {R : Type 0} (taken : R → Option (List ℕ)) (faults : R → ℕ) whe
   Closes first sinks_old sinks_new sound_old sound_new left_old left_new desk (Err halts.TurnsFull) = HasHalted first sinks_old sinks_new sound_old sound_new true left_old left_new desk halts.TurnsFull
 
   -- the end of a session
-  abbrev pub EndsTo : Played → List R → List R → Option (List ℕ) → Option (List ℕ) → Option (List ℕ) → Option (List ℕ) → Desk → Result (Unit {0}) Halt → Type 0
-  EndsTo first sinks_old sinks_new sound_old sound_new left_old left_new desk (Ok x) = HasClosed flows.On first sinks_old sinks_new sound_old sound_new left_old left_new desk
-  EndsTo first sinks_old sinks_new sound_old sound_new left_old left_new desk (Err halt) =
-      ((at_zero : Bool) × HasHalted first sinks_old sinks_new sound_old sound_new at_zero left_old left_new desk halt)
-      ⊎ ((halt ≡ halts.Quit) × HasClosed flows.Quit first sinks_old sinks_new sound_old sound_new left_old left_new desk)
+  abbrev pub EndsTo : Played → List R → List R → Option (List ℕ) → Option (List ℕ) → Option (List ℕ) → Option (List ℕ) → ℕ → ℕ → Desk → Result (Unit {0}) Halt → Type 0
+  EndsTo first sinks_old sinks_new sound_old sound_new left_old left_new zeros_old zeros_new desk (Ok x) = Rose zeros_old zeros_new × HasClosed flows.On first sinks_old sinks_new sound_old sound_new left_old left_new desk
+  EndsTo first sinks_old sinks_new sound_old sound_new left_old left_new zeros_old zeros_new desk (Err halt) =
+      ((at_zero : Bool) × Fails at_zero zeros_old zeros_new × HasHalted first sinks_old sinks_new sound_old sound_new at_zero left_old left_new desk halt)
+      ⊎ ((halt ≡ halts.Quit) × Rose zeros_old zeros_new × HasClosed flows.Quit first sinks_old sinks_new sound_old sound_new left_old left_new desk)
 
 -- What the loop of a session did until it ended.
 module _ {R O T : Type 0} (taken : R → Option (List ℕ)) (faults : R → ℕ) (sound_taken : O → Option (List ℕ)) (sound_faults : O → ℕ) (left : T → Option (List ℕ)) (zeros : T → ℕ) where
@@ -219,11 +235,11 @@ module _ {R O T : Type 0} (taken : R → Option (List ℕ)) (faults : R → ℕ)
     pub outlet : IsOutletOf relay new.outlet
     pub plays : (first : Played) (sinks_first : List R) (sound_first left_first : Option (List ℕ))
         → IsPlaying taken faults first sinks_first sinks_old sound_first (sound_taken sound_old) false left_first (left pulse_old) old
-        → RunsTo taken faults first sinks_first sinks_new sound_first (sound_taken sound_new) left_first (left pulse_new) new result
+        → RunsTo taken faults first sinks_first sinks_new sound_first (sound_taken sound_new) left_first (left pulse_new) (zeros pulse_old) (zeros pulse_new) new result
     pub steady : OnOk result (IsSteady most (length sinks_new) new)
     pub few : length new.turns.items ≤ most
     pub full : result ≡ Err halts.TurnsFull → length new.turns.items ≡ most
     pub zero : OnOk result (Rose (zeros pulse_old) (zeros pulse_new))
-    pub sound : result ≡ Err halts.SoundFault → Rose (sound_faults sound_old) (sound_faults sound_new)
+    pub counted : Counted result (sound_faults sound_old) (sound_faults sound_new)
     pub inlets : SameInlets (end_of old.outlet) (end_of new.outlet)
     pub stopped : OnOk result (has_stopped new.outlet ≡ has_stopped old.outlet)

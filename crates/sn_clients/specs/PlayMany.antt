@@ -1,5 +1,5 @@
 -- What a session of several clients gives: the engine's own steps, over its turns; nothing is written in between.
-use Rattle.std.specs.Prelude.{ℕ, zero, suc, Bool, true, false, if◌then◌else◌, List, [], ◌∷◌, length, Some, Result, Ok, Err, slice_index_or, slice_set}
+use Rattle.std.specs.Prelude.{◌≡◌, ℕ, zero, suc, Bool, true, false, if◌then◌else◌, List, [], ◌∷◌, length, Some, Result, Ok, Err, slice_index_or, slice_set}
 use Rattle.sn_ports.specs.Limits.{most_entries}
 use Rattle.sn_osc.specs.Reading.{read}
 use Rattle.sn_osc.specs.Shape.{Shape}
@@ -73,6 +73,11 @@ after_act act p = if p.quit then p else acted act p
 abbrev pub after_acts : List Act → Played → Played
 after_acts [] p = p
 after_acts (act ∷ acts) p = after_acts acts (after_act act p)
+
+-- none of the acts comes after `/quit` was accepted
+abbrev pub WhileOpen : List Act → Played → Type 0
+WhileOpen [] p = Unit {0}
+WhileOpen (act ∷ acts) p = (p.quit ≡ false) × WhileOpen acts (after_act act p)
 
 -- ---- a whole session
 

@@ -20,7 +20,7 @@ module _ (at_end faulted stopped : Type 0) (bytes : List ℕ) (packets : List (L
   EndsAs Closed = at_end × (length rest ≡ 0)
   EndsAs (Cut kept) = at_end × (0 < kept) × (length rest ≡ kept) × (first_frame rest ≡ cut)
   EndsAs (BadFrame size) = first_frame rest ≡ bad_size size
-  EndsAs ReadFault = faulted
+  EndsAs ReadFault = faulted × (first_frame rest ≡ cut)
   EndsAs SendFault = ⊥
   EndsAs Stopped = stopped
   EndsAs Worn = (most_count ≤ length bytes) ⊎ (2 ^ 32 ≤ length packets + 1)

@@ -14,7 +14,7 @@ abbrev pub Hears : Bool → Option (List ℕ) → Option (List ℕ) → List ℕ
 Hears false old new said = Appends old new said
 Hears true old new said = TakesFront old new said
 
--- it has failed, and that was counted, or it has not
+-- what is counted has come, and the count rose, or it has not
 abbrev pub Fails : Bool → ℕ → ℕ → Type 0
 Fails false before now = now ≡ before
 Fails true before now = Rose before now

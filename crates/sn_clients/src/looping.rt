@@ -7,7 +7,7 @@ ghost use Rattle.sn_engine.specs.declared.standing.Standing.TheVariants.{Settled
 ghost use Rattle.sn_clients.specs.declared.playing.Halt.TheVariants as halts;
 ghost use Rattle.sn_clients.specs.Answers.{IsOutletOf, end_of, has_stopped};
 ghost use Rattle.sn_clients.specs.Delivery.{AllWereTaken};
-ghost use Rattle.sn_clients.specs.Looping.{Asked, Closed, Closes, EndsTo, HasPlayed, IsPlaying, IsSteady, PlaysOn, PlaysTo, Received, RunsTo, SameInlets, StandsOn};
+ghost use Rattle.sn_clients.specs.Looping.{Asked, Closed, Closes, Counted, EndsTo, HasPlayed, IsPlaying, IsSteady, PlaysOn, PlaysTo, Received, RunsTo, SameInlets, StandsOn};
 ghost use Rattle.sn_clients.specs.Written.{AllSend, IsGoing};
 ghost use Rattle.sn_clients.specs.PlayMany.{Played, ticks};
 
@@ -100,8 +100,7 @@ impl Desk {
         ensures stands { OnOk result (StandsOn count self.old self.new) }
         ensures sinks { length sinks.new ≡ length sinks.old }
         ensures only { result ≡ Err halts.TurnsFull → ⊥ }
-        ensures sound { result ≡ Err halts.SoundFault → Rose (O.faults sound.old) (O.faults sound.new) }
-        ensures unfailed { OnOk result (O.faults sound.new ≡ O.faults sound.old) }
+        ensures counted { Counted result (O.faults sound.old) (O.faults sound.new) }
         ensures turns { self.new.turns.items ≡ self.old.turns.items }
         ensures outlet { self.new.outlet ≡ self.old.outlet }
     {
@@ -215,8 +214,8 @@ impl Desk {
         ensures full { result ≡ Err halts.TurnsFull → length self.new.turns.items ≡ most }
         ensures zero { result ≡ Ok false → Rose (T.zeros pulse.old) (T.zeros pulse.new) }
         ensures others { result ≡ Ok true → T.zeros pulse.new ≡ T.zeros pulse.old }
-        ensures sound { result ≡ Err halts.SoundFault → Rose (O.faults sound.old) (O.faults sound.new) }
-        ensures unfailed { OnOk result (O.faults sound.new ≡ O.faults sound.old) }
+        ensures unasked { OnErr result (T.zeros pulse.new ≡ T.zeros pulse.old) }
+        ensures counted { Counted result (O.faults sound.old) (O.faults sound.new) }
         ensures outlet { self.new.outlet ≡ self.old.outlet }
     {
         make_room(&mut self.turns)?;
@@ -285,13 +284,12 @@ impl Desk {
         ensures outlet { IsOutletOf relay.now self.new.outlet }
         ensures plays { (first : Played) (sinks_first : List R) (sound_first left_first : Option (List ℕ))
             → IsPlaying R.taken R.faults first sinks_first sinks.old sound_first (O.taken sound.old) false left_first (T.left pulse.old) self.old
-            → RunsTo R.taken R.faults first sinks_first sinks.new sound_first (O.taken sound.new) left_first (T.left pulse.new) self.new result }
+            → RunsTo R.taken R.faults first sinks_first sinks.new sound_first (O.taken sound.new) left_first (T.left pulse.new) (T.zeros pulse.old) (T.zeros pulse.new) self.new result }
         ensures steady { OnOk result (IsSteady most (length sinks.new) self.new) }
         ensures few { length self.new.turns.items ≤ most }
         ensures full { result ≡ Err halts.TurnsFull → length self.new.turns.items ≡ most }
         ensures zero { OnOk result (Rose (T.zeros pulse.old) (T.zeros pulse.new)) }
-        ensures sound { result ≡ Err halts.SoundFault → Rose (O.faults sound.old) (O.faults sound.new) }
-        ensures unfailed { OnOk result (O.faults sound.new ≡ O.faults sound.old) }
+        ensures counted { Counted result (O.faults sound.old) (O.faults sound.new) }
         ensures inlets { SameInlets (end_of self.old.outlet) (end_of self.new.outlet) }
         ensures stopped { has_stopped self.new.outlet ≡ has_stopped self.old.outlet }
     {
@@ -390,15 +388,15 @@ impl Desk {
         requires steady { OnOk played (IsSteady most (length sinks.old) self.old) }
         requires few { length self.old.turns.items ≤ most }
         requires full { played ≡ Err halts.TurnsFull → length self.old.turns.items ≡ most }
-        ensures ends { (first : Played) (sinks_first : List R) (sound_first sound left_first left : Option (List ℕ))
-            → RunsTo R.taken R.faults first sinks_first sinks.old sound_first sound left_first left self.old played
-            → EndsTo R.taken R.faults first sinks_first sinks.new sound_first sound left_first left self.new result }
+        ensures ends { (first : Played) (sinks_first : List R) (sound_first sound left_first left : Option (List ℕ)) (zeros_first zeros_now : ℕ)
+            → RunsTo R.taken R.faults first sinks_first sinks.old sound_first sound left_first left zeros_first zeros_now self.old played
+            → EndsTo R.taken R.faults first sinks_first sinks.new sound_first sound left_first left zeros_first zeros_now self.new result }
         ensures none { OnOk result (AllWereTaken (end_of self.new.outlet)) }
         ensures was { OnOk result (played ≡ Ok tt) }
         ensures few { length self.new.turns.items ≤ most }
         ensures over { OnOk result (length self.new.turns.items < most) }
         ensures full { result ≡ Err halts.TurnsFull → length self.new.turns.items ≡ most }
-        ensures sound { result ≡ Err halts.SoundFault → played ≡ Err halts.SoundFault }
+        ensures counted { (before now : ℕ) → Counted played before now → Counted result before now }
         ensures inlets { SameInlets (end_of self.old.outlet) (end_of self.new.outlet) }
     {
         match played {

@@ -8,7 +8,7 @@ ghost use Rattle.sn_engine.specs.declared.standing.Standing.TheVariants.{Settled
 ghost use Rattle.sn_render.specs.Fronts.{TakesFront};
 ghost use Rattle.sn_clients.specs.PlayMany.{arrived, ticks};
 ghost use Rattle.sn_clients.specs.Written.{AllSend, IsGoing, Sends, emptied};
-ghost use Rattle.sn_clients.specs.Looping.{PlaysTo, Ticked};
+ghost use Rattle.sn_clients.specs.Looping.{Counted, PlaysTo, Ticked};
 ghost use Rattle.sn_clients.specs.declared.playing.Halt.TheVariants as halts;
 
 use crate::notes::Note;
@@ -127,8 +127,7 @@ fn tick<H: Threads + Sync, R: Sink, O: Sink, G: Gate>(
     requires sinks { length sinks.old ≡ length engine.old.running.replies }
     requires flags { length failed.old ≡ length engine.old.running.replies }
     ensures ticked { Ticked R.taken R.faults sinks.old sinks.new failed.old failed.new (O.taken sound.old) (O.taken sound.new) engine.old.running engine.new.running result }
-    ensures sound { result ≡ Err halts.SoundFault → Rose (O.faults sound.old) (O.faults sound.new) }
-    ensures unfailed { OnOk result (O.faults sound.new ≡ O.faults sound.old) }
+    ensures counted { Counted result (O.faults sound.old) (O.faults sound.new) }
 {
     match engine.boundary(alloc)? {
         Flow::On => {
@@ -169,8 +168,7 @@ pub(crate) fn play_blocks<H: Threads + Sync, R: Sink, O: Sink, G: Gate>(
     ensures flags { length failed.new ≡ length failed.old }
     ensures sinks { length sinks.new ≡ length sinks.old }
     ensures only { result ≡ Err halts.TurnsFull → ⊥ }
-    ensures sound { result ≡ Err halts.SoundFault → Rose (O.faults sound.old) (O.faults sound.new) }
-    ensures unfailed { OnOk result (O.faults sound.new ≡ O.faults sound.old) }
+    ensures counted { Counted result (O.faults sound.old) (O.faults sound.new) }
 {
     for _ in 0..count {
         tick(rt, alloc, engine, sinks, failed, sound, gate)?;

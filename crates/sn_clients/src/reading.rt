@@ -1,5 +1,5 @@
 //! Each client's reader: it cuts its source into frames, and puts each of them.
-ghost use Rattle.std.specs.Prelude.{◌≡◌, ◌≤◌, ◌<◌, ◌+◌, ◌^◌, [], ℕ, List, Option, true, length, IfErr, IfOk, OnErr, OnOk};
+ghost use Rattle.std.specs.Prelude.{◌≡◌, ◌⊎◌, ◌≤◌, ◌<◌, ◌+◌, ◌^◌, [], ℕ, List, Option, true, length, IfErr, IfOk, OnErr, OnOk};
 ghost use Rattle.sn_ports.specs.Limits.{most_packet};
 ghost use Rattle.sn_ports.specs.Causes.{Rose};
 ghost use Rattle.sn_osc.specs.Frames.{cut, first_frame};
@@ -99,6 +99,7 @@ fn read_piece<S: Source>(
     ensures read { (first : Option (List ℕ)) (packets : List (List ℕ)) → IsReading first (S.left source.old) packets framer.old
         → ReadsOn first (S.left source.new) (Rose (S.faults source.old) (S.faults source.new)) ⊥ packets framer.new result }
     ensures unfailed { OnOk result (S.faults source.new ≡ S.faults source.old) }
+    ensures only { IfErr result (λ end. (end ≡ client_ends.ReadFault) ⊎ (S.faults source.new ≡ S.faults source.old)) }
     ensures later { S.faults source.old ≤ S.faults source.new }
 {
     if framer.fed() >= MOST_COUNT {
@@ -134,6 +135,7 @@ fn read_on<H: Wait, S: Source>(
         → ReadsOn first (S.left source.new) (Rose (S.faults source.old) (S.faults source.new)) (has_found inlet.new ≡ true) (sender_of inlet.new).frames framer.new result }
     ensures whole { OnOk result (first_frame framer.new.kept ≡ cut) }
     ensures unfailed { OnOk result (S.faults source.new ≡ S.faults source.old) }
+    ensures only { IfErr result (λ end. (end ≡ client_ends.ReadFault) ⊎ (S.faults source.new ≡ S.faults source.old)) }
     ensures later { S.faults source.old ≤ S.faults source.new }
 {
     if relay.stopped(inlet) {
@@ -160,6 +162,7 @@ fn read_through<H: Wait, S: Source>(
     ensures client { (sender_of inlet.new).client ≡ (sender_of inlet.old).client }
     ensures read { HasRead (S.left source.old) (S.left source.new) (Rose (S.faults source.old) (S.faults source.new)) (has_found inlet.new ≡ true) (sender_of inlet.new).frames result }
     ensures later { S.faults source.old ≤ S.faults source.new }
+    ensures unfailed { (result ≡ client_ends.ReadFault) ⊎ (S.faults source.new ≡ S.faults source.old) }
 {
     for _ in rt.forever() {
         match read_on(rt, relay, inlet, framer, source, piece) {
@@ -191,6 +194,7 @@ pub(crate) fn read_all<H: Wait, S: Source>(
     ensures client { (sender_of inlet.new).client ≡ (sender_of inlet.old).client }
     ensures read { HasRead (S.left source.old) (S.left source.new) (Rose (S.faults source.old) (S.faults source.new)) (has_found inlet.new ≡ true) (sender_of inlet.new).frames result }
     ensures later { S.faults source.old ≤ S.faults source.new }
+    ensures unfailed { (result ≡ client_ends.ReadFault) ⊎ (S.faults source.new ≡ S.faults source.old) }
 {
     let Ok(mut piece) = zeroed(alloc) else {
         return ClientEnd::NoMemory;

@@ -1,5 +1,5 @@
 //! A session of several clients: a reader for each of them, and one engine for all.
-ghost use Rattle.std.specs.Prelude.{◌≡◌, ◌≤◌, ◌<◌, ◌+◌, ℕ, List, Option, [], false, Ok, Err, length, slice_index_or, IfOk, OnOk};
+ghost use Rattle.std.specs.Prelude.{◌≡◌, ◌⊎◌, ◌≤◌, ◌<◌, ◌+◌, ℕ, List, Option, [], false, Ok, Err, length, slice_index_or, IfOk, OnOk};
 ghost use Rattle.std.specs.Thread.{IsSend, IsSync};
 ghost use Rattle.sn_ports.specs.Causes.{Rose};
 ghost use Rattle.sn_ports.specs.Limits.{most_clients};
@@ -291,12 +291,13 @@ pub fn serve_many<
     requires sinks { length sinks.old.items ≡ length clients.old.items }
     requires most { 1 ≤ most }
     // What was played over the turns, the frames of each client in them, and why each client's reader ended.
-    ensures served { IsServed S.left S.faults R.taken R.faults settings.now base clients.old.items clients.new.items sinks.old.items sinks.new.items (O.taken sound.old) (O.taken sound.new) (T.left pulse.old) (T.left pulse.new) result.how result.turns.items }
+    ensures served { IsServed S.left S.faults R.taken R.faults settings.now base clients.old.items clients.new.items sinks.old.items sinks.new.items (O.taken sound.old) (O.taken sound.new) (T.left pulse.old) (T.left pulse.new) (T.zeros pulse.old) (T.zeros pulse.new) result.how result.turns.items }
     ensures few { length result.turns.items ≤ most }
     ensures full { result.how ≡ hows.TurnsFull → length result.turns.items ≡ most }
     ensures over { result.how ≡ hows.Over → length result.turns.items < most }
     ensures zero { result.how ≡ hows.Over → Rose (T.zeros pulse.old) (T.zeros pulse.new) }
     ensures sound { result.how ≡ hows.SoundFault → Rose (O.faults sound.old) (O.faults sound.new) }
+    ensures sound_unfailed { (result.how ≡ hows.SoundFault) ⊎ (O.faults sound.new ≡ O.faults sound.old) }
 {
     let count = clients.len() as u32;
     let Ok((relay, inlets, desk)) = begin(alloc, settings, base, count) else {

@@ -4,7 +4,7 @@ ghost use Rattle.sn_osc.specs.Shape.{int, string, blob, argument_of, shape, shap
 ghost use Rattle.sn_drill.specs.Stream.{message_of, retuning, beginning, note, opening};
 
 use crate::definitions::{mix8, voice};
-use sn_osc::{Arg, Args, Body, Bundle, Elements, Message, Packet};
+use sn_osc::{Address, Arg, Args, Body, Bundle, Elements, Message, Packet};
 use sn_ports::{NoMemory, Text};
 use std::alloc::Global;
 
@@ -43,7 +43,7 @@ fn message_to(alloc: Global, address: &[u8], args: Vec<Arg>) -> Result<Packet, N
     ensures { IfOk result (λ p. shape p ≡ message_of address.now (map argument_of args.items)) }
 {
     Ok(Packet::Message(Message {
-        address: Text::from_slice(alloc, address)?,
+        address: Address::from_slice(alloc, address)?,
         body: Body::Args(Args::from_vec(args)),
     }))
 }

@@ -1,3 +1,4 @@
+//! What is due acts, and completions act after it.
 ghost use Rattle.std.specs.Prelude.{◌≡◌, ◌+◌, Ok, map, length, IfOk, OnOk};
 ghost use Rattle.std.specs.List.{AllByRecursion};
 ghost use Rattle.sn_osc.specs.Shape.{message_of};

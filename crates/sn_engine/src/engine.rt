@@ -1,3 +1,4 @@
+//! The engine: what is played, and the calls that play it.
 ghost use Rattle.std.specs.Prelude.{◌≡◌, ◌≤◌, ◌<◌, ◌+◌, ◌^◌, [], true, false, ℕ, Option, length, map, replicate, slice_index_or, slice_set, IfOk, OnOk, OnErr};
 ghost use Rattle.sn_ports.specs.Limits.{most_channels, most_count, most_clients};
 ghost use Rattle.sn_osc.specs.Shape.{shape};
@@ -53,8 +54,8 @@ const COPIES: u32 = MOST_SPAN * COPY_WORDS;
 /// How many bytes the samples of a span take, with at most 3 each.
 const SPAN_BYTES: u32 = 3 * COPIES;
 
-/// What is played: the nodes, the words of the buses and of the pool with the crew that shares them, the entries that wait, and the
-/// bytes that are still to be written.
+/// What is played: the nodes, the memory with the crew that shares its words, the entries that wait, and the bytes that are still to
+/// be written.
 #[derive(Drop)]
 pub struct Engine {
     settings: Settings,

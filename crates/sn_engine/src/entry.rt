@@ -1,3 +1,4 @@
+//! The entries that a packet or a bundle gives to the queue.
 ghost use Rattle.std.specs.Prelude.{◌≡◌, ◌++◌, ◌+◌, map, IfOk, OnOk};
 ghost use Rattle.sn_osc.specs.Shape.{shape, shapes, message_of};
 ghost use Rattle.sn_engine.specs.Entries.{entries_of, messages_in, enclosed_entries, bundle_entries};

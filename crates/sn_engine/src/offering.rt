@@ -13,8 +13,8 @@ ghost use Rattle.sn_engine.specs.Arriving.{address_of, is_full, offer_entry, off
 ghost use Rattle.sn_engine.specs.Stacks.{timed_of};
 
 use crate::entry::Entry;
-use sn_osc::Message;
-use sn_ports::{NoMemory, Text};
+use sn_osc::{Address, Message};
+use sn_ports::NoMemory;
 use sn_queue::{Messages, Queue};
 use sn_reply::{Reason, Replies, To, fail};
 use std::alloc::Global;
@@ -29,7 +29,7 @@ fn refusal(alloc: Global, messages: &[Message]) -> Result<Message, NoMemory>
         Some(message) => fail(alloc, &message.address, Reason::QueueFull),
         None => fail(
             alloc,
-            &Text::from_slice(alloc, b"#bundle")?,
+            &Address::from_slice(alloc, b"#bundle")?,
             Reason::QueueFull,
         ),
     }

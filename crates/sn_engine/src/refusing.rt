@@ -2,7 +2,8 @@
 ghost use Rattle.std.specs.Prelude.{◌≡◌, ◌∷◌, [], IfOk};
 ghost use Rattle.sn_engine.specs.Refusing.{bad_packet};
 
-use sn_ports::{NoMemory, Text};
+use sn_osc::Address;
+use sn_ports::NoMemory;
 use sn_reply::{Reason, Replies, To, fail};
 use std::alloc::Global;
 
@@ -13,7 +14,7 @@ pub fn bad_packet(alloc: Global, from: u32) -> Result<Replies, NoMemory>
     let mut said = Replies::new(alloc);
     let message = fail(
         alloc,
-        &Text::from_slice(alloc, b"packet")?,
+        &Address::from_slice(alloc, b"packet")?,
         Reason::BadPacket,
     )?;
     said.push(To::Client(from), message)?;

@@ -1,11 +1,12 @@
+//! How far an engine is.
 /// How far an engine is.
 #[derive(Clone, Copy, Debug, PartialEq, Eq)]
 pub enum Standing {
     /// All blocks that were rendered are settled, and a boundary is next.
     Settled,
-    /// A boundary was done, and its block is next.
+    /// A boundary was done, and its blocks are next: one, or up to 32.
     Bounded,
-    /// A block was rendered, and is to be settled.
+    /// Blocks were rendered, and are to be settled.
     Rendered,
     /// Memory ran out within a boundary.
     Spent,

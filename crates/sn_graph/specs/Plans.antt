@@ -122,7 +122,8 @@ pub record IsPlanned (nodes : HeardNodes) (js : List Job) : Type 0 where
   pub ordered : (i j : ℕ) (a b : ℤ) → Plays js i a → Plays js j b → Ordered js i j ↔ ((i < j) × (lowest_is_split false nodes a b ≡ false))
   -- what a job may touch is what its synths may touch, the lanes that it adds, and their buses
   pub feet : (i : ℕ) → i < length js → foot_at js i ≡ foot_of (synths_with (job_at js i).synths (voices nodes)) (lanes_at js i)
-  -- what the jobs do, one after the other, is what the nodes do in the order of the walk, each lane behind the members of its group
+  -- What the jobs do, one after the other, is what the nodes do in the order of the walk, each lane behind the members of its group.
+  -- The nodes of a stage are joined (lanes_are_joined).
   pub steps : AreJoined nodes → joined_steps js ≡ steps_of nodes
   -- there are at most twice as many predecessors as jobs
   pub few : edges js ≤ 2 * length js

@@ -1,4 +1,4 @@
-//! Laws of the clashes of nodes.
+//! Laws of the nodes that a plan is made of, and of their clashes.
 ghost use Rattle.std.specs.Prelude.{◌≡◌, ◌↔◌, ◌++◌, ℕ, ℤ, true, false, List, Option};
 ghost use Rattle.std.specs.List.{All};
 ghost use Rattle.sn_mem.specs.declared.buffers.BufferPlace.{BufferPlace};
@@ -11,8 +11,8 @@ ghost use Rattle.sn_foot.specs.Canonical.{Ends};
 ghost use Rattle.sn_foot.specs.Footprints.{Clash as FootprintsClash, foot_at, foot_of, footprint_at, footprint_of, states_of};
 ghost use Rattle.sn_graph.specs.Clear.{IsClashing};
 ghost use Rattle.sn_graph.specs.Disjoint.{AreDisjoint};
-ghost use Rattle.sn_graph.specs.Plans.{is_listed};
-ghost use Rattle.sn_graph.specs.Stages.{clashing_in, nodes_in};
+ghost use Rattle.sn_graph.specs.Plans.{AreJoined, is_listed};
+ghost use Rattle.sn_graph.specs.Stages.{clashing_in, nodes_in, nodes_with};
 ghost use Rattle.sn_graph.specs.Voices.{AreHeard};
 
 use sn_world::Stage;
@@ -50,6 +50,14 @@ pub fn clashes_name_the_groups(stage: &Stage)
 /// A law: in each group of the nodes that a plan is made of, a synth runs. Paused nodes and silent groups are left out first.
 pub fn silent_groups_are_left_out(stage: &Stage)
     ensures { AreHeard (nodes_in stage.now) }
+{
+    let _ = stage;
+}
+
+/// A law: in the nodes that a plan is made of, each group with lanes to add has two members with jobs or more, and so a joint that
+/// adds them. With it, what the jobs do is what the nodes do (`steps` of `IsPlanned`).
+pub fn lanes_are_joined(stage: &Stage)
+    ensures { (first most : ℕ) → AreJoined (nodes_with first most stage.now) }
 {
     let _ = stage;
 }

@@ -14,7 +14,7 @@ mod stages;
 pub use jobs::plan_of_nodes;
 pub use lanes::Lanes;
 pub use laws::{
-    clashes_name_the_groups, feet_clash_as_footprints, nodes_clash_as_footprints,
+    clashes_name_the_groups, feet_clash_as_footprints, lanes_are_joined, nodes_clash_as_footprints,
     silent_groups_are_left_out, worlds_are_disjoint,
 };
 pub use nodes::{HeardNodes, Joint, Voice};

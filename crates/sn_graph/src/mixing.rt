@@ -65,14 +65,14 @@ fn is_either(one: &[bool; BUSES], other: &[bool; BUSES], bus: usize) -> bool
     requires { bus < audio_bus_count }
     ensures { result ≡ (slice_index_or one.now bus false || slice_index_or other.now bus false) }
 {
-    one[bus] || other[bus]
+    one[bus] | other[bus]
 }
 
 fn is_both(one: &[bool; BUSES], other: &[bool; BUSES], bus: usize) -> bool
     requires { bus < audio_bus_count }
     ensures { result ≡ (slice_index_or one.now bus false && slice_index_or other.now bus false) }
 {
-    one[bus] && other[bus]
+    one[bus] & other[bus]
 }
 
 /// The buses of one or the other.

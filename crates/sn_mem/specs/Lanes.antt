@@ -54,6 +54,11 @@ place_in (m ∷ ms) x =
     else if covers m.lane x then m.bus.at + (x - m.lane.at)
     else place_in ms x
 
+-- the words of a run of the view stand in a row, from a place on
+pub record StandInRow (ms : List Moved) (run : Extent) (place : ℕ) : Type 0 where
+  pub below : place + run.len < 4294967296
+  pub each : (i : ℕ) → i < run.len → place_in ms (run.at + i) ≡ place + i
+
 -- the words with each bus and its lane exchanged
 unfoldable pub exchanged : List Moved → List ℕ → List ℕ
 exchanged ms ws = table (λ x. slice_index ws (place_in ms x)) (length ws)

@@ -6,7 +6,8 @@ ghost use Rattle.sn_mem.specs.Meetings.{meet, any_meet, writes_meet};
 
 use crate::extents::{Extent, Foot};
 
-fn meets(a: Extent, b: Extent) -> bool
+/// Whether two extents share a word.
+pub(crate) fn meets(a: Extent, b: Extent) -> bool
     ensures { result ≡ meet a b }
 {
     let begin = a.at.max(b.at) as u64;

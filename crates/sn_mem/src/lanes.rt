@@ -1,12 +1,17 @@
 //! A port on which buses are moved onto lanes.
 ghost use Rattle.std.specs.List.{All};
-ghost use Rattle.std.specs.Prelude.{◌≡◌, ◌+◌, ◌-◌, true};
+ghost use Rattle.std.specs.Prelude.{◌≡◌, ◌<◌, ◌+◌, ◌-◌, ◌^◌, true, IfSome};
 ghost use Rattle.sn_mem.specs.Words.{covers};
-ghost use Rattle.sn_mem.specs.Lanes.{HasRoom, place_in};
+ghost use Rattle.sn_mem.specs.Meetings.{holds};
+ghost use Rattle.sn_mem.specs.Lanes.{HasRoom, StandInRow, place_in};
 
+use crate::blocks::Block;
+use crate::clashes::meets;
 use crate::extents::{Extent, Foot};
 use crate::moves::Moved;
 use crate::port::Port;
+use crate::samples::{put_samples, samples_in};
+use sn_ports::limits::BLOCK_FRAMES;
 use std::collections::LinkedList;
 
 fn covers(extent: Extent, at: u32) -> bool
@@ -14,6 +19,14 @@ fn covers(extent: Extent, at: u32) -> bool
 {
     let begin = extent.at as u64;
     begin <= at as u64 && (at as u64) < begin + extent.len as u64
+}
+
+/// Whether a run begins in an extent and does not end past it.
+fn holds(extent: Extent, run: Extent) -> bool
+    ensures { result ≡ holds extent run }
+{
+    let end = extent.at as u64 + extent.len as u64;
+    covers(extent, run.at) && run.at as u64 + run.len as u64 <= end
 }
 
 /// Where a word of a bus stands on its lane.
@@ -50,6 +63,26 @@ fn place_in(moves: &[Moved], at: u32) -> u32
         }
     }
     at
+}
+
+/// Where a run of the view begins, if its words stand in a row: all in one bus, or none in a bus or a lane.
+fn run_in(moves: &[Moved], run: Extent) -> Option<u32>
+    requires room { 0 < run.len → All HasRoom moves.now }
+    requires below { run.at + run.len < 2 ^ 32 }
+    ensures { IfSome result (λ place. StandInRow moves.now run place) }
+{
+    if run.len == 0 {
+        return Some(run.at);
+    }
+    for moved in moves {
+        if holds(moved.bus, run) {
+            return Some(in_lane(moved, run.at));
+        }
+        if meets(moved.bus, run) || meets(moved.lane, run) {
+            return None;
+        }
+    }
+    Some(run.at)
 }
 
 /// What calls of such a port leave as it is: the type of a value of which contracts alone speak. No value of it is made when the program
@@ -113,6 +146,58 @@ impl<P: Port> Port for LanePort<'_, P> {
 
     fn store(&mut self, at: u32, value: u64) {
         self.port.store(place_in(self.moves, at), value);
+    }
+
+    /// In one piece, if the words stand in a row.
+    fn load_run(&mut self, at: u32, into: &mut [u64]) {
+        let len = into.len() as u32;
+        match run_in(self.moves, Extent { at, len }) {
+            Some(place) => self.port.load_run(place, into),
+            None => {
+                for i in 0..into.len() {
+                    into[i] = self.load(at + i as u32);
+                }
+            }
+        }
+    }
+
+    /// In one piece, if the words stand in a row.
+    fn store_run(&mut self, at: u32, run: &[u64]) {
+        let len = run.len() as u32;
+        match run_in(self.moves, Extent { at, len }) {
+            Some(place) => self.port.store_run(place, run),
+            None => {
+                for i in 0..run.len() {
+                    self.store(at + i as u32, run[i]);
+                }
+            }
+        }
+    }
+
+    /// In one piece, if the words stand in a row.
+    fn load_samples(&mut self, at: u32) -> Block {
+        let len = BLOCK_FRAMES as u32;
+        match run_in(self.moves, Extent { at, len }) {
+            Some(place) => self.port.load_samples(place),
+            None => {
+                let mut words = [0u64; BLOCK_FRAMES];
+                self.load_run(at, &mut words);
+                samples_in(&words, 0)
+            }
+        }
+    }
+
+    /// In one piece, if the words stand in a row.
+    fn store_samples(&mut self, at: u32, samples: &Block) {
+        let len = BLOCK_FRAMES as u32;
+        match run_in(self.moves, Extent { at, len }) {
+            Some(place) => self.port.store_samples(place, samples),
+            None => {
+                let mut words = [0u64; BLOCK_FRAMES];
+                put_samples(samples, &mut words, 0);
+                self.store_run(at, &words);
+            }
+        }
     }
 
     ghost use Rattle.sn_mem.specs.Through.{through_inside};

@@ -15,6 +15,7 @@ pub mod ReworkLemmas
 pub mod Underway
 pub mod Repeating
 pub mod EmptyingLemmas
+pub mod AgainLemmas
 pub mod Stepping
 pub mod Relocating
 pub mod ToldLemmas

@@ -12,6 +12,7 @@ pub mod Mapped
 pub mod Indexing
 pub mod Alone
 pub mod Folding
+pub mod Again
 pub mod Sparing
 pub mod Relocating
 pub mod Ordering

@@ -11,6 +11,7 @@ ghost use Rattle.sn_world.specs.Commands.{node_row, run_node};
 ghost use Rattle.sn_world.specs.Answers.{Follows, UnlessFollowed, Handles, UnlessDone, AsksNothing};
 
 use crate::describing::run_tree_query;
+use crate::emptying::run_deep_free;
 use crate::folding::run;
 use crate::freeing::run_free;
 use crate::getting::run_get;
@@ -28,8 +29,8 @@ use sn_osc::{Arg, Message};
 use sn_ports::NoMemory;
 use sn_reply::{Reason, Replies};
 use sn_world::{
-    Command, DeepFree, FreeAll, Handled, NodeCommand, RunFlag, Stage, arguments_of, command_of,
-    pairs, singles,
+    Command, FreeAll, Handled, NodeCommand, RunFlag, Stage, arguments_of, command_of, pairs,
+    singles,
 };
 use std::alloc::Global;
 
@@ -87,7 +88,7 @@ fn run_row<P: Port>(
         }
         NodeCommand::Free => run_free(alloc, stage, arguments, replies),
         NodeCommand::FreeAll => run::<FreeAll>(alloc, stage, singles(alloc, arguments)?, replies),
-        NodeCommand::DeepFree => run::<DeepFree>(alloc, stage, singles(alloc, arguments)?, replies),
+        NodeCommand::DeepFree => run_deep_free(alloc, stage, arguments, replies),
         NodeCommand::Query => run_query(alloc, stage, arguments, from, replies),
         NodeCommand::QueryTree => run_tree_query(alloc, stage, arguments, from, replies),
         NodeCommand::GetControls => run_get(alloc, stage, port, arguments, from, replies),

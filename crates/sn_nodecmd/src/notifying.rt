@@ -6,7 +6,7 @@ ghost use Rattle.sn_world.specs.World.{turn_of};
 ghost use Rattle.sn_world.specs.Notifying.{notify_flag, notify_done, notify_row};
 ghost use Rattle.sn_world.specs.Answers.{Follows, UnlessFollowed};
 
-use sn_osc::{Arg, Args, Body, Message};
+use sn_osc::{Address, Arg, Args, Body, Message};
 use sn_ports::{NoMemory, Text};
 use sn_reply::{Reason, Replies, To};
 use sn_world::{Flags, Stage};
@@ -41,7 +41,7 @@ fn notify_done(alloc: Global) -> Result<Message, NoMemory>
     arguments.push(Arg::Text(Text::from_slice(alloc, b"/notify")?))?;
     arguments.push(Arg::Int(0))?;
     Ok(Message {
-        address: Text::from_slice(alloc, b"/done")?,
+        address: Address::from_slice(alloc, b"/done")?,
         body: Body::Args(Args::from_vec(arguments)),
     })
 }

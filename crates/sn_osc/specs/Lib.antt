@@ -1,3 +1,4 @@
+pub mod Addresses
 pub mod Shape
 pub mod Grammar
 pub mod Bytes

@@ -23,5 +23,5 @@ pub use laws::{
     one_packet, one_spelling, whole_frames,
 };
 pub use lengths::packet_len;
-pub use packet::{Arg, Args, Body, Bundle, Elements, Message, Packet};
+pub use packet::{Address, Arg, Args, Body, Bundle, Elements, Message, Packet};
 pub use spelling::spellable;

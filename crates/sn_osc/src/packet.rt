@@ -1,6 +1,7 @@
-ghost use Rattle.std.specs.Prelude.{◌≡◌, List};
+ghost use Rattle.std.specs.Prelude.{◌≡◌, List, IfOk};
 
-use sn_ports::Text;
+use sn_ports::{NoMemory, Text};
+use std::alloc::Global;
 use std::marker::Model;
 
 /// A packet of Open Sound Control 1.0. Not each value has a spelling: `spellable` tells.
@@ -29,10 +30,69 @@ pub type Elements = Vec<Packet>;
 /// An address and what follows it.
 #[derive(Debug, Drop)]
 pub struct Message {
-    /// In a packet that has a spelling it begins with `/` and has no null byte.
-    pub address: Text,
+    /// What is asked or told, as `/n_set`.
+    pub address: Address,
     /// What follows the address.
     pub body: Body,
+}
+
+/// The address of a message. In a packet that has a spelling it begins with `/` and has no null byte. A short address
+/// takes no memory of its own.
+#[derive(Debug, Drop)]
+pub struct Address {
+    kept: Kept,
+}
+
+/// How many bytes a short address has at most.
+const SHORT: usize = 23;
+
+/// Where the bytes of an address stand.
+#[derive(Debug, Drop)]
+enum Kept {
+    Short { len: u8, bytes: [u8; SHORT] },
+    Long(Text),
+}
+
+impl Model for Address {
+    ghost use Rattle.sn_osc.specs.Addresses.{AddressShape};
+
+    ghost Value = { AddressShape };
+
+    ghost use Rattle.sn_osc.specs.Addresses.{kept_bytes, IsKept};
+
+    ghost view = { λ a. record { bytes = kept_bytes a.kept } };
+
+    ghost invariant = { λ a. IsKept a.kept };
+}
+
+impl Address {
+    /// A copy of the bytes.
+    pub fn from_slice(alloc: Global, from: &[u8]) -> Result<Address, NoMemory>
+        ensures { IfOk result (λ a. a.bytes ≡ from.now) }
+    {
+        if from.len() > SHORT {
+            let long = Text::from_slice(alloc, from)?;
+            return Ok(Address {
+                kept: Kept::Long(long),
+            });
+        }
+        let mut bytes = [0; SHORT];
+        bytes[..from.len()].copy_from_slice(from);
+        let len = from.len() as u8;
+        Ok(Address {
+            kept: Kept::Short { len, bytes },
+        })
+    }
+
+    /// The bytes.
+    pub fn as_slice(&self) -> &[u8]
+        ensures { result.now ≡ self.now.bytes }
+    {
+        match &self.kept {
+            Kept::Short { len, bytes } => &bytes[..*len as usize],
+            Kept::Long(text) => text.as_slice(),
+        }
+    }
 }
 
 /// What follows a message's address.

@@ -8,7 +8,7 @@ ghost use Rattle.sn_osc.specs.Bytes.{is_argument_tag, begins_with};
 ghost use Rattle.sn_osc.specs.Reading.{Gives, int_in, size_in, text_len, null_len, is_ended, padded_at, string_at, blob_at, argument_at, arguments_at, tags_at, arguments_in, body_in, message_in};
 
 use crate::fault::{PacketFault, PacketKind, Undecoded};
-use crate::packet::{Arg, Args, Body, Message};
+use crate::packet::{Address, Arg, Args, Body, Message};
 use sn_ports::Text;
 use std::alloc::Global;
 
@@ -259,7 +259,7 @@ pub fn message(alloc: Global, end: u32, bytes: &[u8]) -> Result<Message, Undecod
 {
     let (address, rest) = string(end, bytes)?;
     Ok(Message {
-        address: Text::from_slice(alloc, address)?,
+        address: Address::from_slice(alloc, address)?,
         body: body(alloc, end, rest)?,
     })
 }

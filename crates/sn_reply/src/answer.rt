@@ -5,7 +5,7 @@ ghost use Rattle.sn_osc.specs.Bytes.{has_no_null, arguments_bytes};
 ghost use Rattle.sn_reply.specs.Sending.{IsSendable};
 ghost use Rattle.sn_reply.specs.Answering.{IsAddress};
 
-use sn_osc::{Arg, Args, Body, Message};
+use sn_osc::{Address, Arg, Args, Body, Message};
 use sn_ports::{NoMemory, Text};
 use std::alloc::Global;
 use std::marker::Model;
@@ -76,7 +76,7 @@ impl Answer {
         ensures sendable { IfOk result (λ m. IsSendable (message_of m)) }
     {
         Ok(Message {
-            address: Text::from_slice(self.alloc, address)?,
+            address: Address::from_slice(self.alloc, address)?,
             body: Body::Args(Args::from_vec(self.items)),
         })
     }
@@ -89,7 +89,7 @@ impl Answer {
         ensures sendable { IfOk result (λ m. IsSendable (message_of m)) }
     {
         Ok(Message {
-            address: Text::from_slice(self.alloc, address)?,
+            address: Address::from_slice(self.alloc, address)?,
             body: Body::Args(Args::from_vec(self.items)),
         })
     }

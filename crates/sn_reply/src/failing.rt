@@ -5,7 +5,7 @@ ghost use Rattle.sn_reply.specs.Sending.{IsSendable, IsShortText};
 ghost use Rattle.sn_reply.specs.Failing.{definition_line, reason_text, fail_message};
 
 use crate::reason::Reason;
-use sn_osc::{Arg, Args, Body, Message};
+use sn_osc::{Address, Arg, Args, Body, Message};
 use sn_ports::{NoMemory, Text};
 use std::alloc::Global;
 
@@ -49,7 +49,7 @@ fn definition_line(alloc: Global, line: u32) -> Result<Text, NoMemory>
 }
 
 /// The message `/fail` with the address of a refused command and the words of the reason.
-pub fn fail(alloc: Global, address: &Text, reason: Reason) -> Result<Message, NoMemory>
+pub fn fail(alloc: Global, address: &Address, reason: Reason) -> Result<Message, NoMemory>
     ensures message { IfOk result (λ message. message_of message ≡ fail_message address.now.bytes reason) }
     // It can be sent where the address has no null byte and is not too long.
     ensures sendable { IsTrue (has_no_null address.now.bytes) → length address.now.bytes < 2 ^ 30
@@ -59,7 +59,7 @@ pub fn fail(alloc: Global, address: &Text, reason: Reason) -> Result<Message, No
     arguments.push(Arg::Text(Text::from_slice(alloc, address.as_slice())?))?;
     arguments.push(Arg::Text(reason_text(alloc, reason)?))?;
     Ok(Message {
-        address: Text::from_slice(alloc, b"/fail")?,
+        address: Address::from_slice(alloc, b"/fail")?,
         body: Body::Args(Args::from_vec(arguments)),
     })
 }

@@ -6,7 +6,7 @@ ghost use Rattle.sn_osc.specs.Shape.{argument_of, body_of, message_of};
 ghost use Rattle.sn_osc.specs.Bytes.{begins_with};
 ghost use Rattle.sn_score.specs.Fields.{nibble, hex_value, unhex, natural_after, natural, signed, word_len, is_closed, byte_at, unquoted, word_at, argument_at, arguments_at, foreign_at, body_at, address_at, message_at, tag_at};
 
-use sn_osc::{Arg, Args, Body, Message};
+use sn_osc::{Address, Arg, Args, Body, Message};
 use sn_ports::{NoMemory, Text};
 use std::alloc::Global;
 
@@ -231,15 +231,16 @@ fn body(alloc: Global, bytes: &[u8]) -> Result<Body, NoMemory>
 
 /// The address, and what follows it.
 #[tactic(auto, unfolding(crate::specs::Fields::address_at))]
-fn address(alloc: Global, line: &[u8]) -> Result<(Text, &[u8]), NoMemory>
+fn address(alloc: Global, line: &[u8]) -> Result<(Address, &[u8]), NoMemory>
     ensures address { IfOk result (λ x. x.0.bytes ≡ (address_at line.now).0) }
     ensures rest { IfOk result (λ x. x.1.now ≡ (address_at line.now).1) }
 {
     if begins_with(line, b'"') {
-        return unquoted(alloc, skip(line, 1));
+        let (bytes, rest) = unquoted(alloc, skip(line, 1))?;
+        return Ok((Address::from_slice(alloc, bytes.as_slice())?, rest));
     }
     let (front, rest) = line.split_at(word_len(line));
-    Ok((Text::from_slice(alloc, front)?, rest))
+    Ok((Address::from_slice(alloc, front)?, rest))
 }
 
 /// The message of a line.

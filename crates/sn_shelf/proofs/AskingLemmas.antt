@@ -1,8 +1,9 @@
 -- A packet that asks for no samples stays as it is.
 use Rattle.std.proofs.Common.{◌≡◌, ◌+◌, ◌-◌, ◌*◌, ℕ, List, length, Option, Some, None, Bool, true, false, refl, sym, ap, ◌∙◌, arith}
-use Rattle.std.specs.Prelude.{IfSome, ◌||◌, is_some}
+use Rattle.std.specs.Prelude.{IfOk, IfSome, ◌||◌, is_some, Result, Ok, Err}
 use Rattle.sn_osc.specs.Shape.{MessageShape, Shape, Shapes, message, bundle, none, more}
 use Rattle.sn_osc.specs.Grammar.{Spells}
+use Rattle.sn_osc.specs.declared.packet.Packet.{Packet}
 use Rattle.sn_shelf.specs.Asking.{asks, any_asks}
 use Rattle.sn_shelf.specs.Files.{File}
 use Rattle.sn_shelf.specs.Expanded.{Request, request_of, expanded, expanded_elements}
@@ -38,6 +39,15 @@ mutual
 pub unasked_told : (told : Option (List File)) (room : ℕ) (x : Shape) → asks x ≡ false → IfSome told (λ fs. (x, room) ≡ expanded fs room x)
 unasked_told None room x off = tt
 unasked_told (Some fs) room x off = sym (as_it_was fs room x off)
+
+on_and_off : (b : Bool) → b ≡ true → b ≡ false → ⊥
+on_and_off true on off = absurd cc
+on_and_off false on off = absurd cc
+
+-- of a packet that asks nothing is said
+pub asked_apart : {E : Type 0} (r : Result Packet E) (Q : Packet → Type 0) (x : Shape) → asks x ≡ true → IfOk r (λ p. asks x ≡ false → Q p)
+asked_apart (Ok p) Q x on = λ off. absurd (on_and_off (asks x) on off)
+asked_apart (Err e) Q x on = tt
 
 pub spelled_as_it_was : (x : Shape) (bytes : List ℕ) (room : ℕ) → Spells x bytes → IsSpelledWithin x (2 * length bytes + 4 * (room - room))
 spelled_as_it_was x bytes room spelled = (bytes, spelled, omega arith)

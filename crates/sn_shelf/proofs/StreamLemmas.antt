@@ -2,9 +2,11 @@
 use Rattle.std.proofs.Common.{◌≡◌, ◌≤◌, ℕ, List, [], ◌∷◌, ◌++◌, map, Option, Some, None, refl, sym, ap, ◌∙◌, subst, arith}
 use Rattle.std.specs.Prelude.{IfSome}
 use Rattle.std.specs.List.{AllByRecursion}
+use Rattle.std.proofs.lemmas.List.Elements.{AllZip-push}
 use Rattle.sn_osc.specs.Shape.{Shape, shape}
 use Rattle.sn_osc.specs.declared.packet.Packet.{Packet}
 use Rattle.sn_shelf.specs.Files.{File}
+use Rattle.sn_shelf.specs.Asking.{AllKeepUnasked, KeepsUnasked}
 use Rattle.sn_shelf.specs.Expanded.{expanded, expanded_list}
 use Rattle.sn_shelf.specs.Growth.{IsSpelledWithin, AllSpelledWithin}
 
@@ -35,6 +37,13 @@ more_told told same room before after yielded done packet new kept so_far one = 
         let whole : expanded_list fs room (map shape (yielded ++ packet ∷ [])) ≡ with_last fs (shape packet) (map shape done, before) =
         ap (expanded_list fs room) (shapes-last yielded packet) ∙ list-last fs room (map shape yielded) (shape packet) ∙ ap (with_last fs (shape packet)) (sym so_far) in
         ap (λ (s : List Shape). (s, after)) (shapes-last done new) ∙ ap (λ (x : Shape × ℕ). (map shape done ++ x.0 ∷ [], x.1)) one ∙ sym whole
+
+pub more_kept : (yielded done : List Packet) (packet new : Packet) → AllKeepUnasked (map shape yielded) (map shape done) → KeepsUnasked (shape packet) (shape new)
+    → AllKeepUnasked (map shape (yielded ++ packet ∷ [])) (map shape (done ++ new ∷ []))
+more_kept yielded done packet new all one =
+    subst (λ (xs : List Shape). AllKeepUnasked xs (map shape (done ++ new ∷ []))) (sym (shapes-last yielded packet))
+    (subst (λ (ys : List Shape). AllKeepUnasked (map shape yielded ++ shape packet ∷ []) ys) (sym (shapes-last done new))
+    (AllZip-push KeepsUnasked (map shape yielded) (map shape done) (shape packet) (shape new) all one))
 
 all_of_last : (P : Shape → Type 0) (xs : List Shape) (x : Shape) → AllByRecursion P xs → P x → AllByRecursion P (xs ++ x ∷ [])
 all_of_last P [] x all one = (one, tt)

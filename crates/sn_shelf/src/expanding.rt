@@ -1,9 +1,10 @@
 //! Packets in which `/b_allocRead` carries the samples of the file that it named.
-ghost use Rattle.std.specs.Prelude.{◌≡◌, ◌⊎◌, ◌≤◌, ◌<◌, ◌+◌, ◌-◌, ◌*◌, ◌^◌, pos, List, ℕ, Err, IfOk, IfSome, length, map, option_map};
+ghost use Rattle.std.specs.Prelude.{◌≡◌, ◌⊎◌, ◌≤◌, ◌<◌, ◌+◌, ◌-◌, ◌*◌, ◌^◌, pos, List, ℕ, false, Err, IfOk, IfSome, length, map, option_map};
 ghost use Rattle.sn_ports.specs.Limits.{most_packet, most_samples};
 ghost use Rattle.sn_ports.specs.Causes.{Rose};
 ghost use Rattle.sn_osc.specs.Grammar.{Spells};
 ghost use Rattle.sn_osc.specs.Shape.{int, argument_of, message_of, shape, shapes, bundle};
+ghost use Rattle.sn_shelf.specs.Asking.{asks, AllKeepUnasked};
 ghost use Rattle.sn_shelf.specs.Expanded.{with_samples, expanded_message, expanded, expanded_elements, expanded_packets};
 ghost use Rattle.sn_shelf.specs.ExpandedViews.{asked};
 ghost use Rattle.sn_shelf.specs.Growth.{MessageGrows, Grows, AllGrow, IsSpelledWithin, AllSpelledWithin};
@@ -169,7 +170,9 @@ pub fn expand<H: Shelf>(
     requires { room.old ≤ most_samples }
     // What comes of the packet, where the shelf tells its files.
     ensures told { IfSome (H.files shelf.old) (λ fs. IfOk result (λ p. (shape p, room.new) ≡ expanded fs room.old (shape packet))) }
-    // Told or not, a packet that came in a stream has a spelling again, longer by no more than the samples that came in and its own length.
+    // Told or not, a packet that asks for no file stays as it is, and so does the room.
+    ensures unasked { IfOk result (λ p. asks (shape packet) ≡ false → (p ≡ packet) × (room.new ≡ room.old)) }
+    // A packet that came in a stream has a spelling again, longer by no more than the samples that came in and its own length.
     ensures spelled { (bytes : List ℕ) → Spells (shape packet) bytes → length bytes ≤ most_packet
         → IfOk result (λ p. IsSpelledWithin (shape p) (2 * length bytes + 4 * (room.old - room.new))) }
     ensures room { room.new ≤ room.old }
@@ -195,7 +198,8 @@ pub fn expand_all<H: Shelf>(
     requires { AllSpelledWithin most_packet (map shape packets.items) }
     // What comes of the packets, where the shelf tells its files.
     ensures told { IfSome (H.files shelf.old) (λ fs. IfOk result (λ v. map shape v.items ≡ expanded_packets fs (map shape packets.items))) }
-    // Told or not, they are as many, and each has a spelling of at most 2^27 bytes.
+    // Told or not, they are as many, each that asks for no file stays as it is, and each has a spelling of at most 2^27 bytes.
+    ensures unasked { IfOk result (λ v. AllKeepUnasked (map shape packets.items) (map shape v.items)) }
     ensures spelled { IfOk result (λ v. AllSpelledWithin (2 ^ 27) (map shape v.items)) }
     ensures count { IfOk result (λ v. length v.items ≡ length packets.items) }
     ensures kept { H.files shelf.new ≡ H.files shelf.old }

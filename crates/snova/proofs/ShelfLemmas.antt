@@ -18,6 +18,7 @@ use Rattle.sn_render.specs.declared.outcome.Outcome.TheVariants.{Done, NoMemory,
 use Rattle.sn_render.proofs.ArrivingLemmas.{frames_playable}
 use Rattle.sn_render.proofs.GatheringLemmas.{told, bad_alone}
 use Rattle.sn_render.proofs.OutcomeLemmas.{few_told, one_end}
+use Rattle.sn_shelf.specs.Asking.{AllKeepUnasked}
 use Rattle.sn_shelf.specs.Files.{File}
 use Rattle.sn_shelf.specs.Expanded.{expanded_packets}
 use Rattle.sn_shelf.specs.Growth.{AllSpelledWithin}
@@ -72,9 +73,10 @@ unplayed_shelf s stream shelf ReplyFault sound replies is = absurd is
 
 -- ---- outcomes of packets that were expanded
 
-module _ (s : Settings) (stream : Option (List ℕ)) (shelf : Option (List File)) (packets expanded : List Shape) (are : ArePacketsOf stream packets) (from : IfSome shelf (λ files. expanded ≡ expanded_packets files packets)) where
+module _ (s : Settings) (stream : Option (List ℕ)) (shelf : Option (List File)) (packets expanded : List Shape) (are : ArePacketsOf stream packets) (from : IfSome shelf (λ files. expanded ≡ expanded_packets files packets))
+    (unasked : AllKeepUnasked packets expanded) where
   expansion : AreExpanded stream shelf expanded
-  expansion = record { packets = packets; given = are; are = from }
+  expansion = record { packets = packets; given = are; are = from; unasked = unasked }
 
   pub end_run : (o : Outcome) → IsEnd s expanded o → IsRun s stream shelf o
   end_run (Done n) end = (expanded, expansion, end)

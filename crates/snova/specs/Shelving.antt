@@ -8,16 +8,19 @@ use Rattle.sn_render.specs.Playing.{IsEnd, PlayedPackets, PlayedFront}
 use Rattle.sn_render.specs.Statuses.{outcome_status}
 use Rattle.sn_render.specs.declared.outcome.Outcome.{Outcome}
 use Rattle.sn_render.specs.declared.outcome.Outcome.TheVariants.{Done, NoMemory, BadWords, BadStream, LongStream, LongSound, ReadFault, SoundFault, ReplyFault}
+use Rattle.sn_shelf.specs.Asking.{AllKeepUnasked}
 use Rattle.sn_shelf.specs.Files.{File}
 use Rattle.sn_shelf.specs.Expanded.{expanded_packets}
 use Rattle.snova.specs.declared.shelving.ShelfOutcome.{ShelfOutcome}
 use Rattle.snova.specs.declared.shelving.ShelfOutcome.TheVariants.{Ran, ShelfFault}
 
--- The packets of a stream, with the samples that came in from the files of a shelf. Each is said where it is told.
+-- The packets of a stream, with the samples that came in from the files of a shelf. Each is said where it is told; told or not, each packet
+-- that asks for no file stays as it is.
 pub record AreExpanded (stream : Option (List ℕ)) (shelf : Option (List File)) (expanded : List Shape) : Type 0 where
   pub packets : List Shape
   pub given : ArePacketsOf stream packets
   pub are : IfSome shelf (λ files. expanded ≡ expanded_packets files packets)
+  pub unasked : AllKeepUnasked packets expanded
 
 -- an outcome of playing the packets of the stream, with the samples that came in
 abbrev pub IsPlaying : Settings → Option (List ℕ) → Option (List File) → Outcome → Type 0

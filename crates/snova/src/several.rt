@@ -72,6 +72,7 @@ impl<'a, C: Clock> ClockPulse<'a, C> {
     /// Block 0 is due now.
     pub(crate) fn new(clock: &'a C, rate: u32, connections: &'a Connections) -> io::Result<Self>
         requires { 0 < rate }
+        ensures pace { IfOk result (λ pulse. pulse.pace.rate ≡ rate) }
     {
         Ok(ClockPulse {
             clock,
@@ -132,6 +133,17 @@ impl<C: Clock> Pulse for ClockPulse<'_, C> {
     }
 }
 
+/// A pulse at the rate of the settings.
+fn pulse_of<'a, C: Clock>(
+    clock: &'a C,
+    chosen: &ServeWords,
+    connections: &'a Connections,
+) -> io::Result<ClockPulse<'a, C>>
+    ensures { IfOk result (λ pulse. pulse.pace.rate ≡ chosen.now.settings.rate) }
+{
+    ClockPulse::new(clock, chosen.settings.rate, connections)
+}
+
 /// The connections that were taken: what comes over each, where its replies go, and the connection itself.
 #[derive(Drop)]
 pub(crate) struct Accepted {
@@ -187,7 +199,7 @@ pub(crate) fn serve_several<
     let mut sinks = sinks;
     let connections = Connections::new(streams, chosen.clients);
     let start = now(rt)?;
-    let mut pulse = ClockPulse::new(rt, chosen.settings.rate, &connections)?;
+    let mut pulse = pulse_of(rt, chosen, &connections)?;
     let session = serve_many(
         rt,
         alloc,

@@ -5,7 +5,7 @@ use Rattle.sn_world.specs.World.{turn_of}
 use Rattle.sn_world.specs.Commands.{server_row}
 use Rattle.sn_world.specs.Answers.{Follows}
 use Rattle.sn_world.specs.declared.stage.Stage.{Stage}
-use Rattle.sn_buscmd.proofs.RunningLemmas.{unless-followed, if-refused, stage-still, stage-kept, stage-but}
+use Rattle.sn_buscmd.proofs.RunningLemmas.{unless-followed, if-refused, stage-kept, stage-but}
 use Rattle.sn_buscmd.proofs.dispatch.run_row.Goals as goal
 
 pub returns-in-Set-clause-row : goal.returns-in-Set-clause-row
@@ -84,54 +84,6 @@ returns-in-ClearSched-clause-row g c =
     (sym c.in-ClearSched.is) (c.run_clear.ensures.row c.args.from stage words replies)
 
 -- ---- want of memory
-
-pub returns-in-Set-clause-kept : goal.returns-in-Set-clause-kept
-returns-in-Set-clause-kept g c = stage-still c.run_set.result c.args.stage.now
-
-pub returns-in-SetRuns-clause-kept : goal.returns-in-SetRuns-clause-kept
-returns-in-SetRuns-clause-kept g c = stage-still c.run_set_runs.result c.args.stage.now
-
-pub returns-in-Fill-clause-kept : goal.returns-in-Fill-clause-kept
-returns-in-Fill-clause-kept g c = stage-still c.run_fill.result c.args.stage.now
-
-pub returns-in-Get-clause-kept : goal.returns-in-Get-clause-kept
-returns-in-Get-clause-kept g c = stage-still c.run_get.result c.args.stage.now
-
-pub returns-in-GetRuns-clause-kept : goal.returns-in-GetRuns-clause-kept
-returns-in-GetRuns-clause-kept g c = stage-still c.run_get_runs.result c.args.stage.now
-
-pub returns-in-ZeroBuffer-clause-kept : goal.returns-in-ZeroBuffer-clause-kept
-returns-in-ZeroBuffer-clause-kept g c = stage-still c.run_buffer_zero.result c.args.stage.now
-
-pub returns-in-QueryBuffers-clause-kept : goal.returns-in-QueryBuffers-clause-kept
-returns-in-QueryBuffers-clause-kept g c = stage-still c.run_buffer_query.result c.args.stage.now
-
-pub returns-in-SetSamples-clause-kept : goal.returns-in-SetSamples-clause-kept
-returns-in-SetSamples-clause-kept g c = stage-still c.run_set_samples.result c.args.stage.now
-
-pub returns-in-SetSampleRuns-clause-kept : goal.returns-in-SetSampleRuns-clause-kept
-returns-in-SetSampleRuns-clause-kept g c = stage-still c.run_set_sample_runs.result c.args.stage.now
-
-pub returns-in-FillSamples-clause-kept : goal.returns-in-FillSamples-clause-kept
-returns-in-FillSamples-clause-kept g c = stage-still c.run_fill_samples.result c.args.stage.now
-
-pub returns-in-GetSamples-clause-kept : goal.returns-in-GetSamples-clause-kept
-returns-in-GetSamples-clause-kept g c = stage-still c.run_get_samples.result c.args.stage.now
-
-pub returns-in-GetSampleRuns-clause-kept : goal.returns-in-GetSampleRuns-clause-kept
-returns-in-GetSampleRuns-clause-kept g c = stage-still c.run_get_sample_runs.result c.args.stage.now
-
-pub returns-in-Sync-clause-kept : goal.returns-in-Sync-clause-kept
-returns-in-Sync-clause-kept g c = stage-still c.run_sync.result c.args.stage.now
-
-pub returns-in-Status-clause-kept : goal.returns-in-Status-clause-kept
-returns-in-Status-clause-kept g c = stage-still c.run_status.result c.args.stage.now
-
-pub returns-in-ClearSched-clause-kept : goal.returns-in-ClearSched-clause-kept
-returns-in-ClearSched-clause-kept g c = stage-still c.run_clear.result c.args.stage.now
-
-pub returns-in-Quit-clause-kept : goal.returns-in-Quit-clause-kept
-returns-in-Quit-clause-kept g c = stage-still c.run_quit.result c.args.stage.now
 
 pub returns-in-AllocBuffer-clause-kept : goal.returns-in-AllocBuffer-clause-kept
 returns-in-AllocBuffer-clause-kept g c = stage-kept c.run_buffer_alloc.result c.args.stage.now c.run_buffer_alloc.new.stage c.run_buffer_alloc.ensures.unchanged

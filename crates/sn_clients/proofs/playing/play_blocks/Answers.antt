@@ -1,5 +1,7 @@
-use Rattle.std.proofs.Common.{◌≡◌, ◌∙◌, ◌+◌, ◌<◌, ap, length, refl, sym, arith}
+use Rattle.std.proofs.Common.{◌≡◌, ◌∙◌, ◌+◌, ◌<◌, ℕ, ap, length, refl, subst, sym, arith}
 use Rattle.sn_engine.specs.Running.{Running}
+use Rattle.sn_clients.specs.Looping.{CountedAt}
+use Rattle.sn_clients.proofs.FaultLemmas.{counted_so}
 use Rattle.sn_clients.proofs.TickLemmas.{block_clients, halted_plays, ticks_begin, ticks_end, ticks_halt, ticks_next}
 use Rattle.sn_clients.proofs.playing.play_blocks.Goals as goal
 
@@ -38,7 +40,7 @@ loop-preserved g c =
       clients = ap (λ (r : Running). length r.replies) t.engine ∙ block_clients l.engine.running ∙ i.clients;
       flags = t.replies.flags ∙ i.sinks ∙ c.requires.sinks ∙ sym c.requires.flags;
       sinks = t.replies.sinks ∙ i.sinks;
-      still = c.in_ok-tick.ensures.unfailed ∙ i.still;
+      still = c.in_ok-tick.ensures.counted ∙ i.still;
     }
 
 pub returns-clause-played : goal.returns-clause-played
@@ -53,3 +55,10 @@ returns-in_err-tick-clause-played g c = λ sinks_first sound_first r h.
     let halt = c.in_err-tick.field-0.0 in
     halted_plays g.R.Sink.taken g.R.Sink.faults sinks_first n.sinks n.failed sound_first (g.O.Sink.taken n.sound) _ n.engine.running c.from_residual.result halt c.from_residual.ensures.1
     (ticks_halt g.R.Sink.taken g.R.Sink.faults halt sinks_first l.sinks n.sinks l.failed n.failed sound_first (g.O.Sink.taken l.sound) (g.O.Sink.taken n.sound) c.args.count l.counter r l.engine.running n.engine.running (l.invariant.plays sinks_first sound_first r h) (omega (arith, c.loop-test.true)) c.in_err-tick.ensures.ticked)
+
+pub returns-in_err-tick-clause-counted : goal.returns-in_err-tick-clause-counted
+returns-in_err-tick-clause-counted g c =
+    let halt = c.in_err-tick.field-0.0 in
+    let now = g.O.Sink.faults c.tick.new.sound in
+    counted_so c.from_residual.result halt (g.O.Sink.faults c.args.sound.now) now c.from_residual.ensures.1
+    (subst (λ (before : ℕ). CountedAt halt before now) c.loop.invariant.still c.in_err-tick.ensures.counted)

@@ -4,8 +4,12 @@ use Rattle.sn_engine.specs.Running.{Running, at_boundary, with_block, with_settl
 use Rattle.sn_engine.proofs.RowLemmas.{one_block, row_block}
 use Rattle.sn_render.specs.Fronts.{TakesFront}
 use Rattle.sn_render.specs.Play.{after_block}
+use Rattle.sn_clients.specs.declared.playing.Halt.{Halt}
+use Rattle.sn_clients.specs.declared.playing.Halt.TheVariants as halts
+use Rattle.sn_clients.specs.Looping.{CountedAt}
 use Rattle.sn_clients.specs.Written.{AllSend}
 use Rattle.sn_clients.proofs.EachLemmas.{after_block_step}
+use Rattle.sn_clients.proofs.FaultLemmas.{counted_so}
 use Rattle.sn_clients.proofs.TickLemmas.{ticked_not, ticked_part}
 use Rattle.sn_clients.proofs.playing.tick.Goals as goal
 
@@ -82,3 +86,17 @@ returns-in-Quit-clause-ticked g c =
       sound = refl;
       replies = subst (λ (q : Running). AllSend g.R.Sink.taken g.R.Sink.faults c.args.sinks.now sent.new.sinks c.args.failed.now sent.new.failed q.replies) c.in_ok-boundary.ensures.ok sent.ensures.sent;
     }
+
+pub returns-in_err-boundary-clause-counted : goal.returns-in_err-boundary-clause-counted
+returns-in_err-boundary-clause-counted g c =
+    let before = g.O.Sink.faults c.args.sound.now in
+    counted_so c.from_residual.result halts.NoMemory before before c.from_residual.ensures.1 refl
+
+pub returns-in_err-write_sound-in-On-clause-counted : goal.returns-in_err-write_sound-in-On-clause-counted
+returns-in_err-write_sound-in-On-clause-counted g c =
+    let r = c.from_residual-in_err-write_sound-in-On in
+    let halt = c.in_err-write_sound-in-On.field-0.0 in
+    let e = c.in_err-write_sound-in-On.ensures in
+    let before = g.O.Sink.faults c.args.sound.now in
+    let now = g.O.Sink.faults c.write_sound.new.sound in
+    counted_so r.result halt before now r.ensures.1 (subst (λ (h : Halt). CountedAt h before now) (sym e.only) e.cause)

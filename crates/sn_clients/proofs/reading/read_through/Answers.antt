@@ -4,6 +4,7 @@ use Rattle.sn_osc.specs.Frames.{first_frame}
 use Rattle.sn_osc.specs.Framing.{Framing}
 use Rattle.sn_clients.specs.Answers.{has_found, sender_of}
 use Rattle.sn_clients.specs.Reading.{HasRead, IsReading}
+use Rattle.sn_clients.proofs.FaultLemmas.{stays_from}
 use Rattle.sn_clients.proofs.ReadLemmas.{starts}
 use Rattle.sn_clients.proofs.reading.read_through.Goals as goal
 
@@ -44,3 +45,7 @@ returns-in-Err-clause-read g c =
 
 pub returns-in-Err-clause-later : goal.returns-in-Err-clause-later
 returns-in-Err-clause-later g c = omega (arith, c.read_on.ensures.later, c.loop.invariant.faults)
+
+pub returns-in-Err-clause-unfailed : goal.returns-in-Err-clause-unfailed
+returns-in-Err-clause-unfailed g c =
+    stays_from c.in-Err.end (g.S.Source.faults c.args.source.now) (g.S.Source.faults c.loop.source) (g.S.Source.faults c.read_on.new.source) c.loop.invariant.faults c.in-Err.ensures.only

@@ -1,4 +1,4 @@
-use Rattle.std.proofs.Common.{◌≡◌, ◌∙◌, ◌<◌, ℕ, Bool, false, List, OnOk, Option, Result, ap, length, map, refl, subst, sym, arith, rules}
+use Rattle.std.proofs.Common.{◌≡◌, ◌∙◌, ◌⊎◌, ◌<◌, ℕ, Bool, false, List, OnOk, Option, Result, ap, inr, length, map, refl, subst, sym, arith, rules}
 use Rattle.std.specs.Prelude.{slice_index_or}
 use Rattle.std.specs.Vec.{with_items}
 use Rattle.std.proofs.lemmas.List.{with_items_is, places}
@@ -8,7 +8,7 @@ use Rattle.sn_clients.specs.declared.desk.Desk.{Desk}
 use Rattle.sn_clients.specs.declared.ends.Sender.{Sender}
 use Rattle.sn_clients.specs.declared.playing.Halt.{Halt}
 use Rattle.sn_clients.specs.declared.turns.How.{How}
-use Rattle.sn_clients.specs.declared.turns.How.TheVariants.{Over}
+use Rattle.sn_clients.specs.declared.turns.How.TheVariants.{Over, SoundFault}
 use Rattle.sn_clients.specs.declared.turns.Turn.{Turn}
 use Rattle.sn_ports.specs.Causes.{Rose}
 use Rattle.sn_clients.specs.Answers.{end_of, has_stopped}
@@ -18,7 +18,7 @@ use Rattle.sn_clients.specs.Looping.{IsSteady, RunsTo}
 use Rattle.sn_clients.specs.PlayMany.{Streams, start}
 use Rattle.sn_clients.specs.Seating.{IsBegun, IsGathered, IsSeatOf, IsSeated, IsStopped, told}
 use Rattle.sn_clients.specs.Serving.{IsServed, how_of}
-use Rattle.sn_clients.proofs.ServingLemmas.{StandInTurn, begins, begins_steady, ends_played, fault_is, fronts_at, full_is, has_inlet, has_seat, many_streams, over_gives, runs_gathered, served, served_not, some_of, whole_at}
+use Rattle.sn_clients.proofs.ServingLemmas.{StandInTurn, begins, begins_steady, ends_played, fronts_at, full_is, has_inlet, has_seat, many_streams, over_gives, runs_gathered, served, served_not, some_of, sound_kept, sound_rose, whole_at}
 use Rattle.sn_clients.proofs.serving.serve_many.Goals as goal
 
 -- ---- what the calls need
@@ -96,9 +96,9 @@ returns-in_default-clause-served g c =
     let first : c.as_mut_slice.result.now ≡ old.items = search rules in
     let stopped = subst (λ (p : List (Client g.row.S.Denot) × List (Client g.row.S.Denot)). (k : ℕ) (d : Client g.row.S.Denot) → k < length p.0 → IsStopped (slice_index_or p.0 k d) (slice_index_or p.1 k d)) (λ i. (first i, sym is i)) c.unbegun.ensures.stopped in
     let (how, turns) = c.unbegun.ensures.session in
-    subst (λ (p : How × List Turn). IsServed g.S.Source.left g.S.Source.faults g.R.Sink.taken g.R.Sink.faults c.args.settings.now c.args.base old.items (with_items old now).items c.args.sinks.now.items c.args.sinks.now.items (g.O.Sink.taken c.args.sound.now) (g.O.Sink.taken c.args.sound.now) (g.T.Pulse.left c.args.pulse.now) (g.T.Pulse.left c.args.pulse.now) p.0 p.1)
+    subst (λ (p : How × List Turn). IsServed g.S.Source.left g.S.Source.faults g.R.Sink.taken g.R.Sink.faults c.args.settings.now c.args.base old.items (with_items old now).items c.args.sinks.now.items c.args.sinks.now.items (g.O.Sink.taken c.args.sound.now) (g.O.Sink.taken c.args.sound.now) (g.T.Pulse.left c.args.pulse.now) (g.T.Pulse.left c.args.pulse.now) (g.T.Pulse.zeros c.args.pulse.now) (g.T.Pulse.zeros c.args.pulse.now) p.0 p.1)
     (λ i. (sym how i, sym turns i))
-    (served_not g.S.Source.left g.S.Source.faults g.R.Sink.taken g.R.Sink.faults c.args.settings.now c.args.base old.items (with_items old now).items c.args.sinks.now.items (g.O.Sink.taken c.args.sound.now) (g.T.Pulse.left c.args.pulse.now)
+    (served_not g.S.Source.left g.S.Source.faults g.R.Sink.taken g.R.Sink.faults c.args.settings.now c.args.base old.items (with_items old now).items c.args.sinks.now.items (g.O.Sink.taken c.args.sound.now) (g.T.Pulse.left c.args.pulse.now) (g.T.Pulse.zeros c.args.pulse.now)
     (ap length is ∙ c.unbegun.ensures.count ∙ ap length first) c.requires.sinks stopped)
 
 pub returns-clause-served : goal.returns-clause-served
@@ -143,32 +143,34 @@ returns-clause-served g c =
     let left = g.T.Pulse.left c.args.pulse.now in
     let sound_new = g.O.Sink.taken p.new.sound in
     let left_new = g.T.Pulse.left p.new.pulse in
+    let zeros_old = g.T.Pulse.zeros c.args.pulse.now in
+    let zeros_new = g.T.Pulse.zeros p.new.pulse in
     let s = c.args.settings.now in
     let base = c.args.base in
     let opens : IsBegun relay s base (length streams) desk = subst (λ (k : ℕ). IsBegun relay s base k desk) (begins_many ∙ sym many) begun in
     let begins_so = begins taken faults relay s base (length streams) desk sinks sound left opens (c.requires.sinks ∙ sym many) in
     let runs = played.plays (start s base (length streams)) sinks sound left begins_so in
     let mid : Desk = record p.new.desk { outlet = c.gather_all.new.outlet } in
-    let moved = runs_gathered taken faults (start s base (length streams)) sinks p.new.sinks.items sound sound_new left left_new p.new.desk mid p.result refl refl refl gathering.taken gathering.clients runs in
-    let ends = e.ends (start s base (length streams)) sinks sound sound_new left left_new
-    (subst (λ (l : List g.row.R.Denot). RunsTo taken faults (start s base (length streams)) sinks l sound sound_new left left_new mid p.result) (sym sinks_are) moved) in
+    let moved = runs_gathered taken faults (start s base (length streams)) sinks p.new.sinks.items sound sound_new left left_new zeros_old zeros_new p.new.desk mid p.result refl refl refl gathering.taken gathering.clients runs in
+    let ends = e.ends (start s base (length streams)) sinks sound sound_new left left_new zeros_old zeros_new
+    (subst (λ (l : List g.row.R.Denot). RunsTo taken faults (start s base (length streams)) sinks l sound sound_new left left_new zeros_old zeros_new mid p.result) (sym sinks_are) moved) in
     let clients = e.inlets.0 ∙ (gathering.clients ∙ (played.inlets.0 ∙ (ap clients_in begun.outlet.nothing ∙ (begins_many ∙ sym many)))) in
     let fronts = fronts_at (end_of n.self.outlet) senders e.inlets.1 turn (e.inlets.2 gathering.fronts) in
     let whole = on_ok c.end-end.result (whole_at (end_of n.self.outlet) senders e.inlets.1 turn) e.none in
-    let all = ends_played taken faults s base streams n.self c.end-end.result sinks n.sinks sound sound_new left left_new ends clients fronts whole in
+    let all = ends_played taken faults s base streams n.self c.end-end.result sinks n.sinks sound sound_new left left_new zeros_old zeros_new ends clients fronts whole in
     let still : how_of c.end-end.result ≡ Over → has_stopped c.gather_all.new.outlet ≡ false = λ over.
     let ok = over_gives c.end-end.result over e.was in
     gathering.stopped ∙ (subst (λ (r : Result (Unit {0}) Halt). OnOk r (has_stopped p.new.desk.outlet ≡ has_stopped desk.outlet)) ok played.stopped ∙ begun.outlet.going) in
     -- all of it
     let whole_session = served relay g.S.Source.left g.S.Source.faults taken faults s base first.items (with_items first seated).items read.items (with_items read gathered).items (with_items (with_items read gathered) last).items senders (has_stopped c.gather_all.new.outlet) n.self
-    (how_of c.end-end.result) sinks n.sinks sound sound_new left left_new
+    (how_of c.end-end.result) sinks n.sinks sound sound_new left left_new zeros_old zeros_new
     (ap length seated_is ∙ (c.seat_all.ensures.count ∙ ap length first_is)) p.ensures.count (ap length gathered_is ∙ (gathering.count ∙ ap length read_is)) (ap length last_is ∙ (c.tell_faults.ensures.count ∙ ap length told_is)) count
     (subst (λ (q : List (Client g.row.S.Denot) × List (Client g.row.S.Denot)). (k : ℕ) (d : Client g.row.S.Denot) → k < length q.0 → IsSeated relay k (slice_index_or q.0 k d) (slice_index_or q.1 k d)) (λ i. (first_is i, sym seated_is i)) (c.seat_all.ensures.seated relay c.in-Ok.ensures.inlets.1))
     p.ensures.read
     (subst (λ (q : List (Client g.row.S.Denot) × List (Client g.row.S.Denot)). (k : ℕ) (d : Client g.row.S.Denot) (x : Sender) → k < length q.0 → IsGathered (has_stopped c.gather_all.new.outlet) k (slice_index_or q.0 k d) (slice_index_or q.1 k d) (slice_index_or senders k x)) (λ i. (read_is i, sym gathered_is i)) gathering.gathered)
     (subst (λ (q : List (Client g.row.S.Denot) × List (Client g.row.S.Denot) × List Bool). (k : ℕ) (d : Client g.row.S.Denot) → k < length q.0 → slice_index_or q.1 k d ≡ told (slice_index_or q.2 k false) (slice_index_or q.0 k d)) (λ i. (told_is i, sym last_is i, flags_are i)) c.tell_faults.ensures.told)
     still all in
-    subst (λ (q : List g.row.R.Denot × How). IsServed g.S.Source.left g.S.Source.faults taken faults s base first.items (with_items (with_items read gathered) last).items sinks q.0 sound sound_new left left_new q.1 n.self.turns.items) (λ i. (sym sinks_end i, sym c.how_of.ensures i)) whole_session
+    subst (λ (q : List g.row.R.Denot × How). IsServed g.S.Source.left g.S.Source.faults taken faults s base first.items (with_items (with_items read gathered) last).items sinks q.0 sound sound_new left left_new zeros_old zeros_new q.1 n.self.turns.items) (λ i. (sym sinks_end i, sym c.how_of.ensures i)) whole_session
 
 pub returns-clause-few : goal.returns-clause-few
 returns-clause-few g c = c.end-end.ensures.few
@@ -185,4 +187,18 @@ returns-clause-zero g c = λ over.
     subst (λ (r : Result (Unit {0}) Halt). OnOk r (Rose (g.T.Pulse.zeros c.args.pulse.now) (g.T.Pulse.zeros c.play_and_read-played.new.pulse))) ok c.play_and_read-played.ensures.played.zero
 
 pub returns-clause-sound : goal.returns-clause-sound
-returns-clause-sound g c = λ fault. c.play_and_read-played.ensures.played.sound (c.end-end.ensures.sound (fault_is c.end-end.result (sym c.how_of.ensures ∙ fault)))
+returns-clause-sound g c = λ fault.
+    let p = c.play_and_read-played in
+    let before = g.O.Sink.faults c.args.sound.now in
+    let now = g.O.Sink.faults p.new.sound in
+    sound_rose c.end-end.result before now (c.end-end.ensures.counted before now p.ensures.played.counted) (sym c.how_of.ensures ∙ fault)
+
+pub returns-clause-sound_unfailed : goal.returns-clause-sound_unfailed
+returns-clause-sound_unfailed g c =
+    let p = c.play_and_read-played in
+    let before = g.O.Sink.faults c.args.sound.now in
+    let now = g.O.Sink.faults p.new.sound in
+    subst (λ (how : How). (how ≡ SoundFault) ⊎ (now ≡ before)) (sym c.how_of.ensures) (sound_kept c.end-end.result before now (c.end-end.ensures.counted before now p.ensures.played.counted))
+
+pub returns-in_default-clause-sound_unfailed : goal.returns-in_default-clause-sound_unfailed
+returns-in_default-clause-sound_unfailed g c = inr refl

@@ -8,7 +8,7 @@ use Rattle.sn_world.specs.Commands.{node_row}
 use Rattle.sn_world.specs.Answers.{Follows}
 use Rattle.sn_world.specs.RunFlags.{run_flag, judge_run, act_run}
 use Rattle.sn_world.specs.NewNodes.{new_group, judge_group, act_group}
-use Rattle.sn_world.specs.Emptying.{free_all, judge_free_all, act_free_all, deep_free, judge_deep_free, act_deep_free}
+use Rattle.sn_world.specs.Emptying.{free_all, judge_free_all, act_free_all}
 use Rattle.sn_world.proofs.Parsing.{singles-few_of, pairs-few_of, triples-few_of}
 use Rattle.sn_nodecmd.proofs.Repeating.{row_by, few_read}
 use Rattle.sn_nodecmd.proofs.dispatch.run_row.Goals as goal
@@ -77,14 +77,11 @@ returns-in_ok-singles-in-FreeAll-clause-pictures g c = c.run-in-FreeAll.ensures.
 pub run-requires-in-FreeAll-clause-few : goal.run-requires-in-FreeAll-clause-few
 run-requires-in-FreeAll-clause-few g c = few_read _ _ _ c.in_ok-singles-in-FreeAll.ensures (singles-few_of free_all c.args.arguments.now) c.requires.few
 
-pub returns-in_ok-singles-in-DeepFree-clause-row : goal.returns-in_ok-singles-in-DeepFree-clause-row
-returns-in_ok-singles-in-DeepFree-clause-row g c = for_arm _ _ _ _ c.run-in-DeepFree.result c.in-DeepFree.is (row_by judge_deep_free act_deep_free _ _ c.run-in-DeepFree.result _ _ c.in_ok-singles-in-DeepFree.ensures (c.run-in-DeepFree.ensures.row (g.P.Port.words c.args.port.now)))
+pub returns-in-DeepFree-clause-row : goal.returns-in-DeepFree-clause-row
+returns-in-DeepFree-clause-row g c = for_arm _ _ _ _ c.run_deep_free.result c.in-DeepFree.is (c.run_deep_free.ensures.row (g.P.Port.words c.args.port.now))
 
-pub returns-in_ok-singles-in-DeepFree-clause-pictures : goal.returns-in_ok-singles-in-DeepFree-clause-pictures
-returns-in_ok-singles-in-DeepFree-clause-pictures g c = c.run-in-DeepFree.ensures.pictures (g.P.Port.words c.args.port.now) c.requires.pictures
-
-pub run-requires-in-DeepFree-clause-few : goal.run-requires-in-DeepFree-clause-few
-run-requires-in-DeepFree-clause-few g c = few_read _ _ _ c.in_ok-singles-in-DeepFree.ensures (singles-few_of deep_free c.args.arguments.now) c.requires.few
+pub returns-in-DeepFree-clause-pictures : goal.returns-in-DeepFree-clause-pictures
+returns-in-DeepFree-clause-pictures g c = c.run_deep_free.ensures.pictures (g.P.Port.words c.args.port.now) c.requires.pictures
 
 pub returns-in-Query-clause-row : goal.returns-in-Query-clause-row
 returns-in-Query-clause-row g c = for_arm _ _ _ _ c.run_query.result c.in-Query.is (c.run_query.ensures.row (g.P.Port.words c.args.port.now))

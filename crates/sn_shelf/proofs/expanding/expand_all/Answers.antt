@@ -4,9 +4,10 @@ use Rattle.std.proofs.lemmas.List.{length-append}
 use Rattle.sn_ports.specs.Limits.{most_samples}
 use Rattle.sn_osc.specs.Shape.{shape}
 use Rattle.sn_osc.specs.declared.packet.Packet.{Packet}
+use Rattle.sn_shelf.specs.Asking.{AllKeepUnasked}
 use Rattle.sn_shelf.specs.Expanded.{expanded_list}
 use Rattle.sn_shelf.specs.Growth.{AllSpelledWithin, IsSpelledWithin}
-use Rattle.sn_shelf.proofs.StreamLemmas.{more_spelled, more_told, within_most}
+use Rattle.sn_shelf.proofs.StreamLemmas.{more_kept, more_spelled, more_told, within_most}
 use Rattle.sn_shelf.proofs.expanding.expand_all.Goals as goal
 
 pub loop-packet-preserved : goal.loop-packet-preserved
@@ -27,6 +28,9 @@ loop-packet-preserved g c =
       told =
           subst (λ (ps : List Packet). IfSome told (λ fs. (map shape ps, after) ≡ expanded_list fs most_samples (map shape (at.yielded ++ packet ∷ [])))) (sym pushed)
           (more_told told (g.H.Shelf.files at.shelf) most_samples at.room after at.yielded at.done.items packet new at.invariant.kept at.invariant.told c.in_ok-expand.ensures.told);
+      unasked =
+          subst (λ (ps : List Packet). AllKeepUnasked (map shape (at.yielded ++ packet ∷ [])) (map shape ps)) (sym pushed)
+          (more_kept at.yielded at.done.items packet new at.invariant.unasked (λ off. ap shape (c.in_ok-expand.ensures.unasked off).0));
       spelled = subst (λ (ps : List Packet). AllSpelledWithin (2 ^ 27) (map shape ps)) (sym pushed) (more_spelled at.done.items new (2 ^ 27) at.invariant.spelled within);
       left = left.1;
       count = omega (arith, ap length pushed, length-append at.done.items (new ∷ []), length-append at.yielded (packet ∷ []), at.invariant.count);

@@ -47,7 +47,7 @@ returns-in-Err-Failed-clause-written g c = (Keeps-refl _, Keeps-refl _)
 pub returns-clause-done : goal.returns-clause-done
 returns-clause-done g c = λ n same.
     end_played c.args.settings.now (g.S.Source.left c.args.source.now) (g.L.Shelf.files c.args.shelf.now) (map shape c.in-Ok.packets.items) (map shape c.in-Ok-expand_all.expanded.items)
-    c.in-Ok.ensures.packets c.in-Ok-expand_all.ensures.told n (g.O.Sink.taken c.args.sound.now) (g.O.Sink.taken c.play.new.sound) (g.R.Sink.taken c.args.replies.now) (g.R.Sink.taken c.play.new.replies)
+    c.in-Ok.ensures.packets c.in-Ok-expand_all.ensures.told c.in-Ok-expand_all.ensures.unasked n (g.O.Sink.taken c.args.sound.now) (g.O.Sink.taken c.play.new.sound) (g.R.Sink.taken c.args.replies.now) (g.R.Sink.taken c.play.new.replies)
     (c.play.ensures.done n (ran_is c.play.result (Done n) same))
 
 pub returns-clause-taken : goal.returns-clause-taken
@@ -58,7 +58,7 @@ returns-clause-taken g c =
 pub returns-clause-answer : goal.returns-clause-answer
 returns-clause-answer g c =
     end_run c.args.settings.now (g.S.Source.left c.args.source.now) (g.L.Shelf.files c.args.shelf.now) (map shape c.in-Ok.packets.items) (map shape c.in-Ok-expand_all.expanded.items)
-    c.in-Ok.ensures.packets c.in-Ok-expand_all.ensures.told c.play.result c.play.ensures.end
+    c.in-Ok.ensures.packets c.in-Ok-expand_all.ensures.told c.in-Ok-expand_all.ensures.unasked c.play.result c.play.ensures.end
 
 pub returns-clause-words : goal.returns-clause-words
 returns-clause-words g c = λ i e. never_end c.args.settings.now (map shape c.in-Ok-expand_all.expanded.items) c.play.result (BadWords i) _ (λ x. x) c.play.ensures.end e
@@ -72,5 +72,5 @@ returns-clause-source_unfailed g c = inr c.in-Ok.ensures.unfailed
 pub returns-clause-written : goal.returns-clause-written
 returns-clause-written g c =
     end_writes c.args.settings.now (g.S.Source.left c.args.source.now) (g.L.Shelf.files c.args.shelf.now) (map shape c.in-Ok.packets.items) (map shape c.in-Ok-expand_all.expanded.items)
-    c.in-Ok.ensures.packets c.in-Ok-expand_all.ensures.told c.play.result (g.O.Sink.taken c.args.sound.now) (g.O.Sink.taken c.play.new.sound) (g.R.Sink.taken c.args.replies.now) (g.R.Sink.taken c.play.new.replies)
+    c.in-Ok.ensures.packets c.in-Ok-expand_all.ensures.told c.in-Ok-expand_all.ensures.unasked c.play.result (g.O.Sink.taken c.args.sound.now) (g.O.Sink.taken c.play.new.sound) (g.R.Sink.taken c.args.replies.now) (g.R.Sink.taken c.play.new.replies)
     c.play.ensures.written

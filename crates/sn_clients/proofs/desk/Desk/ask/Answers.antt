@@ -1,11 +1,13 @@
 use Rattle.std.proofs.Common.{◌≡◌, ◌∙◌, ◌++◌, ◌∷◌, [], ◌<◌, ℕ, false, List, Ok, length, length-append, refl, sym, ap, subst, arith}
+use Rattle.sn_clients.specs.declared.playing.Halt.{Halt}
 use Rattle.sn_clients.specs.declared.playing.Halt.TheVariants as halts
 use Rattle.sn_clients.specs.declared.turns.Turn.{Turn}
 use Rattle.sn_clients.specs.declared.turns.Turn.TheVariants.{Ticks}
 use Rattle.sn_clients.specs.Answers.{end_of}
-use Rattle.sn_clients.specs.Looping.{HasHalted, IsSteady}
+use Rattle.sn_clients.specs.Looping.{CountedAt, HasHalted, IsSteady}
 use Rattle.sn_clients.specs.Pulses.{Gives}
-use Rattle.sn_clients.proofs.LoopLemmas.{halted_asked, halts_before, halts_full, halts_in_blocks, plays_blocks, plays_zero, steady_blocks, steady_same}
+use Rattle.sn_clients.proofs.FaultLemmas.{counted_so}
+use Rattle.sn_clients.proofs.LoopLemmas.{halted_asked, halts_before, halts_full, halts_in_blocks, on_any_err, plays_blocks, plays_zero, steady_blocks, steady_same}
 use Rattle.sn_clients.proofs.desk.Desk.ask.Goals as goal
 
 pub returns-in_err-make_room-clause-plays : goal.returns-in_err-make_room-clause-plays
@@ -106,3 +108,32 @@ pub returns-in_err-do_blocks-clause-few : goal.returns-in_err-do_blocks-clause-f
 returns-in_err-do_blocks-clause-few g c =
     let turned = c.do_blocks.ensures.turns ∙ (c.put_turn.ensures ∙ ap (λ (ts : List Turn). ts ++ Ticks c.next-count.result ∷ []) c.make_room.ensures.same) in
     omega (arith, ap length turned, length-append c.args.self.now.turns.items (Ticks c.next-count.result ∷ []), c.requires.steady.few)
+
+-- ---- what it counts
+
+pub returns-in_err-make_room-clause-counted : goal.returns-in_err-make_room-clause-counted
+returns-in_err-make_room-clause-counted g c =
+    let before = g.O.Sink.faults c.args.sound.now in
+    counted_so c.from_residual.result halts.NoMemory before before c.from_residual.ensures.1 refl
+
+pub returns-in_err-do_blocks-clause-counted : goal.returns-in_err-do_blocks-clause-counted
+returns-in_err-do_blocks-clause-counted g c =
+    let r = c.from_residual-in_err-do_blocks in
+    counted_so r.result c.in_err-do_blocks.field-0.0 (g.O.Sink.faults c.args.sound.now) (g.O.Sink.faults c.do_blocks.new.sound) r.ensures.1 c.in_err-do_blocks.ensures.counted
+
+pub returns-in_err-check_full-clause-counted : goal.returns-in_err-check_full-clause-counted
+returns-in_err-check_full-clause-counted g c =
+    let r = c.from_residual-in_err-check_full in
+    let before = g.O.Sink.faults c.args.sound.now in
+    let now = g.O.Sink.faults c.do_blocks.new.sound in
+    counted_so r.result c.in_err-check_full.field-0.0 before now r.ensures.1
+    (subst (λ (h : Halt). CountedAt h before now) (sym c.in_err-check_full.ensures.full.0) c.in_ok-do_blocks.ensures.counted)
+
+pub returns-in_err-make_room-clause-unasked : goal.returns-in_err-make_room-clause-unasked
+returns-in_err-make_room-clause-unasked g c = on_any_err c.from_residual.result refl
+
+pub returns-in_err-do_blocks-clause-unasked : goal.returns-in_err-do_blocks-clause-unasked
+returns-in_err-do_blocks-clause-unasked g c = on_any_err c.from_residual-in_err-do_blocks.result (c.next-count.ensures.others (λ none. omega (arith, c.if-count-eq0.false, none)))
+
+pub returns-in_err-check_full-clause-unasked : goal.returns-in_err-check_full-clause-unasked
+returns-in_err-check_full-clause-unasked g c = on_any_err c.from_residual-in_err-check_full.result (c.next-count.ensures.others (λ none. omega (arith, c.if-count-eq0.false, none)))

@@ -4,6 +4,7 @@ use Rattle.std.proofs.lemmas.List.{with_items_is, places}
 use Rattle.sn_clients.specs.Looping.{HaltsAt, PlaysTo}
 use Rattle.sn_clients.specs.PlayMany.{ticks}
 use Rattle.sn_clients.specs.Written.{IsGoing}
+use Rattle.sn_clients.proofs.FaultLemmas.{counted_so}
 use Rattle.sn_clients.proofs.TickLemmas.{halted_plays}
 use Rattle.sn_clients.proofs.desk.Desk.do_blocks.Goals as goal
 
@@ -45,3 +46,8 @@ returns-clause-stands g c =
     let first : c.deref_mut.result.now ≡ old.failed.items = search rules in
     let e = c.in_ok-play_blocks.ensures in
     record { settled = e.settled; block = e.block; puts = e.puts; clients = e.clients; flags = ap length is ∙ e.flags ∙ ap length first }
+
+pub returns-in_err-play_blocks-clause-counted : goal.returns-in_err-play_blocks-clause-counted
+returns-in_err-play_blocks-clause-counted g c =
+    let before = g.O.Sink.faults c.args.sound.now in
+    counted_so c.from_residual.result c.in_err-play_blocks.field-0.0 before (g.O.Sink.faults c.play_blocks.new.sound) c.from_residual.ensures.1 c.in_err-play_blocks.ensures.counted

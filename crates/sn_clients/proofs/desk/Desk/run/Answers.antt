@@ -2,7 +2,8 @@ use Rattle.std.proofs.Common.{◌∙◌, ℕ, Ok, ap, refl, subst, sym, false, t
 use Rattle.sn_ports.specs.Causes.{Rose}
 use Rattle.sn_clients.specs.declared.seats.Outlet.{Outlet}
 use Rattle.sn_clients.specs.Answers.{IsOutletOf, end_of, has_stopped}
-use Rattle.sn_clients.specs.Looping.{SameInlets}
+use Rattle.sn_clients.specs.Looping.{CountedAt, SameInlets}
+use Rattle.sn_clients.proofs.FaultLemmas.{counted_none, counted_not, counted_so}
 use Rattle.sn_clients.proofs.LoopLemmas.{asked_more, asked_zero, inlets_both, no_sound_fault, on_any_ok, runs_halted, runs_rest, same_inlets}
 use Rattle.sn_clients.proofs.desk.Desk.run.Goals as goal
 
@@ -25,7 +26,7 @@ loop-preserved g c =
       inlets = subst (λ (o : Outlet). SameInlets (end_of c.args.self.now.outlet) (end_of o)) (sym a.outlet) (inlets_both (end_of c.args.self.now.outlet) (end_of c.loop.self.outlet) (end_of c.take_notes.new.self.outlet) i.inlets e.inlets);
       stopped = ap has_stopped a.outlet ∙ e.stopped ∙ i.stopped;
       zeros = a.others (ap Ok c.if-not-more.false) ∙ i.zeros;
-      still = a.unfailed ∙ i.still;
+      still = a.counted ∙ i.still;
     }
 
 -- ---- an end among the notes
@@ -35,11 +36,18 @@ returns-in_err-take_notes-clause-plays g c = λ first sinks_first sound_first le
     let n = c.take_notes.new in
     let sound = g.O.Sink.taken c.loop.sound in
     let left = g.T.Pulse.left c.loop.pulse in
-    runs_halted g.R.Sink.taken g.R.Sink.faults first sinks_first n.sinks sound_first sound false left_first left n.self c.from_residual.result c.in_err-take_notes.field-0.0 c.from_residual.ensures.1
+    runs_halted g.R.Sink.taken g.R.Sink.faults first sinks_first n.sinks sound_first sound false left_first left (g.T.Pulse.zeros c.args.pulse.now) (g.T.Pulse.zeros c.loop.pulse) n.self c.from_residual.result c.in_err-take_notes.field-0.0 c.from_residual.ensures.1 c.loop.invariant.zeros
     (c.in_err-take_notes.ensures.plays first sinks_first sound_first sound left_first left false (c.loop.invariant.plays first sinks_first sound_first left_first h))
 
 pub returns-in_err-take_notes-clause-inlets : goal.returns-in_err-take_notes-clause-inlets
 returns-in_err-take_notes-clause-inlets g c = inlets_both (end_of c.args.self.now.outlet) (end_of c.loop.self.outlet) (end_of c.take_notes.new.self.outlet) c.loop.invariant.inlets c.take_notes.ensures.inlets
+
+pub returns-in_err-take_notes-clause-counted : goal.returns-in_err-take_notes-clause-counted
+returns-in_err-take_notes-clause-counted g c =
+    let halt = c.in_err-take_notes.field-0.0 in
+    let before = g.O.Sink.faults c.args.sound.now in
+    let now = g.O.Sink.faults c.loop.sound in
+    counted_so c.from_residual.result halt before now c.from_residual.ensures.1 (counted_none halt before now c.in_err-take_notes.ensures.only.0 c.loop.invariant.still)
 
 -- ---- an end among the blocks
 
@@ -50,7 +58,8 @@ returns-in_err-more-clause-plays g c = λ first sinks_first sound_first left_fir
     let r = c.from_residual-in_err-more in
     let sound = g.O.Sink.taken c.loop.sound in
     let left = g.T.Pulse.left c.loop.pulse in
-    runs_halted g.R.Sink.taken g.R.Sink.faults first sinks_first n.sinks sound_first (g.O.Sink.taken n.sound) false left_first (g.T.Pulse.left n.pulse) n.self r.result c.in_err-more.field-0.0 r.ensures.1
+    runs_halted g.R.Sink.taken g.R.Sink.faults first sinks_first n.sinks sound_first (g.O.Sink.taken n.sound) false left_first (g.T.Pulse.left n.pulse) (g.T.Pulse.zeros c.args.pulse.now) (g.T.Pulse.zeros n.pulse) n.self r.result c.in_err-more.field-0.0 r.ensures.1
+    (c.in_err-more.ensures.unasked ∙ c.loop.invariant.zeros)
     (c.in_err-more.ensures.plays first sinks_first sound_first left_first (e.plays first sinks_first sound_first sound left_first left false (c.loop.invariant.plays first sinks_first sound_first left_first h)))
 
 pub returns-in_err-more-clause-outlet : goal.returns-in_err-more-clause-outlet
@@ -62,6 +71,13 @@ returns-in_err-more-clause-inlets g c = subst (λ (o : Outlet). SameInlets (end_
 
 pub returns-in_err-more-clause-stopped : goal.returns-in_err-more-clause-stopped
 returns-in_err-more-clause-stopped g c = ap has_stopped c.ask.ensures.outlet ∙ c.take_notes.ensures.stopped ∙ c.loop.invariant.stopped
+
+pub returns-in_err-more-clause-counted : goal.returns-in_err-more-clause-counted
+returns-in_err-more-clause-counted g c =
+    let r = c.from_residual-in_err-more in
+    let halt = c.in_err-more.field-0.0 in
+    let now = g.O.Sink.faults c.ask.new.sound in
+    counted_so r.result halt (g.O.Sink.faults c.args.sound.now) now r.ensures.1 (subst (λ (before : ℕ). CountedAt halt before now) c.loop.invariant.still c.in_err-more.ensures.counted)
 
 -- ---- the 0 of the pulse
 
@@ -78,7 +94,8 @@ returns-then-not-more-clause-plays g c = λ first sinks_first sound_first left_f
     let left = g.T.Pulse.left c.loop.pulse in
     let later = g.O.Sink.taken m.sound in
     let next = g.T.Pulse.left m.pulse in
-    runs_rest g.R.Sink.taken g.R.Sink.faults first sinks_first n.sinks sound_first later left_first next n.self c.take_rest.result
+    let rose = subst (λ (k : ℕ). Rose k (g.T.Pulse.zeros m.pulse)) c.loop.invariant.zeros (c.in_ok-more.ensures.zero (ap Ok c.if-not-more.true)) in
+    runs_rest g.R.Sink.taken g.R.Sink.faults first sinks_first n.sinks sound_first later left_first next (g.T.Pulse.zeros c.args.pulse.now) (g.T.Pulse.zeros m.pulse) n.self c.take_rest.result rose
     (c.take_rest.ensures.plays first sinks_first sound_first later left_first next true
     (asked_zero g.R.Sink.taken g.R.Sink.faults first sinks_first m.sinks sound_first later left_first next m.self c.in_ok-more.more
     (a.plays first sinks_first sound_first left_first (e.plays first sinks_first sound_first sound left_first left false (c.loop.invariant.plays first sinks_first sound_first left_first h))) c.if-not-more.true))
@@ -88,11 +105,9 @@ returns-then-not-more-clause-zero g c =
     let rose = subst (λ (n : ℕ). Rose n (g.T.Pulse.zeros c.ask.new.pulse)) c.loop.invariant.zeros (c.in_ok-more.ensures.zero (ap Ok c.if-not-more.true)) in
     on_any_ok c.take_rest.result rose
 
-pub returns-then-not-more-clause-sound : goal.returns-then-not-more-clause-sound
-returns-then-not-more-clause-sound g c = λ e. absurd (no_sound_fault c.take_rest.result c.take_rest.ensures.only e)
-
-pub returns-then-not-more-clause-unfailed : goal.returns-then-not-more-clause-unfailed
-returns-then-not-more-clause-unfailed g c = on_any_ok c.take_rest.result (c.in_ok-more.ensures.unfailed ∙ c.loop.invariant.still)
+pub returns-then-not-more-clause-counted : goal.returns-then-not-more-clause-counted
+returns-then-not-more-clause-counted g c =
+    counted_not c.take_rest.result (g.O.Sink.faults c.args.sound.now) (g.O.Sink.faults c.ask.new.sound) (no_sound_fault c.take_rest.result c.take_rest.ensures.only) (c.in_ok-more.ensures.counted ∙ c.loop.invariant.still)
 
 pub returns-then-not-more-clause-inlets : goal.returns-then-not-more-clause-inlets
 returns-then-not-more-clause-inlets g c =

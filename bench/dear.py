@@ -161,7 +161,7 @@ def free_none():
     groups = [word for i in range(4095) for word in (1 + i, 0, 0)]
     again = messages(("/g_deepFree", *[0] * ASKED))
     what = f"the synths below 4,095 groups, of which there are none, are freed {ASKED:,} times by a message"
-    return Dear("free_none", what, messages(("/g_new", *groups)), again, "group", 4095 * ASKED, 10)
+    return Dear("free_none", what, messages(("/g_new", *groups)), again, "group named", ASKED, 10)
 
 
 def set_root():

@@ -1,6 +1,7 @@
 -- What a look at a deque answers, and how its counts go.
 use Rattle.std.specs.Prelude.{◌≡◌, ℕ, ◌+◌, ◌-◌, ◌^◌, ◌<◌, ◌≤◌, min, ◌⊎◌}
 use Rattle.sn_crew.specs.declared.hints.Counts.{Counts}
+use Rattle.sn_crew.specs.declared.hints.Found.{Found}
 use Rattle.sn_crew.specs.declared.hints.Look.{Look}
 use Rattle.sn_crew.specs.declared.hints.Look.TheVariants.{Hint, Stray, Empty, Again}
 
@@ -27,6 +28,17 @@ Raised (Hint job) b a = a ≡ b
 Raised (Stray job) b a = Rose b.strays a.strays × (b.strays ≤ a.strays) × (a.empties ≡ b.empties) × (a.agains ≡ b.agains)
 Raised Empty b a = Rose b.empties a.empties × (b.empties ≤ a.empties) × (a.agains ≡ b.agains) × (a.strays ≡ b.strays)
 Raised Again b a = Rose b.agains a.agains × (b.agains ≤ a.agains) × (a.empties ≡ b.empties) × (a.strays ≡ b.strays)
+
+-- one hint more, and it is the last
+abbrev pub Gave : ℕ → Found → Found → Type 0
+Gave job b a = (a.hints ≡ min (b.hints + 1) (2 ^ 64 - 1)) × (a.last ≡ job)
+
+-- a hint was given, or nothing changes
+abbrev pub Noted : Look → Found → Found → Type 0
+Noted (Hint job) b a = Gave job b a
+Noted (Stray job) b a = a ≡ b
+Noted Empty b a = a ≡ b
+Noted Again b a = a ≡ b
 
 abbrev pub no_counts : Counts
 no_counts = record { empties = 0; agains = 0; strays = 0 }

@@ -4,7 +4,7 @@ ghost use Rattle.sn_ports.specs.Limits.{most_workers, most_jobs};
 ghost use Rattle.sn_crew.specs.Looks.{FitsJobs};
 
 use crate::deques::{OtherDeque, OwnDeque, give, pop};
-use crate::hints::{Counts, Hints, Look};
+use crate::hints::{Counts, Found, Hints, Look};
 use crossbeam_deque::Steal;
 use sn_ports::NoMemory;
 use sn_ports::limits::MOST_JOBS;
@@ -22,6 +22,7 @@ pub struct DequeHints {
     place: u32,
     others: Vec<OtherDeque>,
     pub(crate) counts: Vec<Counts>,
+    found: Found,
     ghost one_each: { length counts.items ≡ length others.items + 1 },
     ghost placed: { place < length counts.items },
     ghost few: { length counts.items < 2 ^ 32 },
@@ -61,6 +62,7 @@ impl DequeHints {
             place,
             others,
             counts,
+            found: Found { hints: 0, last: 0 },
         })
     }
 
@@ -88,6 +90,7 @@ impl DequeHints {
         requires { deque < length self.old.counts.items }
         ensures answer { FitsJobs jobs result }
         ensures counts { self.new.counts ≡ self.old.counts }
+        ensures found { self.new.found ≡ self.old.found }
     {
         if deque == self.place {
             return match pop(&mut self.own) {
@@ -112,13 +115,16 @@ impl Hints for DequeHints {
 
     ghost counts = { λ h e. slice_index_or h.counts.items e no_counts };
 
+    ghost found = { λ h. h.found };
+
     fn deques(&self) -> u32 {
         self.counts.len() as u32
     }
 
     fn look(&mut self, deque: u32, jobs: u32) -> Look {
-        let found = self.find(deque, jobs);
-        self.counts[deque as usize].raise(&found);
-        found
+        let look = self.find(deque, jobs);
+        self.counts[deque as usize].raise(&look);
+        self.found.note(&look);
+        look
     }
 }

@@ -1,6 +1,6 @@
 //! Where a worker looks for jobs.
 ghost use Rattle.std.specs.Prelude.{◌≡◌, ◌≢◌, ◌<◌, ℕ, IfSome, IfNone};
-ghost use Rattle.sn_crew.specs.Looks.{FitsJobs, Raised, SomeRose, NoneFell};
+ghost use Rattle.sn_crew.specs.Looks.{FitsJobs, Gave, Noted, Raised, SomeRose, NoneFell};
 
 /// How often a worker looks at one deque in one take at most.
 const TRIES: u32 = 64;
@@ -43,15 +43,40 @@ impl Counts {
     }
 }
 
+/// What the looks of one worker found.
+#[derive(Clone, Copy, Debug)]
+pub struct Found {
+    /// How many hints they gave. It stops at 2^64 - 1.
+    pub hints: u64,
+    /// The last hint, or 0 before the first.
+    pub last: u32,
+}
+
+impl Found {
+    /// Notes what a look found.
+    pub fn note(&mut self, look: &Look)
+        ensures { Noted look.now self.old self.new }
+    {
+        if let Look::Hint(job) = look {
+            self.hints = self.hints.saturating_add(1);
+            self.last = *job;
+        }
+    }
+}
+
 /// The deques of a crew, as one worker sees them.
 pub trait Hints {
     ghost use Rattle.sn_crew.specs.declared.hints.Counts.{Counts};
+    ghost use Rattle.sn_crew.specs.declared.hints.Found.{Found};
 
     /// The number of deques, which never changes.
     ghost size: { Self → ℕ };
 
     /// The counts of each deque.
     ghost counts: { Self → ℕ → Counts };
+
+    /// What its looks found.
+    ghost found: { Self → Found };
 
     /// How many deques there are.
     fn deques(&self) -> u32
@@ -63,6 +88,7 @@ pub trait Hints {
         ensures size { size self.new ≡ size self.old }
         ensures answer { FitsJobs jobs result }
         ensures counts { Raised result (counts self.old deque) (counts self.new deque) }
+        ensures found { Noted result (found self.old) (found self.new) }
         ensures others { (e : ℕ) → e ≢ deque → counts self.new e ≡ counts self.old e };
 }
 
@@ -73,6 +99,8 @@ fn take_at<D: Hints>(hints: &mut D, deque: u32, jobs: u32) -> Option<u32>
     ensures some { IfSome result (λ job. job < jobs) }
     ensures counts { (e : ℕ) → NoneFell (D.counts hints.old e) (D.counts hints.new e) }
     ensures none { IfNone result (SomeRose (D.counts hints.old deque) (D.counts hints.new deque)) }
+    ensures gave { IfSome result (λ job. Gave job (D.found hints.old) (D.found hints.new)) }
+    ensures kept { IfNone result (D.found hints.new ≡ D.found hints.old) }
 {
     for _turn in 0..TRIES {
         match hints.look(deque, jobs) {
@@ -103,23 +131,23 @@ impl<D: Hints> Member<D> {
         Member { hints, own }
     }
 
-    /// Takes a hint, and drops each stray. None comes only if each deque was empty, was to be tried again or gave a
-    /// stray in this call.
+    /// Takes the one hint that its looks find, and drops each stray. None comes only if each deque was empty, was to be
+    /// tried again or gave a stray in this call, and no look found a hint.
     pub fn take(&mut self, jobs: u32) -> Option<u32>
         ensures size { D.size self.new.hints ≡ D.size self.old.hints }
         ensures some { IfSome result (λ job. job < jobs) }
         ensures counts { (e : ℕ) → NoneFell (D.counts self.old.hints e) (D.counts self.new.hints e) }
         ensures none { IfNone result ((e : ℕ) → e < D.size self.old.hints → SomeRose (D.counts self.old.hints e) (D.counts self.new.hints e)) }
+        ensures gave { IfSome result (λ job. Gave job (D.found self.old.hints) (D.found self.new.hints)) }
+        ensures kept { IfNone result (D.found self.new.hints ≡ D.found self.old.hints) }
     {
-        let found = take_at(&mut self.hints, self.own, jobs);
-        if found.is_some() {
-            return found;
+        if let Some(job) = take_at(&mut self.hints, self.own, jobs) {
+            return Some(job);
         }
         for deque in 0..self.hints.deques() {
             if deque != self.own {
-                let found = take_at(&mut self.hints, deque, jobs);
-                if found.is_some() {
-                    return found;
+                if let Some(job) = take_at(&mut self.hints, deque, jobs) {
+                    return Some(job);
                 }
             }
         }

@@ -15,6 +15,6 @@ mod working;
 
 pub use crew::Crew;
 pub use deque_hints::DequeHints;
-pub use hints::{Counts, Hints, Look, Member};
+pub use hints::{Counts, Found, Hints, Look, Member};
 pub use hold::HoldGate;
 pub use seating::finish;

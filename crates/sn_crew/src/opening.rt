@@ -85,7 +85,7 @@ pub fn open_hands(alloc: Global, workers: u32) -> Result<Vec<Hand>, NoMemory>
     let mut hands = Vec::new(alloc);
     while let Some(own) = deques.pop() {
         let Some(side) = sides.pop() else {
-            return Err(NoMemory);
+            unreachable!();
         };
         let scratch = first.beside(alloc)?;
         hands.push(open_hand(alloc, own, side, scratch)?)?;

@@ -11,7 +11,7 @@ ghost use Rattle.sn_play.specs.Spans.{ArePlayed};
 ghost use Rattle.sn_engine.specs.Planning.{HasLanes, IsPlanOf, IsRowReady, LanesRest};
 
 use sn_crew::Crew;
-use sn_machine::Rests;
+use sn_machine::RestedRounds;
 use sn_mem::Port;
 use sn_play::{Block, Span, block_is_the_walk, span_is_the_walks};
 use sn_ports::limits::MOST_JOBS;
@@ -128,7 +128,7 @@ impl Port for Memory {
     ghost use Rattle.std.specs.Prelude.{length};
     ghost use Rattle.sn_mem.specs.Words.{everything, everything_is};
 
-    type Rest = Rests;
+    type Rest = RestedRounds;
 
     ghost words = { λ p. p.words };
 

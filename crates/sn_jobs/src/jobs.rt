@@ -1,5 +1,5 @@
 //! Jobs that are put one after another.
-ghost use Rattle.std.specs.Prelude.{◌≡◌, ◌<◌, ◌≤◌, ◌+◌, ℕ, true, IfOk, OnOk, length};
+ghost use Rattle.std.specs.Prelude.{◌≡◌, ◌<◌, ◌≤◌, ◌+◌, ◌++◌, ◌∷◌, [], ℕ, true, false, Ok, length};
 ghost use Rattle.std.specs.List.{All};
 ghost use Rattle.sn_round.specs.Jobs.{AreJobs, times};
 
@@ -10,7 +10,8 @@ use std::alloc::Global;
 /// No jobs.
 #[tactic(auto, using(crate::proofs::Rising::no_jobs_are))]
 pub fn no_jobs(alloc: Global) -> Vec<Job>
-    ensures { AreJobs result.items }
+    ensures none { result.items ≡ [] }
+    ensures jobs { AreJobs result.items }
 {
     Vec::new(alloc)
 }
@@ -27,11 +28,14 @@ fn rise(from: u32, end: u32, numbers: &[u32]) -> bool
     }
 }
 
-/// Puts a job at the end, where its predecessors stand before it. It answers whether they do.
+/// Puts a job at the end, if there are at most 1,000 jobs and its predecessors rise and stand before it. It answers
+/// whether it was put. If it wasn't, nothing changes.
 #[tactic(auto, using(crate::proofs::Rising::jobs_more))]
 pub fn put(jobs: &mut Vec<Job>, job: Job) -> Result<bool, NoMemory>
     requires jobs { AreJobs jobs.old.items }
     ensures jobs { AreJobs jobs.new.items }
+    ensures put { result ≡ Ok true → jobs.new.items ≡ jobs.old.items ++ job ∷ [] }
+    ensures same { result ≡ Ok false → jobs.new.items ≡ jobs.old.items }
 {
     if jobs.len() > 1000 || !rise(0, jobs.len() as u32, job.before.as_slice()) {
         return Ok(false);

@@ -164,7 +164,7 @@ join_view v w = record v { main = record v.main { live = v.main.live - 1; joined
 abbrev pub after_join : State → View → ℕ → View → State
 after_join s v other w = record { memory = s.memory; counts = s.counts; views = slice_set (slice_set s.views 0 (join_view v w)) other spent }
 
--- Look, by a worker, at a job's word. Allowed in a round. It has one more reading, of the word.
+-- Look, by a worker, at any job word. Allowed in a round. It has one more reading, of the word.
 abbrev pub after_look : State → ℕ → View → ℕ → State
 after_look s id v j = record { memory = s.memory; counts = s.counts; views = slice_set s.views id (read_view v j (slice_index s.counts j)) }
 
@@ -194,7 +194,7 @@ pub data Step : State → State → Type 0 where
   split : (s : State) (m : View) → At s.views 0 m → CanSplit m → Step s (after_split s m)
   -- main and a worker, a word that is read
   join : (s : State) (m : View) (other : ℕ) (v : View) → At s.views 0 m → other ≢ 0 → At s.views other v → CanJoin v → Step s (after_join s m other v)
-  -- a worker, a job's word, which is read
+  -- a worker, a job word, which is read
   look : (s : State) (id : ℕ) (v : View) (j : ℕ) → At s.views id v → v.worker.live ≡ true → Step s (after_look s id v j)
 
 -- A list of steps, by any seats.

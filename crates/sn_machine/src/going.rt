@@ -85,7 +85,8 @@ pub fn are_within(plan: &Plan, size: u64) -> bool
     true
 }
 
-/// Whether the lists are one more than the jobs, all of one length, and each as the one before outside what its job may write.
+/// Whether the lists are one more than the jobs, all of one length, and each as the one before outside what its job may
+/// write.
 pub fn is_script(plan: &Plan, size: usize, script: &Script) -> bool
     ensures { IsTrue result → IsScript plan.now size script.now }
 {

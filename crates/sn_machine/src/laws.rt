@@ -40,13 +40,15 @@ pub fn claim_keeps()
     ensures { (s : State) (id : ℕ) (v : Seen) (j : ℕ) → RoundHolds s → At s.views id v → CanClaim v j → RoundHolds (after_claim s id v j) }
 {}
 
-/// A law: a claim finds 0 only where each predecessor of the job has ended, and no view owes a release of the job for it.
+/// A law: a claim finds 0 only where each predecessor of the job has ended, and no view owes a release of the job for
+/// it.
 pub fn claim_is_ready()
     ensures { (s : State) (id : ℕ) (v : Seen) (j : ℕ) → RoundHolds s → At s.views id v → CanClaim v j → slice_index s.counts j ≡ 0
         → (p : ℕ) → Contains (predecessors v.worker.jobs j) p → (is_ended s.counts p ≡ true) × ((i : ℕ) (u : Seen) → At s.views i u → Contains u.worker.debts (p, j) → ⊥) }
 {}
 
-/// A law: on the sweep's seat a claim finds 0 exactly where the job is not known to have ended, and each of its predecessors is.
+/// A law: on the sweep's seat a claim finds 0 exactly where the job is not known to have ended, and each of its
+/// predecessors is.
 pub fn sweep_finds()
     ensures { (s : State) (id : ℕ) (v : Seen) (j : ℕ) → RoundHolds s → At s.views id v → CanClaim v j → v.worker.sweeps ≡ true → (slice_index s.counts j ≡ 0) ↔ IsFree v j }
 {}
@@ -141,7 +143,8 @@ pub fn mains_fit()
     ensures rested { (v : Seen) → MainFits v → MainFits (rested_view v) }
 {}
 
-/// A law: from the beginning a list of steps leads through a round of one job to rest, so the conditions of the steps can be met.
+/// A law: from the beginning a list of steps leads through one round to rest, so the conditions of these steps can be
+/// met. It is a round of one job of an empty foot, and main goes, splits, joins and rests, and a worker claims and ends.
 pub fn a_round_can_be_played()
     ensures { (x : ℕ) → (t : State) × Reaches (opening (x ∷ []) (0 ∷ [])) t × ((m : Seen) × At t.views 0 m × (length m.main.rested ≡ 1)) }
 {}

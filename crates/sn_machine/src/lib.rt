@@ -19,7 +19,7 @@ pub use laws::{
     runs_end_in_the_script, runs_get_once, runs_keep, split_keeps, store_keeps, sweep_finds,
     workers_fit,
 };
-pub use lists::{Debts, Rests, Script, Words};
+pub use lists::{Debts, RestedRounds, Script, Words};
 pub use machine::Machine;
 pub use views::{Main, Phase, Rested, RunningJob, View, Worker};
 pub use worker::{CLAIMED, ENDED};

@@ -194,11 +194,11 @@ impl Debts {
 
 /// A list of rounds that were rested.
 #[derive(Drop)]
-pub struct Rests {
+pub struct RestedRounds {
     items: Vec<Rested>,
 }
 
-impl Model for Rests {
+impl Model for RestedRounds {
     ghost use Rattle.std.specs.Prelude.{List};
     ghost use Rattle.sn_machine.specs.declared.views.Rested.{Rested};
 
@@ -207,12 +207,12 @@ impl Model for Rests {
     ghost view = { λ s. s.items.items };
 }
 
-impl Rests {
+impl RestedRounds {
     /// No rounds.
-    pub fn new(alloc: Global) -> Rests
+    pub fn new(alloc: Global) -> RestedRounds
         ensures { result ≡ [] }
     {
-        Rests {
+        RestedRounds {
             items: Vec::new(alloc),
         }
     }

@@ -1,7 +1,7 @@
 //! An interpreter of steps: a machine over lists, with a call for each kind of step.
 //!
-//! A call answers `false` or `None` if the step is not allowed, or something can't be counted, and then nothing changes.
-//! After an `Err` the machine may have changed in part.
+//! A call answers `false` or `None` if the step is not allowed, or something can't be counted, and then nothing
+//! changes. After an `Err` the machine may have changed in part.
 ghost use Rattle.std.specs.Prelude.{◌≡◌, ◌++◌, IfOk, IfSome, slice_index, true};
 ghost use Rattle.sn_machine.specs.declared.views.View.{View as Seen};
 ghost use Rattle.sn_machine.specs.States.{At, IsIdle, idle_main, opening};
@@ -9,7 +9,7 @@ ghost use Rattle.sn_machine.specs.Steps.{after_memory, after_count, CanGo, after
 ghost use Rattle.sn_machine.specs.Fits.{job_of, picture_of};
 ghost use Rattle.sn_machine.specs.Calls.{state_of, Takes, Joins, debt_at, front_of, back_of};
 
-use crate::lists::{Rests, Script, Words};
+use crate::lists::{RestedRounds, Script, Words};
 use crate::rounds::{no_worker, spent};
 use crate::views::{Main, Phase, View};
 use crate::worker::{ENDED, claim_word};
@@ -36,7 +36,7 @@ fn idle_main(alloc: Global, memory: Words, counts: Words) -> Main
         live: 0,
         joined: false,
         ended: Jobs::new(alloc),
-        rested: Rests::new(alloc),
+        rested: RestedRounds::new(alloc),
         stores: 0,
     }
 }

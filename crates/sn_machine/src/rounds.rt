@@ -6,7 +6,7 @@ ghost use Rattle.sn_machine.specs.Steps.{set_memory, set_count, CanGo, go_view, 
 ghost use Rattle.sn_machine.specs.Calls.{set_memory_in, set_count_in, learned};
 
 use crate::going::{are_armed, are_within, is_race_free, is_script};
-use crate::lists::{Debts, Rests, Script, Words, words_of};
+use crate::lists::{Debts, RestedRounds, Script, Words, words_of};
 use crate::views::{Main, Phase, Rested, View, Worker};
 use crate::worker::ENDED;
 use sn_ports::NoMemory;
@@ -30,7 +30,7 @@ fn no_main(alloc: Global) -> Main
         live: 0,
         joined: false,
         ended: Jobs::new(alloc),
-        rested: Rests::new(alloc),
+        rested: RestedRounds::new(alloc),
         stores: 0,
     }
 }

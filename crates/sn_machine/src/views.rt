@@ -1,5 +1,5 @@
 //! What main and a worker know of a round.
-use crate::lists::{Debts, Rests, Script, Words};
+use crate::lists::{Debts, RestedRounds, Script, Words};
 use sn_round::{Jobs, Plan};
 
 /// A round that was rested: its jobs, and how many worker seats were split in it before the first join.
@@ -32,7 +32,7 @@ pub struct Main {
     /// The jobs that it knows to have ended.
     pub ended: Jobs,
     /// The rounds that were rested.
-    pub rested: Rests,
+    pub rested: RestedRounds,
     /// How often it stored to a memory word while no round ran.
     pub stores: u64,
 }
@@ -71,8 +71,8 @@ pub struct Worker {
 
 /// What a seat knows. The first seat is main's, and each other one a worker's.
 ///
-/// `size` and `room` are the numbers of memory words and job words. Main's seat has an idle worker's part, and a worker's
-/// seat an idle main's.
+/// `size` and `room` are the numbers of memory words and job words. Main's seat has an idle worker's part, and a
+/// worker's seat an idle main's.
 #[derive(Drop)]
 pub struct View {
     /// The number of memory words.

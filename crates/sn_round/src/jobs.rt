@@ -125,8 +125,8 @@ impl Jobs {
     }
 }
 
-/// A job of a round: the synths that it renders in order, each with some of its buses moved onto lanes; the lanes that it adds to
-/// their buses behind them; the words that it may touch; and the jobs that end before it begins.
+/// A job of a round: the synths that it renders in order, each with some of its buses moved onto lanes; the lanes that it
+/// adds to their buses behind them; the words that it may touch; and the jobs that end before it begins.
 ///
 /// A joint is a job that has no synths.
 #[derive(Drop)]

@@ -27,7 +27,8 @@ pub fn successors_are_distinct()
     ensures { (jobs : List Job) (i j : ℕ) → times j (successors jobs i) ≤ 1 }
 {}
 
-/// A law: a sequential script begins with the words that it is given, and each next list is what the next job makes of the one before.
+/// A law: a sequential script begins with the words that it is given, and each next list is what the next job makes of
+/// the one before.
 pub fn sequential_goes_on()
     ensures first { (outcome : ℕ → List ℕ → List ℕ) (n : ℕ) (base : List ℕ) → list_at (sequential outcome n base) 0 ≡ base }
     ensures next { (outcome : ℕ → List ℕ → List ℕ) (n i : ℕ) (base : List ℕ) → i < n → list_at (sequential outcome n base) (i + 1) ≡ outcome i (list_at (sequential outcome n base) i) }

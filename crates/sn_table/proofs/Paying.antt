@@ -47,13 +47,26 @@ swept_got v u w j well done e ran =
           (cases_eq k j)),
     )
 
-pub swept_busy : (v w : View) (j word : ℕ) → SweepsWell v → IsDone v j → w ≡ read_view v j word → (IsFree v j → ⊥) → ((p : ℕ) → Contains (predecessors v.worker.jobs j) p → p < j) → After v w j
-swept_busy v w j word well done e busy order = subst (λ (x : View). After v x j) (sym e) (
+pub swept_ended : (v w : View) (j word : ℕ) → SweepsWell v → IsDone v j → w ≡ read_view v j word → Contains v.worker.ended j → After v w j
+swept_ended v w j word well done e known = subst (λ (x : View). After v x j) (sym e) (
   record { live = well.live; sweeps = well.sweeps; runs = well.runs; debts = well.debts },
   refl,
   refl,
   λ k l. ⊎_elim
-      (λ (x : k ≡ j). subst (λ m. Contains v.worker.ended m) (sym x) (⊎_elim (λ c. c) (λ n. absurd (busy (n, λ p c. done p (order p c)))) (has_or_not v.worker.ended j)))
+      (λ (x : k ≡ j). subst (λ m. Contains v.worker.ended m) (sym x) known)
       (λ (d : k ≡ j → ⊥). done k (omega arith))
       (cases_eq k j),
+)
+
+pub swept_busy : (v w : View) (j word : ℕ) → SweepsWell v → IsDone v j → w ≡ read_view v j word → (IsFree v j → ⊥) → ((p : ℕ) → Contains (predecessors v.worker.jobs j) p → p < j) → After v w j
+swept_busy v w j word well done e busy order = swept_ended v w j word well done e
+    (⊎_elim (λ c. c) (λ n. absurd (busy (n, λ p c. done p (order p c)))) (has_or_not v.worker.ended j))
+
+-- a look changes no more than the readings
+pub looked_well : (v w : View) (j word : ℕ) → SweepsWell v → IsDone v j → w ≡ read_view v j word → SweepsWell w × (w.worker.jobs ≡ v.worker.jobs) × (w.worker.script ≡ v.worker.script) × IsDone w j
+looked_well v w j word well done e = subst (λ (x : View). SweepsWell x × (x.worker.jobs ≡ v.worker.jobs) × (x.worker.script ≡ v.worker.script) × IsDone x j) (sym e) (
+  record { live = well.live; sweeps = well.sweeps; runs = well.runs; debts = well.debts },
+  refl,
+  refl,
+  done,
 )

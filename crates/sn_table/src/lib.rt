@@ -1,4 +1,6 @@
-//! Words that the seats of a round share. Each call is one atomic step of the round machine.
+//! Words that the seats of a round share. A call of `Shared` is one atomic step of the round machine. But `open` takes
+//! no step, nor does `release` if nothing is owed, and `arm` takes one for each job. A job that is run and a sweep take
+//! many.
 #![tactic(auto)]
 
 mod job;

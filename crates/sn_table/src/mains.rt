@@ -78,7 +78,8 @@ impl Shared {
         self.table.shared.load::<Goes<C>>(&mut main.place, 0);
     }
 
-    /// Begins a round of these jobs, whose words are armed. Its script is what the work makes of the memory words, job after job.
+    /// Begins a round of these jobs, whose words are armed. Its script is what the work makes of the memory words, job
+    /// after job.
     pub fn go<W: Work>(&self, main: &mut MainSeat, work: &W, plan: &Plan)
         requires main { IsMainOf self.now main.old }
         requires idle { IsIdle (main_view main.old) }

@@ -19,7 +19,8 @@ use sn_round::Plan;
 use std::alloc::Global;
 
 impl Shared {
-    /// `words` memory words and `jobs` job words, all 0, and main's seat, which is idle. For a moment the words take twice their room.
+    /// `words` memory words and `jobs` job words, all 0, and main's seat, which is idle. For a moment the words take
+    /// twice their room.
     pub fn open(alloc: Global, words: u32, jobs: u32) -> Result<(Shared, MainSeat), NoMemory>
         requires words { (1 ≤ words) × (words < 2 ^ 31) }
         requires jobs { jobs ≤ most_jobs }
@@ -180,7 +181,8 @@ impl Shared {
         self.table.shared.load::<Looks>(place, at)
     }
 
-    /// Reads the word of a job of the round. On the sweep's seat a job whose word is ENDED is one that the seat knows to have ended.
+    /// Reads the word of a job of the round. On the sweep's seat a job whose word is ENDED is one that the seat knows to
+    /// have ended.
     pub fn look(&self, seat: &mut WorkerSeat, job: u32) -> u64
         requires seat { IsSeatOf self.now seat.old }
         requires live { (view seat.old).worker.live ≡ true }

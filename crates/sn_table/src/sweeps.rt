@@ -9,6 +9,7 @@ ghost use Rattle.sn_table.specs.Sweeps.{Ran, IsDone, Paid, SweepsWell, Serves};
 
 use crate::job::run_job;
 use crate::seats::{Claim, Release, Shared, WorkerSeat};
+use sn_machine::ENDED;
 use sn_mem::Scratch;
 use sn_ports::Gate;
 use sn_round::{Plan, Work};
@@ -53,7 +54,8 @@ pub fn run_one<W: Work>(
     release_all(shared, seat, plan);
 }
 
-/// Runs each job that has not ended, in walk order. It passes the gate before each.
+/// Runs each job that has not ended, in walk order. It looks at a job before it claims it, and passes the gate before
+/// it runs it.
 pub fn sweep<W: Work, G: Gate>(
     shared: &Shared,
     seat: &mut WorkerSeat,
@@ -73,6 +75,9 @@ pub fn sweep<W: Work, G: Gate>(
 {
     plan.is_well_formed();
     for job in 0..plan.jobs() {
+        if shared.look(seat, job) == ENDED {
+            continue;
+        }
         match shared.claim(seat, job) {
             Claim::Got => {
                 gate.pass(job);

@@ -5,7 +5,8 @@ use sn_foot::Resource;
 use std::alloc::Global;
 use std::marker::Model;
 
-/// Two members of a parallel group of which one writes what the other uses, or mixes what the other reads or writes, and the first such resource.
+/// Two members of a parallel group of which one writes what the other uses, or mixes what the other reads or writes,
+/// and the first such resource.
 #[derive(Clone, Copy, Debug, PartialEq, Eq)]
 pub struct Clash {
     /// The id of the group.

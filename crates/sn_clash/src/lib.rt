@@ -14,4 +14,5 @@ mod walking;
 
 pub use clash::{Clash, Clashes};
 pub use laws::world_has_the_clashes;
+pub use passing::used_by;
 pub use walking::{all_nodes, clashes};

@@ -40,7 +40,7 @@ fn base_of(nodes: &[Subtree], found: usize) -> usize
 }
 
 /// What a node uses by itself.
-fn used_by(alloc: Global, held: &Held) -> Result<Vec<Use>, NoMemory>
+pub fn used_by(alloc: Global, held: &Held) -> Result<Vec<Use>, NoMemory>
     ensures { IfOk result (λ u. (buffers : List (Option buffer.BufferPlace)) → footprint_in (is_there buffers) u.items ≡ used_by (is_there buffers) held.now) }
 {
     let mut uses = Vec::new(alloc);

@@ -1,7 +1,6 @@
 //! The first resource on which two clash.
 ghost use Rattle.std.specs.Prelude.{◌≡◌, None, Some, if◌then◌else◌, take};
 ghost use Rattle.std.specs.List.{filter};
-ghost use Rattle.sn_foot.specs.declared.resource.Resource.TheVariants.{Buffer};
 ghost use Rattle.sn_foot.specs.Footprints.{clash_on, is_there, number_of};
 ghost use Rattle.sn_clash.specs.Clashing.{resources};
 ghost use Rattle.sn_foot.specs.Uses.{footprint_in};
@@ -10,25 +9,6 @@ ghost use Rattle.sn_clash.specs.Marking.{listed, comes_before, first_hit, first_
 use crate::marks::{Mark, Marks};
 use sn_foot::{Resource, Role, Use};
 use sn_mem::Buffers;
-use sn_ports::limits::{AUDIO_BUS_COUNT, BUFFER_COUNT, CONTROL_BUS_COUNT};
-
-/// Whether there is a buffer of a number.
-fn is_allocated(buffers: &Buffers, number: u32) -> bool
-    ensures { result ≡ is_there buffers.now (Buffer number) }
-{
-    number < BUFFER_COUNT && buffers.place(number).is_some()
-}
-
-/// Whether there is such a resource.
-fn is_there(buffers: &Buffers, resource: Resource) -> bool
-    ensures { result ≡ is_there buffers.now resource }
-{
-    match resource {
-        Resource::Audio(number) => number < AUDIO_BUS_COUNT,
-        Resource::Control(number) => number < CONTROL_BUS_COUNT,
-        Resource::Buffer(number) => is_allocated(buffers, number),
-    }
-}
 
 /// Whether one of the two writes, or one mixes and the other does more.
 fn meets(role: Role, mark: Mark) -> bool
@@ -45,7 +25,7 @@ fn meets(role: Role, mark: Mark) -> bool
 fn hits(buffers: &Buffers, marks: &Marks, used: &Use) -> bool
     ensures { result ≡ hits (is_there buffers.now) marks.now used.now }
 {
-    meets(used.role, marks.of(used.resource)) && is_there(buffers, used.resource)
+    meets(used.role, marks.of(used.resource)) && used.resource.is_there(buffers)
 }
 
 fn rank(resource: Resource) -> u32

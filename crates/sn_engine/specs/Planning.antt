@@ -99,11 +99,11 @@ pub record HasCopies (channels : ℕ) (stage : Stage) (words : List ℕ) (output
   pub fits : copies + most_span * block_samples ≤ length words
   pub bounded : copies + most_span * block_samples < 4294967296
 
--- and nothing has, behind a boundary
+-- after a boundary nothing is said to have changed since the plan was made
 abbrev pub HoldsBounded : Standing → Bool → Type 0
 HoldsBounded standing hold = standing ≡ Bounded → hold ≡ true
 
--- nor behind its blocks, until they are settled
+-- nor after its blocks, until they are settled
 abbrev pub HoldsRendered : Standing → Bool → Type 0
 HoldsRendered standing hold = standing ≡ Rendered → hold ≡ true
 

@@ -21,7 +21,8 @@ use std::alloc::Global;
 use std::marker::Model;
 use std::thread::Threads;
 
-/// The words of the buses and of the pool, of the copies of a span and of the lanes. The workers of a crew share them while a round runs; between rounds they are a port.
+/// The words of the buses and of the pool, of the copies of a span and of the lanes. The workers of a crew share them
+/// while a round runs; between rounds they are a port.
 #[derive(Drop)]
 pub struct Memory {
     shared: Shared,

@@ -63,17 +63,6 @@ fn place_of(buffers: &Buffers, resource: Resource) -> Option<Extent>
     }
 }
 
-fn is_role(role: Role, used: Role) -> bool
-    ensures { result ≡ is_role role used }
-{
-    match (role, used) {
-        (Role::Read, Role::Read) => true,
-        (Role::Write, Role::Write) => true,
-        (Role::Mix, Role::Mix) => true,
-        _ => false,
-    }
-}
-
 /// Puts the place of a resource at the end, where it is used in this way and there.
 fn put_place(
     places: &mut Vec<Extent>,
@@ -86,7 +75,7 @@ fn put_place(
     let Some(place) = place_of(buffers, used.resource) else {
         return Ok(());
     };
-    if is_role(role, used.role) {
+    if role.is(used.role) {
         places.push(place)?;
     }
     Ok(())

@@ -1,4 +1,7 @@
 //! Uses of resources.
+ghost use Rattle.std.specs.Prelude.{◌≡◌};
+ghost use Rattle.sn_foot.specs.Uses.{is_role};
+
 use crate::resource::Resource;
 
 /// How a resource is used.
@@ -10,6 +13,20 @@ pub enum Role {
     Write,
     /// It is an audio bus to which a signal is added, and nothing else is done with it.
     Mix,
+}
+
+impl Role {
+    /// Whether it is this one.
+    pub fn is(self, used: Role) -> bool
+        ensures { result ≡ is_role self used }
+    {
+        match (self, used) {
+            (Role::Read, Role::Read) => true,
+            (Role::Write, Role::Write) => true,
+            (Role::Mix, Role::Mix) => true,
+            _ => false,
+        }
+    }
 }
 
 /// A resource, and how it is used.

@@ -5,7 +5,7 @@ ghost use Rattle.sn_def.specs.declared.table.Bank.TheVariants.{Control};
 ghost use Rattle.sn_def.specs.Units.{row_of};
 ghost use Rattle.sn_foot.specs.Mixers.{mixes_audio};
 ghost use Rattle.sn_foot.specs.Judging.{is_alone, judged};
-ghost use Rattle.sn_foot.specs.Putting.{number_at, put_controls, put_held, put_nodes, put_number, put_span, put_units, put_used, resource, role_in};
+ghost use Rattle.sn_foot.specs.Putting.{number_at, put_controls, put_held, put_nodes, put_number, put_span, put_units, put_used, role_in};
 ghost use Rattle.sn_foot.specs.Uses.{PutsUses};
 
 use crate::judging::push_judged;
@@ -18,16 +18,6 @@ use sn_ports::NoMemory;
 use sn_ports::limits::CONTROL_BUS_COUNT;
 use sn_world::Held;
 use std::alloc::Global;
-
-fn resource(bank: Bank, number: u32) -> Resource
-    ensures { result ≡ resource bank number }
-{
-    match bank {
-        Bank::Audio => Resource::Audio(number),
-        Bank::Control => Resource::Control(number),
-        Bank::Buffer => Resource::Buffer(number),
-    }
-}
 
 /// How a unit uses what its row says, which adds to what audio buses hold or does not.
 fn role_in(adds: bool, access: Access, bank: Bank) -> Role
@@ -71,7 +61,7 @@ fn push_number(
     };
     uses.push(Use {
         role,
-        resource: resource(bank, number),
+        resource: Resource::of(bank, number),
     })?;
     Ok(())
 }

@@ -11,7 +11,6 @@ mod nodes;
 mod parts;
 mod stages;
 
-pub use jobs::plan_of_nodes;
 pub use lanes::Lanes;
 pub use laws::{
     clashes_name_the_groups, feet_clash_as_footprints, lanes_are_joined, nodes_clash_as_footprints,

@@ -66,7 +66,7 @@ fn nodes_with(
 }
 
 /// The plan of a stage, of which these parallel groups have members that clash.
-fn plan_without(
+fn plan_of_stage(
     alloc: Global,
     stage: &Stage,
     clashing: &NamedGroups<'_>,
@@ -105,5 +105,5 @@ pub fn plan(alloc: Global, stage: &Stage, clashes: &[Clash], lanes: Lanes) -> Re
 {
     stage.tree.root_holds_all();
     let clashing = NamedGroups::new(alloc, clashes)?;
-    plan_without(alloc, stage, &clashing, lanes)
+    plan_of_stage(alloc, stage, &clashing, lanes)
 }

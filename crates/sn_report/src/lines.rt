@@ -11,8 +11,9 @@ ghost use Rattle.sn_report.specs.Reports.{chain_line, foot_line, head_line, held
 ghost use Rattle.sn_report.specs.Visits.{label_in, sight_in};
 
 use crate::costs::units_of;
-use crate::resources::{used_by, used_resources};
+use crate::resources::used_resources;
 use crate::words::{put_chain, put_int, put_natural, put_resources};
+use sn_clash::used_by;
 use sn_foot::{Role, Use};
 use sn_mem::Buffers;
 use sn_ports::{NoMemory, Text};

@@ -1,61 +1,19 @@
 //! The resources that a node uses, in their order.
-ghost use Rattle.std.specs.Prelude.{◌≡◌, ◌++◌, ◌∷◌, ◌&&◌, [], List, Option, IfOk, OnOk};
+ghost use Rattle.std.specs.Prelude.{◌≡◌, ◌++◌, ◌∷◌, ◌&&◌, [], IfOk, OnOk};
 ghost use Rattle.std.specs.List.{filter};
 ghost use Rattle.sn_mem.specs.Blocks.{table};
-ghost use Rattle.sn_mem.specs.declared.buffers.BufferPlace as buffer;
-ghost use Rattle.sn_foot.specs.declared.resource.Resource.TheVariants.{Buffer};
 ghost use Rattle.sn_foot.specs.Footprints.{is_there};
 ghost use Rattle.sn_foot.specs.Putting.{resource};
 ghost use Rattle.sn_foot.specs.Uses.{footprint_in, is_role, is_same, uses_in};
 ghost use Rattle.sn_clash.specs.Clashing.{resources};
-ghost use Rattle.sn_clash.specs.Passing.{used_by};
 ghost use Rattle.sn_report.specs.Visits.{used_so};
 
 use sn_def::Bank;
-use sn_foot::{Resource, Role, Use, push_held};
+use sn_foot::{Resource, Role, Use};
 use sn_mem::Buffers;
 use sn_ports::NoMemory;
 use sn_ports::limits::{AUDIO_BUS_COUNT, BUFFER_COUNT, CONTROL_BUS_COUNT};
-use sn_world::Held;
 use std::alloc::Global;
-
-/// What a node uses by itself.
-pub fn used_by(alloc: Global, held: &Held) -> Result<Vec<Use>, NoMemory>
-    ensures { IfOk result (λ u. (buffers : List (Option buffer.BufferPlace)) → footprint_in (is_there buffers) u.items ≡ used_by (is_there buffers) held.now) }
-{
-    let mut uses = Vec::new(alloc);
-    push_held(alloc, &mut uses, held)?;
-    Ok(uses)
-}
-
-/// Whether there is a buffer of a number.
-fn is_allocated(buffers: &Buffers, number: u32) -> bool
-    ensures { result ≡ is_there buffers.now (Buffer number) }
-{
-    number < BUFFER_COUNT && buffers.place(number).is_some()
-}
-
-/// Whether there is such a resource.
-fn is_there(buffers: &Buffers, resource: Resource) -> bool
-    ensures { result ≡ is_there buffers.now resource }
-{
-    match resource {
-        Resource::Audio(number) => number < AUDIO_BUS_COUNT,
-        Resource::Control(number) => number < CONTROL_BUS_COUNT,
-        Resource::Buffer(number) => is_allocated(buffers, number),
-    }
-}
-
-fn is_role(role: Role, used: Role) -> bool
-    ensures { result ≡ is_role role used }
-{
-    match (role, used) {
-        (Role::Read, Role::Read) => true,
-        (Role::Write, Role::Write) => true,
-        (Role::Mix, Role::Mix) => true,
-        _ => false,
-    }
-}
 
 fn is_same(a: Resource, b: Resource) -> bool
     ensures { result ≡ is_same a b }
@@ -72,7 +30,7 @@ fn is_same(a: Resource, b: Resource) -> bool
 fn is_use(used: &Use, role: Role, resource: Resource) -> bool
     ensures { result ≡ (is_role role used.now.role && is_same used.now.resource resource) }
 {
-    is_role(role, used.role) && is_same(used.resource, resource)
+    role.is(used.role) && is_same(used.resource, resource)
 }
 
 /// Whether some of them use a resource in this way.
@@ -82,22 +40,12 @@ fn uses_in(uses: &[Use], role: Role, resource: Resource) -> bool
     uses.iter().any(|used| is_use(used, role, resource))
 }
 
-fn resource(bank: Bank, number: u32) -> Resource
-    ensures { result ≡ resource bank number }
-{
-    match bank {
-        Bank::Audio => Resource::Audio(number),
-        Bank::Control => Resource::Control(number),
-        Bank::Buffer => Resource::Buffer(number),
-    }
-}
-
 /// Whether a resource is there, and is used in this way.
 #[tactic(auto, using(crate::proofs::Used::used_is))]
 fn is_used(buffers: &Buffers, uses: &[Use], role: Role, resource: Resource) -> bool
     ensures { result ≡ used_so role (footprint_in (is_there buffers.now) uses.now) resource }
 {
-    is_there(buffers, resource) && uses_in(uses, role, resource)
+    resource.is_there(buffers) && uses_in(uses, role, resource)
 }
 
 /// Puts a resource at the end, if it is used so.
@@ -128,7 +76,7 @@ fn push_bank(
     ensures { OnOk result (used.new.items ≡ used.old.items ++ filter (used_so role (footprint_in (is_there buffers.now) uses.now)) (table (λ n. resource bank n) count)) }
 {
     for number in 0..count {
-        push_used(used, buffers, uses, role, resource(bank, number))?;
+        push_used(used, buffers, uses, role, Resource::of(bank, number))?;
     }
     Ok(())
 }

@@ -81,7 +81,7 @@ impl Eventful {
     }
 
     /// The synths in order.
-    pub fn as_slice(&self) -> &[EventfulSynth]
+    pub(crate) fn as_slice(&self) -> &[EventfulSynth]
         ensures { result.now ≡ self.now.synths.items }
     {
         &self.synths

@@ -11,7 +11,7 @@ use Rattle.sn_round.specs.Jobs.{AreWithin, foot_at}
 use Rattle.sn_round.specs.Scripts.{list_at, sequential}
 use Rattle.sn_round.proofs.Scripting.{sequential_first, sequential_step}
 use Rattle.sn_span.specs.Unrolling.{AreApart, start, copy_at, capture_foot, unrolled}
-use Rattle.sn_span.specs.Rounds.{rounds, DoesAsRounds, IsOutside}
+use Rattle.sn_span.specs.Rounds.{rounds, IsOutside}
 use Rattle.sn_span.proofs.Places.{start_next, start_less, length-unrolled, at_job, at_capture, place_of}
 
 -- ---- one job after another
@@ -57,6 +57,10 @@ pub record RestsOnFeet (all : List Job) (g : ℕ → List ℕ → List ℕ) : Ty
   pub keeps : (j x : ℕ) (ws : List ℕ) → j < length all → writes (foot_at all j) x ≡ false → get_or (g j ws) x 0 ≡ get_or ws x 0
   pub by_foot : (j : ℕ) (us ws : List ℕ) → j < length all → length us ≡ length ws → ((x : ℕ) → touches (foot_at all j) x ≡ true → get_or us x 0 ≡ get_or ws x 0)
       → (x : ℕ) → writes (foot_at all j) x ≡ true → get_or (g j us) x 0 ≡ get_or (g j ws) x 0
+
+-- job i of block k makes f k i of the words
+abbrev pub DoesAsRounds : (ℕ → ℕ → List ℕ → List ℕ) → ℕ → ℕ → (ℕ → List ℕ → List ℕ) → Type 0
+DoesAsRounds f n blocks g = (k i : ℕ) (words : List ℕ) → k < blocks → i < n → g (start n k + i) words ≡ f k i words
 
 -- words that are the same outside the copies of the first k blocks
 record Alike (at k : ℕ) (us ws : List ℕ) : Type 0 where

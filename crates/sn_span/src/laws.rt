@@ -5,10 +5,7 @@ ghost use Rattle.sn_mem.specs.declared.extents.Extent.{Extent};
 ghost use Rattle.sn_mem.specs.Words.{has};
 ghost use Rattle.sn_round.specs.declared.jobs.Job.{Job};
 ghost use Rattle.sn_round.specs.Jobs.{AreJobs, AreWithin, IsRaceFree, Ordered, job_at, successors};
-ghost use Rattle.sn_span.specs.Rounds.{AreOfRounds, IsSpan, last_of};
 ghost use Rattle.sn_span.specs.Unrolling.{by_block, capture_of, entries, job_in, last_jobs, start, unrolled};
-
-use sn_round::Work;
 
 /// A law: a plan in so many blocks has the jobs and a capture for each block, it is a list of jobs, and it is free of
 /// races if the plan is.
@@ -58,13 +55,3 @@ pub fn successors_go_by_blocks()
 pub fn unrolled_lies_in_memory()
     ensures { (jobs : List Job) (outputs : List Extent) (at blocks size : ℕ) → AreWithin size jobs → ((x : ℕ) → has outputs x ≡ true → x < size) → at + block_samples * blocks ≤ size → AreWithin size (unrolled jobs outputs at blocks) }
 {}
-
-/// A law: the last words of a span are those of its rounds one after the other, and each copy is what the capture makes of
-/// the words after its round.
-pub fn spans_end_as_their_rounds<W: Work>(work: &W)
-    ensures { (jobs : List Job) (outputs : List Extent) (copies : Extent) (blocks : ℕ) (f : ℕ → ℕ → List ℕ → List ℕ) (base : List ℕ)
-        → IsSpan jobs outputs copies blocks f (W.jobs work.now) (W.foot_of work.now) (W.outcome work.now)
-        → AreOfRounds (length jobs) copies.at blocks f (W.outcome work.now) base (last_of (W.outcome work.now) (start (length jobs) blocks) base) }
-{
-    let _ = work;
-}

@@ -18,6 +18,6 @@ loop-number-preserved c =
     let test = used_so c.args.role (footprint_in (is_there c.args.buffers.now) c.args.uses.now) in
     let n = c.loop-number.number in
     c.in_ok-push_used.ensures
-    ∙ ap (λ (r : Resource). c.loop-number.used.items ++ filter test (r ∷ [])) c.resource.ensures
+    ∙ ap (λ (r : Resource). c.loop-number.used.items ++ filter test (r ∷ [])) c.of.ensures
     ∙ ap (λ (rs : List Resource). rs ++ filter test (resource c.args.bank n ∷ [])) c.loop-number.invariant
     ∙ filter_next test (λ m. resource c.args.bank m) n c.args.used.now.items

@@ -16,7 +16,7 @@ use Rattle.sn_graph.proofs.Ending.{nodes_joints, nodes_within}
 use Rattle.sn_graph.proofs.Planning.{length-jobs}
 use Rattle.sn_graph.proofs.Splitting.{alike, nodes_clear}
 use Rattle.sn_graph.proofs.Staging.{within_below}
-use Rattle.sn_graph.proofs.stages.plan_without.Goals as goal
+use Rattle.sn_graph.proofs.stages.plan_of_stage.Goals as goal
 
 pub plan_of_nodes-requires-clause-few : goal.plan_of_nodes-requires-clause-few
 plan_of_nodes-requires-clause-few c =

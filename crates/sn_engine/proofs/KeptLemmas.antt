@@ -23,7 +23,8 @@ use Rattle.sn_engine.specs.declared.acting.Asked.{Asked}
 use Rattle.sn_engine.specs.Boundary.{Acted, acted, act_message, act_messages, asked_by, both, messages_ask}
 use Rattle.sn_engine.specs.Clashing.{told_clashes}
 use Rattle.sn_engine.specs.Holding.{AreClashesOf, LayoutStays}
-use Rattle.sn_engine.specs.Planning.{IsPlanOf, IsPlannedFor, first_lane, laned_nodes}
+use Rattle.sn_engine.proofs.WeighingLemmas.{lanes_alike, lanes_anyhow}
+use Rattle.sn_engine.specs.Planning.{IsPlanOf, IsPlannedFor, first_lane, laned_nodes, lanes_for}
 use Rattle.sn_engine.proofs.ActingLemmas.{both-assoc}
 use Rattle.sn_engine.proofs.EventfulLemmas.{eventful_stays}
 use Rattle.sn_engine.proofs.CompletionLemmas.{none_carried}
@@ -74,11 +75,12 @@ module _ (old new : Stage) (us vs : List ℕ) (same : layout_of (world_of new vs
   pub clashes_stay : (cs : List Clash) → AreClashesOf old cs → AreClashesOf new cs
   clashes_stay cs h = λ words. h us ∙ clashes_alike (world_of old us) (world_of new vs) (sym same) ∙ clashes_anyhow new vs words
 
-  plan_stays : (jobs : List Job) → new.pool.region ≡ old.pool.region → IsPlanOf old jobs → IsPlanOf new jobs
+  abbrev plan_stays : (jobs : List Job) → new.pool.region ≡ old.pool.region → IsPlanOf old jobs → IsPlanOf new jobs
   plan_stays jobs region h =
       let at : first_lane old ≡ first_lane new = ap (λ (e : Extent). (10368 + e.len) + 16384) (sym region) in
-      let nodes : laned_nodes old ≡ laned_nodes new = λ i. with_lanes (at i) 4096 (nodes_alike old new us vs (sym same) i) in
+      let nodes : laned_nodes h.laned old ≡ laned_nodes h.laned new = λ i. with_lanes (at i) (lanes_for h.laned) (nodes_alike old new us vs (sym same) i) in
       record {
+        laned = h.laned;
         jobs_are = h.jobs_are ∙ ap plan_of nodes;
         planned = subst (λ (n : HeardNodes). IsPlanned n jobs) nodes h.planned;
         order = h.order;
@@ -86,9 +88,10 @@ module _ (old new : Stage) (us vs : List ℕ) (same : layout_of (world_of new vs
         few = h.few;
       }
 
-  pub planned_stays : (jobs : List Job) (quiet : Bool) (eventful : Eventful) → new.pool.region ≡ old.pool.region → IsPlannedFor old jobs quiet eventful → IsPlannedFor new jobs quiet eventful
-  planned_stays jobs quiet eventful region h = record {
+  pub planned_stays : (workers : ℕ) (jobs : List Job) (quiet : Bool) (eventful : Eventful) → new.pool.region ≡ old.pool.region → IsPlannedFor workers old jobs quiet eventful → IsPlannedFor workers new jobs quiet eventful
+  planned_stays workers jobs quiet eventful region h = record {
     plan = plan_stays jobs region h.plan;
+    lanes_are = λ words. h.lanes_are us ∙ lanes_alike workers (world_of old us) (world_of new vs) (sym same) ∙ lanes_anyhow workers new vs words;
     quiet_is = λ words. h.quiet_is us ∙ quiet_alike (world_of old us) (world_of new vs) (sym same) ∙ quiet_anyhow new vs words;
     eventful_is = eventful_stays old new us vs same eventful h.eventful_is;
   }

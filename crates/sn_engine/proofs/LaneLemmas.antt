@@ -1,5 +1,5 @@
 -- Lanes between rounds, and in them.
-use Rattle.std.proofs.Common.{◌≡◌, ◌≤◌, ◌<◌, ℕ, ◌+◌, ◌-◌, ◌*◌, ◌^◌, List, length, replicate, drop, get_or, sym, ap, subst, ◌∙◌, arith}
+use Rattle.std.proofs.Common.{◌≡◌, ◌≤◌, ◌<◌, ℕ, ◌+◌, ◌-◌, ◌*◌, ◌^◌, Bool, true, false, List, length, replicate, drop, get_or, sym, ap, subst, ◌∙◌, arith}
 use Rattle.std.specs.Prelude.{slice_index}
 use Rattle.std.proofs.lemmas.List.{get_or-drop, get_or-replicate}
 use Rattle.sn_mem.specs.declared.extents.Extent.{Extent}
@@ -12,7 +12,12 @@ use Rattle.sn_world.specs.Pictures.{KeepsOutside, Pictures, WritesWorld}
 use Rattle.sn_play.specs.declared.block.Block.{Block}
 use Rattle.sn_play.specs.declared.span.Span.{Span}
 use Rattle.sn_play.specs.Blocks.{AreResting, IsReady}
-use Rattle.sn_engine.specs.Planning.{HasLanes, IsPlanOf, IsRowReady, LanesRest, first_lane}
+use Rattle.sn_engine.specs.Planning.{HasLanes, IsPlanOf, IsRowReady, LanesRest, first_lane, lanes_for}
+
+-- there are that many lanes
+pub lanes_few : (laned : Bool) → lanes_for laned ≤ 4096
+lanes_few true = omega arith
+lanes_few false = omega arith
 
 -- a block of the plan of a stage that stands for a world is ready
 abbrev pub block_ready : (w : Block) (words : List ℕ) → Pictures w.stage.now words → HasLanes w.stage.now words → IsPlanOf w.stage.now w.plan.now → w.block < 2 ^ 63 → IsReady w
@@ -20,10 +25,10 @@ block_ready w words pictures lanes planned early = record {
   words = words;
   pictures = pictures;
   first = first_lane w.stage.now;
-  most = 4096;
+  most = lanes_for planned.laned;
   lies = omega arith;
-  room = omega (arith, lanes.fits);
-  few = omega arith;
+  room = omega (arith, lanes.fits, lanes_few planned.laned);
+  few = lanes_few planned.laned;
   bounded = omega (arith, lanes.bounded);
   planned = planned.planned;
   early = early;
@@ -52,12 +57,16 @@ rest_on old new b ws us base same kept rest = λ k lt.
     let as_was : slice_index us (first_lane old + 65 * k) ≡ slice_index ws (first_lane old + 65 * k) = kept (first_lane old + 65 * k) (omega arith) (omega (arith, base)) in
     subst (λ m. m ≤ b) (sym (ap (slice_index us) at ∙ as_was)) (rest k lt)
 
--- those of a span are those that there are
-pub rest_of_row : (w : Span) {b : ℕ} (words : List ℕ) (row : IsRowReady w) → LanesRest w.first.stage.now b words → AreResting row.ready.first row.ready.most b words
-rest_of_row w {b} words row rest = subst (λ n. AreResting n row.ready.most b words) (sym row.first) (subst (λ n. AreResting (first_lane w.first.stage.now) n b words) (sym row.most) rest)
+-- some of them rest if all do
+pub rest_of_some : (first most b : ℕ) (words : List ℕ) → most ≤ 4096 → AreResting first 4096 b words → AreResting first most b words
+rest_of_some first most b words few rest = λ k lt. rest k (omega (arith, lt, few))
 
-pub rest_of_lanes : (w : Span) (b : ℕ) (words : List ℕ) (row : IsRowReady w) → AreResting row.ready.first row.ready.most b words → LanesRest w.first.stage.now b words
-rest_of_lanes w b words row rest = λ k lt. subst (λ n. slice_index words (n + 65 * k) ≤ b) row.first (rest k (subst (λ n. k < n) (sym row.most) lt))
+-- those of a span begin where all do
+pub rest_of_row : (w : Span) {b : ℕ} (words : List ℕ) (row : IsRowReady w) → LanesRest w.first.stage.now b words → AreResting row.ready.first 4096 b words
+rest_of_row w {b} words row rest = subst (λ n. AreResting n 4096 b words) (sym row.first) rest
+
+pub rest_of_lanes : (w : Span) (b : ℕ) (words : List ℕ) (row : IsRowReady w) → AreResting row.ready.first 4096 b words → LanesRest w.first.stage.now b words
+rest_of_lanes w b words row rest = subst (λ n. AreResting n 4096 b words) row.first rest
 
 -- ---- words below the end of the pool
 

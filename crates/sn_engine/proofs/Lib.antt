@@ -19,9 +19,11 @@ pub mod Memories
 pub mod PlanLemmas
 pub mod EventfulLemmas
 pub mod LaneLemmas
+pub mod WeighingLemmas
 pub mod KeptLemmas
 pub mod SpanLaws
 pub mod CopyLemmas
 pub mod RenderLemmas
 pub mod SpanCounts
+pub mod RoundLemmas
 pub mod RowLemmas

@@ -15,11 +15,12 @@ use Rattle.sn_graph.specs.Plans.{IsPlanned}
 use Rattle.sn_play.specs.declared.span.Span.{Span}
 use Rattle.sn_play.specs.Spans.{ArePlayed}
 use Rattle.sn_engine.specs.Outputs.{sounds}
-use Rattle.sn_engine.specs.Planning.{HasCopies, HasLanes, IsPlanOf, IsRowReady, IsSpanOf, first_lane, laned_nodes}
+use Rattle.sn_engine.specs.Planning.{HasCopies, HasLanes, IsPlanOf, IsRowReady, IsSpanOf, first_lane, laned_nodes, lanes_for}
 use Rattle.sn_engine.specs.Playing.{Past, Playing}
 use Rattle.sn_engine.specs.Running.{Running, with_block}
 use Rattle.sn_engine.specs.Spans.{AreRounds, HasRounds, IsQuiet, IsSpan, with_blocks}
 use Rattle.sn_engine.specs.declared.standing.Standing.TheVariants.{Rendered}
+use Rattle.sn_engine.proofs.LaneLemmas.{lanes_few}
 use Rattle.sn_engine.proofs.SpanLaws.{blocks_are, rendered}
 
 -- a span of the plan of a stage that stands for a world is ready, with the lanes behind the copies
@@ -34,18 +35,17 @@ span_ready w channels stage jobs words same plan pictures planned copies lanes a
         words = words;
         pictures = subst (λ (s : Stage). Pictures s words) (sym same) pictures;
         first = first_lane w.first.stage.now;
-        most = 4096;
-        room = omega (arith, lanes.fits, len);
-        most_few = omega arith;
+        most = lanes_for planned.laned;
+        room = omega (arith, lanes.fits, len, lanes_few planned.laned);
+        most_few = lanes_few planned.laned;
         bounded = omega (arith, lanes.bounded, len);
-        planned = subst (λ (s : Stage). IsPlanned (laned_nodes s) w.first.plan.now) (sym same) (subst (λ (js : List Job). IsPlanned (laned_nodes stage) js) (sym plan) planned.planned);
+        planned = subst (λ (s : Stage). IsPlanned (laned_nodes planned.laned s) w.first.plan.now) (sym same) (subst (λ (js : List Job). IsPlanned (laned_nodes planned.laned stage) js) (sym plan) planned.planned);
         early = early;
         all_are = all ∙ ap (λ (js : List Job). unrolled js w.outputs.now w.copies w.blocks) (sym plan);
         behind = omega (arith, copies.at, len);
         before = omega (arith, copies.at, few, len);
       };
       first = refl;
-      most = refl;
     }
 
 pub played_from : (stage other : Stage) (b first n copies channels : ℕ) (words us : List ℕ) → other ≡ stage → b ≡ first → ArePlayed other b n copies channels words us → ArePlayed stage first n copies channels words us
@@ -64,19 +64,11 @@ still_copied channels old new ws us outputs copies same long h = record {
 
 -- ---- rounds
 
-pub each_round : (n : ℕ) (jobs : List Job) (crew workers : ℕ) (old new : List Rested) → workers ≡ crew → new ≡ old ++ replicate n (record { jobs = jobs; crew = workers }) → AreRounds n jobs crew old new
-each_round n jobs crew workers old new same put = inl (put ∙ ap (λ k. old ++ replicate n (record { jobs = jobs; crew = k })) same)
-
-pub one_round : (n : ℕ) (jobs all : List Job) (crew workers : ℕ) (outputs : List Extent) (at blocks : ℕ) (old new : List Rested) → 2 ≤ n → blocks ≡ n → all ≡ unrolled jobs outputs at blocks → workers ≡ crew
-    → new ≡ old ++ record { jobs = all; crew = workers } ∷ [] → AreRounds n jobs crew old new
-one_round n jobs all crew workers outputs at blocks old new some same is as_many put =
-    let jobs_are : all ≡ unrolled jobs outputs at n = is ∙ ap (unrolled jobs outputs at) same in
-    inr (some, (outputs, at, put ∙ (λ i. old ++ record { jobs = jobs_are i; crew = as_many i } ∷ [])))
-
 -- the jobs and the number of workers are what they were
-pub rounds_rested : (p first : Past) (n : ℕ) (rounds : List Rested) (stores crew : ℕ) → p ≡ first → AreRounds n p.jobs p.crew p.rounds rounds → stores ≡ p.stores → crew ≡ p.crew → HasRounds n first (record { jobs = p.jobs; rounds = rounds; stores = stores; crew = crew })
-rounds_rested p first n rounds stores crew is are same_stores same_crew = (
-  subst (λ (q : Past). AreRounds n q.jobs q.crew q.rounds rounds) is are,
+pub rounds_rested : (p first : Past) (outputs : List Extent) (at n : ℕ) (rounds : List Rested) (stores crew : ℕ) → p ≡ first → AreRounds outputs at n p.jobs p.crew p.rounds rounds → stores ≡ p.stores → crew ≡ p.crew
+    → HasRounds n first (record { jobs = p.jobs; rounds = rounds; stores = stores; crew = crew })
+rounds_rested p first outputs at n rounds stores crew is are same_stores same_crew = (
+  (outputs, at, subst (λ (q : Past). AreRounds outputs at n q.jobs q.crew q.rounds rounds) is are),
   (λ i. record { jobs = p.jobs; rounds = rounds; stores = same_stores i; crew = same_crew i }) ∙ ap (λ (q : Past). record q { rounds = rounds }) is,
 )
 

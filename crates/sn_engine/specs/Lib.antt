@@ -13,6 +13,7 @@ pub mod Clashing
 pub mod Seeking
 pub mod Holding
 pub mod Remembered
+pub mod Weighing
 pub mod Planning
 pub mod Playing
 pub mod Spans

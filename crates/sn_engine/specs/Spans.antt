@@ -1,5 +1,6 @@
 -- Blocks in a row, without boundaries and settlings between them.
-use Rattle.std.specs.Prelude.{◌≡◌, ◌⊎◌, ◌≤◌, ℕ, zero, suc, List, [], ◌∷◌, ◌++◌, replicate}
+use Rattle.std.specs.Prelude.{◌≡◌, ◌==◌, ◌⊎◌, ◌≤◌, ℕ, zero, suc, if◌then◌else◌, List, ◌++◌, map, sum}
+use Rattle.std.specs.List.{All}
 use Rattle.sn_mem.specs.declared.extents.Extent.{Extent}
 use Rattle.sn_round.specs.declared.jobs.Job.{Job}
 use Rattle.sn_machine.specs.declared.views.Rested.{Rested}
@@ -27,18 +28,17 @@ IsSpan jobs r n = IsSpanOf jobs (are_quiet r.world.nodes) r.waiting r.block n
 abbrev pub IsQuiet : Playing → ℕ → Type 0
 IsQuiet p n = (n ≡ 1) ⊎ ((2 ≤ n) × IsSpan p.past.jobs p.running n)
 
--- a round of the jobs of a plan for each of n blocks, with all workers
-abbrev pub AreEach : ℕ → List Job → ℕ → List Rested → List Rested → Type 0
-AreEach n jobs crew old new = new ≡ old ++ replicate n (record { jobs = jobs; crew = crew })
+-- the jobs of a round of so many blocks: those of the plan, or, if the blocks are more than one, those of the plan in so many
+abbrev pub jobs_in : List Job → List Extent → ℕ → ℕ → List Job
+jobs_in jobs outputs at blocks = if blocks == 1 then jobs else unrolled jobs outputs at blocks
 
--- one round of the plan in n blocks, which are two or more
-abbrev pub IsOne : ℕ → List Job → ℕ → List Rested → List Rested → Type 0
-IsOne n jobs crew old new = (2 ≤ n) × ((outputs : List Extent) × (at : ℕ) × (new ≡ old ++ record { jobs = unrolled jobs outputs at n; crew = crew } ∷ []))
+-- The rounds of n blocks were rested, with all workers: each is of one block or more, and together they are of n.
+pub record AreRounds (outputs : List Extent) (at n : ℕ) (jobs : List Job) (crew : ℕ) (old new : List Rested) : Type 0 where
+  pub lengths : List ℕ
+  pub some : All (λ blocks. 1 ≤ blocks) lengths
+  pub sum_is : sum lengths ≡ n
+  pub rounds_are : new ≡ old ++ map (λ blocks. record { jobs = jobs_in jobs outputs at blocks; crew = crew }) lengths
 
--- the rounds of n blocks were rested
-abbrev pub AreRounds : ℕ → List Job → ℕ → List Rested → List Rested → Type 0
-AreRounds n jobs crew old new = AreEach n jobs crew old new ⊎ IsOne n jobs crew old new
-
--- and no word was stored to while none ran
+-- they were, and no word was stored to while none ran
 abbrev pub HasRounds : ℕ → Past → Past → Type 0
-HasRounds n old new = AreRounds n old.jobs old.crew old.rounds new.rounds × (new ≡ record old { rounds = new.rounds })
+HasRounds n old new = ((outputs : List Extent) × (at : ℕ) × AreRounds outputs at n old.jobs old.crew old.rounds new.rounds) × (new ≡ record old { rounds = new.rounds })

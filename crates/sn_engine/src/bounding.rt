@@ -9,7 +9,7 @@ ghost use Rattle.sn_world.specs.Pictures.{KeepsOutside, Pictures, WritesWorld};
 ghost use Rattle.sn_engine.specs.Answerable.{AllAnswerable};
 ghost use Rattle.sn_engine.specs.Boundary.{turn_at, waiting_at, clashes_at, replies_at, quits_at};
 ghost use Rattle.sn_engine.specs.Holding.{StillHold};
-ghost use Rattle.sn_engine.specs.Planning.{IsPlannedFor, IsSpanned, StillPlanned, StillSpanned};
+ghost use Rattle.sn_engine.specs.Planning.{AreSpanned, IsPlannedFor, StillPlanned, StillSpanned};
 
 use crate::acting::act_below;
 use crate::clashing::take_clashes;
@@ -37,12 +37,13 @@ pub fn act_boundary<P: Port>(
     planned: &mut Planned,
     hold: bool,
     copies: u32,
+    workers: u32,
     said: &mut Replies,
 ) -> Result<bool, NoMemory>
     requires silent { said.old ≡ [] }
     requires waiting { AllAnswerable queue.old.waiting }
     requires hold { StillHold hold stage.old held.old }
-    requires planned { StillPlanned hold stage.old planned.old.jobs planned.old.quiet planned.old.eventful }
+    requires planned { StillPlanned hold workers stage.old planned.old.jobs planned.old.quiet planned.old.eventful }
     requires pictures { Pictures stage.old (P.words port.old) }
     requires foot { WritesWorld (P.foot port.old) stage.old.pool.region }
     requires copies { copies ≡ bus_words + stage.old.pool.region.len }
@@ -53,8 +54,8 @@ pub fn act_boundary<P: Port>(
     ensures kept { queue.new ≡ record queue.old { waiting = queue.new.waiting } }
     ensures clashes { OnOk result (held.new ≡ clashes_at now queue.old (world_of stage.old (P.words port.old))) }
     ensures hold { OnOk result (StillHold true stage.new held.new) }
-    ensures planned { OnOk result (IsPlannedFor stage.new planned.new.jobs planned.new.quiet planned.new.eventful) }
-    ensures spanned { OnOk result ((outputs : List Extent) (copies : ℕ) → StillSpanned hold planned.old.jobs outputs copies planned.old.all planned.old.blocks → IsSpanned planned.new.jobs outputs copies planned.new.all planned.new.blocks) }
+    ensures planned { OnOk result (IsPlannedFor workers stage.new planned.new.jobs planned.new.quiet planned.new.eventful) }
+    ensures spanned { OnOk result ((outputs : List Extent) (copies : ℕ) → StillSpanned hold planned.old.jobs outputs copies planned.old.spans.items → AreSpanned planned.new.jobs outputs copies planned.new.spans.items) }
     ensures replies { OnOk result (said.new ≡ replies_at now queue.old held.old (world_of stage.old (P.words port.old))) }
     ensures waiting { AllAnswerable queue.new.waiting }
     ensures pictures { Pictures stage.new (P.words port.new) }
@@ -73,6 +74,6 @@ pub fn act_boundary<P: Port>(
         return Ok(quits);
     }
     take_clashes(alloc, stage, held, said)?;
-    *planned = Planned::of(alloc, stage, held, copies)?;
+    *planned = Planned::of(alloc, stage, held, copies, workers)?;
     Ok(quits)
 }

@@ -113,8 +113,8 @@ impl Model for Engine {
 
     ghost invariant = { λ e. Pictures e.stage e.memory.words × AllAnswerable e.queue.waiting × HasRoom e.standing e.sound.spare (vec_capacity e.samples) (walk_room (running_labels e.stage.tree.attached)) e.endings.spare e.replies.items
         × IsRoom e.standing e.room (walk_room (running_labels e.stage.tree.attached)) × (e.room < 2 ^ 30) × (length e.replies.items ≤ most_clients)
-        × StillHold e.holds e.stage e.clashes × StillPlanned e.holds e.stage e.planned.jobs e.planned.quiet e.planned.eventful × HoldsBounded e.standing e.holds
-        × StillSpanned e.holds e.planned.jobs e.outputs e.copies e.planned.all e.planned.blocks
+        × StillHold e.holds e.stage e.clashes × StillPlanned e.holds e.settings.workers e.stage e.planned.jobs e.planned.quiet e.planned.eventful × HoldsBounded e.standing e.holds
+        × StillSpanned e.holds e.planned.jobs e.outputs e.copies e.planned.spans.items
         × HasCopies e.settings.channels e.stage e.memory.words e.outputs e.copies × HasLanes e.stage e.memory.words × LanesRest e.stage e.block e.memory.words × HoldsRendered e.standing e.holds };
 }
 
@@ -319,7 +319,7 @@ impl Engine {
         ensures spent { OnErr result (self.new.running.standing ≡ Spent) }
         ensures others { KeepsRest self.old.running self.new.running }
         ensures past { KeepsRested self.old.past self.new.past }
-        ensures planned { OnOk result (IsPlanOfWorld self.new.running.world self.new.past.jobs) }
+        ensures planned { OnOk result (IsPlanOfWorld self.new.running.settings.workers self.new.running.world self.new.past.jobs) }
         ensures clients { length self.new.running.replies ≡ length self.old.running.replies }
         ensures behind { EachBegins self.old.running.replies self.new.running.replies }
         ensures front { OnErr result (EachBegins self.new.running.replies (at_boundary self.old.running).replies) }
@@ -330,6 +330,7 @@ impl Engine {
         self.sound.reserve(SPAN_BYTES)?;
         let mut said = Replies::new(alloc);
         let hold = self.holds;
+        let workers = self.settings.workers;
         self.holds = false;
         let quits = act_boundary(
             alloc,
@@ -341,10 +342,10 @@ impl Engine {
             &mut self.planned,
             hold,
             self.copies,
+            workers,
             &mut said,
         )?;
         let blocks = self.planned.span(&self.queue, self.block, self.wanted);
-        let workers = self.settings.workers;
         self.planned
             .unroll(alloc, blocks, workers, &self.outputs, self.copies)?;
         send(&mut self.replies, 0, said)?;
@@ -375,9 +376,9 @@ impl Engine {
         self.planned.span(&self.queue, self.block, want)
     }
 
-    /// The next blocks, as many as may come before the next boundary, and their sound. They are one round of the jobs of the plan in so
-    /// many blocks, if a boundary made these ready, or else a round each; the crew shares the jobs, in as many threads as pay. The world after them is that of as
-    /// many walks over the nodes, whatever their number of workers. Each job passes the gate before it runs. It takes no memory.
+    /// The next blocks, as many as may come before the next boundary, and their sound. Each round is of the jobs of the plan, or of those
+    /// of the plan in several blocks that a boundary made ready; the crew shares the jobs, in as many threads as pay. The world after them
+    /// is that of as many walks over the nodes, whatever their number of workers. Each job passes the gate before it runs. It takes no memory.
     pub fn blocks<H: Threads + Sync, G: Gate>(&mut self, rt: &H, n: u32, gate: &G)
         requires quiet { IsQuiet self.old n }
         requires bounded { self.old.running.standing ≡ Bounded }

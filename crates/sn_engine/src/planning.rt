@@ -1,14 +1,15 @@
 //! The plan of a stage.
-ghost use Rattle.std.specs.Prelude.{◌*◌, ◌≡◌, ◌<◌, ◌≤◌, ◌+◌, ◌^◌, [], ℕ, length, IfOk, OnOk};
+ghost use Rattle.std.specs.Prelude.{◌*◌, ◌≡◌, ◌<◌, ◌≤◌, ◌+◌, ◌^◌, [], ℕ, List, length, IfOk, IfSome, OnOk};
 ghost use Rattle.sn_ports.specs.Limits.{most_jobs, most_count, most_span, block_samples};
-ghost use Rattle.sn_mem.specs.Layout.{bus_words, lane_words, most_lanes};
+ghost use Rattle.sn_mem.specs.Layout.{bus_words, lane_words};
+ghost use Rattle.sn_mem.specs.declared.extents.Extent.{Extent};
 ghost use Rattle.sn_round.specs.Jobs.{IsRaceFree};
 ghost use Rattle.sn_span.specs.Unrolling.{start};
 ghost use Rattle.sn_engine.specs.Holding.{AreClashesOf};
-ghost use Rattle.sn_engine.specs.Planning.{IsPictured, IsPlannedFor, IsSpanned, IsSpanOf};
+ghost use Rattle.sn_engine.specs.Planning.{AreSpanned, IsPictured, IsPlannedFor, IsSpanned, IsSpanOf, lanes_for};
 
 use crate::spans::{blocks_before_due, most_blocks};
-use crate::weighing::{threads_for, units_beside};
+use crate::weighing::{lanes_pay, threads_for, units_beside};
 use sn_clash::{Clashes, world_has_the_clashes};
 use sn_graph::{Lanes, plan, worlds_are_disjoint};
 use sn_mem::{Extent, Extents, MOST_LANES};
@@ -23,6 +24,15 @@ use sn_span::{COPY_WORDS, unroll};
 use sn_world::Stage;
 use std::alloc::Global;
 
+/// The jobs of a stage in several blocks.
+#[derive(Drop)]
+pub struct SpanPlan {
+    /// The jobs.
+    pub all: Plan,
+    /// In how many blocks.
+    pub blocks: u32,
+}
+
 /// The jobs of a stage.
 #[derive(Drop)]
 pub struct Planned {
@@ -34,10 +44,8 @@ pub struct Planned {
     pub eventful: Eventful,
     /// How many units can run beside the longest chain of jobs.
     pub beside: u32,
-    /// The jobs in several blocks.
-    pub all: Plan,
-    /// In how many. If these are not more than one, there are none.
-    pub blocks: u32,
+    /// The jobs in several blocks, once for each number of blocks that was needed.
+    pub spans: Vec<SpanPlan>,
 }
 
 /// A plan without jobs.
@@ -48,14 +56,29 @@ fn no_plan(alloc: Global) -> Result<Plan, NoMemory>
     Plan::new(alloc, Vec::new(alloc))
 }
 
-/// The lanes, which begin behind the copies of a span.
-fn lanes_behind(copies: u32) -> Lanes
+/// The greatest power of two up to a number.
+fn greatest_power(most: u32) -> u32
+    requires { 2 ≤ most }
+    ensures some { 2 ≤ result }
+    ensures most { result ≤ most }
+    ensures greatest { most < 2 * result }
+{
+    let mut power = 2;
+    while power <= most / 2 {
+        power *= 2;
+    }
+    power
+}
+
+/// The lanes of a plan, all or none, which begin behind the copies of a span.
+fn lanes_behind(copies: u32, laned: bool) -> Lanes
     requires { copies + most_span * block_samples < 2 ^ 32 }
-    ensures { result ≡ record { first = copies + most_span * block_samples; most = most_lanes } }
+    ensures first { result.first ≡ copies + most_span * block_samples }
+    ensures most { result.most ≡ lanes_for laned }
 {
     Lanes {
         first: copies + MOST_SPAN * COPY_WORDS,
-        most: MOST_LANES,
+        most: if laned { MOST_LANES } else { 0 },
     }
 }
 
@@ -64,40 +87,41 @@ impl Planned {
     pub fn nothing(alloc: Global) -> Result<Planned, NoMemory>
         ensures { IfOk result (λ p. p.jobs ≡ []) }
     {
-        let jobs = no_plan(alloc)?;
         Ok(Planned {
-            jobs,
+            jobs: no_plan(alloc)?,
             quiet: false,
             eventful: Eventful::nothing(alloc),
             beside: 0,
-            all: no_plan(alloc)?,
-            blocks: 0,
+            spans: Vec::new(alloc),
         })
     }
 
-    /// The plan of a stage, given its clashes, and where the copies of a span begin, behind which the lanes stand.
+    /// The plan of a stage, given its clashes, for so many workers, and where the copies of a span begin, behind which the lanes stand.
+    /// It has lanes if they pay.
     pub fn of(
         alloc: Global,
         stage: &Stage,
         clashes: &Clashes,
         copies: u32,
+        workers: u32,
     ) -> Result<Planned, NoMemory>
         requires stands { IsPictured stage.now }
         requires clashes { AreClashesOf stage.now clashes.now }
         requires copies { copies ≡ bus_words + stage.now.pool.region.len }
         requires lanes { copies + most_span * block_samples + lane_words < 4294967296 }
-        ensures planned { IfOk result (λ p. IsPlannedFor stage.now p.jobs p.quiet p.eventful) }
-        ensures none { IfOk result (λ p. p.blocks ≡ 0) }
+        ensures planned { IfOk result (λ p. IsPlannedFor workers stage.now p.jobs p.quiet p.eventful) }
+        ensures none { IfOk result (λ p. p.spans.items ≡ []) }
     {
         // Hints for the proof alone: what a stage that stands for a world meets, and how few nodes a tree has.
         worlds_are_disjoint(stage);
         worlds_lie_below(stage);
         world_has_the_clashes(stage);
         let _count = stage.tree.len();
-        let jobs = plan(alloc, stage, clashes.as_slice(), lanes_behind(copies))?;
+        let laned = lanes_pay(stage, workers);
+        let lanes = lanes_behind(copies, laned);
+        let jobs = plan(alloc, stage, clashes.as_slice(), lanes)?;
         jobs.is_well_formed();
         let beside = units_beside(alloc, stage, &jobs)?;
-        let all = no_plan(alloc)?;
         let quiet = is_quiet(stage);
         let eventful = Eventful::of(alloc, stage)?;
         Ok(Planned {
@@ -105,8 +129,7 @@ impl Planned {
             quiet,
             eventful,
             beside,
-            all,
-            blocks: 0,
+            spans: Vec::new(alloc),
         })
     }
 
@@ -133,7 +156,73 @@ impl Planned {
         threads_for(self.beside, blocks)
     }
 
-    /// Makes the plan of so many blocks, unless it is there, if they are more than one and several workers share it.
+    /// The jobs in so many blocks, if they were made.
+    fn in_blocks(&self, blocks: u32) -> Option<&SpanPlan>
+        ensures blocks { IfSome result (λ span. span.now.blocks ≡ blocks) }
+        ensures spanned { (outputs : List Extent) (copies : ℕ) → AreSpanned self.now.jobs outputs copies self.now.spans.items → IfSome result (λ span. IsSpanned self.now.jobs outputs copies span.now) }
+    {
+        for span in &self.spans {
+            if span.blocks == blocks {
+                return Some(span);
+            }
+        }
+        None
+    }
+
+    /// The most blocks, up to a number, for which the jobs were made. If there are none, 0.
+    fn longest(&self, most: u32) -> u32
+        ensures { result ≤ most }
+    {
+        let mut longest = 0;
+        for span in &self.spans {
+            if longest < span.blocks && span.blocks <= most {
+                longest = span.blocks;
+            }
+        }
+        longest
+    }
+
+    /// The jobs in the most blocks, up to a number, for which they were made.
+    pub fn longest_span(&self, most: u32) -> Option<&SpanPlan>
+        ensures most { IfSome result (λ span. span.now.blocks ≤ most) }
+        ensures spanned { (outputs : List Extent) (copies : ℕ) → AreSpanned self.now.jobs outputs copies self.now.spans.items → IfSome result (λ span. IsSpanned self.now.jobs outputs copies span.now) }
+    {
+        self.in_blocks(self.longest(most))
+    }
+
+    /// Makes the jobs in so many blocks, unless they were made or one thread would run them.
+    fn unroll_once(
+        &mut self,
+        alloc: Global,
+        blocks: u32,
+        outputs: &Extents,
+        copies: u32,
+    ) -> Result<(), NoMemory>
+        requires free { IsRaceFree self.old.jobs }
+        requires some { 2 ≤ blocks }
+        requires few { blocks ≤ most_span }
+        requires room { start (length self.old.jobs) blocks ≤ most_jobs }
+        requires copies { copies + most_span * block_samples < 4294967296 }
+        requires spanned { AreSpanned self.old.jobs outputs.now copies self.old.spans.items }
+        ensures jobs { self.new.jobs ≡ self.old.jobs }
+        ensures quiet { self.new.quiet ≡ self.old.quiet }
+        ensures eventful { self.new.eventful ≡ self.old.eventful }
+        ensures spanned { OnOk result (AreSpanned self.new.jobs outputs.now copies self.new.spans.items) }
+    {
+        if self.threads(blocks) < 2 || self.in_blocks(blocks).is_some() {
+            return Ok(());
+        }
+        let extent = Extent {
+            at: copies,
+            len: COPY_WORDS * blocks,
+        };
+        let all = unroll(alloc, &self.jobs, blocks, outputs, extent)?;
+        self.spans.push(SpanPlan { all, blocks })?;
+        Ok(())
+    }
+
+    /// Makes the jobs ready by which so many blocks are rendered, if several workers share them: in 2, 4, 8, 16 or 32 blocks, where the
+    /// number is the sum of these powers of two, and of 1 if it is odd. So there are five plans at most, whatever numbers come.
     pub fn unroll(
         &mut self,
         alloc: Global,
@@ -146,25 +235,21 @@ impl Planned {
         requires few { 2 ≤ blocks → blocks ≤ most_span }
         requires room { 2 ≤ blocks → start (length self.old.jobs) blocks ≤ most_jobs }
         requires copies { copies + most_span * block_samples < 4294967296 }
-        requires spanned { IsSpanned self.old.jobs outputs.now copies self.old.all self.old.blocks }
+        requires spanned { AreSpanned self.old.jobs outputs.now copies self.old.spans.items }
         ensures jobs { self.new.jobs ≡ self.old.jobs }
         ensures quiet { self.new.quiet ≡ self.old.quiet }
         ensures eventful { self.new.eventful ≡ self.old.eventful }
-        ensures spanned { OnOk result (IsSpanned self.new.jobs outputs.now copies self.new.all self.new.blocks) }
+        ensures spanned { OnOk result (AreSpanned self.new.jobs outputs.now copies self.new.spans.items) }
     {
-        if blocks < 2 || self.blocks == blocks {
+        if workers < 2 {
             return Ok(());
         }
-        if workers < 2 || self.threads(blocks) < 2 {
-            return Ok(());
+        let mut left = blocks;
+        while left >= 2 {
+            let power = greatest_power(left);
+            self.unroll_once(alloc, power, outputs, copies)?;
+            left -= power;
         }
-        self.blocks = 0;
-        let extent = Extent {
-            at: copies,
-            len: COPY_WORDS * blocks,
-        };
-        self.all = unroll(alloc, &self.jobs, blocks, outputs, extent)?;
-        self.blocks = blocks;
         Ok(())
     }
 }

@@ -1,4 +1,8 @@
-//! How much of a block can be done at the same time, and in how many threads that pays. No contract rests on it.
+//! How much of a block can be done at the same time, and whether lanes and threads pay. No contract rests on the threads.
+ghost use Rattle.std.specs.Prelude.{◌≡◌, ◌-◌, ℕ, List};
+ghost use Rattle.sn_tree.specs.Trees.{running_labels};
+ghost use Rattle.sn_world.specs.World.{world_of};
+ghost use Rattle.sn_engine.specs.Weighing.{has_lanes, held_more, labels_more};
 
 use sn_ports::NoMemory;
 use sn_round::Plan;
@@ -14,6 +18,13 @@ const UNITS_FOR_A_JOB: u32 = 2;
 
 /// To add a lane to its bus takes as long as so many units.
 const UNITS_FOR_A_LANE: u32 = 2;
+
+/// A synth on a lane takes as long as so many units more: it is a job of its own, its sound is stored sample by sample, and the lane is
+/// added to its bus.
+const UNITS_ON_A_LANE: usize = 10;
+
+/// For so many units a round of the most blocks starts one more thread.
+const UNITS_IN_MANY_BLOCKS: usize = 128;
 
 /// To share so few jobs takes next to nothing.
 const FEW_JOBS: u32 = 16;
@@ -93,6 +104,38 @@ pub fn units_beside(alloc: Global, stage: &Stage, plan: &Plan) -> Result<u32, No
     }
     let beside = all.saturating_sub(longest);
     Ok(beside.saturating_sub(units_to_share(plan.jobs())))
+}
+
+/// How many units a node has that holds this, more than a lane takes.
+fn more_units(held: &Held) -> usize
+    ensures { result ≡ held_more held.now }
+{
+    match held {
+        Held::Group => 0,
+        Held::Synth { def, .. } => {
+            let units = def.units.as_slice();
+            units.len().saturating_sub(UNITS_ON_A_LANE)
+        }
+    }
+}
+
+/// How many units are left of those for which a round of many blocks starts a thread, if each synth that runs takes what it has more
+/// than a lane.
+fn units_left(stage: &Stage) -> usize
+    ensures { result ≡ 128 - labels_more (running_labels stage.now.tree.attached) }
+{
+    let mut left = UNITS_IN_MANY_BLOCKS;
+    for visit in stage.tree.walk() {
+        left = left.saturating_sub(more_units(visit.payload));
+    }
+    left
+}
+
+/// Whether so many workers share a stage with members that mix one bus beside each other, each on a lane.
+pub fn lanes_pay(stage: &Stage, workers: u32) -> bool
+    ensures { (words : List ℕ) → result ≡ has_lanes workers (world_of stage.now words) }
+{
+    workers >= 2 && units_left(stage) == 0
 }
 
 /// In how many threads a round of so many blocks pays, if so many units of a block can run beside its longest chain.

@@ -1,14 +1,17 @@
 -- The jobs of a block that is ready.
-use Rattle.std.proofs.Common.{◌≡◌, ◌≤◌, ◌<◌, ◌⊎◌, ℕ, ◌+◌, ◌*◌, true, List, ℤ, pos, length, ap, sym, subst, ◌∙◌, arith, All}
+use Rattle.std.proofs.Common.{◌≡◌, ◌≤◌, ◌<◌, ◌⊎◌, inl, inr, ⊎_elim, ℕ, zero, suc, ◌+◌, ◌*◌, true, false, List, ℤ, pos, length, get_or, refl, ap, sym, subst, ◌∙◌, arith, All}
 use Rattle.std.specs.Ordering.{int_eq}
+use Rattle.std.proofs.lemmas.Bool.{cases_lt, false_from_ne_true}
 use Rattle.sn_mem.specs.declared.extents.Foot.{Foot}
 use Rattle.sn_mem.specs.declared.moves.Moved.{Moved}
-use Rattle.sn_mem.specs.Words.{touches}
+use Rattle.sn_mem.specs.Words.{touches, writes}
+use Rattle.sn_mem.proofs.Masks.{touched}
 use Rattle.sn_io.specs.ByFoot.{IsByFoot}
 use Rattle.sn_io.specs.Joints.{MayAdd, with_lanes}
 use Rattle.sn_round.specs.declared.jobs.Job.{Job}
 use Rattle.sn_round.specs.Jobs.{AreWithin, foot_at, job_at, lanes_at}
 use Rattle.sn_round.specs.Scripts.{list_at, sequential}
+use Rattle.sn_span.proofs.Rounding.{after_jobs, list_is}
 use Rattle.sn_tree.specs.Trees.{ids, subtree}
 use Rattle.sn_tree.specs.Steps.{AllDistinct}
 use Rattle.sn_world.specs.Pictures.{Pictures}
@@ -17,7 +20,7 @@ use Rattle.sn_world.specs.World.{world_of}
 use Rattle.sn_world.specs.declared.stage.Stage.{Stage}
 use Rattle.sn_graph.specs.Plans.{runs_of}
 use Rattle.sn_play.specs.declared.block.Block.{Block}
-use Rattle.sn_play.specs.Blocks.{AreResting, IsReady, outcome_of}
+use Rattle.sn_play.specs.Blocks.{AreResting, IsReady, outcome_by_foot, outcome_of}
 use Rattle.sn_play.specs.Steps.{CanMoveAll, lane_steps}
 use Rattle.sn_play.proofs.LanedRuns as laned
 
@@ -58,6 +61,21 @@ module _ (w : Block) (top : subtree (pos 0) w.stage.now.tree.attached ≡ w.stag
   pub touched_where : (i x : ℕ) → i < length js → touches (foot_at js i) x ≡ true → (x < 10368 + stage.pool.region.len) ⊎ ((r.first ≤ x) × (x < r.first + 65 * r.most))
   touched_where = laned.touched_where stage top distinct r.words r.pictures r.first r.most r.lies r.room bounded r.bounded r.few js r.planned
 
+  -- no job writes a word behind the lanes
+  not_written : (i x : ℕ) → i < length js → r.first + 65 * r.most ≤ x → writes (foot_at js i) x ≡ false
+  not_written i x lt past = false_from_ne_true (writes (foot_at js i) x) (λ t. ⊎_elim
+      (λ (l : x < 10368 + stage.pool.region.len). omega (arith, l, past, r.lies))
+      (λ (l : (r.first ≤ x) × (x < r.first + 65 * r.most)). omega (arith, l.1, past))
+      (touched_where i x lt (touched (foot_at js i) x t)))
+
+  -- so it stays
+  stays : (words : List ℕ) (i x : ℕ) → i ≤ length js → r.first + 65 * r.most ≤ x → get_or (after_jobs (outcome_of w) i words) x 0 ≡ get_or words x 0
+  unfolding after_jobs
+  stays words zero x l past = refl
+  stays words (suc i) x l past =
+      (outcome_by_foot w i).keeps (after_jobs (outcome_of w) i words) x (not_written i x (omega (arith, l)) past)
+      ∙ stays words i x (omega (arith, l)) past
+
   -- ---- in words that have room for the lanes
 
   module _ (words : List ℕ) (p : Pictures stage words) (room : r.first + 65 * r.most ≤ length words) where
@@ -71,5 +89,20 @@ module _ (w : Block) (top : subtree (pos 0) w.stage.now.tree.attached ≡ w.stag
       pub block_walks : world_of stage after ≡ walk w.block (world_of stage words)
       block_walks = laned.block_walks stage top distinct words p r.first r.most r.lies room bounded r.bounded r.few js r.planned w.block resting
 
-      pub block_rests : AreResting r.first r.most (w.block + 1) after
-      block_rests = laned.block_rests stage top distinct words p r.first r.most r.lies room bounded r.bounded r.few js r.planned w.block resting
+    module _ (all : ℕ) (more : r.most ≤ all) (resting : AreResting r.first all w.block words) where
+      rests_inside : (k : ℕ) → k < r.most → get_or after (r.first + 65 * k) 0 ≤ w.block + 1
+      rests_inside = laned.block_rests stage top distinct words p r.first r.most r.lies room bounded r.bounded r.few js r.planned w.block (λ k lt. resting k (omega (arith, lt, more)))
+
+      rests_behind : (k : ℕ) → k < all → r.most ≤ k → get_or after (r.first + 65 * k) 0 ≤ w.block + 1
+      rests_behind k lt past =
+          let x : ℕ = r.first + 65 * k in
+          let same : get_or after x 0 ≡ get_or words x 0 =
+          ap (λ (vs : List ℕ). get_or vs x 0) (list_is (outcome_of w) (length js) (length js) words (omega arith))
+          ∙ stays words (length js) x (omega arith) (omega (arith, past)) in
+          omega (arith, same, resting k lt)
+
+      pub block_rests : AreResting r.first all (w.block + 1) after
+      block_rests k lt = ⊎_elim
+          (λ (l : k < r.most). rests_inside k l)
+          (λ (m : r.most ≤ k). rests_behind k lt m)
+          (cases_lt k r.most)

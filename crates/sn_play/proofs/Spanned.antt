@@ -35,6 +35,7 @@ use Rattle.sn_quiet.specs.Walks.{walks}
 use Rattle.sn_play.specs.declared.span.Span.{Span}
 use Rattle.sn_play.specs.Blocks.{AreResting, IsReady, outcome_of, outcome_by_foot}
 use Rattle.sn_play.specs.Spans.{ArePlayed, IsSpanReady, block_at, made_in, outcome_in}
+use Rattle.sn_play.proofs.JobRuns as jobwise
 use Rattle.sn_play.proofs.Resting.{world_same}
 use Rattle.sn_play.proofs.LanedRuns as laned
 
@@ -197,16 +198,16 @@ module _ (w : Span) (top : subtree (pos 0) w.first.stage.now.tree.attached ≡ w
     round_pictures : (k : ℕ) → k ≤ w.blocks → Pictures stage (round k)
     round_pictures k l = pictured_again stage (round k) words (rounds_long js w.blocks f words keep k l) p
 
-    module _ (resting : AreResting ready.first ready.most b words) where
-      round_both : (k : ℕ) → k ≤ w.blocks → (world_of stage (round k) ≡ walks b k (world_of stage words)) × AreResting ready.first ready.most (b + k) (round k)
-      unfolding rounds walks
+    module _ (lanes : ℕ) (more : ready.most ≤ lanes) (resting : AreResting ready.first lanes b words) where
+      round_both : (k : ℕ) → k ≤ w.blocks → (world_of stage (round k) ≡ walks b k (world_of stage words)) × AreResting ready.first lanes (b + k) (round k)
+      unfolding rounds walks block_ready
       round_both zero l = (refl, (λ j lt. omega (arith, resting j lt)))
       round_both (suc k) l =
           let m : k ≤ w.blocks = omega (arith, l) in
           let q = round_both k m in
           let room : ready.first + 65 * ready.most ≤ length (round k) = omega (arith, fits, rounds_long js w.blocks f words keep k m) in (
-            laned.block_walks stage top distinct (round k) (round_pictures k m) ready.first ready.most lies room bounded ready.bounded ready.most_few js ready.planned (b + k) q.1 ∙ ap (walk (b + k)) q.0,
-            (λ j lt. omega (arith, laned.block_rests stage top distinct (round k) (round_pictures k m) ready.first ready.most lies room bounded ready.bounded ready.most_few js ready.planned (b + k) q.1 j lt)),
+            laned.block_walks stage top distinct (round k) (round_pictures k m) ready.first ready.most lies room bounded ready.bounded ready.most_few js ready.planned (b + k) (λ j lt. q.1 j (omega (arith, lt, more))) ∙ ap (walk (b + k)) q.0,
+            (λ j lt. omega (arith, jobwise.block_rests (block_at w.first k) top distinct (block_ready k (omega (arith, l))) (round k) (round_pictures k m) room lanes more q.1 j lt)),
           )
 
       round_world : (k : ℕ) → k ≤ w.blocks → world_of stage (round k) ≡ walks b k (world_of stage words)
@@ -245,7 +246,7 @@ module _ (w : Span) (top : subtree (pos 0) w.first.stage.now.tree.attached ≡ w
       played = record { world = world; pictures = pictured_again stage us words long p; sound = sound }
 
       -- the lanes rest again
-      pub rests : AreResting ready.first ready.most (b + w.blocks) us
+      pub rests : AreResting ready.first lanes (b + w.blocks) us
       rests j lt =
           let x : ℕ = ready.first + 65 * j in
           let same : get_or us x 0 ≡ get_or (round w.blocks) x 0 = ap (λ (vs : List ℕ). get_or vs x 0) last_is ∙ ends.words.outside x (inr (omega (arith, ready.before))) in

@@ -57,7 +57,8 @@ pub fn job_feet_suffice(work: &Block<'_>)
 
 /// A law: the block of a plan of a stage that stands for a world is ready, if the lanes lie behind the pool. In words with room for
 /// the lanes, the feet of its jobs lie in the memory. What its jobs make of the words, one after the other, is a script. If no lane
-/// counts as written in the block, the last words stand for the world after the walk, and no lane counts as written in the next block.
+/// counts as written in the block, the last words stand for the world after the walk, and no lane counts as written in the next block,
+/// nor does any of those behind the plan's lanes of which none did.
 pub fn block_is_the_walk(work: &Block<'_>)
     ensures ready { (words : List ℕ) (first most : ℕ) → Pictures work.now.stage.now words → bus_words + work.now.stage.now.pool.region.len ≤ first → first + audio_bus_words * most ≤ length words → most ≤ most_lanes → first + lane_words < 4294967296
         → IsPlanned (nodes_with first most work.now.stage.now) work.now.plan.now → work.now.block < 2 ^ 63 → IsReady work.now }
@@ -65,8 +66,8 @@ pub fn block_is_the_walk(work: &Block<'_>)
     ensures script { (words : List ℕ) → IsScript work.now.plan.now (length words) (sequential (outcome_of work.now) (length work.now.plan.now) words) }
     ensures walk { (words : List ℕ) (ready : IsReady work.now) → Pictures work.now.stage.now words → ready.first + audio_bus_words * ready.most ≤ length words → AreResting ready.first ready.most work.now.block words
         → world_of work.now.stage.now (list_at (sequential (outcome_of work.now) (length work.now.plan.now) words) (length work.now.plan.now)) ≡ walk work.now.block (world_of work.now.stage.now words) }
-    ensures rests { (words : List ℕ) (ready : IsReady work.now) → Pictures work.now.stage.now words → ready.first + audio_bus_words * ready.most ≤ length words → AreResting ready.first ready.most work.now.block words
-        → AreResting ready.first ready.most (work.now.block + 1) (list_at (sequential (outcome_of work.now) (length work.now.plan.now) words) (length work.now.plan.now)) }
+    ensures rests { (words : List ℕ) (ready : IsReady work.now) → Pictures work.now.stage.now words → ready.first + audio_bus_words * ready.most ≤ length words → (all : ℕ) → ready.most ≤ all → AreResting ready.first all work.now.block words
+        → AreResting ready.first all (work.now.block + 1) (list_at (sequential (outcome_of work.now) (length work.now.plan.now) words) (length work.now.plan.now)) }
 {
     work.stage.tree.root_holds_all();
     work.stage.tree.ids_are_distinct();
@@ -75,14 +76,15 @@ pub fn block_is_the_walk(work: &Block<'_>)
 
 /// A law: in a memory with room for the copies and the lanes, the feet of the jobs of a span that is ready lie in the memory. What its
 /// jobs make of the words, one after the other, is a script. If no lane counts as written in the first block, the last words stand for
-/// the world after the walks of its blocks, its copies hold the sound of each, and no lane counts as written in the block after them.
+/// the world after the walks of its blocks, its copies hold the sound of each, and no lane counts as written in the block after them,
+/// nor does any of those behind the plan's lanes of which none did.
 pub fn span_is_the_walks(work: &Span<'_>)
     ensures feet { (words : List ℕ) (ready : IsSpanReady work.now) → Pictures work.now.first.stage.now words → ready.first + audio_bus_words * ready.most ≤ length words → AreWithin (length words) work.now.all.now }
     ensures script { (words : List ℕ) → IsScript work.now.all.now (length words) (sequential (outcome_in work.now) (length work.now.all.now) words) }
     ensures played { (words : List ℕ) (ready : IsSpanReady work.now) → Pictures work.now.first.stage.now words → ready.first + audio_bus_words * ready.most ≤ length words → AreResting ready.first ready.most work.now.first.block words
         → ArePlayed work.now.first.stage.now work.now.first.block work.now.blocks work.now.copies ready.channels words (list_at (sequential (outcome_in work.now) (length work.now.all.now) words) (length work.now.all.now)) }
-    ensures rests { (words : List ℕ) (ready : IsSpanReady work.now) → Pictures work.now.first.stage.now words → ready.first + audio_bus_words * ready.most ≤ length words → AreResting ready.first ready.most work.now.first.block words
-        → AreResting ready.first ready.most (work.now.first.block + work.now.blocks) (list_at (sequential (outcome_in work.now) (length work.now.all.now) words) (length work.now.all.now)) }
+    ensures rests { (words : List ℕ) (ready : IsSpanReady work.now) → Pictures work.now.first.stage.now words → ready.first + audio_bus_words * ready.most ≤ length words → (all : ℕ) → ready.most ≤ all → AreResting ready.first all work.now.first.block words
+        → AreResting ready.first all (work.now.first.block + work.now.blocks) (list_at (sequential (outcome_in work.now) (length work.now.all.now) words) (length work.now.all.now)) }
 {
     work.first.stage.tree.root_holds_all();
     work.first.stage.tree.ids_are_distinct();

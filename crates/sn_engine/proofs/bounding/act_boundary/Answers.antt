@@ -35,7 +35,7 @@ pub returns-then-not-has_due-clause-spanned : goal.returns-then-not-has_due-clau
 returns-then-not-has_due-clause-spanned g c = λ outputs copies still. still c.if-hold.true
 
 pub returns-clause-spanned : goal.returns-clause-spanned
-returns-clause-spanned g c = λ outputs copies still. none_spanned _ outputs copies _ _ c.in_ok-planned.ensures.none
+returns-clause-spanned g c = λ outputs copies still. none_spanned _ outputs copies _ c.in_ok-planned.ensures.none
 
 pub of-requires-clause-stands : goal.of-requires-clause-stands
 of-requires-clause-stands g c = record { words = g.P.Port.words c.act_below.new.port; pictures = c.act_below.ensures.pictures }
@@ -104,7 +104,7 @@ returns-then-stays-clause-hold g c =
 pub returns-then-stays-clause-planned : goal.returns-then-stays-clause-planned
 returns-then-stays-clause-planned g c =
     let kept = c.in_ok-quits.ensures.layout c.if-stays.true in
-    planned_stays c.args.stage.now c.act_below.new.stage (g.P.Port.words c.args.port.now) (g.P.Port.words c.act_below.new.port) kept.1 c.args.planned.now.jobs c.args.planned.now.quiet c.args.planned.now.eventful c.act_below.ensures.region (c.requires.planned (sym c.new-watch.ensures ∙ kept.0))
+    planned_stays c.args.stage.now c.act_below.new.stage (g.P.Port.words c.args.port.now) (g.P.Port.words c.act_below.new.port) kept.1 c.args.workers c.args.planned.now.jobs c.args.planned.now.quiet c.args.planned.now.eventful c.act_below.ensures.region (c.requires.planned (sym c.new-watch.ensures ∙ kept.0))
 
 pub returns-then-stays-clause-spanned : goal.returns-then-stays-clause-spanned
 returns-then-stays-clause-spanned g c = λ outputs copies still. still (sym c.new-watch.ensures ∙ (c.in_ok-quits.ensures.layout c.if-stays.true).0)

@@ -11,7 +11,7 @@ pub loop-number-init : goal.loop-number-init
 loop-number-init c = record {
   same = refl;
   sound = λ words played. no_sounds c.args.part.now.settings.now c.args.part.now.first (world_of c.args.part.now.stage.now words) c.args.sound.now.bytes;
-  spare = omega (arith, c.requires.room);
+  spare = omega arith;
   samples = c.requires.samples;
 }
 
@@ -29,9 +29,9 @@ loop-number-preserved c =
           let samples : c.hear_copy.new.samples.items ≡ outputs part.settings.now (part.first + k) (walks part.first (k + 1) (world_of part.stage.now words)) =
           heard.samples
           ∙ (ap (λ (vs : List ℕ). copied_frames part.settings.now.channels (part.copies + 512 * k) vs 64) (words_same i.same)
-          ∙ frames_are part.stage.now part.first part.blocks part.copies part.settings.now.channels words us played k 64 c.loop-number-test.true (le_refl 64)) in
+          ∙ frames_are part.stage.now part.first c.args.blocks part.copies part.settings.now.channels words us played k 64 c.loop-number-test.true (le_refl 64)) in
           sound_more part.settings.now part.first k (world_of part.stage.now words) _ c.args.sound.now.bytes c.loop-number.sound.bytes c.frames.new.out.bytes c.deref.result.now (i.sound words played) refl (deref ∙ samples) c.frames.ensures.bytes;
-      spare = omega (arith, i.spare, c.frames.ensures.room, few_bytes part.settings.now (length c.deref.result.now) few, c.loop-number-test.true);
+      spare = omega (arith, i.spare, c.frames.ensures.room, few_bytes part.settings.now (length c.deref.result.now) few);
       samples = heard.room;
     }
 
@@ -45,4 +45,7 @@ pub frames-requires : goal.frames-requires
 frames-requires c =
     let deref : c.deref.result.now ≡ c.hear_copy.new.samples.items = search rules in
     let few : length c.deref.result.now ≤ 512 = omega (arith, ap (λ (xs : List ℤ). length xs) deref, c.hear_copy.ensures.few) in
-    omega (arith, c.loop-number.invariant.spare, few_bytes c.args.part.now.settings.now (length c.deref.result.now) few, c.loop-number-test.true)
+    omega (arith, c.requires.room, c.loop-number.invariant.spare, few_bytes c.args.part.now.settings.now (length c.deref.result.now) few, c.loop-number-test.true)
+
+pub returns-clause-spare : goal.returns-clause-spare
+returns-clause-spare c = omega (arith, c.loop-number.invariant.spare, c.loop-number.auto.number-end)

@@ -24,7 +24,7 @@ loop-number-init g c =
       pictures = c.requires.pictures;
       long = refl;
       sound = no_sounds part.settings.now part.first w c.args.sound.now.bytes;
-      spare = omega (arith, c.requires.room);
+      spare = omega arith;
       samples = c.requires.samples;
       rounds = no_rounds c.args.memory.now.rounds (record { jobs = part.planned.now.jobs; crew = length c.args.crew.now.hands.items });
       stores = refl;
@@ -57,7 +57,7 @@ loop-number-preserved g c =
       pictures = subst (λ (m : Remembered). Pictures part.stage.now m.words) (sym heard.same) (subst (λ (s : Stage). Pictures s us) b.ensures.stage c.round.ensures.pictures);
       long = ap (λ (m : Remembered). length m.words) heard.same ∙ (c.round.ensures.length ∙ i.long);
       sound = sound_more part.settings.now part.first k w v c.args.sound.now.bytes c.loop-number.sound.bytes c.frames.new.out.bytes c.deref.result.now i.sound walked samples c.frames.ensures.bytes;
-      spare = omega (arith, i.spare, c.frames.ensures.room, few_bytes part.settings.now (length c.deref.result.now) few, c.loop-number-test.true);
+      spare = omega (arith, i.spare, c.frames.ensures.room, few_bytes part.settings.now (length c.deref.result.now) few);
       samples = heard.room;
       rounds = ap (λ (m : Remembered). m.rounds) heard.same ∙ rounds_more c.args.memory.now.rounds c.loop-number.memory.rounds c.round.new.self.rounds (record { jobs = part.planned.now.jobs; crew = length c.args.crew.now.hands.items }) k i.rounds
           (c.round.ensures.rounds ∙ (λ t. rested (b.ensures.plan t) (i.crew t)));
@@ -104,4 +104,7 @@ pub frames-requires : goal.frames-requires
 frames-requires g c =
     let same : c.deref.result.now ≡ c.hear_block.new.samples.items = search rules in
     let few : length c.deref.result.now ≤ 512 = omega (arith, ap (λ (xs : List ℤ). length xs) same, c.hear_block.ensures.few) in
-    omega (arith, c.loop-number.invariant.spare, few_bytes c.args.part.now.settings.now (length c.deref.result.now) few, c.loop-number-test.true)
+    omega (arith, c.requires.room, c.loop-number.invariant.spare, few_bytes c.args.part.now.settings.now (length c.deref.result.now) few, c.loop-number-test.true)
+
+pub returns-clause-spare : goal.returns-clause-spare
+returns-clause-spare g c = omega (arith, c.loop-number.invariant.spare, c.loop-number.auto.number-end)

@@ -1,5 +1,5 @@
 -- The blocks so far.
-use Rattle.std.proofs.Common.{◌≡◌, ◌≤◌, ◌+◌, ◌-◌, ◌*◌, ◌++◌, length}
+use Rattle.std.proofs.Common.{◌≡◌, ◌≤◌, ◌+◌, ◌*◌, ◌++◌, length}
 use Rattle.std.specs.Prelude.{replicate, vec_capacity}
 use Rattle.sn_quiet.specs.Walks.{walks}
 use Rattle.sn_world.specs.Pictures.{Pictures}
@@ -15,7 +15,7 @@ invariant-loop-number g l = record {
   pictures : Pictures l.part.stage.now l.memory.words;
   long : length l.memory.words ≡ length l.fn.memory.words;
   sound : l.sound.bytes ≡ l.fn.sound.bytes ++ sounds l.part.settings.now l.part.first l.number (world_of l.part.stage.now l.fn.memory.words);
-  spare : 1536 * (l.part.blocks - l.number) ≤ l.sound.spare;
+  spare : l.fn.sound.spare ≤ l.sound.spare + 1536 * l.number;
   samples : 512 ≤ vec_capacity l.samples;
   rounds : l.memory.rounds ≡ l.fn.memory.rounds ++ replicate l.number (record { jobs = l.part.planned.now.jobs; crew = length l.fn.crew.hands.items });
   stores : l.memory.stores ≡ l.fn.memory.stores;

@@ -10,5 +10,5 @@ returns c =
       feet = λ words r p room. within w c.root_holds_all.ensures c.ids_are_distinct.ensures r words p room;
       script = λ words. c.sequential_is_a_script.ensures w.plan.now words refl (λ j lt. refl);
       walk = λ words r p room resting. block_walks w c.root_holds_all.ensures c.ids_are_distinct.ensures r words p room resting;
-      rests = λ words r p room resting. block_rests w c.root_holds_all.ensures c.ids_are_distinct.ensures r words p room resting;
+      rests = λ words r p room all more resting. block_rests w c.root_holds_all.ensures c.ids_are_distinct.ensures r words p room all more resting;
     }

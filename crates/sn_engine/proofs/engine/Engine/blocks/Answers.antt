@@ -35,9 +35,6 @@ render-requires-clause-lanes g c κs within = c.self.invariant.11
 pub render-requires-clause-resting : goal.render-requires-clause-resting
 render-requires-clause-resting g c κs within = c.self.invariant.12
 
-pub render-requires-clause-some : goal.render-requires-clause-some
-render-requires-clause-some g c κs within = at_least_one c.args.self.now c.args.n c.requires.quiet
-
 pub render-requires-clause-early : goal.render-requires-clause-early
 render-requires-clause-early g c κs within = omega (arith, ap (λ (p : Playing). p.running.block) c.self.view_is, c.requires.block)
 
@@ -95,4 +92,4 @@ returns-clause-running g c =
 
 pub returns-clause-past : goal.returns-clause-past
 returns-clause-past g c =
-    rounds_rested _ c.args.self.now.past c.args.n c.render.new.memory.rounds c.render.new.memory.stores (length c.render.new.crew.hands.items) (past_is c.self.view_is) c.render.ensures.rounds c.render.ensures.stores c.render.ensures.crew
+    rounds_rested _ c.args.self.now.past c.self.inside.outputs c.self.inside.copies c.args.n c.render.new.memory.rounds c.render.new.memory.stores (length c.render.new.crew.hands.items) (past_is c.self.view_is) c.render.ensures.rounds c.render.ensures.stores c.render.ensures.crew

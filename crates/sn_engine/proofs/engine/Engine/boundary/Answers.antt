@@ -160,13 +160,17 @@ returns-clause-past c =
     rested_kept _ c.args.self.now.past (past_is c.self.view_is) c.unroll.new.self.jobs c.act_boundary.new.port.rounds c.act_boundary.new.port.stores (length e.crew.hands.items) c.act_boundary.ensures.port.1 refl
 
 pub returns-clause-planned : goal.returns-clause-planned
-returns-clause-planned c = record {
-  stage = c.act_boundary.new.stage;
-  words = c.act_boundary.new.port.words;
-  stands = refl;
-  pictures = c.act_boundary.ensures.pictures;
-  planned = subst (λ (js : List Job). IsPlanOf c.act_boundary.new.stage js) (sym c.unroll.ensures.jobs) c.in_ok-quits.ensures.planned.plan;
-}
+returns-clause-planned c =
+    let stage = c.act_boundary.new.stage in
+    let planned = planned_again _ _ _ _ _ _ _ _ c.unroll.ensures.jobs c.unroll.ensures.quiet c.unroll.ensures.eventful c.in_ok-quits.ensures.planned in
+    record {
+      stage = stage;
+      words = c.act_boundary.new.port.words;
+      stands = refl;
+      pictures = c.act_boundary.ensures.pictures;
+      planned = planned.plan;
+      lanes_are = planned.lanes_are c.act_boundary.new.port.words;
+    }
 
 pub returns-in_err-unroll-clause-past : goal.returns-in_err-unroll-clause-past
 returns-in_err-unroll-clause-past c =
@@ -343,7 +347,7 @@ invariant_of-self-2 c =
       c.in_ok-self-inside.ensures.few,
       omega (arith, ap (λ (ts : List Octets). length ts) two, c.reserve_settling.ensures.len, ap (λ (ts : List Octets). length ts) c.deref_mut-2.ensures.value, few),
       c.in_ok-quits.ensures.hold,
-      λ on. planned_again _ _ _ _ _ _ _ c.unroll.ensures.jobs c.unroll.ensures.quiet c.unroll.ensures.eventful c.in_ok-quits.ensures.planned,
+      λ on. planned_again _ _ _ _ _ _ _ _ c.unroll.ensures.jobs c.unroll.ensures.quiet c.unroll.ensures.eventful c.in_ok-quits.ensures.planned,
       λ e. refl,
       λ on. c.in_ok-unroll.ensures.spanned,
       still_copied e.settings.channels e.stage acted.new.stage e.memory.words acted.new.port.words e.outputs e.copies acted.ensures.region acted.ensures.len i.10,

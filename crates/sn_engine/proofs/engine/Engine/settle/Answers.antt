@@ -32,7 +32,7 @@ invariant_of-self c =
         | else-self w ↦ absurd cc
       ],
       λ on. elim c.if-self.branch [
-        | then-self w ↦ subst (λ (s : Stage). IsPlannedFor s e.planned.jobs e.planned.quiet e.planned.eventful) (sym (c.settle_before-ended.ensures.same (not-true c.settle_before-ended.result (sym w.self-is ∙ on)))) (i.7 w.if-self.true)
+        | then-self w ↦ subst (λ (s : Stage). IsPlannedFor e.settings.workers s e.planned.jobs e.planned.quiet e.planned.eventful) (sym (c.settle_before-ended.ensures.same (not-true c.settle_before-ended.result (sym w.self-is ∙ on)))) (i.7 w.if-self.true)
         | else-self w ↦ absurd cc
       ],
       λ e. absurd cc,

@@ -12,14 +12,14 @@ pub returns-clause-quiet : goal.returns-clause-quiet
 returns-clause-quiet c =
     let e = c.self.inside in
     let i = c.self.invariant in
-    let planned : IsPlannedFor e.stage e.planned.jobs e.planned.quiet e.planned.eventful = i.7 (i.8 (c.is_bounded.ensures.bounded c.if-not-is_bounded.false)) in
+    let planned : IsPlannedFor e.settings.workers e.stage e.planned.jobs e.planned.quiet e.planned.eventful = i.7 (i.8 (c.is_bounded.ensures.bounded c.if-not-is_bounded.false)) in
     is_quiet_row _ c.args.self.now e.planned.quiet c.span.result c.self.view_is (planned.quiet_is e.memory.words) c.span.ensures.some c.span.ensures.quiet
 
 pub returns-clause-most : goal.returns-clause-most
 returns-clause-most c = λ bounded early n few row.
     let e = c.self.inside in
     let i = c.self.invariant in
-    let planned : IsPlannedFor e.stage e.planned.jobs e.planned.quiet e.planned.eventful = i.7 (i.8 (c.is_bounded.ensures.bounded c.if-not-is_bounded.false)) in
+    let planned : IsPlannedFor e.settings.workers e.stage e.planned.jobs e.planned.quiet e.planned.eventful = i.7 (i.8 (c.is_bounded.ensures.bounded c.if-not-is_bounded.false)) in
     is_most _ c.args.self.now e.planned.quiet n c.span.result c.self.view_is (planned.quiet_is e.memory.words) c.span.ensures.some row (λ two span. c.span.ensures.most (omega (arith, ap (λ (p : Playing). p.running.block) c.self.view_is, early)) n two few span)
 
 pub returns-then-not-is_bounded-clause-quiet : goal.returns-then-not-is_bounded-clause-quiet

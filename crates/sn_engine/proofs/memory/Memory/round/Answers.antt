@@ -6,10 +6,10 @@ use Rattle.sn_world.specs.Pictures.{Pictures}
 use Rattle.sn_world.specs.Walk.{walk}
 use Rattle.sn_world.specs.World.{world_of}
 use Rattle.sn_world.proofs.Changes.{pictured_again}
-use Rattle.sn_engine.specs.Planning.{HasLanes, LanesRest}
+use Rattle.sn_engine.specs.Planning.{HasLanes, LanesRest, first_lane, lanes_for}
 use Rattle.sn_engine.specs.Remembered.{Remembered}
 use Rattle.sn_engine.proofs.HearingLemmas.{words_same}
-use Rattle.sn_engine.proofs.LaneLemmas.{block_ready}
+use Rattle.sn_engine.proofs.LaneLemmas.{block_ready, lanes_few, rest_of_some}
 use Rattle.sn_engine.proofs.Memories.{wide}
 use Rattle.sn_engine.proofs.memory.Memory.round.Goals as goal
 
@@ -37,7 +37,7 @@ round-requires-clause-plan g c κs within =
     record {
       order = planned.order;
       free = planned.free;
-      within = subst (λ (n : ℕ). AreWithin n c.args.block.now.plan.now) (wide e.shared e.main i.0 i.1) (c.block_is_the_walk.ensures.feet before (block_ready c.args.block.now before pictures lanes planned c.requires.early) pictures (omega (arith, lanes.fits)));
+      within = subst (λ (n : ℕ). AreWithin n c.args.block.now.plan.now) (wide e.shared e.main i.0 i.1) (c.block_is_the_walk.ensures.feet before (block_ready c.args.block.now before pictures lanes planned c.requires.early) pictures (omega (arith, lanes.fits, lanes_few planned.laned)));
       roomy = omega (arith, planned.few, i.2);
     }
 
@@ -56,7 +56,7 @@ returns-clause-world g c =
     let lanes : HasLanes stage before = subst (HasLanes stage) (sym same) c.requires.lanes in
     let resting : LanesRest stage c.args.block.now.block before = subst (LanesRest stage c.args.block.now.block) (sym same) c.requires.resting in
     ap (world_of stage) c.round.ensures.round.memory_is
-    ∙ c.block_is_the_walk.ensures.walk before (block_ready c.args.block.now before pictures lanes c.requires.planned c.requires.early) pictures (omega (arith, lanes.fits)) resting
+    ∙ c.block_is_the_walk.ensures.walk before (block_ready c.args.block.now before pictures lanes c.requires.planned c.requires.early) pictures (omega (arith, lanes.fits, lanes_few c.requires.planned.laned)) (rest_of_some (first_lane stage) (lanes_for c.requires.planned.laned) c.args.block.now.block before (lanes_few c.requires.planned.laned) resting)
     ∙ ap (λ (ws : List ℕ). walk c.args.block.now.block (world_of stage ws)) same
 
 pub returns-clause-resting : goal.returns-clause-resting
@@ -68,7 +68,7 @@ returns-clause-resting g c =
     let lanes : HasLanes stage before = subst (HasLanes stage) (sym same) c.requires.lanes in
     let resting : LanesRest stage c.args.block.now.block before = subst (LanesRest stage c.args.block.now.block) (sym same) c.requires.resting in
     subst (LanesRest stage (c.args.block.now.block + 1)) (sym c.round.ensures.round.memory_is)
-    (c.block_is_the_walk.ensures.rests before (block_ready c.args.block.now before pictures lanes c.requires.planned c.requires.early) pictures (omega (arith, lanes.fits)) resting)
+    (c.block_is_the_walk.ensures.rests before (block_ready c.args.block.now before pictures lanes c.requires.planned c.requires.early) pictures (omega (arith, lanes.fits, lanes_few c.requires.planned.laned)) 4096 (lanes_few c.requires.planned.laned) resting)
 
 pub returns-clause-pictures : goal.returns-clause-pictures
 returns-clause-pictures g c =

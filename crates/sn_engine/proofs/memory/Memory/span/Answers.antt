@@ -8,7 +8,7 @@ use Rattle.sn_engine.specs.Planning.{HasLanes, LanesRest}
 use Rattle.sn_engine.specs.Remembered.{Remembered}
 use Rattle.sn_engine.proofs.CopyLemmas.{same_channels}
 use Rattle.sn_engine.proofs.HearingLemmas.{words_same}
-use Rattle.sn_engine.proofs.LaneLemmas.{rest_of_lanes, rest_of_row}
+use Rattle.sn_engine.proofs.LaneLemmas.{rest_of_lanes, rest_of_row, rest_of_some}
 use Rattle.sn_engine.proofs.Memories.{wide}
 use Rattle.sn_engine.proofs.memory.Memory.span.Goals as goal
 
@@ -30,7 +30,7 @@ round-requires-clause-plan g c κs within =
     let same : before ≡ c.args.self.now.words = words_same c.self.view_is in
     let pictures : Pictures span.first.stage.now before = subst (Pictures span.first.stage.now) (sym same) c.requires.pictures in
     let lanes : HasLanes span.first.stage.now before = subst (HasLanes span.first.stage.now) (sym same) c.requires.lanes in
-    let fits : c.requires.ready.ready.first + 65 * c.requires.ready.ready.most ≤ length before = omega (arith, lanes.fits, c.requires.ready.first, c.requires.ready.most) in
+    let fits : c.requires.ready.ready.first + 65 * c.requires.ready.ready.most ≤ length before = omega (arith, lanes.fits, c.requires.ready.first, c.requires.ready.ready.most_few) in
     record {
       order = c.is_well_formed.ensures;
       free = c.requires.free;
@@ -54,10 +54,10 @@ returns-clause-played g c = λ channels outputs.
     let same : before ≡ c.args.self.now.words = words_same c.self.view_is in
     let pictures : Pictures span.first.stage.now before = subst (Pictures span.first.stage.now) (sym same) c.requires.pictures in
     let lanes : HasLanes span.first.stage.now before = subst (HasLanes span.first.stage.now) (sym same) c.requires.lanes in
-    let fits : c.requires.ready.ready.first + 65 * c.requires.ready.ready.most ≤ length before = omega (arith, lanes.fits, c.requires.ready.first, c.requires.ready.most) in
+    let fits : c.requires.ready.ready.first + 65 * c.requires.ready.ready.most ≤ length before = omega (arith, lanes.fits, c.requires.ready.first, c.requires.ready.ready.most_few) in
     subst (λ n. ArePlayed span.first.stage.now span.first.block span.blocks span.copies n c.args.self.now.words after) as_many
     (subst (λ (ws : List ℕ). ArePlayed span.first.stage.now span.first.block span.blocks span.copies ready.channels ws after) same
-    (subst (λ (us : List ℕ). ArePlayed span.first.stage.now span.first.block span.blocks span.copies ready.channels before us) (sym c.round.ensures.round.memory_is) (c.span_is_the_walks.ensures.played before ready pictures fits (rest_of_row span before c.requires.ready (subst (LanesRest span.first.stage.now span.first.block) (sym same) c.requires.resting)))))
+    (subst (λ (us : List ℕ). ArePlayed span.first.stage.now span.first.block span.blocks span.copies ready.channels before us) (sym c.round.ensures.round.memory_is) (c.span_is_the_walks.ensures.played before ready pictures fits (rest_of_some ready.first ready.most span.first.block before ready.most_few (rest_of_row span before c.requires.ready (subst (LanesRest span.first.stage.now span.first.block) (sym same) c.requires.resting))))))
 
 pub returns-clause-resting : goal.returns-clause-resting
 returns-clause-resting g c =
@@ -68,9 +68,9 @@ returns-clause-resting g c =
     let lanes : HasLanes span.first.stage.now before = subst (HasLanes span.first.stage.now) (sym same) c.requires.lanes in
     let resting : LanesRest span.first.stage.now span.first.block before = subst (LanesRest span.first.stage.now span.first.block) (sym same) c.requires.resting in
     let row = c.requires.ready in
-    let fits : row.ready.first + 65 * row.ready.most ≤ length before = omega (arith, lanes.fits, row.first, row.most) in
+    let fits : row.ready.first + 65 * row.ready.most ≤ length before = omega (arith, lanes.fits, row.first, row.ready.most_few) in
     subst (LanesRest span.first.stage.now (span.first.block + span.blocks)) (sym c.round.ensures.round.memory_is)
-    (rest_of_lanes span (span.first.block + span.blocks) _ row (c.span_is_the_walks.ensures.rests before row.ready pictures fits (rest_of_row span before row resting)))
+    (rest_of_lanes span (span.first.block + span.blocks) _ row (c.span_is_the_walks.ensures.rests before row.ready pictures fits 4096 row.ready.most_few (rest_of_row span before row resting)))
 
 pub returns-clause-length : goal.returns-clause-length
 returns-clause-length g c =

@@ -17,7 +17,7 @@ use Rattle.sn_clients.specs.declared.ends.End.{End}
 use Rattle.sn_clients.specs.declared.ends.End.TheVariants.{Out, In, Gone}
 use Rattle.sn_clients.specs.Notes.{frames_of, IsFront}
 use Rattle.sn_clients.specs.Ends.{HasPutAs, gathered_in, gone, new_outlet, new_sender, next_inlet, sender_in, taken_in, with_frame, with_gathered, with_inlet, with_put}
-use Rattle.sn_clients.specs.Delivery.{AllWereTaken, Delivers, Fits, GatheredAre, Gives, HasPut, Put, PutAll, Taken}
+use Rattle.sn_clients.specs.Delivery.{AllWereTaken, Delivers, Fits, Gives, HasPut, InletMoment, Moment, Put, Taken}
 use Rattle.sn_clients.proofs.Lists.{at_push, at_within, get_seam}
 use Rattle.sn_clients.proofs.NoteLemmas.{frames-append, has_frame, none_more, numbered_more, one_more}
 
@@ -103,8 +103,12 @@ puts n place client count e x k c num items ends room h at =
       refl,
     )
 
-pub knows_all : (place client count : ℕ) (e : End) → HasPutAs client count e → Learns Delivers place e (PutAll (sender_in e))
-knows_all place client count e k items ends h at = (h.taken, (h.fits.inlets place (sender_in e) (at ∙ ap some k.0)).1)
+pub inlet_sees : (place client count : ℕ) (e : End) → HasPutAs client count e → Learns Delivers place e (InletMoment (sender_in e))
+inlet_sees place client count e k items ends h at =
+    let s = sender_in e in
+    let mine : get_elem? ends place ≡ some (In s) = at ∙ ap some k.0 in
+    let here = (h.fits.inlets place s mine).0 in
+    record { ends = ends; knows = subst (λ (p : ℕ). get_elem? ends p ≡ some (In s)) here mine; delivers = h }
 
 -- ---- the outlet's steps
 
@@ -146,9 +150,15 @@ pub takes : (place : ℕ) (e : End) → place ≡ 0 → Pops Delivers place e (T
 takes place e first = subst (λ (p : ℕ). Pops Delivers p e (Taken e)) (sym first)
     (λ x items ends h at. subst (λ (f : End). (w : End) × Delivers items (set ends 0 w) × Taken f x w) (outlet_is (x ∷ items) ends e h at) (takes_out x items ends h.clients h.taken h.gathered h.fits))
 
-pub knows_gathered : (place : ℕ) (e : End) → place ≡ 0 → Learns Delivers place e (GatheredAre e)
-knows_gathered place e first = subst (λ (p : ℕ). Learns Delivers p e (GatheredAre e)) (sym first)
-    (λ items ends h at. subst (λ (f : End). GatheredAre f items) (outlet_is items ends e h at) (All-weaker (Gives (h.taken ++ items) ends) (HasPut (h.taken ++ items)) (λ s gives. gives.0) h.gathered h.fits.ended))
+pub outlet_sees : (place : ℕ) (e : End) → place ≡ 0 → Learns Delivers place e (Moment 0 e)
+outlet_sees place e first = subst (λ (p : ℕ). Learns Delivers p e (Moment 0 e)) (sym first) (λ items ends h at. record { ends = ends; knows = at; delivers = h })
+
+-- the frames of each client that was gathered are those that were taken of it and those that wait
+gathered_are : (e : End) (items : List Note) → Moment 0 e items → All (HasPut (taken_in e ++ items)) (gathered_in e)
+gathered_are e items m =
+    let h = m.delivers in
+    subst (λ (f : End). All (HasPut (taken_in f ++ items)) (gathered_in f)) (outlet_is items m.ends e h m.knows)
+    (All-weaker (Gives (h.taken ++ items) m.ends) (HasPut (h.taken ++ items)) (λ s gives. gives.0) h.gathered h.fits.ended)
 
 seat_fits : (notes : List Note) (c : ℕ) (t : List Note) (g : List Sender) (ends : List End) → Fits notes c g ends → Fits notes (c + 1) g (set ends 0 (Out (c + 1) t g) ++ In (new_sender c) ∷ [])
 seat_fits notes c t g ends h =
@@ -211,17 +221,24 @@ gathers place e other client count f first k = subst (λ (p : ℕ). Merges Deliv
 -- ---- what a call tells
 
 -- with nothing left in the queue
-pub all_taken : (e : End) → Held 0 (GatheredAre e) → AllWereTaken e
-all_taken e held = subst (λ (ns : List Note). All (HasPut ns) (gathered_in e)) (append-nil (taken_in e)) (subst (λ (items : List Note). GatheredAre e items) (nil_from_length held.0 held.1) held.2)
+pub all_taken : (e : End) → Held 0 (Moment 0 e) → AllWereTaken e
+all_taken e held =
+    let items = held.0 in
+    let are : All (HasPut (taken_in e ++ items)) (gathered_in e) = gathered_are e items held.2 in
+    subst (λ (ns : List Note). All (HasPut ns) (gathered_in e)) (append-nil (taken_in e)) (subst (λ (xs : List Note). All (HasPut (taken_in e ++ xs)) (gathered_in e)) (nil_from_length items held.1) are)
 
 -- of the client that was gathered last
-pub are_front : (e : End) (s : Sender) → ((items : List Note) × GatheredAre (with_gathered e s) items) → IsFront (frames_of s.client (taken_in e)) s.frames
+pub are_front : (e : End) (s : Sender) → ((items : List Note) × Moment 0 (with_gathered e s) items) → IsFront (frames_of s.client (taken_in e)) s.frames
 are_front e s known =
     let items = known.0 in
-    let put : HasPut (taken_in e ++ items) s = All-contains (HasPut (taken_in e ++ items)) (gathered_in e ++ s ∷ []) s known.1 (Contains-append_right (gathered_in e) (s ∷ []) s (0, omega arith, refl)) in
+    let put : HasPut (taken_in e ++ items) s = All-contains (HasPut (taken_in e ++ items)) (gathered_in e ++ s ∷ []) s (gathered_are (with_gathered e s) items known.1) (Contains-append_right (gathered_in e) (s ∷ []) s (0, omega arith, refl)) in
     (frames_of s.client items, put ∙ frames-append s.client (taken_in e) items)
 
 -- after an answer of `take`
-pub none_left : (r : Option Note) (e f : End) (taken : Note → Type 0) → MatchOption r ((f ≡ e) × Held 0 (GatheredAre e)) taken → IfNone r (AllWereTaken e)
+pub none_waits : (r : Option Note) (e f : End) (taken : Note → Type 0) → MatchOption r ((f ≡ e) × Held 0 (Moment 0 e)) taken → IfNone r (Held 0 (Moment 0 e))
+none_waits None e f taken h = h.1
+none_waits (Some x) e f taken h = tt
+
+pub none_left : (r : Option Note) (e f : End) (taken : Note → Type 0) → MatchOption r ((f ≡ e) × Held 0 (Moment 0 e)) taken → IfNone r (AllWereTaken e)
 none_left None e f taken h = all_taken e h.1
 none_left (Some x) e f taken h = tt

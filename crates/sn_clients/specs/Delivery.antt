@@ -39,9 +39,16 @@ pub record Delivers (waiting : List Note) (ends : List End) : Type 0 where
 abbrev pub Put : End → Note → End → Type 0
 Put e note f = f ≡ with_put e note.frame.bytes
 
--- the frames that an inlet put are its client's among those that were taken and those that wait
-abbrev pub PutAll : Sender → List Note → Type 0
-PutAll s waiting = (taken : List Note) × HasPut (taken ++ waiting) s
+-- One moment of a relay: the end at this place knows this, these notes wait, and what each inlet has put is its client's frames among the
+-- notes that were taken and these.
+pub record Moment (place : ℕ) (e : End) (waiting : List Note) : Type 0 where
+  pub ends : List End
+  pub knows : get_elem? ends place ≡ some e
+  pub delivers : Delivers waiting ends
+
+-- one at which an inlet has put this
+abbrev pub InletMoment : Sender → List Note → Type 0
+InletMoment s waiting = Moment (s.client + 1) (In s) waiting
 
 -- of each client that was gathered, the frames that were taken are the first of those that it put
 abbrev pub AreFronts : End → Type 0
@@ -53,10 +60,6 @@ pub record Taken (e : End) (note : Note) (f : End) : Type 0 where
   pub client : note.client < clients_in e
   pub number : note.number ≡ length (frames_of note.client (taken_in e))
   pub fronts : AreFronts f
-
--- the frames of each client that was gathered are those that were taken of it and those that wait
-abbrev pub GatheredAre : End → List Note → Type 0
-GatheredAre e waiting = All (HasPut (taken_in e ++ waiting)) (gathered_in e)
 
 -- the frames of each client that was gathered were taken
 abbrev pub AllWereTaken : End → Type 0

@@ -1,5 +1,5 @@
 //! Each client's reader: it cuts its source into frames, and puts each of them.
-ghost use Rattle.std.specs.Prelude.{◌≡◌, ◌⊎◌, ◌≤◌, ◌<◌, ◌+◌, ◌^◌, [], ℕ, List, Option, true, length, IfErr, IfOk, OnErr, OnOk};
+ghost use Rattle.std.specs.Prelude.{◌≡◌, ◌⊎◌, ◌≤◌, ◌<◌, ◌+◌, ◌^◌, [], ℕ, List, Option, true, length, IfErr, OnErr, OnOk};
 ghost use Rattle.sn_ports.specs.Limits.{most_packet};
 ghost use Rattle.sn_ports.specs.Causes.{Rose};
 ghost use Rattle.sn_osc.specs.Frames.{cut, first_frame};
@@ -13,7 +13,8 @@ use crate::seats::{Inlet, Relay};
 use sn_osc::{Framer, Unframed};
 use sn_ports::limits::{MOST_COUNT, MOST_PACKET};
 use sn_ports::{Source, Text};
-use std::alloc::{AllocError, Global};
+use sn_render::zeroed;
+use std::alloc::Global;
 use std::sync::Wait;
 use std::thread;
 
@@ -173,13 +174,6 @@ fn read_through<H: Wait, S: Source>(
     unreachable!()
 }
 
-/// Room for a piece of a source.
-fn zeroed(alloc: Global) -> Result<Vec<u8>, AllocError>
-    ensures { IfOk result (λ v. length v.items ≡ most_packet) }
-{
-    vec![in alloc; 0; PIECE]
-}
-
 /// Reads a source to its end, or until the stop word is set, and puts each frame.
 pub(crate) fn read_all<H: Wait, S: Source>(
     rt: &H,
@@ -196,7 +190,7 @@ pub(crate) fn read_all<H: Wait, S: Source>(
     ensures later { S.faults source.old ≤ S.faults source.new }
     ensures unfailed { (result ≡ client_ends.ReadFault) ⊎ (S.faults source.new ≡ S.faults source.old) }
 {
-    let Ok(mut piece) = zeroed(alloc) else {
+    let Ok(mut piece) = zeroed(alloc, PIECE) else {
         return ClientEnd::NoMemory;
     };
     let mut framer = Framer::new(alloc);

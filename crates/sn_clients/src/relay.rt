@@ -1,10 +1,11 @@
 //! The calls of a relay.
 ghost use Rattle.std.specs.Prelude.{◌≡◌, ◌+◌, ◌^◌, ◌<◌, ◌≤◌, [], false, true, length, IfErr, IfNone, IfOk, IfSome, OnErr, OnOk};
 ghost use Rattle.sn_ports.specs.Limits.{most_clients, most_relayed};
+ghost use Rattle.crossbeam_queue.specs.Fifo.{Held};
 ghost use Rattle.sn_clients.specs.declared.ends.End.TheVariants.{Out};
 ghost use Rattle.sn_clients.specs.Notes.{frames_of, IsFront};
 ghost use Rattle.sn_clients.specs.Ends.{clients_in, taken_in, with_frame, with_gathered, with_inlet};
-ghost use Rattle.sn_clients.specs.Delivery.{AllWereTaken, Taken};
+ghost use Rattle.sn_clients.specs.Delivery.{AllWereTaken, InletMoment, Moment, Taken};
 ghost use Rattle.sn_clients.specs.Answers.{AreNewInlets, IsInletOf, IsNewInlet, IsNewOutlet, IsOutletOf, end_of, has_found, has_stopped, room_of, sender_of};
 
 use crate::notes::{Full, Note, Sent};
@@ -73,8 +74,8 @@ impl Relay {
 
     /// Puts a frame of the inlet's client behind all that was put.
     ///
-    /// `Full` gives the frame back. The queue was full at one moment of the call, by what its library says; no clause
-    /// can tell it.
+    /// `Full` gives the frame back. It comes only if at one moment of the call as many notes waited as may, each put by
+    /// an inlet of this relay and not yet taken.
     pub fn put<H: Wait>(&self, rt: &H, inlet: &mut Inlet, frame: Text) -> Result<(), Full>
         requires inlet { IsInletOf self.now inlet.old }
         requires few { length (sender_of inlet.old).frames + 1 < 2 ^ 32 }
@@ -82,6 +83,7 @@ impl Relay {
         ensures put { OnOk result (sender_of inlet.new ≡ with_frame (sender_of inlet.old) frame.bytes) }
         ensures same { OnErr result (sender_of inlet.new ≡ sender_of inlet.old) }
         ensures back { IfErr result (λ full. full.frame ≡ frame) }
+        ensures full { OnErr result (Held (room_of self.now) (InletMoment (sender_of inlet.old))) }
         ensures found { has_found inlet.new ≡ has_found inlet.old }
     {
         let note = Note {
@@ -100,13 +102,14 @@ impl Relay {
 
     /// Takes the note that was put first of those that wait.
     ///
-    /// At `None` the queue was empty at one moment of the call, by what its library says. Of each inlet that was
-    /// gathered before, all frames were taken.
+    /// `None` comes only if at one moment of the call no note waited: all that the relay's inlets had put was taken. Of
+    /// each inlet that was gathered before, that is all that it put.
     pub fn take<H: Wait>(&self, rt: &H, outlet: &mut Outlet) -> Option<Note>
         requires outlet { IsOutletOf self.now outlet.old }
         ensures outlet { IsOutletOf self.now outlet.new }
         ensures taken { IfSome result (λ note. Taken (end_of outlet.old) note (end_of outlet.new)) }
         ensures same { IfNone result (end_of outlet.new ≡ end_of outlet.old) }
+        ensures moment { IfNone result (Held 0 (Moment 0 (end_of outlet.old))) }
         ensures empty { IfNone result (AllWereTaken (end_of outlet.old)) }
         ensures stopped { has_stopped outlet.new ≡ has_stopped outlet.old }
     {

@@ -29,10 +29,10 @@ impl Outcome<Note, End> for Puts {
 }
 
 impl Lesson<Note, End> for Puts {
-    ghost use Rattle.sn_clients.specs.Delivery.{PutAll};
+    ghost use Rattle.sn_clients.specs.Delivery.{InletMoment};
     ghost use Rattle.sn_clients.specs.Ends.{sender_in};
 
-    ghost fact = { λ e. PutAll (sender_in e) };
+    ghost fact = { λ e. InletMoment (sender_in e) };
 }
 
 /// The outlet takes a note.
@@ -45,9 +45,9 @@ impl Outcome<Note, End> for Takes {
 }
 
 impl Lesson<Note, End> for Takes {
-    ghost use Rattle.sn_clients.specs.Delivery.{GatheredAre};
+    ghost use Rattle.sn_clients.specs.Delivery.{Moment};
 
-    ghost fact = { GatheredAre };
+    ghost fact = { λ e. Moment 0 e };
 }
 
 /// An inlet is made for the next client.

@@ -1,5 +1,5 @@
 -- A stream has one answer: its packets, or one refusal.
-use Rattle.std.proofs.Common.{◌≡◌, ◌≤◌, ◌⊎◌, ℕ, List, length, Option, Some, Result, Ok, Err, IfOk, IfErr, refl, sym, ap, subst, ◌∙◌, arith, inl, inr}
+use Rattle.std.proofs.Common.{◌≡◌, ◌<◌, ◌≤◌, ◌⊎◌, ℕ, List, length, Option, Some, Result, Ok, Err, IfOk, IfErr, refl, sym, ap, subst, ◌∙◌, arith, inl, inr}
 use Rattle.std.specs.Prelude.{IfSome}
 use Rattle.sn_osc.specs.declared.fault.StreamFault.{StreamFault}
 use Rattle.sn_osc.specs.Shape.{Shape}
@@ -52,7 +52,7 @@ only_packets view stream (Ok v) bytes packets p refused is size frames read =
 only_packets view stream (Err NoMemory) bytes packets p refused is size frames read = tt
 only_packets view stream (Err ReadFault) bytes packets p refused is size frames read = read refl
 only_packets view stream (Err (LongStream n)) bytes packets p refused is size frames read =
-    unrefused bytes packets (LongStream n) size frames (told (λ xs. HasRefusal xs (LongStream n)) stream bytes is refused)
+    unrefused bytes packets (LongStream n) size frames (refused.0, told (λ xs. 16777216 < length xs) stream bytes is refused.1)
 only_packets view stream (Err (BadStream number place fault)) bytes packets p refused is size frames read =
     unrefused bytes packets (BadStream number place fault) size frames (told (λ xs. HasRefusal xs (BadStream number place fault)) stream bytes is refused)
 
@@ -65,6 +65,6 @@ only_refused view stream (Ok v) bytes e p refused is has read =
 only_refused view stream (Err NoMemory) bytes e p refused is has read = inr refl
 only_refused view stream (Err ReadFault) bytes e p refused is has read = absurd (read refl)
 only_refused view stream (Err (LongStream n)) bytes e p refused is has read =
-    inl (ap (λ k. Err k) (one_refusal bytes (LongStream n) e (told (λ xs. HasRefusal xs (LongStream n)) stream bytes is refused) has))
+    inl (ap (λ k. Err k) (one_refusal bytes (LongStream n) e (refused.0, told (λ xs. 16777216 < length xs) stream bytes is refused.1) has))
 only_refused view stream (Err (BadStream number place fault)) bytes e p refused is has read =
     inl (ap (λ k. Err k) (one_refusal bytes (BadStream number place fault) e (told (λ xs. HasRefusal xs (BadStream number place fault)) stream bytes is refused) has))

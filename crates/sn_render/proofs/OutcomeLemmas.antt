@@ -1,5 +1,5 @@
 -- A stream has one answer, and what was played is what it gives.
-use Rattle.std.proofs.Common.{◌≡◌, Bool, true, false, IsTrue, ℕ, ◌≤◌, ◌⊎◌, List, ◌++◌, length, Option, Some, None, refl, sym, ap, subst, ◌∙◌, arith, inl, inr}
+use Rattle.std.proofs.Common.{◌≡◌, ◌<◌, Bool, true, false, IsTrue, ℕ, ◌≤◌, ◌⊎◌, List, ◌++◌, length, Option, Some, None, refl, sym, ap, subst, ◌∙◌, arith, inl, inr}
 use Rattle.std.specs.Prelude.{IfSome}
 use Rattle.std.specs.Io.KnownBytes.{Appends, IsAtEnd, Keeps}
 use Rattle.sn_osc.specs.Shape.{Shape}
@@ -75,7 +75,7 @@ told P stream bytes is h = subst (λ t. IfSome t P) is h
 pub complete : (s : Settings) (stream : Option (List ℕ)) (result answer : Outcome) (bytes : List ℕ) → IsAnswer s stream result → stream ≡ Some bytes → HasAnswer s bytes answer
     → (result ≡ ReadFault → ⊥) → (result ≡ SoundFault → ⊥) → (result ≡ ReplyFault → ⊥) → (result ≡ answer) ⊎ (result ≡ NoMemory)
 complete s stream (Done n) answer bytes is some has read sound reply = inl (one_answer s bytes (Done n) answer (told (λ b. HasAnswer s b (Done n)) stream bytes some is) has)
-complete s stream (LongStream n) answer bytes is some has read sound reply = inl (one_answer s bytes (LongStream n) answer (told (λ b. HasAnswer s b (LongStream n)) stream bytes some is) has)
+complete s stream (LongStream n) answer bytes is some has read sound reply = inl (one_answer s bytes (LongStream n) answer (is.0, told (λ b. 16777216 < length b) stream bytes some is.1) has)
 complete s stream (LongSound n) answer bytes is some has read sound reply = inl (one_answer s bytes (LongSound n) answer (told (λ b. HasAnswer s b (LongSound n)) stream bytes some is) has)
 complete s stream (BadStream packet place fault) answer bytes is some has read sound reply = inl (one_answer s bytes (BadStream packet place fault) answer (told (λ b. HasAnswer s b (BadStream packet place fault)) stream bytes some is) has)
 complete s stream NoMemory answer bytes is some has read sound reply = inr refl

@@ -15,9 +15,9 @@ HasRefusal bytes (BadStream packet place fault) = (length bytes ≤ most_stream)
 HasRefusal bytes NoMemory = ⊥
 HasRefusal bytes ReadFault = ⊥
 
--- a refusal of one of these two kinds is the stream's, where the source tells its bytes
+-- A refusal of one of these two kinds is the stream's, where the source tells its bytes. `LongStream` has its number told or not.
 abbrev pub IsRefusalOf : Option (List ℕ) → Ungathered → Type 0
-IsRefusalOf stream (LongStream n) = IfSome stream (λ bytes. HasRefusal bytes (LongStream n))
+IsRefusalOf stream (LongStream n) = (n ≡ most_stream + 1) × IfSome stream (λ bytes. most_stream < length bytes)
 IsRefusalOf stream (BadStream packet place fault) = IfSome stream (λ bytes. HasRefusal bytes (BadStream packet place fault))
 IsRefusalOf stream NoMemory = Unit {0}
 IsRefusalOf stream ReadFault = Unit {0}

@@ -27,9 +27,9 @@ HasAnswer s bytes ReadFault = ⊥
 HasAnswer s bytes SoundFault = ⊥
 HasAnswer s bytes ReplyFault = ⊥
 
--- an outcome of one of these four kinds is the stream's answer, where the source tells its bytes
+-- An outcome of one of these four kinds is the stream's answer, where the source tells its bytes. `LongStream` has its number told or not.
 abbrev pub IsAnswer : Settings → Option (List ℕ) → Outcome → Type 0
-IsAnswer s stream (LongStream n) = IfSome stream (λ bytes. HasAnswer s bytes (LongStream n))
+IsAnswer s stream (LongStream n) = (n ≡ most_stream + 1) × IfSome stream (λ bytes. most_stream < length bytes)
 IsAnswer s stream (BadStream packet place fault) = IfSome stream (λ bytes. HasAnswer s bytes (BadStream packet place fault))
 IsAnswer s stream (LongSound n) = IfSome stream (λ bytes. HasAnswer s bytes (LongSound n))
 IsAnswer s stream (Done n) = IfSome stream (λ bytes. HasAnswer s bytes (Done n))

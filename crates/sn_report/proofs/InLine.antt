@@ -1,4 +1,4 @@
--- Synths in line cost no more than the greatest level, and those of a chain are in line.
+-- Synths in line cost no more than the greatest level, and those of a chain are in line, each once.
 use Rattle.std.proofs.Common.{◌≡◌, ◌⊎◌, ℕ, zero, suc, ◌+◌, ◌<◌, ◌≤◌, ℤ, Bool, true, false, not, if◌then◌else◌, List, [], ◌∷◌, ◌++◌, length, Option, Some, None, sym, refl, ap, ◌∙◌, subst, ⊎_elim, inl, inr, arith}
 use Rattle.std.specs.Prelude.{Contains, ◌==◌, nat_lt}
 use Rattle.std.specs.List.{filter}
@@ -159,6 +159,10 @@ once_right : (xs ys : List ℤ) → AreOnce (xs ++ ys) → AreOnce ys
 once_right [] ys one = one
 once_right (x ∷ xs) ys one = once_right xs ys one.1
 
+once_left : (xs ys : List ℤ) → AreOnce (xs ++ ys) → AreOnce xs
+once_left [] ys one = tt
+once_left (x ∷ xs) ys one = (false_from_ne_true (is_listed xs x) (λ h. true≢false (sym (listed_left xs ys x h) ∙ one.0)), once_left xs ys one.1)
+
 once_both : (xs ys : List ℤ) (a : ℤ) → AreOnce (xs ++ ys) → is_listed xs a ≡ true → is_listed ys a ≡ true → ⊥
 once_both [] ys a one h g = true≢false (sym h)
 once_both (x ∷ xs) ys a one h g =
@@ -166,6 +170,23 @@ once_both (x ∷ xs) ys a one h g =
     (λ (e : int_eq x a ≡ true). true≢false (sym (listed_right xs ys a g) ∙ subst (λ y. is_listed (xs ++ ys) y ≡ false) (same x a e) one.0))
     (λ (e : is_listed xs a ≡ true). once_both xs ys a one.1 e g)
     (or_cases (int_eq x a) (is_listed xs a) h)
+
+-- lists with no id in common
+once_joined : (xs ys : List ℤ) → AreOnce xs → AreOnce ys → ((a : ℤ) → is_listed xs a ≡ true → is_listed ys a ≡ true → ⊥) → AreOnce (xs ++ ys)
+once_joined [] ys p q apart = q
+once_joined (x ∷ xs) ys p q apart = (
+  false_from_ne_true (is_listed (xs ++ ys) x) (λ h. ⊎_elim
+      (λ (e : is_listed xs x ≡ true). true≢false (sym e ∙ p.0))
+      (λ (e : is_listed ys x ≡ true). apart x (listed_here x xs) e)
+      (listed_cases xs ys x h)),
+  once_joined xs ys p.1 q (λ a h g. apart a (listed_later x a xs h) g),
+)
+
+-- the synths of one job
+once_job : (jobs : List Job) (j : ℕ) → AreOnce (joined_synths jobs) → j < length jobs → AreOnce (job_at jobs j).synths
+once_job [] j one l = absurd (omega arith)
+once_job (x ∷ xs) zero one l = once_left x.synths (joined_synths xs) one
+once_job (x ∷ xs) (suc j) one l = once_job xs j (once_right x.synths (joined_synths xs) one) (omega arith)
 
 joined_has : (jobs : List Job) (j : ℕ) (a : ℤ) → j < length jobs → is_listed (job_at jobs j).synths a ≡ true → is_listed (joined_synths jobs) a ≡ true
 joined_has [] j a l h = absurd (omega arith)
@@ -305,3 +326,19 @@ module _ (jobs : List Job) where
         (λ i. (sym (home_is jobs p.0 a one p.2 p.3) i, sym (home_is jobs q.0 b one q.2 q.3) i))
         (in_chain None chain p.0 q.0 g p.1 q.1);
   }
+
+  -- a later job of a chain plays none of the synths of an earlier one
+  once_from : AreJobs jobs → (before : Option ℕ) (chain : List ℕ) → AreOnce (joined_synths jobs) → goes_on jobs before chain ≡ true → AreOnce (played jobs chain)
+  once_from are before [] one g = tt
+  once_from are before (x ∷ chain) one g =
+      let parts = and_parts (may_follow jobs before x) (goes_on jobs (Some x) chain) g in
+      let within : x < length jobs = ltb-true x (length jobs) (and_parts (nat_lt x (length jobs)) (follows jobs before x) parts.0).0 in
+      once_joined (job_at jobs x).synths (played jobs chain) (once_job jobs x one within) (once_from are (Some x) chain one parts.1) (λ a h k.
+      let p = plays_in (Some x) chain a parts.1 k in
+      let up : x < p.0 = rises jobs are (behind x chain p.0 parts.1 p.1) in
+      let first : home jobs a ≡ x = home_is jobs x a one within h in
+      let other : home jobs a ≡ p.0 = home_is jobs p.0 a one p.2 p.3 in
+      omega arith)
+
+  pub chain_once : AreJobs jobs → (chain : List ℕ) → AreOnce (joined_synths jobs) → goes_on jobs None chain ≡ true → AreOnce (played jobs chain)
+  chain_once are chain one g = once_from are None chain one g

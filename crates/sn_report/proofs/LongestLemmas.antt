@@ -25,7 +25,7 @@ use Rattle.sn_report.specs.Weights.{Weight}
 use Rattle.sn_report.specs.Lines.{AreInLine, AreOnce, IsLongest, IsPlanIn}
 use Rattle.sn_report.specs.Reports.{stage_weight}
 use Rattle.sn_report.proofs.Certified.{traced_certified, traced_cost}
-use Rattle.sn_report.proofs.InLine.{chain_in_line, line_most}
+use Rattle.sn_report.proofs.InLine.{chain_in_line, chain_once, line_most}
 use Rattle.sn_report.proofs.NodeWeights.{cost-append, stage_row}
 use Rattle.sn_report.proofs.RowWeights.{row_weight, whole_chain, whole_level}
 
@@ -60,6 +60,7 @@ of_plan stage first chain levels root one are t =
     let sum : chain_cost units jobs chain ≡ cost_of units w.chain = played_cost units jobs chain ∙ ap (cost_of units) synths in
     let goes : is_chain jobs chain ≡ true = (and_parts (is_chain jobs chain) (are_levels units jobs levels && (chain_cost units jobs chain == greatest)) (traced_certified units jobs levels are chain t)).0 in
     let longest : IsLongest units jobs w = record {
+      once = subst AreOnce synths (chain_once jobs are chain (once_played stage first one) goes);
       cost_is = sym level ∙ (sym cost ∙ sum);
       line = subst (AreInLine jobs) synths (chain_in_line jobs chain (once_played stage first one) goes);
       most = λ ids once line. let most : cost_of units ids ≤ greatest = line_most units jobs levels are t.least ids once line in omega arith;

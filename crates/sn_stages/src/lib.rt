@@ -1,7 +1,9 @@
-//! Tests of the calls on stages that no program reaches: plans and feet. They stand above all crates that they try, so that each is
-//! proved once.
+//! Tests of the calls on stages that no program reaches: plans, feet, and certificates of longest chains. They stand above
+//! all crates that they try, so that each is proved once.
 #![tactic(auto)]
 
+#[cfg(test)]
+mod certificates;
 #[cfg(test)]
 mod feet;
 #[cfg(test)]

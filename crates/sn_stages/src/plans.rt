@@ -56,8 +56,9 @@ pub fn all_end(tree: &Tree<Held>) -> bool
 /// The first word of the lanes.
 const FIRST_LANE: u32 = 40_000;
 
-/// The plan of the nodes with so many lanes, or nothing where a state ends behind the words. There are no buffers.
-pub fn planned(alloc: Global, tree: Tree<Held>, most: u32) -> Result<Option<Plan>, NoMemory>
+/// The stage of the nodes and its plan with so many lanes, or nothing if a state ends behind the words. There are no
+/// buffers.
+pub fn staged(alloc: Global, tree: Tree<Held>, most: u32) -> Result<Option<(Stage, Plan)>, NoMemory>
     requires most { most ≤ most_lanes }
 {
     if !all_end(&tree) {
@@ -70,7 +71,18 @@ pub fn planned(alloc: Global, tree: Tree<Held>, most: u32) -> Result<Option<Plan
         first: FIRST_LANE,
         most,
     };
-    Ok(Some(plan(alloc, &stage, found.as_slice(), lanes)?))
+    let plan = plan(alloc, &stage, found.as_slice(), lanes)?;
+    Ok(Some((stage, plan)))
+}
+
+/// The plan of the nodes, as [`staged`] gives it.
+pub fn planned(alloc: Global, tree: Tree<Held>, most: u32) -> Result<Option<Plan>, NoMemory>
+    requires most { most ≤ most_lanes }
+{
+    match staged(alloc, tree, most)? {
+        Some((_stage, plan)) => Ok(Some(plan)),
+        None => Ok(None),
+    }
 }
 
 /// A synth that mixes an audio bus, with two words of state from word `at` on.
@@ -104,7 +116,7 @@ pub fn put(tree: &mut Tree<Held>, id: i32, kind: NodeKind, target: i32, held: He
 
 /// What a node is. A tone has the bus that it mixes.
 #[derive(Clone, Copy)]
-enum Sort {
+pub enum Sort {
     Group,
     Parallel,
     Tone(u8),
@@ -112,7 +124,7 @@ enum Sort {
 
 /// A node with its id, in a group.
 #[derive(Clone, Copy)]
-struct Node(u8, Sort, u8);
+pub struct Node(u8, Sort, u8);
 
 /// Puts a node at the tail of its group. A tone has two words of state behind those of the tones with lower ids.
 fn put_node(alloc: Global, tree: &mut Tree<Held>, node: Node) -> Result<bool, AllocError>
@@ -141,12 +153,12 @@ fn pause(tree: &mut Tree<Held>, id: u8) -> bool
 
 /// Nodes, each put at the tail of its group, and the paused ones among them.
 #[derive(Drop)]
-struct Shape<'a> {
+pub struct Shape<'a> {
     nodes: &'a [Node],
     paused: &'a [u8],
 }
 
-fn tree_of(alloc: Global, shape: &Shape<'_>) -> Result<Option<Tree<Held>>, NoMemory> {
+pub fn tree_of(alloc: Global, shape: &Shape<'_>) -> Result<Option<Tree<Held>>, NoMemory> {
     let mut tree = Tree::new(alloc, Held::Group)?;
     let mut all = true;
     for node in shape.nodes {
@@ -194,8 +206,8 @@ fn are(plan: &Plan, wanted: &[(&[i32], &[u32])]) -> bool {
 }
 
 #[derive(Drop)]
-struct Case<'a> {
-    shape: Shape<'a>,
+pub struct Case<'a> {
+    pub shape: Shape<'a>,
     jobs: &'a [(&'a [i32], &'a [u32])],
 }
 
@@ -212,7 +224,7 @@ const PAUSED: Shape<'_> = Shape {
 };
 
 /// Three members of a parallel group, and what follows it.
-const THREE: Case<'_> = Case {
+pub const THREE: Case<'_> = Case {
     shape: Shape {
         nodes: &[
             Node(50, Sort::Parallel, 0),

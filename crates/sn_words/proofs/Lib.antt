@@ -1,5 +1,6 @@
 pub mod DrillLine
 pub mod FirstBad
+pub mod GoodLine
 pub mod Loops
 pub mod Passing
 pub mod RenderLine

@@ -1,16 +1,11 @@
 -- Answers that stand behind tests, and words of which none is bad.
-use Rattle.std.proofs.Common.{◌≡◌, ◌≤◌, ℕ, Bool, true, false, not, cond, nat_lt, List, [], length, Option, Some, None, Result, Ok, Err, refl, sym, subst, ◌∙◌}
+use Rattle.std.proofs.Common.{◌≡◌, ◌≤◌, ℕ, Bool, true, false, not, cond, nat_lt, List, [], length, Option, Some, None, refl, sym, subst, ◌∙◌}
 use Rattle.std.proofs.lemmas.Bool.{true≢false, le-ltb, ltb-false}
 use Rattle.sn_ports.specs.Octets.{Octets}
 use Rattle.sn_words.specs.declared.keys.Key.{Key}
 use Rattle.sn_words.specs.Keys.{first_bad}
 use Rattle.sn_words.specs.Laws.{AreGood, Tells}
 use Rattle.sn_words.proofs.FirstBad.{finds_first_bad}
-
--- the last of the choices, and its test failed
-pub passed : {A : Type 0} (test : Bool) (i : ℕ) (rest : Result A ℕ) (chosen : A) → cond test (Err i) rest ≡ Ok chosen → (test ≡ false) × (rest ≡ Ok chosen)
-passed true i rest chosen e = absurd cc
-passed false i rest chosen e = (refl, e)
 
 pub went_on : {A : Type 0} (test : Bool) (first rest : A) → test ≡ false → cond test first rest ≡ rest
 went_on true first rest e = absurd cc

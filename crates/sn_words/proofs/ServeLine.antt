@@ -1,5 +1,5 @@
 -- What words that choose settings and a port are.
-use Rattle.std.proofs.Common.{◌≡◌, ◌≤◌, ℕ, Bool, true, false, not, cond, nat_lt, nat_le, List, [], length, Option, Some, None, Ok, Err, refl, sym, ap, subst, ◌∙◌, arith}
+use Rattle.std.proofs.Common.{◌≡◌, ◌≤◌, ℕ, Bool, true, false, cond, nat_le, List, Option, Some, None, Ok, refl, sym, ap, subst, ◌∙◌, arith}
 use Rattle.std.proofs.lemmas.Bool.{and_from, le-leb}
 use Rattle.std.proofs.lemmas.Bool.Decides.{nat_tests}
 use Rattle.std.specs.Prelude.{codes}
@@ -7,20 +7,21 @@ use Rattle.sn_fixed.specs.Natural.{natural}
 use Rattle.sn_pcm.specs.Allowed.{is_within}
 use Rattle.sn_ports.specs.Octets.{Octets}
 use Rattle.sn_words.specs.declared.keys.Key.{Key}
-use Rattle.sn_words.specs.Keys.{serve_keys, first_bad, choices, value_of}
+use Rattle.sn_words.specs.Keys.{serve_keys, choices, value_of}
 use Rattle.sn_words.specs.Laws.{IsServeLine, ServesBy}
-use Rattle.sn_words.specs.Serving.{ServeChoices, between, port_word, port_of, by_port, by_settings, serve_words_of}
-use Rattle.sn_words.specs.Words.{begins_with}
-use Rattle.sn_words.proofs.Passing.{passed, went_on, chosen_where, negated, is_negated, not_fewer, not_short, all_good, none_is_bad}
+use Rattle.sn_words.specs.Serving.{ServeChoices, port_word, port_of, by_port, by_settings, serve_words_of}
+use Rattle.sn_words.specs.Words.{bad_word, between}
+use Rattle.sn_words.proofs.GoodLine.{is_line, no_bad_word}
+use Rattle.sn_words.proofs.Passing.{chosen_where}
 
 none_bad : (words : List Octets) (bad : Option ℕ) (chosen : ServeChoices) → by_settings words bad ≡ Ok chosen → (bad ≡ None) × (by_port words (port_of (natural (port_word words))) ≡ Ok chosen)
 none_bad words None chosen e = (refl, e)
 none_bad words (Some i) chosen e = absurd cc
 
-has_port : (words : List Octets) (port : Option ℕ) (chosen : ServeChoices) → by_port words port ≡ Ok chosen → (port ≡ Some chosen.port) × (chosen.settings ≡ choices (between words)) × (chosen.clients ≡ value_of (between words) Key.Clients)
+has_port : (words : List Octets) (port : Option ℕ) (chosen : ServeChoices) → by_port words port ≡ Ok chosen → (port ≡ Some chosen.port) × (chosen.settings ≡ choices (between 2 words)) × (chosen.clients ≡ value_of (between 2 words) Key.Clients)
 has_port words None chosen e = absurd cc
 has_port words (Some n) chosen e =
-    let same : record { settings = choices (between words); port = n; clients = value_of (between words) Key.Clients } ≡ chosen = cc in
+    let same : record { settings = choices (between 2 words); port = n; clients = value_of (between 2 words) Key.Clients } ≡ chosen = cc in
     (ap (λ (c : ServeChoices). Some c.port) same, sym (ap (λ (c : ServeChoices). c.settings) same), sym (ap (λ (c : ServeChoices). c.clients) same))
 
 in_range : (n : ℕ) (test : Bool) (port : ℕ) → is_within 1 65535 n ≡ test → cond test (Some n) None ≡ Some port → (n ≡ port) × (1 ≤ n) × (n ≤ 65535)
@@ -38,21 +39,17 @@ allowed_port : (port : ℕ) → 1 ≤ port → port ≤ 65535 → port_of (Some 
 allowed_port port least greatest =
     chosen_where (is_within 1 65535 port) (Some port) None (and_from (nat_le 1 port) (nat_le port 65535) (le-leb 1 port least) (le-leb port 65535 greatest))
 
-by_choice : (words : List Octets) (port : Option ℕ) (chosen : ServeChoices) → port ≡ Some chosen.port → chosen.settings ≡ choices (between words) → chosen.clients ≡ value_of (between words) Key.Clients → by_port words port ≡ Ok chosen
+by_choice : (words : List Octets) (port : Option ℕ) (chosen : ServeChoices) → port ≡ Some chosen.port → chosen.settings ≡ choices (between 2 words) → chosen.clients ≡ value_of (between 2 words) Key.Clients → by_port words port ≡ Ok chosen
 by_choice words port chosen is same many = ap (by_port words) is ∙ (λ i. Ok (record { settings = sym same i; port = chosen.port; clients = sym many i }))
 
 line_of : (words : List Octets) (chosen : ServeChoices) → serve_words_of words ≡ Ok chosen → IsServeLine words chosen
 unfolding serve_words_of
 line_of words chosen e =
-    let (first, e1) = passed (not (begins_with (codes "serve") words)) 0 _ chosen e in
-    let (enough, e2) = passed (nat_lt (length words) 3) (length words) _ chosen e1 in
-    let (none, e3) = none_bad words (first_bad serve_keys [] (between words)) chosen e2 in
-    let (port, settings, clients) = has_port words (port_of (natural (port_word words))) chosen e3 in
+    let (none, e1) = none_bad words (bad_word serve_keys (codes "serve") 2 words) chosen e in
+    let (port, settings, clients) = has_port words (port_of (natural (port_word words))) chosen e1 in
     let (number, least, greatest) = is_number (natural (port_word words)) chosen.port port in
     record {
-      first = negated (begins_with (codes "serve") words) first;
-      enough = not_fewer (length words) 3 enough;
-      good = all_good serve_keys (between words) none;
+      line = is_line serve_keys (codes "serve") 2 words none;
       settings = settings;
       clients = clients;
       port = number;
@@ -63,9 +60,7 @@ line_of words chosen e =
 of_line : (words : List Octets) (chosen : ServeChoices) → IsServeLine words chosen → serve_words_of words ≡ Ok chosen
 unfolding serve_words_of
 of_line words chosen line =
-    went_on (not (begins_with (codes "serve") words)) (Err 0) _ (is_negated (begins_with (codes "serve") words) line.first)
-    ∙ went_on (nat_lt (length words) 3) (Err (length words)) _ (not_short (length words) 3 line.enough)
-    ∙ ap (by_settings words) (none_is_bad serve_keys (between words) line.good)
+    ap (by_settings words) (no_bad_word serve_keys (codes "serve") 2 words line.line)
     ∙ by_choice words (port_of (natural (port_word words))) chosen (ap port_of line.port ∙ allowed_port chosen.port line.least line.greatest) line.settings line.clients
 
 pub serves_by : (words : List Octets) (chosen : ServeChoices) → ServesBy words chosen

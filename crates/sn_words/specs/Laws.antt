@@ -5,10 +5,10 @@ use Rattle.sn_ports.specs.Octets.{Octets}
 use Rattle.sn_pcm.specs.Opening.{opening}
 use Rattle.sn_words.specs.Choices.{Choices, numbers}
 use Rattle.sn_words.specs.declared.keys.Key.{Key}
-use Rattle.sn_words.specs.Drilling.{DrillChoices, drill_words_of, given_words}
+use Rattle.sn_words.specs.Drilling.{DrillChoices, drill_words_of}
 use Rattle.sn_words.specs.Keys.{setting_keys, serve_keys, drill_keys, is_good, first_bad, choices, value_of}
-use Rattle.sn_words.specs.Serving.{ServeChoices, between, port_word, serve_words_of}
-use Rattle.sn_words.specs.Words.{begins_with, no_word, plan_words_of, settings_of, between as settings_between}
+use Rattle.sn_words.specs.Serving.{ServeChoices, port_word, serve_words_of}
+use Rattle.sn_words.specs.Words.{begins_with, between, no_word, plan_words_of, settings_of}
 
 -- The word with this index is good after the words before it, where these are the keys.
 abbrev pub is_good_at : List Key → List Octets → ℕ → Bool
@@ -31,28 +31,30 @@ FindsFirstBad keys words = Tells keys words (first_bad keys [] words)
 abbrev pub HasOpeningDefaults : Type 0
 HasOpeningDefaults = choices [] ≡ numbers opening
 
--- a name, good words and so many more words
-pub record IsLine (name : List ℕ) (paths : ℕ) (words : List Octets) (chosen : Choices) : Type 0 where
+-- a name, words that are good for these keys, and so many more words
+pub record IsLine (keys : List Key) (name : List ℕ) (last : ℕ) (words : List Octets) : Type 0 where
   pub first : begins_with name words ≡ true
-  pub enough : paths + 1 ≤ length words
-  pub good : AreGood setting_keys (settings_between paths words) (length (settings_between paths words))
-  pub settings : chosen ≡ choices (settings_between paths words)
+  pub enough : last + 1 ≤ length words
+  pub good : AreGood keys (between last words) (length (between last words))
+
+-- a name, good words that choose these settings, and so many paths
+pub record ChoosesBy (name : List ℕ) (paths : ℕ) (words : List Octets) (chosen : Choices) : Type 0 where
+  pub line : IsLine setting_keys name paths words
+  pub settings : chosen ≡ choices (between paths words)
 
 -- `render`, good words and three more words
 abbrev pub RendersBy : List Octets → Choices → Type 0
-RendersBy words chosen = (settings_of words ≡ Ok chosen) ↔ IsLine (codes "render") 3 words chosen
+RendersBy words chosen = (settings_of words ≡ Ok chosen) ↔ ChoosesBy (codes "render") 3 words chosen
 
 -- `plan`, good words and two more words
 abbrev pub PlansBy : List Octets → Choices → Type 0
-PlansBy words chosen = (plan_words_of words ≡ Ok chosen) ↔ IsLine (codes "plan") 2 words chosen
+PlansBy words chosen = (plan_words_of words ≡ Ok chosen) ↔ ChoosesBy (codes "plan") 2 words chosen
 
 -- `serve`, good words, a port from 1 to 65535 and one more word
 pub record IsServeLine (words : List Octets) (chosen : ServeChoices) : Type 0 where
-  pub first : begins_with (codes "serve") words ≡ true
-  pub enough : 3 ≤ length words
-  pub good : AreGood serve_keys (between words) (length (between words))
-  pub settings : chosen.settings ≡ choices (between words)
-  pub clients : chosen.clients ≡ value_of (between words) Key.Clients
+  pub line : IsLine serve_keys (codes "serve") 2 words
+  pub settings : chosen.settings ≡ choices (between 2 words)
+  pub clients : chosen.clients ≡ value_of (between 2 words) Key.Clients
   pub port : natural (port_word words) ≡ Some chosen.port
   pub least : 1 ≤ chosen.port
   pub greatest : chosen.port ≤ 65535
@@ -62,11 +64,10 @@ ServesBy words chosen = (serve_words_of words ≡ Ok chosen) ↔ IsServeLine wor
 
 -- `drill` and good words
 pub record IsDrillLine (words : List Octets) (chosen : DrillChoices) : Type 0 where
-  pub first : begins_with (codes "drill") words ≡ true
-  pub good : AreGood drill_keys (given_words words) (length (given_words words))
-  pub settings : chosen.settings ≡ choices (given_words words)
-  pub seed : chosen.seed ≡ value_of (given_words words) Key.Seed
-  pub blocks : chosen.blocks ≡ value_of (given_words words) Key.Blocks
+  pub line : IsLine drill_keys (codes "drill") 0 words
+  pub settings : chosen.settings ≡ choices (between 0 words)
+  pub seed : chosen.seed ≡ value_of (between 0 words) Key.Seed
+  pub blocks : chosen.blocks ≡ value_of (between 0 words) Key.Blocks
 
 abbrev pub DrillsBy : List Octets → DrillChoices → Type 0
 DrillsBy words chosen = (drill_words_of words ≡ Ok chosen) ↔ IsDrillLine words chosen

@@ -1,12 +1,13 @@
 //! The words `drill [seed=N] [blocks=M] [key=value ..]`.
-ghost use Rattle.std.specs.Prelude.{◌≡◌, ◌≤◌, ◌<◌, ◌^◌, length, Ok, Err, IsTrue, IfOk, IfErr};
+ghost use Rattle.std.specs.Prelude.{◌≡◌, ◌<◌, ◌^◌, length, Ok, Err, IsTrue, IfOk, IfErr};
 ghost use Rattle.sn_pcm.specs.Allowed.{is_within};
 ghost use Rattle.sn_words.specs.Choices.{numbers};
-ghost use Rattle.sn_words.specs.Drilling.{given_words, drill_words_of};
+ghost use Rattle.sn_words.specs.Drilling.{drill_words_of};
 
-use crate::choices::{chosen, first_bad, value_of};
+use crate::choices::{chosen, value_of};
 use crate::keys::{Key, drill_keys};
-use crate::lines::{BadWord, begins_with};
+use crate::lines::BadWord;
+use crate::paths::{bad_word, between};
 use sn_pcm::Settings;
 use sn_ports::Word;
 
@@ -20,14 +21,6 @@ pub struct DrillWords {
     /// How many blocks are played: 1 to 20,000.
     pub blocks: u32,
     pub ghost blocks_are: { IsTrue (is_within 1 20000 blocks) },
-}
-
-/// The words behind the first one.
-fn given_words(words: &[Word]) -> &[Word]
-    requires { 1 ≤ length words.now }
-    ensures { result.now ≡ given_words words.now }
-{
-    &words[1..]
 }
 
 /// The drill that the words `drill [seed=N] [blocks=M] [key=value ..]` choose.
@@ -44,15 +37,12 @@ pub fn drill_words(words: &[Word]) -> Result<DrillWords, BadWord>
     ensures ok { IfOk result (λ d. drill_words_of words.now ≡ Ok (record { settings = numbers d.settings; seed = d.seed; blocks = d.blocks })) }
     ensures err { IfErr result (λ b. drill_words_of words.now ≡ Err b.index) }
 {
-    if !begins_with(b"drill", words) {
-        return Err(BadWord { index: 0 });
-    }
-    let given = given_words(words);
-    if let Some(at) = first_bad(&drill_keys(), given) {
+    if let Some(index) = bad_word(&drill_keys(), b"drill", 0, words) {
         return Err(BadWord {
-            index: at as u32 + 1,
+            index: index as u32,
         });
     }
+    let given = between(words, 0);
     Ok(DrillWords {
         settings: chosen(given),
         seed: value_of(given, Key::Seed),

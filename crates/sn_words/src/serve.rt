@@ -4,11 +4,12 @@ ghost use Rattle.sn_ports.specs.Limits.{most_clients};
 ghost use Rattle.sn_pcm.specs.Allowed.{is_within};
 ghost use Rattle.sn_fixed.specs.Natural.{natural};
 ghost use Rattle.sn_words.specs.Choices.{numbers};
-ghost use Rattle.sn_words.specs.Serving.{between, port_word, port_of, serve_words_of};
+ghost use Rattle.sn_words.specs.Serving.{port_word, port_of, serve_words_of};
 
-use crate::choices::{chosen, first_bad, value_of};
+use crate::choices::{chosen, value_of};
 use crate::keys::{Key, serve_keys};
-use crate::lines::{BadWord, begins_with};
+use crate::lines::BadWord;
+use crate::paths::{bad_word, between};
 use sn_fixed::natural;
 use sn_pcm::Settings;
 use sn_ports::Word;
@@ -23,14 +24,6 @@ pub struct ServeWords {
     /// How many clients are served at once: 1 to 4.
     pub clients: u32,
     pub ghost clients_are: { IsTrue (is_within 1 most_clients clients) },
-}
-
-/// The words between the first one and the last two.
-fn between(words: &[Word]) -> &[Word]
-    requires { 3 ≤ length words.now }
-    ensures { result.now ≡ between words.now }
-{
-    &words[1..words.len() - 2]
 }
 
 /// The word before the last.
@@ -67,24 +60,20 @@ pub fn serve_words(words: &[Word]) -> Result<ServeWords, BadWord>
     ensures err { IfErr result (λ b. serve_words_of words.now ≡ Err b.index) }
     ensures port { IfOk result (λ s. 0 < s.port) }
 {
-    if !begins_with(b"serve", words) {
-        return Err(BadWord { index: 0 });
-    }
-    let count = words.len() as u32;
-    if count < 3 {
-        return Err(BadWord { index: count });
-    }
-    if let Some(at) = first_bad(&serve_keys(), between(words)) {
+    if let Some(index) = bad_word(&serve_keys(), b"serve", 2, words) {
         return Err(BadWord {
-            index: at as u32 + 1,
+            index: index as u32,
         });
     }
+    let given = between(words, 2);
     match port_of(port_word(words)) {
         Some(port) => Ok(ServeWords {
-            settings: chosen(between(words)),
+            settings: chosen(given),
             port,
-            clients: value_of(between(words), Key::Clients),
+            clients: value_of(given, Key::Clients),
         }),
-        None => Err(BadWord { index: count - 2 }),
+        None => Err(BadWord {
+            index: words.len() as u32 - 2,
+        }),
     }
 }

@@ -1,5 +1,5 @@
 -- The bytes of a source have one answer.
-use Rattle.std.proofs.Common.{◌≡◌, ◌≤◌, ◌⊎◌, ℕ, List, length, Option, Some, None, Ok, refl, sym, ap, subst, ◌∙◌, arith, inl, inr}
+use Rattle.std.proofs.Common.{◌≡◌, ◌<◌, ◌≤◌, ◌⊎◌, ℕ, List, length, Option, Some, None, Ok, refl, sym, ap, subst, ◌∙◌, arith, inl, inr}
 use Rattle.std.specs.Prelude.{IfSome}
 use Rattle.sn_osc.specs.declared.fault.StreamFault.{StreamFault}
 use Rattle.sn_osc.specs.Shape.{Shape}
@@ -79,7 +79,7 @@ one_answer c given (Done n) b h k = absurd k
 pub complete : (c : Conversion) (source : Option (List ℕ)) (result answer : Converted) (given : List ℕ) → IsAnswer c source result → source ≡ Some given → HasAnswer c given answer
     → (result ≡ ReadFault → ⊥) → (result ≡ OutFault → ⊥) → (result ≡ answer) ⊎ (result ≡ NoMemory)
 complete c source (Done n) answer given is some has read out = inl (one_answer c given (Done n) answer (told (λ b. HasAnswer c b (Done n)) source given some is) has)
-complete c source (LongStream n) answer given is some has read out = inl (one_answer c given (LongStream n) answer (told (λ b. HasAnswer c b (LongStream n)) source given some is) has)
+complete c source (LongStream n) answer given is some has read out = inl (one_answer c given (LongStream n) answer (is.0, told (λ b. 16777216 < length b) source given some is.1) has)
 complete c source (BadStream packet place fault) answer given is some has read out =
     inl (one_answer c given (BadStream packet place fault) answer (told (λ b. HasAnswer c b (BadStream packet place fault)) source given some is) has)
 complete c source (BadScore line) answer given is some has read out = inl (one_answer c given (BadScore line) answer (told (λ b. HasAnswer c b (BadScore line)) source given some is) has)

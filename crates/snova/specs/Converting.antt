@@ -42,9 +42,9 @@ HasAnswer c given (BadWords i) = ⊥
 HasAnswer c given ReadFault = ⊥
 HasAnswer c given OutFault = ⊥
 
--- an answer of one of these four kinds is the one of the bytes, where the source tells them
+-- An answer of one of these four kinds is the one of the bytes, where the source tells them. `LongStream` has its number told or not.
 abbrev pub IsAnswer : Conversion → Option (List ℕ) → Converted → Type 0
-IsAnswer c source (LongStream n) = IfSome source (λ given. HasAnswer c given (LongStream n))
+IsAnswer c source (LongStream n) = (n ≡ most_stream + 1) × IfSome source (λ given. most_stream < length given)
 IsAnswer c source (BadStream packet place fault) = IfSome source (λ given. HasAnswer c given (BadStream packet place fault))
 IsAnswer c source (BadScore line) = IfSome source (λ given. HasAnswer c given (BadScore line))
 IsAnswer c source (Done n) = IfSome source (λ given. HasAnswer c given (Done n))

@@ -1,13 +1,17 @@
 //! The files that the words of a rendering name.
-ghost use Rattle.std.specs.Prelude.{◌≡◌, ◌<◌, ◌^◌, length, IsTrue, IsOk};
+ghost use Rattle.std.specs.Prelude.{◌≡◌, ◌<◌, ◌^◌, ℕ, Err, length, IsTrue, IsOk};
+ghost use Rattle.sn_render.specs.declared.outcome.Outcome.{Outcome};
 ghost use Rattle.sn_words.specs.Words.{settings_of};
 ghost use Rattle.snova.specs.Paths.{are_apart};
+ghost use Rattle.snova.specs.declared.exit.Exit.{Exit};
+ghost use Rattle.snova.specs.declared.shelving.ShelfOutcome.{ShelfOutcome};
 
 use crate::exit::Exit;
 use crate::progress::Progress;
 use crate::shelving::{ShelfOutcome, run_shelf};
-use sn_ports::{Calls, FileSink, FileSource, MemorySink, MemorySource, NoMemory, Open, Text, Word};
-use sn_shelf::{FolderShelf, MemoryShelf};
+use sn_ports::{FileSink, FileSource, Open, Word};
+use sn_server::Outcome;
+use sn_shelf::FolderShelf;
 use sn_words::settings;
 use std::io::Eprint;
 use std::rt::Files;
@@ -52,42 +56,21 @@ fn run_on_files<H: Files + Clock + Eprint + AllocGlobal + Threads + Sync>(
     Ok(outcome)
 }
 
-/// Runs over nothing, for words that are refused.
-fn run_on_nothing<H: AllocGlobal + Threads + Sync>(
-    rt: &H,
-    words: &[Word],
-) -> Result<ShelfOutcome, NoMemory>
-    requires { length words.now < 2 ^ 32 }
-{
-    let alloc = rt.alloc();
-    let mut source = MemorySource::new(Text::new(alloc), 1, Calls::from_vec(Vec::new(alloc)));
-    let mut sound = MemorySink::new(alloc, 0, 1, Calls::from_vec(Vec::new(alloc)))?;
-    let mut replies = MemorySink::new(alloc, 0, 1, Calls::from_vec(Vec::new(alloc)))?;
-    let mut shelf = MemoryShelf::new(Vec::new(alloc), Calls::from_vec(Vec::new(alloc)));
-    Ok(run_shelf(
-        rt,
-        alloc,
-        words,
-        &mut source,
-        &mut shelf,
-        &mut sound,
-        &mut replies,
-        &Open,
-    ))
-}
-
-/// Renders the file at the first path, for words that choose settings. Two paths that are spelled alike are refused,
-/// since one file would be written over the other.
+/// Renders the file at the first of the paths, the last three of words that choose settings. Two paths that are
+/// spelled alike are refused, since one file would be written over the other.
 fn render_paths<H: Files + Clock + Eprint + AllocGlobal + Threads + Sync>(
     rt: &H,
+    args: &[String],
     words: &[Word],
-    paths: [&str; 3],
     is_watched: bool,
 ) -> Exit
     requires room { length words.now < 2 ^ 32 }
     requires accepted { IsOk (settings_of words.now) }
 {
-    let [commands, sound, replies] = paths;
+    let [.., commands, sound, replies] = args else {
+        return Exit::NotOpened;
+    };
+    let (commands, sound, replies) = (commands.as_str(), sound.as_str(), replies.as_str());
     if !are_apart(commands, sound, replies) {
         return Exit::NotOpened;
     }
@@ -104,16 +87,12 @@ pub(crate) fn render_files<H: Files + Clock + Eprint + AllocGlobal + Threads + S
     args: &[String],
     words: &[Word],
     is_watched: bool,
-) -> Result<Exit, NoMemory>
+) -> Exit
     requires { length words.now < 2 ^ 32 }
+    ensures { (i : ℕ) → settings_of words.now ≡ Err i → result ≡ Exit.Rendered (ShelfOutcome.Ran (Outcome.BadWords i)) }
 {
-    match (settings(words), args) {
-        (Ok(_), [.., commands, sound, replies]) => Ok(render_paths(
-            rt,
-            words,
-            [commands.as_str(), sound.as_str(), replies.as_str()],
-            is_watched,
-        )),
-        _ => Ok(Exit::Rendered(run_on_nothing(rt, words)?)),
+    match settings(words) {
+        Ok(_) => render_paths(rt, args, words, is_watched),
+        Err(bad) => Exit::Rendered(ShelfOutcome::Ran(Outcome::BadWords { index: bad.index })),
     }
 }

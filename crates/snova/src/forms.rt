@@ -1,11 +1,13 @@
 //! The files that the words of a conversion name.
-ghost use Rattle.std.specs.Prelude.{◌≡◌, ◌<◌, ◌^◌, length, IsTrue, IsOk};
+ghost use Rattle.std.specs.Prelude.{◌≡◌, ◌<◌, ◌^◌, ℕ, Err, length, IsTrue, IsOk};
 ghost use Rattle.sn_words.specs.Converting.{convert_words_of};
 ghost use Rattle.snova.specs.Paths.{is_other};
+ghost use Rattle.snova.specs.declared.converting.Converted.{Converted};
+ghost use Rattle.snova.specs.declared.exit.Exit.{Exit};
 
 use crate::converting::{Converted, convert};
 use crate::exit::Exit;
-use sn_ports::{Calls, FileSink, FileSource, MemorySink, MemorySource, NoMemory, Text, Word};
+use sn_ports::{FileSink, FileSource, Word};
 use sn_words::convert_words;
 use std::rt::Files;
 use std::{fs, io};
@@ -33,22 +35,16 @@ fn convert_on_files<H: Files + AllocGlobal>(
     Ok(convert(rt.alloc(), words, &mut source, &mut out))
 }
 
-/// Converts nothing, for words that are refused.
-fn convert_on_nothing<H: AllocGlobal>(rt: &H, words: &[Word]) -> Result<Converted, NoMemory>
-    requires { length words.now < 2 ^ 32 }
-{
-    let alloc = rt.alloc();
-    let mut source = MemorySource::new(Text::new(alloc), 1, Calls::from_vec(Vec::new(alloc)));
-    let mut out = MemorySink::new(alloc, 0, 1, Calls::from_vec(Vec::new(alloc)))?;
-    Ok(convert(alloc, words, &mut source, &mut out))
-}
-
-/// Converts the file at one path into that at the other, for words that choose a conversion. Two paths that are spelled
-/// alike are refused, since the file would be written over itself.
-fn convert_paths<H: Files + AllocGlobal>(rt: &H, words: &[Word], given: &str, made: &str) -> Exit
+/// Converts the file at one path into that at the other, the last two of words that choose a conversion. Two paths
+/// that are spelled alike are refused, since the file would be written over itself.
+fn convert_paths<H: Files + AllocGlobal>(rt: &H, args: &[String], words: &[Word]) -> Exit
     requires room { length words.now < 2 ^ 32 }
     requires accepted { IsOk (convert_words_of words.now) }
 {
+    let [.., given, made] = args else {
+        return Exit::NotOpened;
+    };
+    let (given, made) = (given.as_str(), made.as_str());
     if !is_other(given, made) {
         return Exit::NotOpened;
     }
@@ -58,18 +54,13 @@ fn convert_paths<H: Files + AllocGlobal>(rt: &H, words: &[Word], given: &str, ma
     }
 }
 
-/// Converts the file that the words name. Where they are refused no file is opened.
-pub(crate) fn convert_files<H: Files + AllocGlobal>(
-    rt: &H,
-    args: &[String],
-    words: &[Word],
-) -> Result<Exit, NoMemory>
+/// Converts the file that the words name. If they are refused no file is opened.
+pub(crate) fn convert_files<H: Files + AllocGlobal>(rt: &H, args: &[String], words: &[Word]) -> Exit
     requires { length words.now < 2 ^ 32 }
+    ensures { (i : ℕ) → convert_words_of words.now ≡ Err i → result ≡ Exit.Converted (Converted.BadWords i) }
 {
-    match (convert_words(words), args) {
-        (Ok(_), [.., given, made]) => {
-            Ok(convert_paths(rt, words, given.as_str(), made.as_str()))
-        }
-        _ => Ok(Exit::Converted(convert_on_nothing(rt, words)?)),
+    match convert_words(words) {
+        Ok(_) => convert_paths(rt, args, words),
+        Err(bad) => Exit::Converted(Converted::BadWords { index: bad.index }),
     }
 }

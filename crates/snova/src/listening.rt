@@ -1,5 +1,5 @@
 //! The connection at a port is served, or several of them.
-ghost use Rattle.std.specs.Prelude.{◌≡◌, ◌<◌, ◌^◌, length, Ok, IfOk};
+ghost use Rattle.std.specs.Prelude.{◌≡◌, ◌<◌, ◌^◌, ℕ, length, Err, Ok, IfOk};
 ghost use Rattle.std.specs.Duration.{as_nanos};
 ghost use Rattle.sn_pcm.specs.declared.settings.Settings.{Settings};
 ghost use Rattle.sn_server.specs.Served.{GivesEnd};
@@ -8,12 +8,13 @@ ghost use Rattle.sn_words.specs.Choices.{numbers};
 ghost use Rattle.sn_words.specs.Serving.{serve_words_of};
 ghost use Rattle.snova.specs.Clock.{time_tag};
 ghost use Rattle.snova.specs.Connection.{AreServed};
+ghost use Rattle.snova.specs.declared.exit.Exit.{Exit};
 
 use crate::clock::{Reading, now};
 use crate::exit::Exit;
 use crate::serving::{Served, serve};
 use crate::several::serve_several;
-use sn_ports::{Calls, FileSink, Link, MemorySink, NoMemory, Open, PlayedLink, Sink, Word};
+use sn_ports::{FileSink, Link, Open, Sink, Word};
 use sn_tcp::TcpLink;
 use sn_words::{ServeWords, serve_words};
 use std::io::{Read, Write};
@@ -69,20 +70,8 @@ fn serve_on_port<H: Files + Clock + Net + AllocGlobal + Threads + Sync>(
     Ok(serve_since(rt, words, start, &mut link, &mut sound))
 }
 
-/// Serves nothing, for words that are refused.
-fn serve_on_nothing<H: AllocGlobal + Threads + Sync>(
-    rt: &H,
-    words: &[Word],
-) -> Result<Served, NoMemory>
-    requires { length words.now < 2 ^ 32 }
-{
-    let alloc = rt.alloc();
-    let mut link = PlayedLink::new(alloc, Vec::new(alloc), 0, Calls::from_vec(Vec::new(alloc)))?;
-    let mut sound = MemorySink::new(alloc, 0, 1, Calls::from_vec(Vec::new(alloc)))?;
-    Ok(serve(rt, alloc, words, 0, &mut link, &mut sound, &Open))
-}
-
-/// Serves the one connection, or the several at once, that the words choose.
+/// Serves the one connection, or the several at once, that the words choose, and writes the sound at the path that is
+/// the last word.
 fn serve_chosen<
     H: Files
         + Clock
@@ -91,17 +80,21 @@ fn serve_chosen<
         + Threads
         + Wait
         + Sync,
->(rt: &H, words: &[Word], chosen: &ServeWords, sound: &str) -> io::Result<Exit>
+>(rt: &H, args: &[String], words: &[Word], chosen: &ServeWords) -> io::Result<Exit>
     requires room { length words.now < 2 ^ 32 }
     requires accepted { serve_words_of words.now ≡ Ok (record { settings = numbers chosen.now.settings; port = chosen.now.port; clients = chosen.now.clients }) }
 {
+    let [.., sound] = args else {
+        return Ok(Exit::NotOpened);
+    };
+    let sound = sound.as_str();
     if chosen.clients == 1 {
         return Ok(Exit::Served(serve_on_port(rt, words, chosen, sound)?));
     }
     Ok(Exit::Session(serve_several(rt, chosen, sound)?))
 }
 
-/// Serves what comes to the port that the words name. Where they are refused nothing is opened.
+/// Serves what comes to the port that the words name. If they are refused nothing is opened.
 pub(crate) fn serve_port<
     H: Files
         + Clock
@@ -110,14 +103,12 @@ pub(crate) fn serve_port<
         + Threads
         + Wait
         + Sync,
->(rt: &H, args: &[String], words: &[Word]) -> Result<Exit, NoMemory>
+>(rt: &H, args: &[String], words: &[Word]) -> Exit
     requires { length words.now < 2 ^ 32 }
+    ensures { (i : ℕ) → serve_words_of words.now ≡ Err i → result ≡ Exit.Served (Served.BadWords i) }
 {
-    match (serve_words(words), args) {
-        (Ok(chosen), [.., sound]) => match serve_chosen(rt, words, &chosen, sound.as_str()) {
-            Ok(exit) => Ok(exit),
-            Err(_) => Ok(Exit::NotOpened),
-        },
-        _ => Ok(Exit::Served(serve_on_nothing(rt, words)?)),
+    match serve_words(words) {
+        Ok(chosen) => serve_chosen(rt, args, words, &chosen).unwrap_or(Exit::NotOpened),
+        Err(bad) => Exit::Served(Served::BadWords { index: bad.index }),
     }
 }

@@ -77,15 +77,15 @@ fn carry_out<
     if u32::try_from(words.len()).is_err() {
         return Err(NoMemory);
     }
-    match call_of(&words) {
-        Call::Help => Ok(Exit::Help),
-        Call::Version => Ok(Exit::Version),
+    Ok(match call_of(&words) {
+        Call::Help => Exit::Help,
+        Call::Version => Exit::Version,
         Call::Serve => serve_port(rt, &args, &words),
         Call::Convert => convert_files(rt, &args, &words),
-        Call::Drill => Ok(drill_printed(rt, &words)),
+        Call::Drill => drill_printed(rt, &words),
         Call::Plan => plan_files(rt, &args, &words),
         Call::Render => render_files(rt, &args, &words, is_watched),
-    }
+    })
 }
 
 fn main(rt: HostRuntime) -> io::Result<ExitCode> {

@@ -280,7 +280,7 @@ fn rendered<H: Files + Clock + Eprint + AllocGlobal + Threads + Sync>(
         args.push(String::from_str(rt.alloc(), text)?)?;
     }
     let words = words(rt, &texts)?;
-    render_files(rt, &args, &words, false)
+    Ok(render_files(rt, &args, &words, false))
 }
 
 #[test]

@@ -2,8 +2,8 @@ use Rattle.std.proofs.Common.{◌∙◌, subst, arith}
 use Rattle.crossbeam_queue.specs.Passes.{view}
 use Rattle.sn_clients.specs.declared.ends.End.{End}
 use Rattle.sn_clients.specs.Ends.{sender_in}
-use Rattle.sn_clients.specs.Delivery.{GatheredAre}
-use Rattle.sn_clients.proofs.Moves.{are_front, gathers, knows_gathered}
+use Rattle.sn_clients.specs.Delivery.{Moment}
+use Rattle.sn_clients.proofs.Moves.{are_front, gathers, outlet_sees}
 use Rattle.sn_clients.proofs.StopMoves.{hears, joins, told}
 use Rattle.sn_clients.proofs.seats.Relay.gather.Goals as goal
 
@@ -14,7 +14,7 @@ absorb-requires-clause-rule c =
     gathers outlet.pass.id (view outlet.pass) inlet.pass.id inlet.client inlet.count (view inlet.pass) outlet.first inlet.knows
 
 pub learn_as-requires-clause-rule : goal.learn_as-requires-clause-rule
-learn_as-requires-clause-rule c = knows_gathered c.absorb.new.pass.id (view c.absorb.new.pass) (c.absorb.ensures.queue.1 ∙ c.args.outlet.now.first)
+learn_as-requires-clause-rule c = outlet_sees c.absorb.new.pass.id (view c.absorb.new.pass) (c.absorb.ensures.queue.1 ∙ c.args.outlet.now.first)
 
 pub join_seat-requires : goal.join_seat-requires
 join_seat-requires c =
@@ -32,7 +32,7 @@ load-requires c =
 pub returns-clause-front : goal.returns-clause-front
 returns-clause-front c =
     let known = c.learn_as.ensures.rule in
-    are_front (view c.args.outlet.now.pass) (sender_in (view c.args.inlet.pass)) (known.0, subst (λ (e : End). GatheredAre e known.0) c.absorb.ensures.rule known.1)
+    are_front (view c.args.outlet.now.pass) (sender_in (view c.args.inlet.pass)) (known.0, subst (λ (e : End). Moment 0 e known.0) c.absorb.ensures.rule known.1)
 
 pub returns-clause-found : goal.returns-clause-found
 returns-clause-found c e = told c.args.outlet.now.seat.me.0 c.args.inlet.seat.me.0 c.join_seat.new.seat.me c.args.outlet.now.seat.me.1 c.join_seat.ensures.2 c.load.ensures.2.1 e

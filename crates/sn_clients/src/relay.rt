@@ -74,8 +74,8 @@ impl Relay {
 
     /// Puts a frame of the inlet's client behind all that was put.
     ///
-    /// `Full` gives the frame back. It comes only if at one moment of the call as many notes waited as may, each put by
-    /// an inlet of this relay and not yet taken.
+    /// `Full` gives the frame back. It comes only if there is a moment, with what this inlet has put, at which as many
+    /// notes wait as may, each put by an inlet of this relay and not yet taken.
     pub fn put<H: Wait>(&self, rt: &H, inlet: &mut Inlet, frame: Text) -> Result<(), Full>
         requires inlet { IsInletOf self.now inlet.old }
         requires few { length (sender_of inlet.old).frames + 1 < 2 ^ 32 }
@@ -102,8 +102,8 @@ impl Relay {
 
     /// Takes the note that was put first of those that wait.
     ///
-    /// `None` comes only if at one moment of the call no note waited: all that the relay's inlets had put was taken. Of
-    /// each inlet that was gathered before, that is all that it put.
+    /// `None` comes only if there is a moment, with what this outlet has taken, at which no note waits: all that the
+    /// relay's inlets have put was taken. Of each inlet that was gathered before, that is all that it put.
     pub fn take<H: Wait>(&self, rt: &H, outlet: &mut Outlet) -> Option<Note>
         requires outlet { IsOutletOf self.now outlet.old }
         ensures outlet { IsOutletOf self.now outlet.new }

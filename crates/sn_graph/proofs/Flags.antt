@@ -1,13 +1,11 @@
 -- Flags of audio buses, and what they say of nodes.
-use Rattle.std.proofs.Common.{◌≡◌, ◌<◌, ℕ, ◌+◌, Bool, false, ◌||◌, ◌&&◌, List, [], ◌∷◌, ◌++◌, length, Option, take, replicate, sym, refl, ap, ◌∙◌, arith}
+use Rattle.std.proofs.Common.{◌≡◌, ◌<◌, ℕ, ◌+◌, Bool, false, ◌||◌, ◌&&◌, List, [], ◌∷◌, ◌++◌, length, Option, take, replicate, sym, ap, ◌∙◌, arith}
 use Rattle.std.specs.Prelude.{slice_index_or}
 use Rattle.std.specs.List.{list_any}
 use Rattle.std.proofs.lemmas.List.{get_or-replicate, length-replicate, same_lists, take_all}
 use Rattle.std.proofs.lemmas.List.Folds.{list_any-append}
-use Rattle.sn_mem.specs.declared.extents.Extent.{Extent}
 use Rattle.sn_mem.specs.declared.moves.Moved.{Moved}
 use Rattle.sn_mem.specs.Blocks.{table}
-use Rattle.sn_mem.specs.Words.{covers, has}
 use Rattle.sn_mem.proofs.Tables.{length-table}
 use Rattle.sn_mem.proofs.Windows.{table_at, table_same}
 use Rattle.sn_graph.specs.declared.nodes.Voice.{Voice}
@@ -15,10 +13,6 @@ use Rattle.sn_graph.specs.Voices.{HeardNodes, synth, group, voices}
 use Rattle.sn_graph.specs.Sharing.{mixes, one_mixes, two_mix}
 
 -- ---- tables of flags
-
-pub has_is : (es : List Extent) (x : ℕ) → list_any (λ e. covers e x) es ≡ has es x
-has_is [] x = refl
-has_is (e ∷ es) x = ap (λ b. covers e x || b) (has_is es x)
 
 pub whole_table : (f : ℕ → Bool) (xs : List Bool) (n : ℕ) → n ≡ 128 → length xs ≡ 128 → take n xs ≡ table f n → xs ≡ table f 128
 whole_table f xs n last size first = sym (take_all n xs (omega (arith, last, size))) ∙ first ∙ ap (λ m. table f m) last

@@ -1,31 +1,16 @@
 //! Which audio buses are mixed: a flag for each.
 ghost use Rattle.std.specs.Prelude.{◌≡◌, ◌<◌, ◌*◌, ◌&&◌, ◌||◌, false, replicate, slice_index_or};
-ghost use Rattle.std.specs.List.{list_any};
 ghost use Rattle.sn_ports.specs.Limits.{audio_bus_count};
 ghost use Rattle.sn_mem.specs.Blocks.{table};
 ghost use Rattle.sn_mem.specs.Layout.{audio_bus_words};
-ghost use Rattle.sn_mem.specs.Words.{covers};
 ghost use Rattle.sn_graph.specs.Sharing.{mixes};
 
 use crate::nodes::Voice;
-use sn_mem::{Extent, Places};
+use sn_mem::Places;
 use sn_ports::limits::AUDIO_BUS_COUNT;
 
 /// How many audio buses there are.
 pub const BUSES: usize = AUDIO_BUS_COUNT as usize;
-
-fn covers(extent: Extent, word: u64) -> bool
-    ensures { result ≡ covers extent word }
-{
-    let begin = extent.at as u64;
-    begin <= word && word < begin + extent.len as u64
-}
-
-fn has(extents: &[Extent], word: u64) -> bool
-    ensures { result ≡ list_any (λ e. covers e word) extents.now }
-{
-    extents.iter().any(|extent| covers(*extent, word))
-}
 
 /// The first word of an audio bus.
 fn first_word(bus: usize) -> u64
@@ -40,7 +25,7 @@ pub fn mixes(voice: &Voice, bus: usize) -> bool
     requires { bus < audio_bus_count }
     ensures { result ≡ mixes voice.now bus }
 {
-    has(voice.reach.mixes.as_slice(), first_word(bus))
+    voice.reach.mixes.has(first_word(bus))
 }
 
 /// No bus.

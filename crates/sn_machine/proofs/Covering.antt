@@ -12,10 +12,6 @@ use Rattle.sn_machine.specs.States.{ENDED}
 use Rattle.sn_machine.specs.Steps.{debts_of, ended_front}
 use Rattle.sn_machine.specs.Calls.{ends_below}
 
-pub has_is : (es : List Extent) (x : ℕ) → list_any (λ e. covers e x) es ≡ has es x
-has_is [] x = refl
-has_is (e ∷ es) x = ap (λ (b : Bool). covers e x || b) (has_is es x)
-
 pub first_holds : (a b r : Bool) → r ≡ a → r ≡ true → r ≡ (a || b)
 first_holds a b r e t = t ∙ sym (ap (λ (x : Bool). x || b) (sym e ∙ t))
 

@@ -1,41 +1,21 @@
 //! Which words a job may touch, and where lists of words agree on them.
 ghost use Rattle.std.specs.Prelude.{◌≡◌, ◌≤◌, ◌<◌, ℕ, IsTrue, true, false, length, slice_index};
-ghost use Rattle.std.specs.List.{list_any};
-ghost use Rattle.sn_mem.specs.Words.{covers, has, touches, writes};
+ghost use Rattle.sn_mem.specs.Words.{touches, writes};
 
-use sn_mem::{Extent, Foot};
-
-fn covers(extent: Extent, word: u64) -> bool
-    ensures { result ≡ covers extent word }
-{
-    let begin = extent.at as u64;
-    begin <= word && word < begin + extent.len as u64
-}
-
-fn has(extents: &[Extent], word: u64) -> bool
-    ensures { result ≡ list_any (λ e. covers e word) extents.now }
-{
-    extents.iter().any(|extent| covers(*extent, word))
-}
+use sn_mem::Foot;
 
 /// Whether a job of this foot may write the word.
 pub fn may_write(foot: &Foot, word: u64) -> bool
     ensures { result ≡ writes foot.now word }
 {
-    has(foot.writes.as_slice(), word)
-}
-
-fn may_read(foot: &Foot, word: u64) -> bool
-    ensures { result ≡ has foot.now.reads word }
-{
-    has(foot.reads.as_slice(), word)
+    foot.writes.has(word)
 }
 
 /// Whether a job of this foot may read or write the word.
 pub fn may_touch(foot: &Foot, word: u64) -> bool
     ensures { result ≡ touches foot.now word }
 {
-    may_write(foot, word) || may_read(foot, word)
+    may_write(foot, word) || foot.reads.has(word)
 }
 
 fn word(words: &[u64], number: usize) -> u64

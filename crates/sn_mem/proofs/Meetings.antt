@@ -1,5 +1,5 @@
 -- Two lists of extents share a word exactly where two of their extents meet.
-use Rattle.std.proofs.Common.{◌≡◌, ◌≤◌, ◌<◌, ◌↔◌, IsTrue, ℕ, ◌+◌, max, true, false, ◌||◌, List, [], ◌∷◌, sym, ⊎_elim, inl, inr, true≢false, arith}
+use Rattle.std.proofs.Common.{◌≡◌, ◌≤◌, ◌<◌, ◌↔◌, IsTrue, ℕ, ◌+◌, max, Bool, true, false, ◌||◌, List, [], ◌∷◌, refl, ap, sym, ⊎_elim, inl, inr, true≢false, arith}
 use Rattle.std.specs.List.{list_any}
 use Rattle.std.specs.Prelude.{nat_le, nat_lt}
 use Rattle.std.proofs.lemmas.Bool.{and_parts, and_from, and_left, and_right, or_cases, or_left, or_right, ltb-true, lt-ltb, le-ltb, leb-true, le-leb, lt-leb}
@@ -7,6 +7,11 @@ use Rattle.sn_mem.specs.declared.extents.Extent.{Extent}
 use Rattle.sn_mem.specs.declared.extents.Foot.{Foot}
 use Rattle.sn_mem.specs.Words.{covers, has, writes, touches, Clash}
 use Rattle.sn_mem.specs.Meetings.{meet, any_meet, writes_meet}
+
+-- a word is in some of them if one covers it
+pub has_is : (es : List Extent) (x : ℕ) → list_any (λ e. covers e x) es ≡ has es x
+has_is [] x = refl
+has_is (e ∷ es) x = ap (λ (b : Bool). covers e x || b) (has_is es x)
 
 pub covered : (e : Extent) (x : ℕ) → e.at ≤ x → x < e.at + e.len → covers e x ≡ true
 covered e x low high = and_from (nat_le e.at x) (nat_lt x (e.at + e.len)) (le-leb e.at x low) (lt-ltb x (e.at + e.len) high)

@@ -5,8 +5,8 @@ use crate::extents::Foot;
 use crate::port::Port;
 use std::collections::LinkedList;
 
-/// What calls of such a port leave as it is: the type of a value of which contracts alone speak. No value of it is made when the program
-/// runs, so its linked list is never built.
+/// What calls of such a port leave as it is: the type of a value of which contracts alone speak. No value of it is
+/// made when the program runs, so its linked list is never built.
 pub struct BelowRest<R> {
     /// The name of the reference to the port.
     pub port: u64,

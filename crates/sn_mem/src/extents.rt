@@ -1,5 +1,7 @@
 //! Runs of words, and the words that a job may read and write.
 ghost use Rattle.std.specs.Prelude.{◌≡◌, ◌++◌, ◌∷◌, [], OnOk, OnErr};
+ghost use Rattle.std.specs.List.{list_any};
+ghost use Rattle.sn_mem.specs.Words.{covers, has};
 
 use sn_ports::NoMemory;
 use std::alloc::Global;
@@ -12,6 +14,22 @@ pub struct Extent {
     pub at: u32,
     /// How many words it has.
     pub len: u32,
+}
+
+impl Extent {
+    /// Whether a word, by its number, lies in the extent.
+    pub fn covers(self, word: u64) -> bool
+        ensures { result ≡ covers self word }
+    {
+        let begin = self.at as u64;
+        begin <= word && word < begin + self.len as u64
+    }
+}
+
+fn any_covers(extents: &[Extent], word: u64) -> bool
+    ensures { result ≡ list_any (λ e. covers e word) extents.now }
+{
+    extents.iter().any(|extent| extent.covers(word))
 }
 
 /// A list of extents.
@@ -53,6 +71,13 @@ impl Extents {
         ensures { result.now ≡ self.now }
     {
         &self.items
+    }
+
+    /// Whether a word, by its number, lies in one of the extents.
+    pub fn has(&self, word: u64) -> bool
+        ensures { result ≡ has self.now word }
+    {
+        any_covers(self.as_slice(), word)
     }
 }
 

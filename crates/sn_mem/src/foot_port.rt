@@ -4,8 +4,8 @@ ghost use Rattle.std.specs.Prelude.{◌≡◌};
 use crate::port::Port;
 use std::collections::LinkedList;
 
-/// What calls of a foot port leave as it is: the type of a value of which contracts alone speak. No value of it is made when the program
-/// runs, so its linked list is never built.
+/// What calls of a foot port leave as it is: the type of a value of which contracts alone speak. No value of it is
+/// made when the program runs, so its linked list is never built.
 pub struct FootRest<R> {
     /// The name of the reference to the port.
     pub port: u64,

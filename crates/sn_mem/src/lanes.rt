@@ -14,19 +14,12 @@ use crate::samples::{put_samples, samples_in};
 use sn_ports::limits::BLOCK_FRAMES;
 use std::collections::LinkedList;
 
-fn covers(extent: Extent, at: u32) -> bool
-    ensures { result ≡ covers extent at }
-{
-    let begin = extent.at as u64;
-    begin <= at as u64 && (at as u64) < begin + extent.len as u64
-}
-
 /// Whether a run begins in an extent and does not end past it.
 fn holds(extent: Extent, run: Extent) -> bool
     ensures { result ≡ holds extent run }
 {
     let end = extent.at as u64 + extent.len as u64;
-    covers(extent, run.at) && run.at as u64 + run.len as u64 <= end
+    extent.covers(run.at as u64) && run.at as u64 + run.len as u64 <= end
 }
 
 /// Where a word of a bus stands on its lane.
@@ -55,10 +48,10 @@ fn place_in(moves: &[Moved], at: u32) -> u32
     ensures { result ≡ place_in moves.now at }
 {
     for moved in moves {
-        if covers(moved.bus, at) {
+        if moved.bus.covers(at as u64) {
             return in_lane(moved, at);
         }
-        if covers(moved.lane, at) {
+        if moved.lane.covers(at as u64) {
             return in_bus(moved, at);
         }
     }
@@ -85,8 +78,8 @@ fn run_in(moves: &[Moved], run: Extent) -> Option<u32>
     Some(run.at)
 }
 
-/// What calls of such a port leave as it is: the type of a value of which contracts alone speak. No value of it is made when the program
-/// runs, so its linked list is never built.
+/// What calls of such a port leave as it is: the type of a value of which contracts alone speak. No value of it is
+/// made when the program runs, so its linked list is never built.
 pub struct LaneRest<R> {
     /// The name of the reference to the port.
     pub port: u64,
@@ -100,8 +93,8 @@ pub struct LaneRest<R> {
 
 /// A port on which buses are moved onto lanes: what is loaded from a bus, or stored in it, is a word of its lane.
 ///
-/// Buses and lanes have 65 words each, which lie in the port's words, and no two of them share a word. If they don't, nothing may be loaded or
-/// stored. Lanes can't be seen by themselves.
+/// Buses and lanes have 65 words each, which lie in the port's words, and no two of them share a word. If they don't,
+/// nothing may be loaded or stored. Lanes can't be seen by themselves.
 pub struct LanePort<'a, P> {
     /// The port.
     pub port: &'a mut P,

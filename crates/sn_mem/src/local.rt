@@ -147,7 +147,8 @@ impl<'a, P: Port> LocalPort<'a, P> {
         LocalPort { port, copy }
     }
 
-    /// Stores those words of the copy in the port that it may write. The words of the port are then those that were seen.
+    /// Stores those words of the copy in the port that it may write. The words of the port are then those that were
+    /// seen.
     pub fn flush(self, foot: &Foot)
         requires size { length self.copy.now < 2 ^ 32 }
         requires foot { foot.now ≡ P.foot self.port.now }

@@ -51,7 +51,7 @@ impl Places {
         }
     }
 
-    /// Lane `k` of those that begin at word `first`: like an audio bus, which a synth mixes there.
+    /// Lane `k` of those that begin at word `first`. It has as many words as an audio bus, which a synth mixes there.
     pub fn lane(first: u32, k: u32) -> Extent
         requires number { k < most_lanes }
         requires end { first + lane_words < 2 ^ 32 }

@@ -21,8 +21,8 @@ pub fn sample_of(word: u64) -> i32
     ((word % 4_294_967_296) as u32).cast_signed()
 }
 
-/// The samples in a block's words from `at` on. It is inlined, as `put_samples` is, so that a compiler can keep samples in
-/// registers and change four of them at a time.
+/// The samples in a block's words from `at` on. It is inlined, as `put_samples` is, so that a compiler can keep samples
+/// in registers and change four of them at a time.
 #[inline(always)]
 pub(crate) fn samples_in(words: &[u64], at: usize) -> Block
     requires { at + block_frames ≤ length words.now }

@@ -1,8 +1,7 @@
 -- What is quiet is settled without a word, and stays quiet.
-use Rattle.std.proofs.Common.{◌≡◌, ⊎_elim, ℕ, ◌+◌, ◌==◌, Bool, true, false, not, ◌||◌, ◌&&◌, List, [], ◌∷◌, ◌++◌, ℤ, pos, Option, Some, None, get_or, refl, sym, ap, ◌∙◌, append-nil}
+use Rattle.std.proofs.Common.{◌≡◌, ⊎_elim, ℕ, ◌+◌, ◌==◌, Bool, true, false, not, ◌||◌, ◌&&◌, List, [], ◌∷◌, ◌++◌, ℤ, Option, Some, None, get_or, refl, sym, ap, ◌∙◌, append-nil}
 use Rattle.std.specs.Prelude.{if◌then◌else◌}
 use Rattle.std.specs.List.{list_all}
-use Rattle.std.specs.Ordering.{int_eq}
 use Rattle.std.proofs.lemmas.Bool.{cases_Bool, and_parts}
 use Rattle.sn_def.specs.declared.unit.Unit.{Unit as UnitLine}
 use Rattle.sn_def.specs.Facts.{sends, done_action}
@@ -14,7 +13,7 @@ use Rattle.sn_tree.specs.Trees.{Nodes, none, node, Label, view_of}
 use Rattle.sn_world.specs.declared.endings.Ending.{Ending}
 use Rattle.sn_world.specs.Nodes.{Content, group, synth}
 use Rattle.sn_world.specs.World.{World, Turn}
-use Rattle.sn_world.specs.Settling.{unit_triggers, content_triggers, triggers_in, ending_of, endings_at, unit_endings, content_endings, endings_in, acted_at, all_acted, told_all, with_nodes_settled, settled}
+use Rattle.sn_world.specs.Settling.{unit_triggers, content_triggers, triggers_in, ending_of, endings_at, unit_endings, content_endings, endings_in, acted_at, all_acted, frees, pauses, told_all, with_nodes_settled, settled}
 use Rattle.sn_quiet.specs.Quiet.{acts, is_quiet_unit, is_quiet_content, are_quiet}
 
 -- ---- no trigger
@@ -73,7 +72,7 @@ untouched false false s t u h = refl
 
 mild_acted : (e : Ending) (v : Option NodeView) (t : Turn) → is_mild e ≡ true → acted_at e v t ≡ t
 mild_acted e None t h = refl
-mild_acted e (Some view) t h = untouched (int_eq e.action (pos 1)) (int_eq e.action (pos 2)) _ _ t h
+mild_acted e (Some view) t h = untouched (pauses e.action) (frees e.action) _ _ t h
 
 all_mild : (es : List Ending) (t : Turn) → list_all is_mild es ≡ true → all_acted es t ≡ t
 all_mild [] t h = refl

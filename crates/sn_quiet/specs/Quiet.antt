@@ -1,7 +1,6 @@
 -- Nodes of which nothing is told and nothing is done when a block is settled.
-use Rattle.std.specs.Prelude.{Bool, true, false, not, ◌||◌, ◌&&◌, if◌then◌else◌, ℤ, pos, Option, Some, None}
+use Rattle.std.specs.Prelude.{Bool, true, false, not, ◌||◌, ◌&&◌, if◌then◌else◌, ℤ, Option, Some, None}
 use Rattle.std.specs.List.{list_all}
-use Rattle.std.specs.Ordering.{int_eq}
 use Rattle.sn_def.specs.declared.unit.Unit.{Unit as UnitLine}
 use Rattle.sn_def.specs.Facts.{sends, done_action}
 use Rattle.sn_tree.specs.Trees.{Nodes, none, node}
@@ -9,11 +8,12 @@ use Rattle.sn_def.specs.Defs.{definition_of}
 use Rattle.sn_world.specs.declared.stage.Held.{Held}
 use Rattle.sn_world.specs.declared.stage.Held.TheVariants as held
 use Rattle.sn_world.specs.Nodes.{Content, group, synth}
+use Rattle.sn_world.specs.Settling.{frees, pauses}
 
 -- a unit that ends so pauses or frees its synth
 abbrev pub acts : Option ℤ → Bool
 acts None = false
-acts (Some action) = int_eq action (pos 1) || int_eq action (pos 2)
+acts (Some action) = pauses action || frees action
 
 -- it sends no triggers, and neither pauses nor frees its synth
 abbrev pub is_quiet_unit : UnitLine → Bool

@@ -5,7 +5,7 @@ ghost use Rattle.sn_world.specs.World.{world_of};
 ghost use Rattle.sn_quiet.specs.Quiet.{are_quiet, is_quiet_held, is_quiet_unit};
 
 use sn_def::Unit;
-use sn_world::{Held, Stage};
+use sn_world::{Held, Stage, frees, pauses};
 
 fn both(one: bool, other: bool) -> bool
     ensures { result ≡ (one && other) }
@@ -21,7 +21,7 @@ fn is_quiet_unit(unit: &Unit) -> bool
         return false;
     }
     match unit.done_action() {
-        Some(action) => action != 1 && action != 2,
+        Some(action) => !pauses(action) && !frees(action),
         None => true,
     }
 }

@@ -24,7 +24,7 @@ use Rattle.sn_world.specs.Nodes.{content_of}
 use Rattle.sn_world.specs.Buffers.{AreBuffers}
 use Rattle.sn_mem.specs.Buffers.{overlaps}
 use Rattle.sn_world.specs.Pictures.{Pictures, live_held, AreHeld}
-use Rattle.sn_world.specs.Settling.{notices_of, neighbours_of, paused_at, freed_at, acted_at, acted, all_acted}
+use Rattle.sn_world.specs.Settling.{frees, notices_of, neighbours_of, pauses, paused_at, freed_at, acted_at, acted, all_acted}
 use Rattle.sn_world.specs.World.{Turn, world_of, turn_of}
 use Rattle.sn_world.proofs.Counting.{amount-without, overlaps-amount, times-amount}
 use Rattle.sn_world.proofs.Replacing.{held-without}
@@ -152,18 +152,18 @@ no_act n g stage outs same = record {
 abbrev by_tests : Ending → NodeView → Turn → Bool → Bool → Turn
 by_tests e view t first second = if first then paused_at e.node view t else if second then freed_at e.node view t else t
 
-pub act_other : (e : Ending) (view : NodeView) (t : Turn) → int_eq e.action (pos 1) ≡ false → int_eq e.action (pos 2) ≡ false → acted_at e (Some view) t ≡ t
-act_other e view t is other = ap (λ b. by_tests e view t b (int_eq e.action (pos 2))) is ∙ ap (λ b. by_tests e view t false b) other
+pub act_other : (e : Ending) (view : NodeView) (t : Turn) → pauses e.action ≡ false → frees e.action ≡ false → acted_at e (Some view) t ≡ t
+act_other e view t is other = ap (λ b. by_tests e view t b (frees e.action)) is ∙ ap (λ b. by_tests e view t false b) other
 
 neither : (a b : Bool) → (a || b) ≡ false → (a ≡ false) × (b ≡ false)
 neither true b e = absurd (true≢false e)
 neither false true e = absurd (true≢false e)
 neither false false e = (refl, refl)
 
-pub act_none : (e : Ending) (o : Option NodeView) (t : Turn) → (int_eq e.action (pos 1) || int_eq e.action (pos 2)) ≡ false → acted_at e o t ≡ t
+pub act_none : (e : Ending) (o : Option NodeView) (t : Turn) → (pauses e.action || frees e.action) ≡ false → acted_at e o t ≡ t
 act_none e None t off = refl
 act_none e (Some view) t off =
-    let both = neither (int_eq e.action (pos 1)) (int_eq e.action (pos 2)) off in
+    let both = neither (pauses e.action) (frees e.action) off in
     act_other e view t both.0 both.1
 
 pub acted_there : (e : Ending) (stage : Stage) (o : Option NodeView) → o ≡ view_of e.node stage.tree.attached → (words : List ℕ) (replies : List ReplyShape) → acted e (turn_of stage words replies) ≡ acted_at e o (turn_of stage words replies)

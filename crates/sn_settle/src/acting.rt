@@ -6,7 +6,7 @@ ghost use Rattle.sn_ports.specs.Limits.{most_clients};
 ghost use Rattle.sn_tree.specs.Trees.{holds, view_of};
 ghost use Rattle.sn_tree.specs.Steps.{running, detached};
 ghost use Rattle.sn_world.specs.Pictures.{Pictures};
-ghost use Rattle.sn_world.specs.Settling.{neighbours_of, paused_at, freed_at, acted_at, acted, all_acted};
+ghost use Rattle.sn_world.specs.Settling.{frees, neighbours_of, pauses, paused_at, freed_at, acted_at, acted, all_acted};
 ghost use Rattle.sn_settle.specs.Telling.{HaveRoom};
 ghost use Rattle.sn_settle.specs.Acting.{IsActed, IsBelowRoot};
 
@@ -14,7 +14,7 @@ use crate::telling::tell;
 use sn_ports::Text;
 use sn_reply::{Neighbours, Notice};
 use sn_tree::{NodeView, Tree};
-use sn_world::{Ending, Held, Stage, end_freed};
+use sn_world::{Ending, Held, Stage, end_freed, frees, pauses};
 
 /// Where a synth stands.
 fn neighbours_of(ending: &Ending, view: &NodeView) -> Neighbours
@@ -99,11 +99,11 @@ fn act_here(stage: &mut Stage, ending: &Ending, view: &NodeView, outs: &mut [Tex
     requires room { HaveRoom 48 outs.old }
     ensures { IsActed 1 (acted_at ending.now (Some view.now)) stage.old stage.new outs.old outs.new }
 {
-    if ending.action == 1 {
+    if pauses(ending.action) {
         pause(stage, ending, view, outs);
         return;
     }
-    if ending.action != 2 {
+    if !frees(ending.action) {
         return;
     }
     free(stage, ending, view, outs);
@@ -118,9 +118,9 @@ fn view_of(tree: &Tree<Held>, ending: &Ending) -> Option<NodeView>
 
 /// Whether a unit's end asks for anything.
 fn asks(ending: &Ending) -> bool
-    ensures { result ≡ (int_eq ending.now.action (pos 1) || int_eq ending.now.action (pos 2)) }
+    ensures { result ≡ (pauses ending.now.action || frees ending.now.action) }
 {
-    ending.action == 1 || ending.action == 2
+    pauses(ending.action) || frees(ending.action)
 }
 
 /// Does what a unit's end asks for. The node is sought only if something is asked.

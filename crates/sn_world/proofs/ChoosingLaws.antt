@@ -1,7 +1,6 @@
 -- Each step of a world keeps the chosen ids below those of its nodes.
 use Rattle.std.proofs.Common.{◌≡◌, ◌<ℤ◌, ℕ, ℤ, pos, negsuc, Bool, true, false, List, [], ◌∷◌, Option, Some, None, Result, Ok, Err, IfSome, refl, sym, subst, ◌∙◌, arith}
 use Rattle.std.specs.Prelude.{if◌then◌else◌, codes}
-use Rattle.std.specs.Ordering.{int_eq}
 use Rattle.std.specs.List.{AllByRecursion}
 use Rattle.std.specs.FinMap as finite
 use Rattle.std.proofs.lemmas.Int.{ints}
@@ -56,7 +55,7 @@ use Rattle.sn_world.specs.Recv.{received_text, recv_read, recv_outcome}
 use Rattle.sn_world.specs.Rows.{row, steps, question, unless, first_refusal, some_of, another, singles, pairs, triples}
 use Rattle.sn_world.specs.RunFlags.{run_flag, judge_run, turning, is_flagged, with_flag, act_run}
 use Rattle.sn_world.specs.Runs.{number, value_runs, judge_setn, act_setn, judge_getn, answer_getn, asks_few, place_run}
-use Rattle.sn_world.specs.Settling.{paused_at, freed_at, acted_at, acted, all_acted, endings_in, triggers_in, told_all, with_nodes_settled, settled_nodes, settled}
+use Rattle.sn_world.specs.Settling.{frees, pauses, paused_at, freed_at, acted_at, acted, all_acted, endings_in, triggers_in, told_all, with_nodes_settled, settled_nodes, settled}
 use Rattle.sn_world.specs.SynthQueries.{values_from, values_outcome, payload_at}
 use Rattle.sn_world.specs.TreeQueries.{tree_query, judge_tree, act_tree}
 use Rattle.sn_world.specs.BufferReading.{FilledBuffer, filled_buffer, is_path_form, read_outcome, samples_in}
@@ -432,8 +431,8 @@ gone_chosen id view t h = chosen_within t.world.nodes (without id t.world.nodes)
 acted_chosen : (e : Ending) (o : Option NodeView) (t : Turn) → AreChosen t.world → AreChosen (acted_at e o t).world
 acted_chosen e None t h = h
 acted_chosen e (Some view) t h =
-    if_chosen (int_eq e.action (pos 1)) (paused_at e.node view t) (if int_eq e.action (pos 2) then freed_at e.node view t else t) (paused_chosen e.node view t h)
-    (if_chosen (int_eq e.action (pos 2)) (freed_at e.node view t) t (gone_chosen e.node view t h) h)
+    if_chosen (pauses e.action) (paused_at e.node view t) (if frees e.action then freed_at e.node view t else t) (paused_chosen e.node view t h)
+    (if_chosen (frees e.action) (freed_at e.node view t) t (gone_chosen e.node view t h) h)
 
 all_chosen : (es : List Ending) (t : Turn) → AreChosen t.world → AreChosen (all_acted es t).world
 all_chosen [] t h = h

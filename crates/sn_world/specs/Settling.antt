@@ -118,12 +118,20 @@ paused_at id view t =
 abbrev pub freed_at : ℤ → NodeView → Turn → Turn
 freed_at id view t = told_all (notice.End (neighbours_of id view) ∷ []) (record t { world = record t.world { nodes = without id t.world.nodes } })
 
--- Action 1 pauses and action 2 frees. Nothing is done with a synth that is there no more.
+-- done action 1 pauses the synth
+abbrev pub pauses : ℤ → Bool
+pauses action = int_eq action (pos 1)
+
+-- done action 2 frees it
+abbrev pub frees : ℤ → Bool
+frees action = int_eq action (pos 2)
+
+-- Nothing is done if the action does neither, or if the synth is there no more.
 abbrev pub acted_at : Ending → Option NodeView → Turn → Turn
 acted_at e None t = t
 acted_at e (Some view) t =
-    if int_eq e.action (pos 1) then paused_at e.node view t
-    else if int_eq e.action (pos 2) then freed_at e.node view t
+    if pauses e.action then paused_at e.node view t
+    else if frees e.action then freed_at e.node view t
     else t
 
 abbrev pub acted : Ending → Turn → Turn

@@ -1,9 +1,28 @@
 //! What is to be done with synths after a block.
 ghost use Rattle.std.specs.Prelude.{◌≡◌, ◌≤◌, ◌<◌, ◌+◌, ◌++◌, ◌∷◌, [], OnOk, vec_len, vec_capacity};
+ghost use Rattle.sn_world.specs.Settling.{frees, pauses};
 
 use sn_ports::NoMemory;
 use std::alloc::Global;
 use std::marker::Model;
+
+const PAUSES: i32 = 1;
+
+const FREES: i32 = 2;
+
+/// Whether a unit with this done action pauses its synth when it ends.
+pub fn pauses(action: i32) -> bool
+    ensures { result ≡ pauses action }
+{
+    action == PAUSES
+}
+
+/// Whether a unit with this done action frees its synth when it ends.
+pub fn frees(action: i32) -> bool
+    ensures { result ≡ frees action }
+{
+    action == FREES
+}
 
 /// A synth, and the done action of a unit of it that ended.
 #[derive(Clone, Copy, Debug, PartialEq, Eq)]

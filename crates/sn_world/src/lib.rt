@@ -32,7 +32,7 @@ pub use choosing::{chosen_ids_are_free, chosen_ids_stay_below};
 pub use command::{Command, Handled, MOST_COMPLETIONS, NodeCommand, ServerCommand};
 pub use defs::Defs;
 pub use emptying::{DeepFree, FreeAll};
-pub use endings::{Ending, Endings};
+pub use endings::{Ending, Endings, frees, pauses};
 pub use flags::Flags;
 pub use freed::{end_freed, give_back};
 pub use laws::{

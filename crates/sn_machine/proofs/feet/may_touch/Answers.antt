@@ -6,4 +6,4 @@ pub returns-then-may_write : goal.returns-then-may_write
 returns-then-may_write c = first_holds (has c.args.foot.now.writes c.args.word) (has c.args.foot.now.reads c.args.word) c.may_write.result c.may_write.ensures c.if-may_write.true
 
 pub returns-else-may_write : goal.returns-else-may_write
-returns-else-may_write c = second_holds (has c.args.foot.now.writes c.args.word) (has c.args.foot.now.reads c.args.word) c.may_write.result c.may_read.result c.may_write.ensures c.if-may_write.false c.may_read.ensures
+returns-else-may_write c = second_holds (has c.args.foot.now.writes c.args.word) (has c.args.foot.now.reads c.args.word) c.may_write.result c.has.result c.may_write.ensures c.if-may_write.false c.has.ensures

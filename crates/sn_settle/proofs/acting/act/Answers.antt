@@ -1,7 +1,6 @@
-use Rattle.std.proofs.Common.{◌≡◌, ◌||◌, pos, false, None, Some, rules}
-use Rattle.std.specs.Ordering.{int_eq}
+use Rattle.std.proofs.Common.{◌≡◌, ◌||◌, false, None, Some, rules}
 use Rattle.sn_tree.specs.Trees.{view_of}
-use Rattle.sn_world.specs.Settling.{acted_at, acted}
+use Rattle.sn_world.specs.Settling.{acted_at, acted, frees, pauses}
 use Rattle.sn_world.specs.World.{turn_of}
 use Rattle.sn_settle.proofs.Acted.{with_act, no_act, act_none, acted_there}
 use Rattle.sn_settle.proofs.acting.act.Goals as goal
@@ -15,5 +14,5 @@ returns-in_default c = no_act 1 (acted c.args.ending.now) c.args.stage.now c.arg
 
 pub returns-then-not-asks : goal.returns-then-not-asks
 returns-then-not-asks c =
-    let none : (int_eq c.args.ending.now.action (pos 1) || int_eq c.args.ending.now.action (pos 2)) ≡ false = search rules in
+    let none : (pauses c.args.ending.now.action || frees c.args.ending.now.action) ≡ false = search rules in
     no_act 1 (acted c.args.ending.now) c.args.stage.now c.args.outs.now (λ words replies. act_none c.args.ending.now (view_of c.args.ending.now.node (turn_of c.args.stage.now words replies).world.nodes) (turn_of c.args.stage.now words replies) none)

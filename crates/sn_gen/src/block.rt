@@ -10,19 +10,20 @@ use crate::impulse::Impulse;
 use crate::line::run_line;
 use crate::linen::Linen;
 use crate::noise::{WhiteNoise, seed};
-use crate::oscillators::{LFPulse, LFSaw, LFTri, SinOsc, TableSinOsc};
+use crate::oscillators::{LFPulse, LFSaw, LFTri, SinOsc};
 use crate::phases::PhaseStep;
 use crate::phasor::Phasor;
 use sn_def::{Kind, Now};
 use sn_fixed::{Heights, Slope};
 use sn_mem::{Blocks, Extent, Port, run_recurrence};
 
-/// Runs a generator for a block of 64 frames, with its state in the words of `state`.
+/// Runs a generator for a block of 64 frames, with its state in the words of `state`. Sines are taken from `heights`.
 ///
 /// The inputs are those of its row in their order, and the one output takes the place of what
 /// `outputs` held.
 #[tactic(auto, unfolding(crate::specs::Generators::generator, sn_def::specs::Units::row_of))]
 pub fn run<P: Port>(
+    heights: &Heights,
     kind: Kind,
     now: &Now,
     port: &mut P,
@@ -42,7 +43,13 @@ pub fn run<P: Port>(
     let rate = now.rate;
     let phase_step = PhaseStep::new(rate);
     match kind {
-        Kind::SinOsc => run_recurrence(&SinOsc { phase_step }, port, state.at, inputs, outputs),
+        Kind::SinOsc => {
+            let unit = SinOsc {
+                phase_step,
+                heights,
+            };
+            run_recurrence(&unit, port, state.at, inputs, outputs);
+        }
         Kind::LFSaw => run_recurrence(&LFSaw { phase_step }, port, state.at, inputs, outputs),
         Kind::LFPulse => run_recurrence(&LFPulse { phase_step }, port, state.at, inputs, outputs),
         Kind::LFTri => run_recurrence(&LFTri { phase_step }, port, state.at, inputs, outputs),
@@ -58,38 +65,5 @@ pub fn run<P: Port>(
             run_recurrence(&Linen { rate, slope }, port, state.at, inputs, outputs);
         }
         _ => {}
-    }
-}
-
-/// Runs a generator for a block of 64 frames, as `run` does, with the sines from a table.
-#[tactic(auto, unfolding(crate::specs::Generators::generator, sn_def::specs::Units::row_of))]
-pub fn run_with<P: Port>(
-    heights: &Heights,
-    kind: Kind,
-    now: &Now,
-    port: &mut P,
-    state: Extent,
-    inputs: &Blocks,
-    outputs: &mut Blocks,
-)
-    requires kind { is_generator kind ≡ true }
-    requires rate { 0 < now.now.rate }
-    requires inputs { length (row_of kind).inputs ≤ length inputs.now }
-    requires size { (row_of kind).words ≡ Fixed state.len }
-    requires state { MayWrite (P.foot port.old) state.at state.len }
-    ensures words { P.words port.new ≡ put (P.words port.old) state.at (generator kind now.now (window (P.words port.old) state.at state.len) inputs.now).0 }
-    ensures outputs { outputs.new ≡ (generator kind now.now (window (P.words port.old) state.at state.len) inputs.now).1 }
-    ensures port { SameButWords P.foot P.rest port.old port.new }
-{
-    match kind {
-        Kind::SinOsc => {
-            let phase_step = PhaseStep::new(now.rate);
-            let unit = TableSinOsc {
-                phase_step,
-                heights,
-            };
-            run_recurrence(&unit, port, state.at, inputs, outputs);
-        }
-        _ => run(kind, now, port, state, inputs, outputs),
     }
 }

@@ -12,5 +12,5 @@ mod oscillators;
 mod phases;
 mod phasor;
 
-pub use block::{run, run_with};
+pub use block::run;
 pub use laws::{ends_are_unseen, line_is_straight};

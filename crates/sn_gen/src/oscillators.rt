@@ -4,7 +4,7 @@ ghost use Rattle.sn_fixed.specs.Fixed.{floor};
 ghost use Rattle.sn_gen.specs.Oscillators.{saw, pulse, triangle};
 
 use crate::phases::{PhaseStep, moved};
-use sn_fixed::{Heights, ONE, sine};
+use sn_fixed::{Heights, ONE};
 use sn_mem::{Blocks, Recurrence};
 
 /// From -1.0 to 1.0, by the signed value of the phase.
@@ -47,36 +47,14 @@ fn triangle(phase: u32) -> i32
 
 /// SinOsc freq phase
 #[derive(Clone, Copy)]
-pub(crate) struct SinOsc {
-    /// The step at the last frequency.
-    pub phase_step: PhaseStep,
-}
-
-impl Recurrence for SinOsc {
-    ghost use Rattle.sn_gen.specs.Oscillators.{sin_osc};
-
-    type State = u32;
-
-    ghost arity = { λ _. 2 };
-
-    ghost step = { λ u. sin_osc u.phase_step.rate };
-
-    fn next(&mut self, phase: u32, inputs: &Blocks, frame: usize) -> (u32, i32) {
-        let q = moved(phase, inputs.at(1, frame));
-        (self.phase_step.grown(phase, inputs.at(0, frame)), sine(q))
-    }
-}
-
-/// SinOsc freq phase, by a table of heights
-#[derive(Clone, Copy)]
-pub(crate) struct TableSinOsc<'a> {
+pub(crate) struct SinOsc<'a> {
     /// The step at the last frequency.
     pub phase_step: PhaseStep,
     /// The table from which sines are taken.
     pub heights: &'a Heights,
 }
 
-impl<'a> Recurrence for TableSinOsc<'a> {
+impl<'a> Recurrence for SinOsc<'a> {
     ghost use Rattle.sn_gen.specs.Oscillators.{sin_osc};
 
     type State = u32;

@@ -29,17 +29,25 @@ onto_buffer inputs first frames (Some p) ws = scattered (set_word p.extent.at) i
 abbrev pub gathered_from : List ℕ → Option BufferPlace → List (Option ℕ) → ℕ → List (List ℤ)
 gathered_from ws place frames n = gathered (option_map (buffer_of ws) place) frames n
 
+-- what PlayBuf makes of its state words, `len` from `at` on, and the frames that it reads
+abbrev pub played_from : List ℕ → ℕ → ℕ → Option BufferPlace → List (List ℤ) → List ℕ × List (Option ℕ)
+played_from ws at len place inputs = play_frames (place_frames place) (window ws at len) inputs
+
+-- the words after RecordBuf, whose state words are `len` from `at` on
+abbrev pub recorded_over : List ℕ → ℕ → ℕ → Option BufferPlace → List (List ℤ) → List ℕ
+recorded_over ws at len place inputs =
+    let r = record_frames (place_frames place) (window ws at len) inputs in
+    onto_buffer inputs 4 r.1 place (put ws at r.0)
+
 -- The words after a unit's block, its state being `len` words from `at` on, and its outputs.
 unfoldable pub buffer_unit_over : Kind → Now → ℕ → List (Option BufferPlace) → List ℕ → ℕ → ℕ → List (List ℤ) → List ℕ × List (List ℤ)
 buffer_unit_over kinds.PlayBuf now n places ws at len inputs =
     let p = usable_place n inputs places in
-    let r = play_frames (place_frames p) (window ws at len) inputs in
+    let r = played_from ws at len p inputs in
     let us = put ws at r.0 in
     (us, gathered_from us p r.1 n)
 buffer_unit_over kinds.RecordBuf now n places ws at len inputs =
-    let p = usable_place (signals_from 4 inputs) inputs places in
-    let r = record_frames (place_frames p) (window ws at len) inputs in
-    (onto_buffer inputs 4 r.1 p (put ws at r.0), [])
+    (recorded_over ws at len (usable_place (signals_from 4 inputs) inputs places) inputs, [])
 buffer_unit_over kinds.BufRd now n places ws at len inputs =
     let p = usable_place n inputs places in
     (ws, gathered_from ws p (indexed (place_frames p) inputs) n)

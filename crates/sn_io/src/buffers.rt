@@ -7,8 +7,8 @@ ghost use Rattle.sn_mem.specs.Words.{MayWrite, writes, SameButWords};
 ghost use Rattle.sn_mem.specs.Blocks.{put, window};
 ghost use Rattle.sn_mem.specs.Buffers.{AreApart, buffers_of, live_places, overlaps};
 ghost use Rattle.sn_io.specs.Positions.{indexed};
-ghost use Rattle.sn_io.specs.BufferUnits.{is_buffer_unit, chosen, usable, signals_from, length_in, play_frames, record_frames, buffer_unit};
-ghost use Rattle.sn_io.specs.BuffersOverWords.{usable_place, place_frames, onto_buffer, gathered_from, buffer_unit_over};
+ghost use Rattle.sn_io.specs.BufferUnits.{is_buffer_unit, chosen, usable, signals_from, length_in, buffer_unit};
+ghost use Rattle.sn_io.specs.BuffersOverWords.{usable_place, place_frames, onto_buffer, gathered_from, played_from, recorded_over, buffer_unit_over};
 ghost use Rattle.sn_io.specs.Conditions.{IsWholeIfSome, MayReadBuffer, MayWriteBuffer, MayReachBuffer};
 
 use crate::buffer_samples::{gather, scatter};
@@ -61,8 +61,8 @@ fn play<P: Port>(buffers: &Buffers, port: &mut P, at: u32, inputs: &Blocks, outp
     requires whole { IsWholeIfSome (chosen inputs.now buffers.now) }
     requires reads { MayReadBuffer (P.foot port.old) (chosen inputs.now buffers.now) }
     requires state { MayWrite (P.foot port.old) at 4 }
-    ensures words { P.words port.new ≡ put (P.words port.old) at (play_frames (place_frames (usable_place (length outputs.old) inputs.now buffers.now)) (window (P.words port.old) at 4) inputs.now).0 }
-    ensures outputs { outputs.new ≡ gathered_from (P.words port.new) (usable_place (length outputs.old) inputs.now buffers.now) (play_frames (place_frames (usable_place (length outputs.old) inputs.now buffers.now)) (window (P.words port.old) at 4) inputs.now).1 (length outputs.old) }
+    ensures words { P.words port.new ≡ put (P.words port.old) at (played_from (P.words port.old) at 4 (usable_place (length outputs.old) inputs.now buffers.now) inputs.now).0 }
+    ensures outputs { outputs.new ≡ gathered_from (P.words port.new) (usable_place (length outputs.old) inputs.now buffers.now) (played_from (P.words port.old) at 4 (usable_place (length outputs.old) inputs.now buffers.now) inputs.now).1 (length outputs.old) }
     ensures port { SameButWords P.foot P.rest port.old port.new }
 {
     let place = usable(chosen(buffers, inputs), outputs.len());
@@ -79,7 +79,7 @@ fn record<P: Port>(buffers: &Buffers, port: &mut P, at: u32, inputs: &Blocks)
     requires whole { IsWholeIfSome (chosen inputs.now buffers.now) }
     requires writes { MayWriteBuffer (P.foot port.old) (chosen inputs.now buffers.now) }
     requires state { MayWrite (P.foot port.old) at 2 }
-    ensures words { P.words port.new ≡ onto_buffer inputs.now 4 (record_frames (place_frames (usable_place (signals_from 4 inputs.now) inputs.now buffers.now)) (window (P.words port.old) at 2) inputs.now).1 (usable_place (signals_from 4 inputs.now) inputs.now buffers.now) (put (P.words port.old) at (record_frames (place_frames (usable_place (signals_from 4 inputs.now) inputs.now buffers.now)) (window (P.words port.old) at 2) inputs.now).0) }
+    ensures words { P.words port.new ≡ recorded_over (P.words port.old) at 2 (usable_place (signals_from 4 inputs.now) inputs.now buffers.now) inputs.now }
     ensures port { SameButWords P.foot P.rest port.old port.new }
 {
     let place = usable(chosen(buffers, inputs), inputs.len() - 4);

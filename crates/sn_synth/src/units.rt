@@ -73,7 +73,7 @@ fn run_inner<P: Port>(
     ensures port { SameButWords P.foot P.rest port.old port.new }
 {
     if is_generator(kind) {
-        sn_gen::run_with(heights, kind, now, port, state, inputs, outputs);
+        sn_gen::run(heights, kind, now, port, state, inputs, outputs);
     } else {
         sn_filt::run(kind, now, port, state, inputs, outputs);
     }

@@ -46,7 +46,7 @@ at-none m c is = ap is_none is
 pub too-deep : (deep : ℕ) (m c : MessageShape) → deep ≡ 0 → completion_of m ≡ Some c → depth_within deep m ≡ false
 too-deep deep m c last is = ap (λ (n : ℕ). depth_within n m) last ∙ at-none m c is
 
--- ---- the arguments in front of the last one
+-- ---- the arguments before the last one
 
 pub own-given : (xs : List Arg) (ys : List Arg) → ys ≡ take (length xs - 1) xs → map argument_of ys ≡ own (map argument_of xs)
 own-given xs ys is = ap (map argument_of) is ∙ sym (take-map argument_of (length xs - 1) xs) ∙ ap (λ (n : ℕ). take (n - 1) (map argument_of xs)) (sym (length-map xs argument_of))

@@ -49,7 +49,7 @@ both false true d h = sym h
 both true false d h = refl
 both false false d h = refl
 
--- a name is known there where it has a definition and is none of the set
+-- a name is known there if it has a definition and is none of the set
 pub known-less : (ds : Definitions) (ns : NameSet) (name : List ℕ) (has new : Bool) → has ≡ is_some (get ds name) → new ≡ not (is_some (get ns name)) → is_some (get (less ds ns) name) ≡ (has && new)
 known-less ds ns name has new is_there is_new =
     ap is_some (get-less ds ns name) ∙ ap (λ b. is_some (cond b (get ds name) None)) (sym is_new) ∙ both has new (get ds name) is_there

@@ -14,7 +14,7 @@ ints_none : (bytes : List ℕ) → ints_in 0 bytes ≡ []
 unfolding ints_in
 ints_none bytes = refl
 
--- the next sample, and those behind it
+-- the next sample, and those after it
 ints_next : (n : ℕ) (bytes : List ℕ) → 0 < n → ints_in n bytes ≡ int_in bytes ∷ ints_in (n - 1) (drop 4 bytes)
 unfolding ints_in
 ints_next zero bytes some = absurd (omega (arith, some))

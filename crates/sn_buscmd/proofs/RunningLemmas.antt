@@ -42,13 +42,13 @@ next-given asked command body given xs o is_command is_body is_given carries =
 
 -- ---- how it is told
 
--- what holds where a command is refused, and what follows from it
+-- what holds if a command is refused, and what follows from it
 pub unless-followed : (P Q : Type 0) (r : Result (Option Reason) NoMemory) → (P → Q) → UnlessFollowed r P → UnlessFollowed r Q
 unless-followed P Q (Ok None) f p = tt
 unless-followed P Q (Ok (Some reason)) f p = f p
 unless-followed P Q (Err e) f p = f p
 
--- want of memory leaves a stage as it was, but for how its definitions are kept
+-- `NoMemory` leaves a stage as it was, except for how its definitions are kept
 pub stage_still : (r : Result (Option Reason) NoMemory) (s : Stage) → OnErr r (s ≡ record s { defs = s.defs })
 stage_still (Ok x) s = tt
 stage_still (Err e) s = refl

@@ -24,7 +24,7 @@ pub one-behind : (found : List Argument) (x : Argument) (rest : List Argument) �
 one-behind [] x rest = refl
 one-behind (y ∷ found) x rest = ap (λ (xs : List Argument). y ∷ xs) (one-behind found x rest)
 
--- a run and its samples behind what is found already
+-- a run and its samples after what is found already
 pub run-behind : (found one two three : List Argument) (a b : ℤ) (m count : ℕ) (r : SampleRun) (samples : List ℤ) → a ≡ r.first → b ≡ pos r.count → m ≡ nat_abs r.first → count ≡ r.count
     → one ≡ found ++ int a ∷ [] → two ≡ one ++ int b ∷ [] → three ≡ two ++ values_from samples m count → three ≡ found ++ run_and_values samples r
 run-behind found one two three a b m count r samples is-a is-b is-m is-count first second third =

@@ -41,14 +41,14 @@ module _ {R : Type 0} (read : List Argument → Option (List R)) where
       let same : ◌≡◌ {A = ℤ × List R} (n, all) (m, rs) = cc in
       ap (λ (q : ℤ × List R). Some q.1) same
 
-  -- the arguments behind the number
+  -- the arguments after the number
   pub behind_number : (xs : List Argument) (n : ℤ) (all : List R) → Some (n, all) ≡ numbered read xs → (ys : List Argument) × ((length ys < length xs) × (Some all ≡ some_of (read ys)))
   behind_number [] n all h = absurd cc
   behind_number (x ∷ xs) n all h = (xs, (omega arith, repeated (number x) (some_of (read xs)) n all h))
 
 -- ---- what is judged
 
--- where nothing is against the rest of the repetitions, nothing is against the next one
+-- if nothing is against the rest of the repetitions, nothing is against the next one
 pub head_free : {R : Type 0} (judge : R → Option Reason) (rs : List R) (i : ℕ) (r : R) → i < length rs → r ≡ get_or rs i r → first_refusal judge (drop i rs) ≡ None → judge r ≡ None
 head_free judge [] i r lt is free = absurd (omega arith)
 head_free judge (q ∷ rs) zero r lt is free = ap judge is ∙ none (judge q) (first_refusal judge rs) free

@@ -1,4 +1,4 @@
--- What holds of a refused command, and not where memory ran out.
+-- What holds of a refused command, and not if memory ran out.
 use Rattle.std.specs.Prelude.{Option, Some, None, Result, Ok, Err}
 use Rattle.sn_ports.specs.declared.failed.NoMemory.{NoMemory}
 use Rattle.sn_reply.specs.declared.reason.Reason.{Reason}
@@ -11,7 +11,7 @@ IfRefused (Ok None) P = Unit {0}
 IfRefused (Ok (Some reason)) P = P
 IfRefused (Err e) P = Unit {0}
 
--- the same for a message, also for one of other commands
+-- the same for a message, even for one of other commands
 abbrev pub IfFailed : Result Handled NoMemory → Type 0 → Type 0
 IfFailed (Ok Done) P = Unit {0}
 IfFailed (Ok (Completion m)) P = Unit {0}

@@ -5,7 +5,7 @@ use Rattle.sn_osc.specs.Shape.{Argument}
 use Rattle.sn_world.specs.Rows.{some_of}
 use Rattle.sn_world.specs.Runs.{number}
 
--- a number and what is repeated behind it
+-- a number and what is repeated after it
 abbrev pub asked : {R : Type 0} → Option ℤ → Option (List R) → Option (ℤ × List R)
 asked None all = None
 asked (Some n) None = None

@@ -18,7 +18,7 @@ pub record KeepsAround (e : Extent) (old new : List ℕ) : Type 0 where
   pub len : length new ≡ length old
   pub around : (k : ℕ) → covers e k ≡ false → slice_index new k ≡ slice_index old k
 
--- the live extents, without that of a buffer where there is one
+-- the live extents, without that of a buffer, if there is one
 abbrev pub AreLeft : Option BufferPlace → List Extent → List Extent → Type 0
 AreLeft o live left = (e : Extent) → times e live ≡ times e (place_extents o) + times e left
 
@@ -46,7 +46,7 @@ pub record IsNew (r : NewBuffer) : Type 0 where
   pub channels : 1 ≤ r.channels
   pub few : r.channels ≤ most_channels
 
--- the words of a buffer, where there is one, are live
+-- the words of a buffer, if there is one, are live
 abbrev pub IsLive : Option BufferPlace → PoolState → Type 0
 IsLive None pool = Unit {0}
 IsLive (Some p) pool = 0 < times p.extent pool.live
@@ -62,7 +62,8 @@ pub record IsGone (o : Option BufferPlace) (old new : PoolState) : Type 0 where
   pub mark : mark_of new.journal ≡ mark_of old.journal
   pub saved : saved_of new.journal ≡ saved_of old.journal
 
--- A new buffer has the least place that is free once the one with its number was given back, and it alone is live then.
+-- A new buffer has the least place that is free after the one with its number was given back, and it alone is then
+-- live.
 pub record IsPlaced (o : Option BufferPlace) (r : NewBuffer) (old new : PoolState) (p : BufferPlace) : Type 0 where
   pub frames : p.frames ≡ r.frames
   pub channels : p.channels ≡ r.channels
@@ -80,7 +81,7 @@ pub record HasNoPlace (o : Option BufferPlace) (r : NewBuffer) (old : PoolState)
   pub are_left : AreLeft o old.live left
   pub none : least_place old.region left (r.frames * r.channels) ≡ None
 
--- But for a place that was found, the pool is as it was.
+-- If no place was found, the pool is as it was.
 abbrev pub Places : Option BufferPlace → NewBuffer → PoolState → PoolState → Result (Option BufferPlace) NoMemory → Type 0
 Places o r old new (Ok (Some p)) = IsPlaced o r old new p
 Places o r old new (Ok None) = HasNoPlace o r old × (new ≡ old)

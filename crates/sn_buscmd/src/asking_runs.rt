@@ -24,7 +24,7 @@ use sn_reply::{Reason, Replies, To};
 use sn_world::{Run, pairs, some_of};
 use std::alloc::Global;
 
-/// Puts the values of control buses in a row behind arguments.
+/// Appends the values of control buses in a row to arguments.
 fn push_values<P: Port>(port: &mut P, run: &Run, found: &mut Vec<Arg>) -> Result<(), NoMemory>
     requires run { run_refusal run.now.first run.now.count ≡ None }
     requires foot { WritesBuses (P.foot port.old) }

@@ -70,7 +70,7 @@ pub fn asked_with(
     }
 }
 
-/// What a message asks for, with one channel where it names none.
+/// What a message asks for, with one channel if it names no number.
 fn new_buffer(arguments: &[Arg]) -> Option<NewBuffer>
     ensures asked { result ≡ new_buffer (map argument_of arguments.now) }
     ensures fits { IfSome result IsNew }
@@ -113,8 +113,8 @@ fn give_old(pool: &mut Pool, old: Option<BufferPlace>)
     }
 }
 
-/// Takes words for a buffer, once those of the buffer with its number were given back. `None` comes where the pool has no place then. But
-/// for a place that was found, the pool is as it was.
+/// Takes words for a buffer, after those of the buffer with its number were given back. `None` comes if the pool then
+/// has no place. If no place was found, the pool is as it was.
 pub fn take_place(
     pool: &mut Pool,
     old: Option<BufferPlace>,

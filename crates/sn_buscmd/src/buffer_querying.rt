@@ -36,7 +36,7 @@ impl Judged<()> for BufferNumber {
     }
 }
 
-/// The frames, the channels and the rate of a buffer, zeros where none is allocated.
+/// The frames, the channels and the rate of a buffer, zeros if none is allocated.
 fn push_info(answer: &mut Answer, place: Option<BufferPlace>, rate: u32) -> Result<(), NoMemory>
     requires place { IfSome place CanBeSaid }
     requires rate { rate ≤ high_rate }

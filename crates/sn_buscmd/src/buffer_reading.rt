@@ -167,8 +167,8 @@ fn make_filled<P: Port>(
     }
 }
 
-/// `/b_allocRead` number frames channels samples. With the path of a file in place of these it is refused: files are read before
-/// a stream is played.
+/// `/b_allocRead` number frames channels samples. With the path of a file in place of these it is refused: files are
+/// read before a stream is played.
 pub fn run_buffer_read<P: Port>(
     alloc: Global,
     stage: &mut Stage,

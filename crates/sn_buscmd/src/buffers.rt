@@ -12,7 +12,7 @@ use sn_ports::NoMemory;
 use sn_reply::{Answer, Replies, To};
 use std::alloc::Global;
 
-/// Where the buffer with a number is, where one is allocated.
+/// Where the buffer with a number is, if one is allocated.
 pub fn find(buffers: &Buffers, number: i32) -> Option<BufferPlace>
     ensures { result ≡ at_number buffers.now number }
 {
@@ -22,7 +22,7 @@ pub fn find(buffers: &Buffers, number: i32) -> Option<BufferPlace>
     buffers.place(number as u32)
 }
 
-/// The number, where it is all that a message says.
+/// The number, if it is all that a message says.
 pub fn one_number(arguments: &[Arg]) -> Option<i32>
     ensures { result ≡ one_number (map argument_of arguments.now) }
 {

@@ -1,4 +1,4 @@
-//! Completion messages, which commands carry behind their own arguments.
+//! Completion messages, which commands carry after their own arguments.
 ghost use Rattle.std.specs.Prelude.{◌≡◌, ◌≤◌, Ok, List, ℕ, length, map, IfOk, IfSome};
 ghost use Rattle.std.specs.Option.{option_map};
 ghost use Rattle.std.specs.Borrow.{Bor};
@@ -14,7 +14,7 @@ use sn_ports::NoMemory;
 use sn_world::{MOST_COMPLETIONS, ServerCommand};
 use std::alloc::Global;
 
-/// The blob behind a number, frames and channels, if they are given.
+/// The blob after a number, frames and channels, if they are given.
 fn behind_frames(arguments: &[Arg]) -> Option<&[u8]>
     ensures { option_map (λ (blob : Bor (List ℕ)). blob.now) result ≡ behind_frames (map argument_of arguments.now) }
 {
@@ -25,7 +25,7 @@ fn behind_frames(arguments: &[Arg]) -> Option<&[u8]>
     }
 }
 
-/// The blob behind a number, frames, channels and samples.
+/// The blob after a number, frames, channels and samples.
 fn behind_samples(arguments: &[Arg]) -> Option<&[u8]>
     ensures { option_map (λ (blob : Bor (List ℕ)). blob.now) result ≡ behind_samples (map argument_of arguments.now) }
 {
@@ -41,7 +41,7 @@ fn behind_samples(arguments: &[Arg]) -> Option<&[u8]>
     }
 }
 
-/// The blob behind a number.
+/// The blob after a number.
 fn behind_number(arguments: &[Arg]) -> Option<&[u8]>
     ensures { option_map (λ (blob : Bor (List ℕ)). blob.now) result ≡ behind_number (map argument_of arguments.now) }
 {
@@ -51,7 +51,7 @@ fn behind_number(arguments: &[Arg]) -> Option<&[u8]>
     }
 }
 
-/// The blob behind a text.
+/// The blob after a text.
 fn behind_text(arguments: &[Arg]) -> Option<&[u8]>
     ensures { option_map (λ (blob : Bor (List ℕ)). blob.now) result ≡ behind_text (map argument_of arguments.now) }
 {
@@ -61,7 +61,7 @@ fn behind_text(arguments: &[Arg]) -> Option<&[u8]>
     }
 }
 
-/// The blob that a command carries behind its own arguments.
+/// The blob that a command carries after its own arguments.
 pub fn carried(command: ServerCommand, arguments: &[Arg]) -> Option<&[u8]>
     ensures { option_map (λ (blob : Bor (List ℕ)). blob.now) result ≡ carried command (map argument_of arguments.now) }
 {
@@ -74,7 +74,7 @@ pub fn carried(command: ServerCommand, arguments: &[Arg]) -> Option<&[u8]>
     }
 }
 
-/// The arguments in front of the last one.
+/// The arguments before the last one.
 pub fn own(arguments: &[Arg]) -> &[Arg]
     ensures value { map argument_of result.now ≡ own (map argument_of arguments.now) }
     ensures few { length result.now ≤ length arguments.now }
@@ -91,7 +91,7 @@ fn message_in(packet: Packet) -> Option<Message>
     }
 }
 
-/// The message that bytes spell, where they spell one.
+/// The message that bytes spell, if they spell one.
 fn one_message(alloc: Global, bytes: &[u8]) -> Result<Option<Message>, NoMemory>
     ensures value { IfOk result (λ m. option_map message_of m ≡ one_message (read bytes.now)) }
     ensures answerable { IfOk result (λ m. IfSome m (λ x. IsAnswerable (message_of x))) }
@@ -119,7 +119,7 @@ fn completion_of(alloc: Global, message: &Message) -> Result<Option<Message>, No
     }
 }
 
-/// Whether completion messages nest at most so deep in a message.
+/// Whether completion messages nest at most `deep` levels in a message.
 fn is_within(alloc: Global, deep: u32, message: &Message) -> Result<bool, NoMemory>
     ensures { IfOk result (λ within. within ≡ depth_within deep (message_of message.now)) }
 {
@@ -132,7 +132,8 @@ fn is_within(alloc: Global, deep: u32, message: &Message) -> Result<bool, NoMemo
     is_within(alloc, deep - 1, &completion)
 }
 
-/// The completion message in a blob, where it is one message, in which completion messages nest one less deep than they may.
+/// The completion message in a blob, if it is one message, in which completion messages nest one level less deep than
+/// they may.
 pub fn completion_in(alloc: Global, blob: &[u8]) -> Result<Option<Message>, NoMemory>
     ensures value { IfOk result (λ m. option_map message_of m ≡ acceptable (one_message (read blob.now))) }
     ensures answerable { IfOk result (λ m. IfSome m (λ x. IsAnswerable (message_of x))) }

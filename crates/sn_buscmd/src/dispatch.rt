@@ -103,7 +103,7 @@ fn run_row<P: Port>(
     }
 }
 
-/// How it is told that a command was carried out that carries no completion message.
+/// How it is told that a command without a completion message was carried out.
 fn handled_as(command: ServerCommand) -> Handled
     ensures told { result ≡ handled_as command }
     ensures alone { NextHas IsAnswerable (Ok result) }
@@ -148,7 +148,7 @@ fn run_alone<P: Port>(
     }
 }
 
-/// A command with the blob behind its own arguments.
+/// A command with the blob after its own arguments.
 fn run_carrying<P: Port>(
     alloc: Global,
     stage: &mut Stage,
@@ -185,12 +185,13 @@ fn run_carrying<P: Port>(
     }
 }
 
-/// Runs a message from a client, where it is a command on control buses, on buffers, on definitions or on the server itself.
+/// Runs a message from a client, if it is a command on control buses, on buffers, on definitions or on the server
+/// itself.
 ///
-/// `Done` comes where the command was carried out, `Completion` where one was that carries a completion message, `Quit` and `ClearSched`
-/// where it was the command of that name, `Failed` with the first reason against it, and `NotMine` where the address is that of another
-/// command or of none. `Failed` and `NotMine` leave the stage, the words and the replies as they were. Want of memory does too, but for how
-/// the definitions are kept, of which there are the same.
+/// `Done` comes if the command was carried out, and `Completion` if it also carries a completion message. `Quit` and
+/// `ClearSched` come if it was the command of that name. `Failed` comes with the first reason against it, and `NotMine`
+/// if the address is that of another command or of none. `Failed` and `NotMine` leave the stage, the words and the
+/// replies as they were. So does `NoMemory`, except for how the definitions are kept: they are the same ones.
 pub fn run_bus_command<P: Port>(
     alloc: Global,
     stage: &mut Stage,

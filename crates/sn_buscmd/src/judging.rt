@@ -10,8 +10,8 @@ use sn_ports::limits::CONTROL_BUS_COUNT;
 use sn_reply::Reason;
 use sn_world::{BusFill, BusNumber, BusValue, Run, ValueRun};
 
-/// What a message repeats, where no repetition changes what is against another. It is judged by itself, or by something that is the
-/// same for all of them, as the number of samples of a buffer.
+/// What a message repeats, if no repetition changes what is against another. It is judged by itself, or by something
+/// that is the same for all of them, as the number of samples of a buffer.
 pub trait Judged<By> {
     ghost use Rattle.std.specs.Prelude.{Option, ◌≡◌};
     ghost use Rattle.sn_reply.specs.declared.reason.Reason.{Reason};

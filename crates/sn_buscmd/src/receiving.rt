@@ -43,7 +43,7 @@ fn done(alloc: Global) -> Result<Message, NoMemory>
     })
 }
 
-/// Puts a definition in, in the place of one of its name, and answers its sender. An `Err` changes nothing.
+/// Adds a definition, in the place of one of its name, and answers its sender. An `Err` changes nothing.
 fn receive(
     alloc: Global,
     defs: &mut Defs,

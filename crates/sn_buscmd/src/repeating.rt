@@ -173,7 +173,7 @@ impl Repeated for ValueRun {
     }
 }
 
-/// The number of a buffer, and at least one repetition behind it.
+/// The number of a buffer, and at least one repetition after it.
 pub fn number_and_all<R: Repeated>(
     alloc: Global,
     arguments: &[Arg],

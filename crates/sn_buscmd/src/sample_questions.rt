@@ -32,7 +32,7 @@ pub trait SampleQuestion: Repeated {
 
     ghost answer: { List ℤ → Self → List Argument };
 
-    /// Puts what it asks for behind what is answered already.
+    /// Appends what it asks for to what is answered already.
     fn push_answer<P: Port>(
         &self,
         port: &mut P,
@@ -61,7 +61,7 @@ impl SampleQuestion for SampleIndex {
     }
 }
 
-/// Puts samples in a row behind what is answered already.
+/// Appends samples in a row to what is answered already.
 fn push_samples<P: Port>(
     port: &mut P,
     words: Extent,
@@ -98,7 +98,7 @@ impl SampleQuestion for SampleRun {
     }
 }
 
-/// Puts what all repetitions ask for behind what is answered already.
+/// Appends what all repetitions ask for to what is answered already.
 fn push_answers<R: SampleQuestion, P: Port>(
     port: &mut P,
     words: Extent,

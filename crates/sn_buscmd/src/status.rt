@@ -15,7 +15,7 @@ use sn_tree::Tally;
 use sn_world::{Held, Stage};
 use std::alloc::Global;
 
-/// The greatest count that a reply says.
+/// The greatest count that a reply gives.
 const MOST_SAID: u32 = 2147483647;
 
 /// How many units, synths and groups there are, each up to the greatest count.
@@ -37,7 +37,7 @@ fn more(count: u32, by: usize) -> u32
     }
 }
 
-/// A count as a reply says it.
+/// A count as a reply gives it.
 fn said(count: usize) -> i32
     ensures { result ≡ pos (capped count) }
 {

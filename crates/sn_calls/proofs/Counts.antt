@@ -37,7 +37,7 @@ first_counted e (x ∷ xs) is =
     let one : (if same_extent e x then 1 else 0) ≡ 1 = ap {B = ℕ} (λ (b : Bool). if b then 1 else 0) same in
     omega (arith, one)
 
--- an extent that is put behind others is there once more
+-- an extent that is put after others is there once more
 pub counted_in : (e new : Extent) (xs more : List Extent) → more ≡ xs ++ new ∷ [] → times e more ≡ (if same_extent e new then 1 else 0) + times e xs
 counted_in e new xs more is = ap (times e) is ∙ times_behind e new xs
 

@@ -34,7 +34,7 @@ fn given_back(alloc: Global) -> Result<bool, Unanswered> {
     Ok(sink.into_inner().as_slice() == b"replies".as_slice())
 }
 
-/// The second of two pieces of a file of nine bytes is cut, and nothing is left behind it.
+/// The second of two pieces of a file of nine bytes is cut, and nothing is left after it.
 fn filled<H: Files>(rt: &H) -> Result<bool, Unanswered> {
     let mut source = FileSource::new(fs::open(rt, "piece.txt")?);
     let mut into = [0u8; 6];
@@ -50,7 +50,8 @@ fn is_printed(alloc: Global, text: &[u8], printed: &[u8]) -> Result<bool, NoMemo
     }
 }
 
-/// A definition is printed with whole numbers, in version 1 if it has no array; what is printed so already stays as it is.
+/// A definition is printed with whole numbers, in version 1 if it has no array; what is printed so already stays as it
+/// is.
 fn printed(alloc: Global) -> Result<bool, Unanswered> {
     let tone = TONE.as_bytes();
     let one = b"snova 1\ndef half\ncontrol x 0.5\na = SinOsc x -0.1\nend\n";

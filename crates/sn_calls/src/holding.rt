@@ -15,7 +15,7 @@ fn word(words: &[u64], number: usize) -> u64 {
     words.get(number).copied().unwrap_or(0)
 }
 
-/// How many debts name a job, or those of a predecessor alone where it is given.
+/// How many debts name a job, or those of a predecessor alone if it is given.
 fn owing(views: &[View], predecessor: Option<u32>, successor: u32) -> u64 {
     let mut count: u64 = 0;
     for view in views {

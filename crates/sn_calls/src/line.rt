@@ -69,7 +69,7 @@ impl<'a> Line<'a> {
         self.rest
     }
 
-    /// The next word, or an empty one where none is left.
+    /// The next word, or an empty one if none is left.
     pub fn word(&mut self) -> &'a str {
         let (word, rest) = self.rest.split_once(' ').unwrap_or((self.rest, ""));
         self.rest = rest;

@@ -15,10 +15,10 @@ const WORDS: u32 = 6;
 
 const JOBS: u32 = 6;
 
-/// Once main knows so many jobs to have ended, it splits no more seats: each join of a sweep's seat doubles them.
+/// After main knows this many jobs to have ended, it splits no more seats: each join of a sweep's seat doubles them.
 const MOST_KNOWN: usize = 1000;
 
-/// Numbers that look random, the same ones from each seed.
+/// Numbers that look random, the same from each seed.
 #[derive(Drop)]
 struct Dice {
     state: u64,
@@ -35,13 +35,13 @@ impl Dice {
         high.checked_rem(end).unwrap_or(0)
     }
 
-    /// Whether one of so many chances comes.
+    /// Whether one of `chances` chances comes.
     fn one_in(&mut self, chances: u32) -> bool {
         self.below(chances) == 0
     }
 }
 
-/// Up to two extents, some of which reach behind the memory.
+/// Up to two extents, some of which reach past the memory.
 fn random_extents(alloc: Global, dice: &mut Dice) -> Result<Extents, NoMemory> {
     let mut extents = Extents::new(alloc);
     for _ in 0..dice.below(3) {
@@ -233,7 +233,7 @@ impl Game {
         }
     }
 
-    /// How many jobs main knows to have ended, each as often as it was told of it.
+    /// How many jobs main knows to have ended, each as often as it learnt of it.
     fn known(&self) -> usize {
         match self.machine.views.first() {
             Some(main) => main.main.ended.as_slice().len(),
@@ -379,7 +379,7 @@ impl Game {
     }
 }
 
-/// Plays lists of steps. It answers how many rounds were rested, or nothing if the rule failed to hold.
+/// Plays lists of steps. It returns how many rounds were rested, or nothing if the rule failed to hold.
 fn play(alloc: Global, seed: u32, lists: u32, steps: u32) -> Result<Option<u64>, NoMemory> {
     let mut rounds: u64 = 0;
     for list in 0..lists {

@@ -34,7 +34,7 @@ fn print_unanswered(rt: &impl Print, path: &str, row: &str, why: Unanswered) -> 
     }
 }
 
-/// Tries a row, and prints it where its answer is another one. It answers whether the row is as it should.
+/// Tries a row, and prints it if its answer is another one. It returns whether the row is as it should.
 fn try_row<R: Rows>(rt: &impl Print, path: &str, text: &str, rows: &mut R) -> io::Result<bool>
     requires { R.ready rows.old }
     ensures { R.ready rows.new }
@@ -54,7 +54,7 @@ fn try_row<R: Rows>(rt: &impl Print, path: &str, text: &str, rows: &mut R) -> io
     }
 }
 
-/// Tries the rows of a text, and prints how many they are where all are as they should. It answers whether they are.
+/// Tries the rows of a text, and prints how many they are if all are as they should. It returns whether they are.
 fn try_rows<R: Rows + Drop>(rt: &impl Print, path: &str, text: &str, rows: R) -> io::Result<bool>
     requires { R.ready rows }
 {
@@ -90,8 +90,8 @@ fn try_file<H: Files + Net + Print + AllocGlobal>(rt: &H, path: &str) -> Result<
     }
 }
 
-/// Tries the calls that no row names, and prints how many they are where all are as they should. It answers whether
-/// they are.
+/// Tries the calls that no row names, and prints how many they are if all are as they should. It returns whether they
+/// are.
 fn try_alone(rt: &(impl Files + Print + AllocGlobal)) -> io::Result<bool> {
     let mut is_well = true;
     let calls = alone::calls(rt, rt.alloc());

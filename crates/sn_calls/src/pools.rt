@@ -42,7 +42,7 @@ fn place_of(held: &[Extent], at: u32) -> Option<usize>
     held.iter().position(|extent| extent.at == at)
 }
 
-/// Puts an extent behind those that are held.
+/// Puts an extent after those that are held.
 #[tactic(auto, using(crate::proofs::Counts::counted_in))]
 fn hold(held: &mut TakenExtents, extent: Extent) -> Result<(), NoMemory>
     ensures ok { OnOk result ((e : Extent) → times e held.new.items ≡ (if same_extent e extent then 1 else 0) + times e held.old.items) }
@@ -52,7 +52,7 @@ fn hold(held: &mut TakenExtents, extent: Extent) -> Result<(), NoMemory>
     Ok(())
 }
 
-/// Takes so many words, and answers where, if there is a place for them.
+/// Takes `n` words, and returns where, if there is a place for them.
 #[tactic(auto, using(crate::proofs::Counts::taken_live, crate::proofs::Counts::still_live))]
 fn take(pool: &mut Pool, held: &mut TakenExtents, n: u32) -> Result<Option<u32>, Unanswered>
     requires closed { pool.old.journal ≡ None }
@@ -105,7 +105,7 @@ fn give(pool: &mut Pool, held: &mut TakenExtents, at: u32) -> Option<u32>
     Some(extent.len)
 }
 
-/// Takes so many words in an open journal.
+/// Takes `n` words in an open journal.
 fn take_more(pool: &mut Pool, n: u32) -> Option<u32>
     requires { 1 ≤ n }
     ensures journal { pool.new.journal ≡ pool.old.journal }
@@ -118,8 +118,8 @@ fn take_more(pool: &mut Pool, n: u32) -> Option<u32>
     }
 }
 
-/// In a journal that is undone: takes so many words, and gives back an extent that is held. It answers where it took them, and
-/// how many words were free then and after that.
+/// In a journal that is undone: takes `n` words, and gives back an extent that is held. It returns where it took them,
+/// and how many words were free before and after it gave the extent back.
 fn undone(pool: &mut Pool, extent: Extent, n: u32) -> Result<(Option<u32>, u32, u32), NoMemory>
     requires closed { pool.old.journal ≡ None }
     requires live { 0 < times extent pool.old.live }
@@ -136,7 +136,7 @@ fn undone(pool: &mut Pool, extent: Extent, n: u32) -> Result<(Option<u32>, u32, 
     Ok((taken, between, after))
 }
 
-/// In a journal that is kept: takes so many words.
+/// In a journal that is kept: takes `n` words.
 fn kept(pool: &mut Pool, n: u32) -> Result<Option<u32>, NoMemory>
     requires closed { pool.old.journal ≡ None }
     requires some { 1 ≤ n }
@@ -149,13 +149,13 @@ fn kept(pool: &mut Pool, n: u32) -> Result<Option<u32>, NoMemory>
     Ok(taken)
 }
 
-/// Whether so many words from a place on are there and not in use.
+/// Whether `n` words from a place on are there and not in use.
 fn are_free(used: &[bool], from: usize, n: usize) -> bool {
     let words = used.iter().skip(from).take(n);
     words.filter(|word| !**word).count() == n
 }
 
-/// The first place where so many words are free, found by trying each.
+/// The first place where `n` words are free, found by trying each.
 fn first_place(used: &[bool], n: usize) -> Option<usize> {
     (0..used.len()).find(|from| are_free(used, *from, n))
 }
@@ -171,7 +171,7 @@ fn longest(used: &[bool]) -> usize {
     longest
 }
 
-/// Marks so many words from a place on as in use or not.
+/// Marks `n` words from a place on as in use or not.
 fn mark(used: &mut [bool], from: usize, n: usize, is_used: bool) {
     for word in used.iter_mut().skip(from).take(n) {
         *word = is_used;
@@ -184,7 +184,7 @@ fn counts_agree(pool: &Pool, used: &[bool]) -> bool {
     pool.free() as usize == free && pool.largest() as usize == longest(used)
 }
 
-/// Whether words were taken at a place, or not taken where there is none.
+/// Whether words were taken at a place, or not taken if there is none.
 fn is_at(taken: Option<u32>, place: Option<usize>) -> bool {
     match (taken, place) {
         (Some(at), Some(from)) => at as usize == from,
@@ -221,8 +221,8 @@ fn turn(
     Ok(is_at(place, expected))
 }
 
-/// So many turns, by the numbers of a generator (Numerical Recipes). It answers in how many of them the pool and a search
-/// over every place agree.
+/// `turns` turns, by the numbers of a generator (Numerical Recipes). It returns in how many of them the pool and a
+/// search over every place agree.
 fn compared(alloc: Global, words: u32, turns: u32) -> Result<u32, Unanswered> {
     let mut pool = Pool::new(alloc, 0, words)?;
     let mut held: TakenExtents = Vec::new(alloc);
@@ -257,7 +257,7 @@ fn bus(alloc: Global, verb: &str, line: &mut Line<'_>) -> Answer {
 }
 
 impl PoolRows {
-    /// A new pool of so many words from a base on.
+    /// A new pool of `words` words from a base on.
     fn renew(&mut self, base: u32, words: u32) -> Answer
         requires { (self.old.pool.journal ≡ None) × AreLive self.old.held.items self.old.pool.live }
         ensures { (self.new.pool.journal ≡ None) × AreLive self.new.held.items self.new.pool.live }

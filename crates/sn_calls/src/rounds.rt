@@ -80,7 +80,7 @@ fn put_job(alloc: Global, jobs: &mut Vec<Job>, line: &mut Line<'_>) -> Answer
     said(alloc, if is_put { "ok" } else { "not before it" })
 }
 
-/// The plan of so many blocks that copy the words of one audio bus.
+/// The plan of several blocks that copy the words of one audio bus.
 fn unrolled(alloc: Global, plan: &Plan, line: &mut Line<'_>) -> Result<Plan, Unanswered> {
     let blocks = line.natural()?;
     let bus = line.natural()?;

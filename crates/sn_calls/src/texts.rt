@@ -16,7 +16,7 @@ enum Change<'a> {
     Instead(&'a str),
     /// Another line comes after it.
     After(&'a str),
-    /// So many controls come after it.
+    /// This many controls come after it.
     Controls(u32),
     /// It is left out.
     Without,
@@ -34,7 +34,7 @@ fn push_line(out: &mut String, line: &str) -> Result<(), Unanswered> {
     Ok(())
 }
 
-/// Puts in so many controls, each with a name of its own.
+/// Puts in `count` controls, each with a name of its own.
 fn push_controls(alloc: Global, out: &mut String, count: u32) -> Result<(), Unanswered> {
     for number in 0..count {
         push_line(out, format!(in alloc; "control c{number} 0")?.as_str())?;

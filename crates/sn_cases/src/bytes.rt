@@ -21,7 +21,7 @@ impl Given<'_> {
     }
 }
 
-/// Null bytes up to a multiple of 4, at least so many.
+/// Null bytes up to a multiple of 4, at least `least`.
 fn pad(out: &mut Text, len: usize, least: usize) -> Result<(), NoMemory> {
     let zeros = if len % 4 == 0 { least } else { 4 - len % 4 };
     for _ in 0..zeros {
@@ -43,7 +43,7 @@ pub fn size_of(bytes: &[u8]) -> Result<[u8; 4], NoMemory> {
     }
 }
 
-/// Bytes behind their length.
+/// Bytes after their length.
 pub fn put_sized(out: &mut Text, bytes: &[u8]) -> Result<(), NoMemory> {
     out.append(&size_of(bytes)?)?;
     out.append(bytes)
@@ -84,7 +84,7 @@ pub fn bundle_head(alloc: Global, tag: u64) -> Result<Text, NoMemory> {
     Ok(out)
 }
 
-/// The header of a WAV file of so many blocks.
+/// The header of a WAV file of `blocks` blocks.
 pub fn header(alloc: Global, settings: &Settings, blocks: u64) -> Result<Text, NoMemory> {
     let width = settings.channels.wrapping_mul(settings.bits) / 8;
     let Ok(len) = u32::try_from(blocks.wrapping_mul(64).wrapping_mul(u64::from(width))) else {

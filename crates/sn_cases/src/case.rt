@@ -47,7 +47,7 @@ impl Port {
     }
 }
 
-/// A gate that holds two jobs until both have come to it, for so many turns at most.
+/// A gate that holds two jobs until both have come to it, for a number of turns at most.
 #[derive(Drop)]
 pub struct Hold {
     pub one: u32,
@@ -62,7 +62,7 @@ pub struct Hold {
 pub struct Again {
     /// By so many workers.
     pub workers: Vec<u32>,
-    /// So often by each number of them.
+    /// How often by each number of workers.
     pub times: u32,
     /// The seed of the turns for which a job waits at the gate.
     pub seed: u64,
@@ -74,29 +74,29 @@ pub struct Case {
     pub name: String,
     /// The words of the command line.
     pub words: Vec<Word>,
-    /// The stream: packets behind their sizes.
+    /// The stream: packets after their sizes.
     pub stream: Text,
-    /// The bundle that is being filled, where there is one.
+    /// The bundle that is being filled, if there is one.
     pub bundle: Option<Text>,
     /// The bytes of the replies.
     pub replies: Text,
-    /// The bytes of the sound behind its header.
+    /// The bytes of the sound after its header.
     pub sound: Text,
-    /// The sum of all bytes of the sound, where it is given in their place.
+    /// The sum of all bytes of the sound, if it is given in their place.
     pub sum: Option<u64>,
     /// The number of blocks.
     pub blocks: u64,
     /// How many bytes of the stream are not taken, if that is said.
     pub left: Option<u64>,
-    /// The line of its end, where that is another than `done`.
+    /// The line of its end, if that isn't `done`.
     pub ending: Option<String>,
     /// The case of the same sound and replies.
     pub same: Option<String>,
-    /// The connection that is served, where the stream is not rendered.
+    /// The connection that is served, if the stream is not rendered.
     pub connection: Option<Connection>,
     /// The session that is served in its place.
     pub session: Option<Session>,
-    /// The gate that the jobs pass, where two are held at it.
+    /// The gate that the jobs pass, if two are held at it.
     pub hold: Option<Hold>,
     pub again: Option<Again>,
     pub source_port: Port,

@@ -12,8 +12,8 @@ const FACTOR: u64 = 0xbf58_476d_1ce4_e5b9;
 /// For fewer turns than this a job waits.
 const TURNS: u64 = 64;
 
-/// A gate at which each job waits for a drawn number of turns. If none is drawn, its thread yields. Few do: beside other work each that
-/// yields gives up a whole slice of time.
+/// A gate at which each job waits for a drawn number of turns. If none is drawn, its thread yields. Few do, since each
+/// that yields gives up a whole slice of time to other work.
 #[derive(Drop)]
 pub struct DrawnGate {
     state: AtomicU64,

@@ -1,4 +1,4 @@
-//! The lines in which the ends of runs and of connections are told.
+//! The lines that say how runs and connections ended.
 use sn_osc::PacketKind;
 use sn_ports::NoMemory;
 use sn_server::{Ended, Outcome, StreamFault};
@@ -77,7 +77,7 @@ pub fn outcome_line(alloc: Global, outcome: Outcome) -> Result<String, NoMemory>
     }
 }
 
-/// How much a run writes that ends so.
+/// How much a run with this outcome writes.
 pub fn outcome_writes(outcome: Outcome) -> Written {
     match outcome {
         Outcome::Done { .. } => Written::Whole,
@@ -100,7 +100,7 @@ pub fn ended_line(alloc: Global, ended: Ended) -> Result<String, NoMemory> {
     }
 }
 
-/// How much a connection writes that ends so.
+/// How much a connection with this end writes.
 pub fn ended_writes(ended: Ended) -> Written {
     match ended {
         Ended::LinkFault | Ended::SoundFault => Written::Prefix,

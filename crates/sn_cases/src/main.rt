@@ -1,4 +1,5 @@
-//! Renders scripts of commands, or serves them as a connection or as several, and compares all that comes of each with what the script says.
+//! Renders scripts of commands, or serves them as a connection or as several, and compares all that comes of each with
+//! what the script says.
 #![tactic(auto)]
 
 mod bytes;
@@ -29,7 +30,7 @@ fn print_difference(rt: &impl Print, found: &Difference) -> io::Result<()> {
     println!(rt; "")
 }
 
-/// Prints what came of a case, and answers whether it is what should come.
+/// Prints what came of a case, and returns whether it is what should come.
 fn print_verdict(rt: &impl Print, name: &str, verdict: &Verdict) -> io::Result<bool> {
     println!(rt; "{name}: {}", verdict.words())?;
     match verdict {
@@ -40,7 +41,7 @@ fn print_verdict(rt: &impl Print, name: &str, verdict: &Verdict) -> io::Result<b
     Ok(matches!(verdict, Verdict::Agrees))
 }
 
-/// Reads the cases of one file and prints a line for each. It answers whether all came out as they should.
+/// Reads the cases of one file and prints a line for each. It returns whether all came out as they should.
 fn run_file<H: Files + Print + AllocGlobal + Threads + Wait + Sync>(
     rt: &H,
     path: &str,

@@ -1,29 +1,31 @@
 //! Scripts as text: one line for each step.
 //!
-//! `case NAME` begins a case, `with KEY=VALUE ..` gives settings, `at TAG` begins a bundle, `/address argument ..` is a message, and
-//! `raw HEX ..` the bytes of a packet. `blob NAME /address ..` names the bytes of a message, and `text NAME` those of the lines up to a
-//! line `.`; `@NAME` is such a blob as an argument. An argument that is a whole number is an int, any other is a string, and so is what
-//! stands between two `"`. `bytes HEX ..` are bytes of the stream without a size. `many N LINE` is a line N times.
+//! `case NAME` begins a case, `with KEY=VALUE ..` gives settings, `at TAG` begins a bundle, `/address argument ..` is a
+//! message, and `raw HEX ..` the bytes of a packet. `blob NAME /address ..` names the bytes of a message, and
+//! `text NAME` those of the lines up to a line `.`; `@NAME` is such a blob as an argument. An argument that is a whole
+//! number is an int, any other is a string, and so is what stands between two `"`. `bytes HEX ..` are bytes of the
+//! stream without a size. `many N LINE` is a line N times.
 //!
-//! `> /address argument ..` is a reply, `= HEX ..` are bytes of the sound behind its header, `sum HEX` is the FNV-1a sum of 64 bits of
-//! all its bytes in their place, and `blocks N` its length. `same as NAME` stands for the sound and the replies of another case.
-//! `ends LINE` is the line that the program prints at the end, where it isn't `done N blocks`. After a refusal nothing was written, and
-//! after a fault a prefix of what the case says. `leaves N` says how many bytes of the stream are not taken.
+//! `> /address argument ..` is a reply, `= HEX ..` are bytes of the sound after its header, `sum HEX` is the FNV-1a sum
+//! of 64 bits of all its bytes in their place, and `blocks N` its length. `same as NAME` stands for the sound and the
+//! replies of another case. `ends LINE` is the line that the program prints at the end, if it isn't `done N blocks`.
+//! After a refusal nothing was written, and after a fault a prefix of what the case says. `leaves N` says how many
+//! bytes of the stream are not taken.
 //!
-//! `source PIECE CALL ..` lets a call move at most so many bytes and the calls of these numbers fail, from 0; so do `sound` and
-//! `replies`.
+//! `source PIECE CALL ..` lets a call move at most PIECE bytes, and lets the calls of these numbers, from 0, fail; so
+//! do `sound` and `replies`.
 //!
-//! `meet ONE OTHER TURNS` holds each of two jobs until the other has come too, for so many turns at most: they are to run at the same
-//! time. `apart ONE OTHER TURNS` says that they are not to. `again TIMES SEED WORKERS ..` renders a case so often by each of these numbers
-//! of workers, where each job waits for a drawn number of turns before it runs.
+//! `meet ONE OTHER TURNS` holds each of two jobs until the other has come too, for TURNS turns at most: they must run
+//! at the same time. `apart ONE OTHER TURNS` says that they must not. `again TIMES SEED WORKERS ..` renders a case
+//! TIMES times by each of these numbers of workers, and each job waits for a drawn number of turns before it runs.
 //!
-//! `over TAG` makes a case a connection whose block 0 begins at a time, without a header of its sound: `ticks N` lets come what stands
-//! above it, and then N blocks are due. The calls of `replies` are then those of the link.
+//! `over TAG` makes a case a connection whose block 0 begins at a time, without a header of its sound: `ticks N`
+//! delivers what stands above it, and then N blocks are due. The calls of `replies` are then those of the link.
 //!
-//! `several MOST N ..` makes a case a session whose pulse gives these numbers, in MOST turns at most, without a header of its sound. What
-//! stands above a line `client`, or above the end, comes of one client, client 0 first. The replies are those of client 0, then those of
-//! client 1, and so on; the calls of `source` and `replies` are those of each client. It ends with how it ended, the number of its turns
-//! and how each client ended.
+//! `several MOST N ..` makes a case a session whose pulse gives these numbers, in MOST turns at most, without a header
+//! of its sound. What stands above a line `client`, or above the end, comes of one client, client 0 first. The replies
+//! are those of client 0, then those of client 1, and so on; the calls of `source` and `replies` are those of each
+//! client. It ends with how it ended, the number of its turns and how each client ended.
 use crate::bytes::{Given, bundle_head, message, put_sized};
 use crate::case::{Again, Case, Connection, Hold, Port, Session, Step};
 use sn_ports::{NoMemory, Text};
@@ -96,7 +98,7 @@ fn arguments<'a>(
         }
         is_quoted = !is_quoted;
     }
-    // What stands behind the last quote is outside.
+    // What follows the last quote is outside.
     Ok(if is_quoted { Some(found) } else { None })
 }
 
@@ -284,7 +286,7 @@ fn put_again(alloc: Global, case: &mut Case, line: &str) -> Result<bool, NoMemor
     Ok(case.again.is_some())
 }
 
-/// Lets a call move at most so many bytes, and the calls of these numbers fail.
+/// Sets how many bytes a call may move at most, and which calls fail.
 fn put_port(alloc: Global, port: &mut Port, line: &str) -> Result<bool, NoMemory> {
     let (piece, calls) = line.split_once(' ').unwrap_or((line, ""));
     let Ok(piece) = piece.parse::<u32>() else {
@@ -345,7 +347,7 @@ struct Line<'a> {
     rest: &'a str,
 }
 
-/// A line of what goes in. It answers whether the line says something.
+/// A line of what goes in. It returns whether the line says something.
 fn stream_line(
     alloc: Global,
     blobs: &[Blob],
@@ -414,7 +416,7 @@ fn outcome_line(
     }
 }
 
-/// A line of a case. It answers whether the line says something.
+/// A line of a case. It returns whether the line says something.
 fn case_line(alloc: Global, blobs: &[Blob], case: &mut Case, line: &str) -> Result<bool, NoMemory> {
     let (word, rest) = line.split_once(' ').unwrap_or((line, ""));
     let line = Line {
@@ -425,7 +427,7 @@ fn case_line(alloc: Global, blobs: &[Blob], case: &mut Case, line: &str) -> Resu
     outcome_line(alloc, blobs, case, line)
 }
 
-/// A line so many times, where the number stands before it. It answers whether the line says something.
+/// A line as many times as the number before it says, if there is one. It returns whether the line says something.
 fn case_lines(
     alloc: Global,
     blobs: &[Blob],
@@ -490,7 +492,7 @@ impl Reader {
         Ok(true)
     }
 
-    /// A blob by its name and its message. It answers whether the line says something.
+    /// A blob by its name and its message. It returns whether the line says something.
     fn blob_line(&mut self, rest: &str) -> Result<bool, NoMemory> {
         let (name, command) = rest.split_once(' ').unwrap_or((rest, ""));
         match message_of(self.alloc, &self.blobs, command)? {
@@ -502,7 +504,7 @@ impl Reader {
         }
     }
 
-    /// A line of the case that was begun last. It answers whether the line says something.
+    /// A line of the case that was begun last. It returns whether the line says something.
     fn line_of_case(&mut self, line: &str) -> Result<bool, NoMemory> {
         match self.script.cases.last_mut() {
             Some(case) => case_lines(self.alloc, &self.blobs, case, line),
@@ -510,7 +512,7 @@ impl Reader {
         }
     }
 
-    /// A line by itself. It answers whether the line says something.
+    /// A line by itself. It returns whether the line says something.
     fn line(&mut self, line: &str) -> Result<bool, NoMemory> {
         if self.is_in_text {
             return self.text_line(line);

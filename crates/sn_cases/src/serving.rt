@@ -12,7 +12,7 @@ use sn_server::serve_one;
 use std::alloc::Global;
 use std::thread::Threads;
 
-/// The event of a step, where it says something.
+/// The event of a step, if it says something.
 fn event_of(alloc: Global, step: &Step) -> Result<Option<Event>, NoMemory>
     ensures { IfOk result (λ found. IfSome found IsPlayable) }
 {

@@ -126,7 +126,7 @@ fn came_of(
     Came::of(alloc, line, outcome_writes(outcome), sound, replies)
 }
 
-/// How many bytes a source gives in so many reads. A read that fails gives none.
+/// How many bytes a source gives in `READS` reads. A read that fails gives none.
 fn left_of(source: &mut MemorySource) -> u64 {
     let mut count: u64 = 0;
     let mut into = [0u8; 64];
@@ -223,7 +223,7 @@ fn chosen(words: &[Word]) -> Option<Settings> {
     settings(words).ok()
 }
 
-/// The header of the sound of a case, where it has one.
+/// The header of the sound of a case, if it has one.
 fn wanted_header(alloc: Global, case: &Case) -> Result<Text, NoMemory> {
     match chosen(&case.words) {
         Some(settings) if case.is_rendered() => header(alloc, &settings, case.blocks),
@@ -329,7 +329,7 @@ fn words_with(alloc: Global, case: &Case, workers: u32) -> Result<Vec<Word>, NoM
     Ok(words)
 }
 
-/// Renders a case again by so many workers, and compares what comes with what came before.
+/// Renders a case again by `workers` workers, and compares what comes with what came before.
 fn rendered_again<H: AllocGlobal + Threads + Sync>(
     rt: &H,
     case: &Case,

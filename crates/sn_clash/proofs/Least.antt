@@ -154,7 +154,8 @@ moved f (Buffer m) (Audio n) = moved_not (f (Buffer m)) (f (Audio n))
 moved f (Buffer m) (Control n) = moved_not (f (Buffer m)) (f (Control n))
 moved f (Buffer m) (Buffer n) = moved_number (λ k. f (Buffer k)) m n
 
--- what is marked as read, written and mixed, and what some use reads, writes and mixes, of a resource that is there or not
+-- what is marked as read, written and mixed, and what some use reads, writes and mixes, of a resource that is there or
+-- not
 abbrev there_bits : Bool → Bool → Bool → Bool → Bool → Bool → Bool → Bool
 there_bits t mr mw mm ur uw um = clash_bits (t && mr) (t && mw) (t && mm) (t && ur) (t && uw) (t && um)
 

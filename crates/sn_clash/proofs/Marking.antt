@@ -111,7 +111,7 @@ module _ (buffers : List (Option BufferPlace)) where
     mixes = λ r. (ap (λ (m : Mark). is_there buffers r && m.mixed) (none (place r)) ∙ and-false (is_there buffers r)) i;
   }
 
-  -- uses are marked where nothing was
+  -- uses are marked if nothing was
   pub uses_marked : (us : List Use) (marks new : List Mark) → length marks ≡ 3072 → ((n : ℕ) → slice_index_or marks n unmarked ≡ unmarked) → new ≡ mark_uses us marks →
       marked_in (is_there buffers) new ≡ footprint_in (is_there buffers) us
   uses_marked us marks new long none e =

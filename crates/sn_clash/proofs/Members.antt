@@ -34,7 +34,7 @@ some_any : {A : Type 0} (p : A → Bool) (xs : List A) (y : A) → y ∷ [] ≡ 
 some_any p [] y e = absurd (cc)
 some_any p (x ∷ xs) y e = some_here (p x) x y (filter p xs) (list_any p xs) (some_any p xs y) e
 
--- a test holds somewhere where there is a first one at which it holds
+-- a test holds of some element just if there is a first one of which it holds
 pub any_first : {A : Type 0} (p : A → Bool) (xs : List A) (found : Option A) → listed found ≡ take 1 (filter p xs) → is_some found ≡ list_any p xs
 any_first p xs None e = none_any p xs e
 any_first p xs (Some x) e = some_any p xs x e
@@ -75,7 +75,7 @@ pub within_next : (clashes : Bool) (n first : ℕ) → first ≤ n → (if clash
 within_next true n first le = omega arith
 within_next false n first le = omega arith
 
--- what one more member uses, beside what others use
+-- what one more member uses, besides what others use
 pub next_gathered : (there : Resource → Bool) (es : List Subtree) (n : ℕ) (x : Subtree) (old new f : Footprint) → n < length es → x ≡ slice_index_or es n x →
     new ≡ either old (footprint_in there x.uses.items) →
     old ≡ gathered f (members_of there (take n es)) →
@@ -173,7 +173,7 @@ any_none : {A : Type 0} (xs : List A) → list_any (λ (x : A). false) xs ≡ fa
 any_none [] = refl
 any_none (x ∷ xs) = any_none xs
 
--- a member clashes with what two footprints use together where it clashes with one of them
+-- a member clashes with what two footprints use together if it clashes with one of them
 split : (a f b : Footprint) (r : Resource) → clash_on a (either f b) r ≡ (clash_on a f r || clash_on a b r)
 split a f b r =
     clash_is a (either f b) r
@@ -184,7 +184,7 @@ split a f b r =
 apart_none : (a : Footprint) (r : Resource) → clash_on a no_use r ≡ false
 apart_none a r = clash_is a no_use r
 
--- a member clashes with a later one where it clashes with what all later ones use
+-- a member clashes with a later one if it clashes with what all later ones use
 later_some : (id : ℤ) (a : Member) (bs : List Member) → has_some (clashes_with id a bs) ≡ clashes_later a bs
 unfolding has_some
 later_some id a [] = sym (ap (λ p. list_any p resources) (λ i r. apart_none a.uses r i) ∙ any_none resources)

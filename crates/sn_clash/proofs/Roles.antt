@@ -1,5 +1,5 @@
--- Two footprints clash on what the second reads where the first writes or mixes, what it writes where the first uses it, and what it
--- mixes where the first reads or writes.
+-- Two footprints clash on what the second reads if the first writes or mixes it, on what it writes if the first uses
+-- it, and on what it mixes if the first reads or writes it.
 use Rattle.std.proofs.Common.{◌≡◌, Bool, true, false, ◌&&◌, ◌||◌, refl, ap, ◌∙◌}
 use Rattle.std.proofs.Math.Bool.{or_comm}
 use Rattle.sn_foot.specs.declared.resource.Resource.{Resource}

@@ -53,7 +53,8 @@ is_parallel kinds.Parallel = true
 
 -- nodes with payloads of some sort, of which a test tells what each reads, writes and mixes
 module _ {P : Type 0} (there : Resource → Bool) (uses : Role → P → Resource → Bool) where
-  -- the resources that are there and that one of these reads, those that one of them writes, and those that one of them mixes
+  -- the resources that are there and that one of these reads, those that one of them writes, and those that one of them
+  -- mixes
   abbrev pub footprint : List (Label P) → Footprint
   footprint labels = record {
     reads = λ r. there r && list_any (λ l. uses Read l.payload r) labels;

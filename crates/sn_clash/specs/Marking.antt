@@ -29,13 +29,13 @@ more Read m = record { read = true; written = m.written; mixed = m.mixed }
 more Write m = record { read = m.read; written = true; mixed = m.mixed }
 more Mix m = record { read = m.read; written = m.written; mixed = true }
 
--- it is marked that something is used so
+-- it is marked that something is used in this way
 abbrev pub is_marked : Role → Mark → Bool
 is_marked Read m = m.read
 is_marked Write m = m.written
 is_marked Mix m = m.mixed
 
--- one more use is marked, where its resource has a place
+-- one more use is marked, if its resource has a place
 abbrev pub mark_use : Use → List Mark → List Mark
 mark_use u marks = slice_set marks (place u.resource) (more u.role (mark_of marks u.resource))
 

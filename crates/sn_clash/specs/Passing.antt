@@ -18,7 +18,7 @@ no_use = record { reads = λ r. false; writes = λ r. false; mixes = λ r. false
 abbrev pub either : Footprint → Footprint → Footprint
 either a b = record { reads = λ r. a.reads r || b.reads r; writes = λ r. a.writes r || b.writes r; mixes = λ r. a.mixes r || b.mixes r }
 
--- what members use, beside another footprint
+-- what members use, besides another footprint
 abbrev pub gathered : Footprint → List Member → Footprint
 gathered f [] = f
 gathered f (m ∷ ms) = either (gathered f ms) m.uses
@@ -57,7 +57,7 @@ pub record Passed : Type 0 where
 abbrev pub passed_of : (Resource → Bool) → List Subtree → List Clash → Passed
 passed_of there es found = record { slots = map (slot_of there) es; found = found }
 
--- how many clashes there were before these nodes, or so many where there are none
+-- how many clashes there were before these nodes, or this many if there are none
 abbrev pub base_of : List Slot → ℕ → ℕ
 base_of [] found = found
 base_of (s ∷ ss) found = s.base
@@ -74,7 +74,7 @@ module _ (there : Resource → Bool) where
   abbrev pub uses_at : Label Held → List Member → Footprint
   uses_at label below = if label.running then gathered (used_by label.payload) below else no_use
 
-  -- the clashes once a node is passed: those below a paused node are dropped
+  -- the clashes after a node is passed: those below a paused node are dropped
   abbrev pub found_at : Label Held → List Member → ℕ → List Clash → List Clash
   found_at label below base found =
       if label.running

@@ -10,7 +10,7 @@ use sn_foot::Use;
 use sn_ports::NoMemory;
 use std::alloc::Global;
 
-/// Puts uses at the end of others.
+/// Appends uses to others.
 fn appended(uses: Vec<Use>, more: &[Use]) -> Result<Vec<Use>, NoMemory>
     ensures { IfOk result (λ u. u.items ≡ uses.items ++ more.now) }
 {
@@ -19,7 +19,8 @@ fn appended(uses: Vec<Use>, more: &[Use]) -> Result<Vec<Use>, NoMemory>
     Ok(uses)
 }
 
-/// Both lists as one. The shorter is put to the longer, so that a use is copied only into a list at least twice as long as its own.
+/// Both lists as one. The shorter one is appended to the longer, so a use is copied only into a list at least twice as
+/// long as its own.
 fn together(first: Vec<Use>, second: Vec<Use>) -> Result<Vec<Use>, NoMemory>
     ensures { IfOk result (λ u. (there : resource.Resource → Bool) → footprint_in there u.items ≡ either (footprint_in there first.items) (footprint_in there second.items)) }
 {
@@ -29,7 +30,7 @@ fn together(first: Vec<Use>, second: Vec<Use>) -> Result<Vec<Use>, NoMemory>
     appended(first, &second)
 }
 
-/// What nodes use, put to other uses: those behind the first `kept`, which are taken out.
+/// Other uses, with what nodes use appended: the nodes after the first `kept`, which are removed.
 pub fn gather(
     alloc: Global,
     uses: Vec<Use>,

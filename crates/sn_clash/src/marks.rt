@@ -59,7 +59,7 @@ fn more(mark: Mark, role: Role) -> Mark
     }
 }
 
-/// Whether it is marked that something is used so.
+/// Whether it is marked that something is used in this way.
 fn is_marked(role: Role, mark: Mark) -> bool
     ensures { result ≡ is_marked role mark }
 {
@@ -70,7 +70,7 @@ fn is_marked(role: Role, mark: Mark) -> bool
     }
 }
 
-/// So many marks of what is not used.
+/// `count` marks of what is not used.
 fn unmarked(alloc: Global, count: usize) -> Result<Vec<Mark>, NoMemory>
     ensures long { IfOk result (λ marks. length marks.items ≡ count) }
     ensures none { IfOk result (λ marks. (n : ℕ) → slice_index_or marks.items n unmarked ≡ unmarked) }
@@ -119,14 +119,14 @@ impl Marks {
         })
     }
 
-    /// Whether it is marked that the resource of a use is used so.
+    /// Whether it is marked that the resource of a use is used in this way.
     pub fn has(&self, used: &Use) -> bool
         ensures { result ≡ is_marked used.now.role (mark_of self.now used.now.resource) }
     {
         is_marked(used.role, self.of(used.resource))
     }
 
-    /// Marks a use, where its resource has a place.
+    /// Marks a use, if its resource has a place.
     #[tactic(auto, using(std::proofs::lemmas::List::set_past))]
     pub fn mark(&mut self, used: &Use)
         ensures { self.new ≡ mark_use used.now self.old }

@@ -24,7 +24,7 @@ fn clash(buffers: &Buffers, marks: &Marks, uses: &[Use]) -> bool
     first_shared(buffers, marks, uses).is_some()
 }
 
-/// How many of the first members there are from one on, where that one is chosen.
+/// How many members there are up to this one, if it is the chosen one; else as many as before.
 fn chosen(clash: bool, index: usize, before: usize) -> usize
     requires { index < 2 ^ 63 }
     ensures { result ≡ (if clash then index + 1 else before) }
@@ -32,7 +32,8 @@ fn chosen(clash: bool, index: usize, before: usize) -> usize
     if clash { index + 1 } else { before }
 }
 
-/// The first member that clashes with a later one: how many there are up to it, from the last on, or 0 if there is none.
+/// The first member that clashes with a later one: how many there are up to it, from the last on, or 0 if there is
+/// none.
 fn first_member(alloc: Global, buffers: &Buffers, members: &[Subtree]) -> Result<usize, NoMemory>
     ensures within { IfOk result (λ n. n ≤ length members.now) }
     ensures first { IfOk result (λ n. members_of (is_there buffers.now) (take n members.now) ≡ from_first (members_of (is_there buffers.now) members.now)) }

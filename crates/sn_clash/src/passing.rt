@@ -29,7 +29,7 @@ pub fn is_parallel(kind: NodeKind) -> bool
     }
 }
 
-/// How many clashes there were before these nodes, or so many where there are none.
+/// How many clashes there were before these nodes, or `found` if there are no nodes.
 fn base_of(nodes: &[Subtree], found: usize) -> usize
     ensures { (there : resource.Resource → Bool) → result ≡ base_of (map (slot_of there) nodes.now) found }
 {
@@ -48,7 +48,7 @@ pub fn used_by(alloc: Global, held: &Held) -> Result<Vec<Use>, NoMemory>
     Ok(uses)
 }
 
-/// What a node uses with all below it: the nodes behind the first `kept`, which are taken out.
+/// What a node uses with all below it: the nodes after the first `kept`, which are removed.
 fn uses_at(
     alloc: Global,
     running: bool,
@@ -67,7 +67,7 @@ fn uses_at(
     gather(alloc, uses, passed, kept)
 }
 
-/// Puts the first clash of the members of a group at the end, if there is one.
+/// Appends the first clash of the members of a group, if there is one.
 fn push_first(
     alloc: Global,
     buffers: &Buffers,
@@ -84,7 +84,7 @@ fn push_first(
     Ok(())
 }
 
-/// The clashes once a node is passed.
+/// The clashes after a node is passed.
 fn report(
     alloc: Global,
     buffers: &Buffers,

@@ -91,7 +91,8 @@ fn first_hit(buffers: &Buffers, marks: &Marks, uses: &[Use]) -> Option<Resource>
     least
 }
 
-/// The first resource on which two clash, of which one is marked: audio buses, control buses, and buffers, each by their numbers.
+/// The first resource on which two clash, of which one is marked: audio buses, control buses, and buffers, each by
+/// their numbers.
 pub fn first_shared(buffers: &Buffers, marks: &Marks, uses: &[Use]) -> Option<Resource>
     ensures { listed result ≡ take 1 (filter (clash_on (marked_in (is_there buffers.now) marks.now) (footprint_in (is_there buffers.now) uses.now)) resources) }
 {

@@ -10,11 +10,11 @@ use sn_foot::Use;
 use sn_ports::NoMemory;
 use std::alloc::Global;
 
-/// How long a list of uses may grow. There are 3,072 places, each read or written, and a third of them, the audio buses, may
-/// be mixed too: 7,168 uses in all, so that a longer list has repeats.
+/// How long a list of uses may grow. There are 3,072 places, each read or written, and a third of them, the audio
+/// buses, may be mixed too. That makes 7,168 uses in all, so a longer list has repeats.
 const MOST_USES: usize = 8192;
 
-/// Puts a use at the end and marks it, unless it is marked.
+/// Appends a use and marks it, unless it is marked.
 fn put_new(marks: &mut Marks, kept: &mut Vec<Use>, used: &Use) -> Result<(), NoMemory>
     ensures { OnOk result ((uses : List used_so.Use) → IsThinned marks.old kept.old.items uses → IsThinned marks.new kept.new.items (uses ++ used.now ∷ [])) }
 {

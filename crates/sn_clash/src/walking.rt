@@ -54,8 +54,9 @@ fn all_clashes(alloc: Global, stage: &Stage) -> Result<Clashes, NoMemory>
     Ok(Clashes { items })
 }
 
-/// The clashes of the members of parallel groups: for each such group that the walk reaches, in the order of the walk, the
-/// first two of its members that clash, and the first resource on which they do. They are those of each world that the stage stands for.
+/// The clashes of the members of parallel groups: for each such group that the walk reaches, in the order of the walk,
+/// the first two of its members that clash, and the first resource on which they do. They are those of each world that
+/// the stage stands for.
 pub fn clashes(alloc: Global, stage: &Stage) -> Result<Clashes, NoMemory>
     ensures found { IfOk result (λ found. found ≡ clashes_in stage.now) }
     ensures world { IfOk result (λ found. (words : List ℕ) → found ≡ clashes_of (world_of stage.now words)) }

@@ -1,4 +1,4 @@
--- Acts, one behind the other, and the turns that they are.
+-- Acts, one after the other, and the turns that they are.
 use Rattle.std.proofs.Common.{◌≡◌, ℕ, zero, suc, ◌<◌, ◌==◌, Bool, true, false, true≢false, if◌then◌else◌, eq-eqb, eqb-true, List, [], ◌∷◌, ◌++◌, length, map, refl, sym, ap, subst, ◌∙◌, arith}
 use Rattle.std.specs.Prelude.{slice_index_or, slice_set}
 use Rattle.std.proofs.lemmas.List.{get_or-set_other, get_or-set_same, map-append}

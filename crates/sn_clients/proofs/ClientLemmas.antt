@@ -12,7 +12,7 @@ use Rattle.sn_clients.specs.Seating.{IsGathered, IsSeated}
 use Rattle.sn_clients.proofs.SendLemmas.{either_below}
 
 module _ {X : Type 0} (P : ℕ → X → X → Type 0) where
-  -- the first so many were changed so, and the others were not
+  -- the first k were changed in this way, and the others were not
   pub record AreChanged (first now : List X) (k : ℕ) : Type 0 where
     pub count : length now ≡ length first
     pub changed : (c : ℕ) (d : X) → c < k → P c (slice_index_or first c d) (slice_index_or now c d)
@@ -44,7 +44,7 @@ pub record IsGiven {S : Type 0} (inlets : List Inlet) (c : ℕ) (old new : Clien
   pub stands : slice_get inlets c ≡ Some inlet
   pub given : new ≡ record old { end = Stopped; read = Stopped; inlet = Some inlet }
 
--- what stands first behind so many elements
+-- what stands first after k elements
 pub at_front : {X : Type 0} (xs : List X) (k : ℕ) (x : X) (rest : List X) → drop k xs ≡ x ∷ rest → (slice_get xs k ≡ Some x) × (drop (k + 1) xs ≡ rest)
 at_front [] zero x rest e = absurd (omega (arith, ap length e))
 at_front [] (suc k) x rest e = absurd (omega (arith, ap length e))

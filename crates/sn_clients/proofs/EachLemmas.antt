@@ -24,17 +24,17 @@ use Rattle.sn_render.proofs.StepLemmas.{holding, begins_more}
 use Rattle.sn_clients.specs.PlayMany.{Played, arrived, ticks, unless_quit, with_packet}
 use Rattle.sn_clients.specs.Written.{emptied}
 
--- bytes in front of those that each client is to be sent
+-- bytes before those that each client is to be sent
 abbrev pub each_behind : List (List ℕ) → List (List ℕ) → List (List ℕ)
 each_behind [] out = out
 each_behind (s ∷ ss) [] = []
 each_behind (s ∷ ss) (t ∷ ts) = (s ++ t) ∷ each_behind ss ts
 
--- what was written, and behind it what an engine still holds
+-- what was written, and after it what an engine still holds
 abbrev pub behind_all : List ℕ → List (List ℕ) → Running → Running
 behind_all sound said r = record r { sound = sound ++ r.sound; replies = each_behind said r.replies }
 
--- a step, to which it is the same what was written before it
+-- a step that does the same, whatever was written before it
 pub record IsStep (f : Running → Running) : Type 0 where
   pub adds : (sound : List ℕ) (said : List (List ℕ)) (r : Running) → f (behind_all sound said r) ≡ behind_all sound said (f r)
   pub clients : (r : Running) → length (f r).replies ≡ length r.replies
@@ -45,7 +45,7 @@ both_steps f g one other = record {
   clients = λ r. other.clients (f r) ∙ one.clients r;
 }
 
--- what is told comes behind what each client was told before
+-- what is told comes after what each client was told before
 pub tells_each : (client : ℕ) (rs : List ReplyShape) (said out : List (List ℕ)) → with_frames client rs (each_behind said out) ≡ each_behind said (with_frames client rs out)
 tells_each client rs [] out = refl
 tells_each client rs (s ∷ ss) [] = none_sent client rs ∙ ap (each_behind (s ∷ ss)) (sym (none_sent client rs))
@@ -101,7 +101,7 @@ each_held (t ∷ ts) = λ i. append-nil t i ∷ each_held ts i
 all_held : (p : Running) → behind_all p.sound p.replies (emptied p) ≡ p
 all_held p = λ i. holding (append-nil p.sound i) (each_held p.replies i) p
 
--- a step adds what it gives where no bytes are left
+-- a step adds what it gives if no bytes are left
 pub added : (f : Running → Running) → IsStep f → (p e : Running) → e ≡ emptied p → f p ≡ behind_all p.sound p.replies (f e)
 added f step p e is = ap f (sym (all_held p)) ∙ step.adds p.sound p.replies (emptied p) ∙ ap (λ (r : Running). behind_all p.sound p.replies (f r)) (sym is)
 
@@ -120,7 +120,7 @@ each_at (s ∷ ss) (t ∷ ts) (suc c) e = each_at ss ts c (omega (arith, e))
 empties : (r : Running) (sound : List ℕ) (said : List (List ℕ)) → length said ≡ length r.replies → emptied (behind_all sound said r) ≡ emptied r
 empties r sound said e = ap (λ (n : ℕ). holding [] (replicate n []) r) (as_many_behind said r.replies e)
 
--- where a step is taken with no bytes left, the bytes come behind those of before
+-- if a step is taken with no bytes left, the bytes come after those of before
 pub record AddsTo (p q e : Running) : Type 0 where
   pub clients : length q.replies ≡ length p.replies
   pub given : length e.replies ≡ length p.replies
@@ -141,7 +141,7 @@ adds_to f step p e is =
       said = ap (λ (r : Running). r.replies) all;
     }
 
--- ---- one engine has the bytes of another, and perhaps more behind them
+-- ---- one engine has the bytes of another, and perhaps more after them
 
 pub record Grows (p q : Running) : Type 0 where
   pub sound : Before p.sound q.sound

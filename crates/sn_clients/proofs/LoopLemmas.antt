@@ -213,7 +213,7 @@ steady_same most clients old new h s =
       flags = ap length s.failed ∙ h.flags;
     }
 
--- an engine that holds nothing but replies, once they are sent
+-- an engine that holds nothing but replies, after they are sent
 sent_off : (e new : Running) → e.sound ≡ [] → new ≡ record e { replies = replicate (length e.replies) [] } → new ≡ emptied e
 sent_off e new quiet is = is ∙ (λ i. record e { sound = quiet i; replies = replicate (length e.replies) [] })
 
@@ -292,7 +292,7 @@ module _ {R : Type 0} (taken : R → Option (List ℕ)) (faults : R → ℕ) whe
         going = subst (λ (q : Played). IsGoing taken faults sinks_old sinks_new new.failed.items sound_old sound_new q.play new.engine.running) (sym goes) on;
       }
 
-  -- as many turns as may be were done
+  -- as many turns as there may be were done
   pub halts_full : (first : Played) (sinks_old sinks_new : List R) (sound_old sound_new : Option (List ℕ)) (at_zero : Bool) (left_old left_new : Option (List ℕ)) (desk : Desk) → IsPlaying taken faults first sinks_old sinks_new sound_old sound_new at_zero left_old left_new desk
       → HasHalted taken faults first sinks_old sinks_new sound_old sound_new at_zero left_old left_new desk halts.TurnsFull
   halts_full first sinks_old sinks_new sound_old sound_new at_zero left_old left_new desk h = record { acts = h.acts; done = h.done; while_open = open_all h.acts first h.goes_on; halts = (h.goes_on, h.going.wrote) }

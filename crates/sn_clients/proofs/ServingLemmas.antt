@@ -54,7 +54,7 @@ both_of : (P Q : Inlet → Type 0) (o : Option Inlet) → Seated P o → Seated 
 both_of P Q None p q = absurd p
 both_of P Q (Some inlet) p q = (inlet, refl, p, q)
 
--- once its reader has ended, the inlet is of its seat
+-- after its reader has ended, the inlet is of its seat
 pub has_seat : {S : Type 0} (relay : Relay) (left : S → Option (List ℕ)) (faults : S → ℕ) (number : ℕ) (old new : Client S) → IsRead relay left faults number old new → IsSeatOf relay number new
 has_seat relay left faults number old new h = seat_by relay left faults number old new new.inlet h.inlet
   where
@@ -168,7 +168,7 @@ module _ {R : Type 0} (taken : R → Option (List ℕ)) (faults : R → ℕ) whe
         λ quit. ap (λ (later : List Act). (after_acts later (start s base (length streams))).quit) same ∙ quit_at halt (after_acts h.acts (start s base (length streams))) sinks_old sinks_new desk.failed.items sound_old sound_new h.halts quit,
       )
 
-  -- behind the last boundary
+  -- after the last boundary
   pub plays_closed : (s : Settings) (base : ℕ) (streams : Streams) (desk : Desk) (flow : Flow) (how : How) (sinks_old sinks_new : List R) (sound_old sound_new left_old left_new : Option (List ℕ))
       → (h : HasClosed taken faults flow (start s base (length streams)) sinks_old sinks_new sound_old sound_new left_old left_new desk) → clients_in (end_of desk.outlet) ≡ length streams
       → ((c : ℕ) → c < length streams → IsFront (frames_of c (taken_in (end_of desk.outlet))) (slice_index_or streams c []))

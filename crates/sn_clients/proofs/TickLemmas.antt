@@ -16,7 +16,7 @@ use Rattle.sn_clients.specs.declared.playing.Halt.TheVariants as halts
 use Rattle.sn_clients.proofs.EachLemmas.{after_block_step, boundary_step, grows, ticks_grow}
 use Rattle.sn_clients.proofs.WrittenLemmas.{fronts_later, going_on, wrote_fronts, wrote_on, wrote_part}
 
--- where `/quit` is not accepted at the next boundary, and where it is
+-- if `/quit` is not accepted at the next boundary, and if it is
 ticks_on : (n : ℕ) (r : Running) → flow_at r ≡ flows.On → ticks (suc n) r ≡ ticks n (after_block r)
 ticks_on n r e = ap (λ (f : Flow). unless_quit f (at_boundary r) (ticks n (after_block r))) e
 
@@ -24,7 +24,7 @@ ticks_last : (n : ℕ) (r : Running) → flow_at r ≡ flows.Quit → ticks (suc
 ticks_last n r e = ap (λ (f : Flow). unless_quit f (at_boundary r) (ticks n (after_block r))) e
 
 module _ {R : Type 0} (taken : R → Option (List ℕ)) (faults : R → ℕ) where
-  -- so many of the blocks are left
+  -- some number of the blocks is left
   pub record TicksLeft (first now : List R) (failed : List Bool) (sound_first sound_now : Option (List ℕ)) (count done : ℕ) (r e : Running) : Type 0 where
     pub play : Running
     pub left : ℕ

@@ -39,7 +39,7 @@ fails_more true two old mid new x y z more h s = subst (λ (b : Bool). Fails b x
 module _ {R : Type 0} (taken : R → Option (List ℕ)) (faults : R → ℕ) where
   -- ---- all sinks
 
-  -- what is sent once more comes behind what was
+  -- what is sent once more comes after what was sent before
   pub all_hear_more : (first mid new : List R) (one two : List Bool) (said more : List (List ℕ)) → AllHear taken faults first mid one said → AllSend taken faults mid new one two more → AllHear taken faults first new two (each_behind said more)
   all_hear_more first mid new one two said more h s =
       let as_many : length said ≡ length more = h.clients ∙ sym (s.clients ∙ h.sinks) in
@@ -62,7 +62,7 @@ module _ {R : Type 0} (taken : R → Option (List ℕ)) (faults : R → ℕ) whe
       long (s ∷ ss) [] e = absurd (omega (arith, e))
       long (s ∷ ss) (t ∷ ts) e = ap suc (long ss ts (omega (arith, e)))
 
-  -- fronts of what is said by a later step
+  -- prefixes of what is said by a later step
   pub all_hear_fronts : (old new : List R) (failed : List Bool) (p q : Running) → Grows p q → AllHear taken faults old new failed p.replies → AllHearFronts taken faults old new failed q.replies
   all_hear_fronts old new failed p q g h = record {
     sinks = h.sinks;
@@ -114,7 +114,7 @@ module _ {R : Type 0} (taken : R → Option (List ℕ)) (faults : R → ℕ) whe
     wrote = wrote_on f step first mid new one two sound_first sound_mid sound_new r e g sound sends;
   }
 
-  -- of the sound of a step a front was written, and nothing else
+  -- of the sound of a step a prefix was written, and nothing else
   pub wrote_part : (f : Running → Running) → IsStep f → (first mid : List R) (failed : List Bool) (sound_first sound_mid sound_new : Option (List ℕ)) (r e : Running) → Grows r (f r) → IsGoing taken faults first mid failed sound_first sound_mid r e
       → TakesFront sound_mid sound_new (f e).sound → WroteFronts taken faults first mid failed sound_first sound_new (f r)
   wrote_part f step first mid failed sound_first sound_mid sound_new r e more g sound =

@@ -48,7 +48,7 @@ pub record IsNewInlet (relay : Relay) (client : ℕ) (inlet : Inlet) : Type 0 wh
 abbrev pub AreNewInlets : Relay → List Inlet → Type 0
 AreNewInlets relay inlets = (client : ℕ) (inlet : Inlet) → slice_get inlets client ≡ Some inlet → IsNewInlet relay client inlet
 
--- the outlet of so many inlets, which has taken nothing, gathered none and not stopped
+-- the outlet of this number of inlets, which has taken nothing, gathered none and not stopped
 pub record IsNewOutlet (relay : Relay) (clients : ℕ) (outlet : Outlet) : Type 0 where
   pub outlet_of : IsOutletOf relay outlet
   pub nothing : end_of outlet ≡ Out clients [] []

@@ -1,4 +1,5 @@
--- The rule of the queue: each client's frames among the notes that were taken and then those that wait are what its inlet put.
+-- The rule of the queue: what an inlet put is its client's frames among the notes that were taken, followed by those
+-- among the notes that wait.
 use Rattle.std.specs.Prelude.{◌≡◌, ℕ, ◌+◌, ◌<◌, ◌≤◌, List, [], ◌++◌, length, All}
 use mathlib.Core.Option.{some}
 use lib.ListN.{get_elem?}
@@ -13,7 +14,7 @@ use Rattle.sn_clients.specs.Ends.{clients_in, gathered_in, taken_in, with_put, w
 abbrev pub HasPut : List Note → Sender → Type 0
 HasPut notes s = s.frames ≡ frames_of s.client notes
 
--- the place of an inlet is one behind its client's number, and is given up when it is gathered
+-- the place of an inlet is one after its client's number, and is given up when it is gathered
 abbrev pub Gives : List Note → List End → Sender → Type 0
 Gives notes ends s = HasPut notes s × (get_elem? ends (s.client + 1) ≡ some Gone)
 
@@ -39,8 +40,8 @@ pub record Delivers (waiting : List Note) (ends : List End) : Type 0 where
 abbrev pub Put : End → Note → End → Type 0
 Put e note f = f ≡ with_put e note.frame.bytes
 
--- One moment of a relay: the end at this place knows this, these notes wait, and what each inlet has put is its client's frames among the
--- notes that were taken and these.
+-- One moment of a relay: the end at this place knows this, and these notes wait. What each inlet has put is its
+-- client's frames among the notes that were taken and these.
 pub record Moment (place : ℕ) (e : End) (waiting : List Note) : Type 0 where
   pub ends : List End
   pub knows : get_elem? ends place ≡ some e

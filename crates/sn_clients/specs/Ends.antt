@@ -40,7 +40,7 @@ sender_in Gone = new_sender 0
 abbrev pub new_outlet : End
 new_outlet = Out 0 [] []
 
--- the outlet once an inlet is made, and that inlet
+-- the outlet after an inlet is made, and that inlet
 abbrev pub with_inlet : End → End
 with_inlet e = Out (clients_in e + 1) (taken_in e) (gathered_in e)
 
@@ -62,6 +62,6 @@ with_gathered e s = Out (clients_in e) (taken_in e) (gathered_in e ++ s ∷ [])
 abbrev pub gone : End
 gone = Gone
 
--- an inlet of this client that has put so many frames
+-- an inlet of this client that has put `count` frames
 abbrev pub HasPutAs : ℕ → ℕ → End → Type 0
 HasPutAs client count e = (e ≡ In (sender_in e)) × ((sender_in e).client ≡ client) × (length (sender_in e).frames ≡ count)

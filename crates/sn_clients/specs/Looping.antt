@@ -28,7 +28,7 @@ use Rattle.sn_clients.specs.Written.{AllSend, Fails, IsGoing, Wrote, WroteFronts
 
 -- ---- faults of the sink for the sound
 
--- how many are counted at an end: more if that is the end, and else as many
+-- how many are counted at an end: more if that is the end, and otherwise as many
 abbrev pub CountedAt : Halt → ℕ → ℕ → Type 0
 CountedAt halts.SoundFault before now = Rose before now
 CountedAt halts.Quit before now = now ≡ before
@@ -56,7 +56,7 @@ module _ {R : Type 0} (taken : R → Option (List ℕ)) (faults : R → ℕ) whe
     pub sound : sound_new ≡ sound_old
     pub replies : AllSend taken faults sinks_old sinks_new failed_old failed_new (at_boundary old).replies
 
-  -- the sink for the sound took a front of the block's, and nothing was sent
+  -- the sink for the sound took a prefix of the block's, and nothing was sent
   pub record TicksInPart (sinks_old sinks_new : List R) (failed_old failed_new : List Bool) (sound_old sound_new : Option (List ℕ)) (old : Running) : Type 0 where
     pub flow : flow_at old ≡ flows.On
     pub sound : TakesFront sound_old sound_new (after_block old).sound
@@ -79,7 +79,7 @@ module _ {R : Type 0} (taken : R → Option (List ℕ)) (faults : R → ℕ) whe
 
   -- ---- what was played at an end of the loop
 
-  -- At `/quit` and after as many turns as may be all was written. Otherwise fronts were.
+  -- At `/quit` and after as many turns as there may be, all was written. Otherwise prefixes were.
   abbrev pub HaltsAt : List R → List R → List Bool → Option (List ℕ) → Option (List ℕ) → Played → Halt → Type 0
   HaltsAt sinks_old sinks_new failed sound_old sound_new p halts.Quit = (p.quit ≡ true) × Wrote taken faults sinks_old sinks_new failed sound_old sound_new p.play
   HaltsAt sinks_old sinks_new failed sound_old sound_new p halts.TurnsFull = (p.quit ≡ false) × Wrote taken faults sinks_old sinks_new failed sound_old sound_new p.play
@@ -109,12 +109,13 @@ numbers_in [] = []
 numbers_in (arrives client frame ∷ acts) = numbers_in acts
 numbers_in (blocks n ∷ acts) = n ∷ numbers_in acts
 
--- a pulse gave these numbers, and has given a 0 behind them, or not
+-- a pulse gave these numbers, and has given a 0 after them, or not
 abbrev pub Gave : Bool → Option (List ℕ) → Option (List ℕ) → List ℕ → Type 0
 Gave false old new numbers = Consumes old new numbers
 Gave true old new numbers = GivesToZero old new numbers
 
--- as many inlets were made and gathered as before, and what was taken of those that were gathered is still the first of what they put
+-- as many inlets were made and gathered as before, and what was taken of those that were gathered is still the first of
+-- what they put
 abbrev pub SameInlets : End → End → Type 0
 SameInlets old new = (clients_in new ≡ clients_in old) × (gathered_in new ≡ gathered_in old) × (AreFronts old → AreFronts new)
 
@@ -134,7 +135,7 @@ pub record IsSteady (most many : ℕ) (desk : Desk) : Type 0 where
   pub clients : length desk.engine.running.replies ≡ many
   pub flags : length desk.failed.items ≡ many
 
--- so many blocks were done
+-- `count` blocks were done
 pub record StandsOn (count : ℕ) (old new : Desk) : Type 0 where
   pub settled : new.engine.running.standing ≡ Settled
   pub block : new.engine.running.block ≡ old.engine.running.block + count
@@ -186,7 +187,7 @@ module _ {R : Type 0} (taken : R → Option (List ℕ)) (faults : R → ℕ) whe
   Asked first sinks_old sinks_new sound_old sound_new left_old left_new desk (Ok more) = IsPlaying first sinks_old sinks_new sound_old sound_new (not more) left_old left_new desk
   Asked first sinks_old sinks_new sound_old sound_new left_old left_new desk (Err halt) = HasHalted first sinks_old sinks_new sound_old sound_new false left_old left_new desk halt
 
-  -- where the loop ends at the 0 of the pulse, or before it or behind it
+  -- whether the loop ends at the 0 of the pulse, or before it or after it
   abbrev pub RunsTo : Played → List R → List R → Option (List ℕ) → Option (List ℕ) → Option (List ℕ) → Option (List ℕ) → ℕ → ℕ → Desk → Result (Unit {0}) Halt → Type 0
   RunsTo first sinks_old sinks_new sound_old sound_new left_old left_new zeros_old zeros_new desk (Ok x) = Rose zeros_old zeros_new × IsPlaying first sinks_old sinks_new sound_old sound_new true left_old left_new desk
   RunsTo first sinks_old sinks_new sound_old sound_new left_old left_new zeros_old zeros_new desk (Err halt) =
@@ -214,7 +215,7 @@ module _ {R : Type 0} (taken : R → Option (List ℕ)) (faults : R → ℕ) whe
     pub flow_is : flow_at (after_acts acts first).play ≡ flow
     pub wrote : Wrote taken faults sinks_old sinks_new desk.failed.items sound_old sound_new (at_boundary (after_acts acts first).play)
 
-  -- the end of a session behind the 0 of the pulse
+  -- the end of a session after the 0 of the pulse
   abbrev pub Closes : Played → List R → List R → Option (List ℕ) → Option (List ℕ) → Option (List ℕ) → Option (List ℕ) → Desk → Result (Unit {0}) Halt → Type 0
   Closes first sinks_old sinks_new sound_old sound_new left_old left_new desk (Ok x) = HasClosed flows.On first sinks_old sinks_new sound_old sound_new left_old left_new desk
   Closes first sinks_old sinks_new sound_old sound_new left_old left_new desk (Err halts.Quit) = HasClosed flows.Quit first sinks_old sinks_new sound_old sound_new left_old left_new desk

@@ -19,7 +19,7 @@ use Rattle.sn_clients.specs.declared.turns.Turn.TheVariants.{Frame, Ticks}
 
 -- ---- what is done at each turn
 
--- a client's frame arrives, or so many blocks are due
+-- a client's frame arrives, or a number of blocks are due
 pub data Act : Type 0 where
   arrives : ℕ → List ℕ → Act
   blocks : ℕ → Act
@@ -28,7 +28,7 @@ pub data Act : Type 0 where
 abbrev pub Streams : Type 0
 Streams = List (List (List ℕ))
 
--- the next frame of a client's stream arrives, where there is one
+-- the next frame of a client's stream arrives, if there is one
 abbrev pub next_act : ℕ → Streams → List (List ℕ) → (Streams → List Act) → List Act
 next_act client streams [] more = more streams
 next_act client streams (frame ∷ frames) more = arrives client frame ∷ more (slice_set streams client frames)
@@ -85,7 +85,7 @@ WhileOpen (act ∷ acts) p = (p.quit ≡ false) × WhileOpen acts (after_act act
 abbrev pub start : Settings → ℕ → ℕ → Played
 start s base clients = record { play = opened s base (Some most_entries) clients; quit = false }
 
--- One more boundary follows at the end, and where `/quit` was accepted at none of the turns.
+-- One more boundary follows at the end `Over`, and at `Quit` if `/quit` was accepted at none of the turns.
 abbrev pub closed : How → Played → Running
 closed Over p = at_boundary p.play
 closed Quit p = if p.quit then p.play else at_boundary p.play
@@ -93,6 +93,6 @@ closed NoMemory p = p.play
 closed SoundFault p = p.play
 closed TurnsFull p = p.play
 
--- what is played over the turns, where the frames of each client are these
+-- what is played over the turns, if the frames of each client are these
 abbrev pub play_many : Settings → ℕ → Streams → List Turn → How → Running
 play_many s base streams turns how = closed how (after_acts (acts_from turns streams) (start s base (length streams)))

@@ -14,7 +14,7 @@ pub record AreCut (bytes : List ℕ) (packets : List (List ℕ)) (rest : List �
   pub whole : bytes ≡ joined_frames packets ++ rest
   pub sized : AllByRecursion (λ packet. IsTrue (is_frame_size (length packet))) packets
 
--- what an end says of the bytes that were taken, the packets that were put and the bytes behind them
+-- what an end says of the bytes that were taken, the packets that were put and the bytes after them
 module _ (at_end faulted stopped : Type 0) (bytes : List ℕ) (packets : List (List ℕ)) (rest : List ℕ) where
   abbrev pub EndsAs : ClientEnd → Type 0
   EndsAs Closed = at_end × (length rest ≡ 0)

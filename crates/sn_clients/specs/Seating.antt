@@ -12,7 +12,7 @@ use Rattle.sn_clients.specs.declared.seats.Relay.{Relay}
 use Rattle.sn_clients.specs.Answers.{IsInletOf, IsNewInlet, IsNewOutlet, has_found, sender_of}
 use Rattle.sn_clients.specs.Clients.{Seated}
 
--- a session of so many clients in which nothing was done
+-- a session of `clients` clients in which nothing was done
 pub record IsBegun (relay : Relay) (s : Settings) (base clients : ℕ) (desk : Desk) : Type 0 where
   pub outlet : IsNewOutlet relay clients desk.outlet
   pub engine : desk.engine.running ≡ opened s base (Some most_entries) clients
@@ -30,7 +30,7 @@ module _ {S : Type 0} where
   abbrev pub IsSeatOf : Relay → ℕ → Client S → Type 0
   IsSeatOf relay number client = Seated (λ inlet. IsInletOf relay inlet × ((sender_of inlet).client ≡ number)) client.inlet
 
-  -- The inlet was gathered: this is what it had put. Where it had found the stop word set, the outlet had set it.
+  -- The inlet was gathered: this is what it had put. If it had found the stop word set, the outlet had set it.
   pub record IsGathered (stopped : Bool) (number : ℕ) (old new : Client S) (sender : Sender) : Type 0 where
     pub inlet : Seated (λ inlet. (sender_of inlet ≡ sender) × (has_found inlet ≡ true → stopped ≡ true)) old.inlet
     pub client : sender.client ≡ number

@@ -17,7 +17,7 @@ use Rattle.sn_clients.specs.PlayMany.{Played, Streams, WhileOpen, acts_from, aft
 use Rattle.sn_clients.specs.Reading.{HasRead}
 use Rattle.sn_clients.specs.Written.{Fails, Wrote, WroteFronts}
 
--- how a session ended whose loop ended so
+-- how a session ended whose loop ended with this result
 abbrev pub how_of : Result (Unit {0}) Halt → How
 how_of (Ok x) = Over
 how_of (Err halts.Quit) = Quit
@@ -25,7 +25,8 @@ how_of (Err halts.NoMemory) = NoMemory
 how_of (Err halts.SoundFault) = SoundFault
 how_of (Err halts.TurnsFull) = TurnsFull
 
--- an end after which no frame was left, and where `/quit` was accepted
+-- At the end `Quit`, `/quit` was accepted, at a boundary of the turns or at the one after them. At `Over` it was
+-- accepted at none of these, and at `TurnsFull` at none of the turns.
 abbrev pub EndsWith : How → Played → Type 0
 EndsWith Quit p = (p.quit ≡ true) ⊎ (flow_at p.play ≡ flows.Quit)
 EndsWith Over p = (p.quit ≡ false) × (flow_at p.play ≡ flows.On)
@@ -34,15 +35,15 @@ EndsWith NoMemory p = Unit {0}
 EndsWith SoundFault p = Unit {0}
 
 module _ {S : Type 0} (left : S → Option (List ℕ)) (faults : S → ℕ) where
-  -- A client's reader has ended: what it took of the source is these frames, and then a rest. The source's count stays, unless it failed.
-  -- If the client's sink has failed, that is its end.
+  -- A client's reader has ended: what it took of the source is these frames, and then a rest. The source's count stays,
+  -- unless it failed. If the client's sink has failed, that is its end.
   pub record Reads (how : How) (failed : Bool) (old new : Client S) (frames : List (List ℕ)) : Type 0 where
     pub read : HasRead (left old.source) (left new.source) (Rose (faults old.source) (faults new.source)) (how ≢ Over) frames new.read
     pub unfailed : (new.read ≡ ReadFault) ⊎ (faults new.source ≡ faults old.source)
     pub end : new.end ≡ (if failed then SendFault else new.read)
 
 module _ {R : Type 0} (taken : R → Option (List ℕ)) (faults : R → ℕ) where
-  -- What was written of what was played, at this end: all of it, or fronts.
+  -- What was written of what was played, at this end: all of it, or prefixes.
   abbrev pub WroteAt : How → List R → List R → List Bool → Option (List ℕ) → Option (List ℕ) → Running → Type 0
   WroteAt Quit sinks_old sinks_new failed sound_old sound_new r = Wrote taken faults sinks_old sinks_new failed sound_old sound_new r
   WroteAt Over sinks_old sinks_new failed sound_old sound_new r = Wrote taken faults sinks_old sinks_new failed sound_old sound_new r
@@ -50,7 +51,8 @@ module _ {R : Type 0} (taken : R → Option (List ℕ)) (faults : R → ℕ) whe
   WroteAt NoMemory sinks_old sinks_new failed sound_old sound_new r = WroteFronts taken faults sinks_old sinks_new failed sound_old sound_new r
   WroteAt SoundFault sinks_old sinks_new failed sound_old sound_new r = WroteFronts taken faults sinks_old sinks_new failed sound_old sound_new r
 
-  -- The turns are played over the frames of each client: those that arrive are the first of them, and at the end of all of them all. No turn comes after `/quit` was accepted.
+  -- The turns are played over the frames of each client. Those that arrive are the first of them, and at the end `Over`
+  -- all of them. No turn comes after `/quit` was accepted.
   pub record PlaysMany (s : Settings) (base : ℕ) (streams : Streams) (turns : List Turn) (how : How) (sinks_old sinks_new : List R) (failed : List Bool) (sound_old sound_new : Option (List ℕ)) : Type 0 where
     pub turned : map turn_of (acts_from turns streams) ≡ turns
     pub fronts : (c : ℕ) → IsFront (frames_in c (acts_from turns streams)) (slice_index_or streams c [])

@@ -1,4 +1,4 @@
--- The rule of the stop word: it is 1 exactly where the outlet has set it, and an inlet has found 1 only where it is.
+-- The rule of the stop word: it is 1 exactly if the outlet has set it, and an inlet has found it 1 only if it is 1.
 use Rattle.std.specs.Prelude.{◌≡◌, ℕ, ◌==◌, Bool, true, false, ◌||◌, if◌then◌else◌, List, [], ◌∷◌}
 use mathlib.Core.Option.{some}
 use lib.ListN.{get_elem?}
@@ -68,6 +68,6 @@ Set st m word n = n ≡ (as_set m.0, m.1)
 abbrev pub Looked : Step ℕ → Seated → ℕ → Seated → Type 0
 Looked st m word n = (n ≡ (Finder (word == 1), m.1)) × (found_in m.0 ≡ true → word ≡ 1)
 
--- where an inlet that was gathered had found the word set, the outlet had set it
+-- if an inlet that was gathered had found the word set, the outlet had set it
 abbrev pub Heard : Step ℕ → Seated → ℕ → Seated → Type 0
 Heard st m word n = (n ≡ m) × (heard_in m.0 ≡ true → set_in m.0 ≡ true)

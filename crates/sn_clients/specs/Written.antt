@@ -9,7 +9,7 @@ use Rattle.sn_render.specs.Fronts.{TakesFront}
 abbrev pub emptied : Running → Running
 emptied r = record r { sound = []; replies = replicate (length r.replies) [] }
 
--- A sink took all that its client was to be sent. One that has failed took a front of it.
+-- A sink took all that its client was to be sent. One that has failed took a prefix of it.
 abbrev pub Hears : Bool → Option (List ℕ) → Option (List ℕ) → List ℕ → Type 0
 Hears false old new said = Appends old new said
 Hears true old new said = TakesFront old new said
@@ -25,7 +25,7 @@ Sends false failed old new before now said = Hears failed old new said × Fails 
 Sends true failed old new before now said = (failed ≡ true) × (new ≡ old) × (now ≡ before)
 
 module _ {R : Type 0} (taken : R → Option (List ℕ)) (faults : R → ℕ) where
-  -- each client's sink took what the client was to be sent, or a front of it if it has failed
+  -- each client's sink took what the client was to be sent, or a prefix of it if it has failed
   pub record AllHear (old new : List R) (failed : List Bool) (said : List (List ℕ)) : Type 0 where
     pub sinks : length new ≡ length old
     pub flags : length failed ≡ length old
@@ -33,7 +33,7 @@ module _ {R : Type 0} (taken : R → Option (List ℕ)) (faults : R → ℕ) whe
     pub hear : (c : ℕ) (d : R) → c < length old → Hears (slice_index_or failed c false) (taken (slice_index_or old c d)) (taken (slice_index_or new c d)) (slice_index_or said c [])
     pub fail : (c : ℕ) (d : R) → c < length old → Fails (slice_index_or failed c false) (faults (slice_index_or old c d)) (faults (slice_index_or new c d))
 
-  -- a front of it in any case
+  -- a prefix of it in any case
   pub record AllHearFronts (old new : List R) (failed : List Bool) (said : List (List ℕ)) : Type 0 where
     pub sinks : length new ≡ length old
     pub flags : length failed ≡ length old
@@ -49,12 +49,13 @@ module _ {R : Type 0} (taken : R → Option (List ℕ)) (faults : R → ℕ) whe
     pub sends : (c : ℕ) (d : R) → c < length old
         → Sends (slice_index_or failed_old c false) (slice_index_or failed_new c false) (taken (slice_index_or old c d)) (taken (slice_index_or new c d)) (faults (slice_index_or old c d)) (faults (slice_index_or new c d)) (slice_index_or said c [])
 
-  -- all bytes of what was played were written, but for fronts of what clients were to be sent whose sinks have failed
+  -- all bytes of what was played were written, except that a sink that has failed took a prefix of what its client was
+  -- to be sent
   pub record Wrote (sinks_old sinks_new : List R) (failed : List Bool) (sound_old sound_new : Option (List ℕ)) (r : Running) : Type 0 where
     pub sound : Appends sound_old sound_new r.sound
     pub replies : AllHear sinks_old sinks_new failed r.replies
 
-  -- fronts of the bytes were written
+  -- prefixes of the bytes were written
   pub record WroteFronts (sinks_old sinks_new : List R) (failed : List Bool) (sound_old sound_new : Option (List ℕ)) (r : Running) : Type 0 where
     pub sound : TakesFront sound_old sound_new r.sound
     pub replies : AllHearFronts sinks_old sinks_new failed r.replies

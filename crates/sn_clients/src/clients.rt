@@ -10,7 +10,7 @@ use sn_ports::{NoMemory, Source};
 pub enum ClientEnd {
     /// Nothing more came, and no unfinished frame was kept.
     Closed,
-    /// Nothing more came, and so many bytes of an unfinished frame were kept.
+    /// Nothing more came, and `kept` bytes of an unfinished frame were kept.
     Cut { kept: u32 },
     /// A frame has a size that no packet has: below 4, above 65,536 or no multiple of 4.
     BadFrame { size: i32 },
@@ -20,7 +20,7 @@ pub enum ClientEnd {
     SendFault,
     /// The session ended first, or has not begun.
     Stopped,
-    /// 2^62 bytes or 4,294,967,295 frames came, as many as may.
+    /// 2^62 bytes or 4,294,967,295 frames came, as many as may come.
     Worn,
     /// Memory ran out.
     NoMemory,

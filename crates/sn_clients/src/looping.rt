@@ -39,7 +39,7 @@ fn make_room(turns: &mut Turns) -> Result<(), NoMemory>
     Ok(())
 }
 
-/// Puts a turn behind the others, for which there is room.
+/// Appends a turn, for which there is room.
 fn put_turn(turns: &mut Turns, turn: Turn)
     requires { vec_len turns.old < vec_capacity turns.old }
     ensures { turns.new.items ≡ turns.old.items ++ turn ∷ [] }
@@ -81,7 +81,7 @@ impl Desk {
         send_all(&mut self.engine, sinks, &mut self.failed);
     }
 
-    /// Does so many blocks, and writes what comes of them.
+    /// Does `count` blocks, and writes what comes of them.
     fn do_blocks<H: Threads + Sync, R: Sink, O: Sink, G: Gate>(
         &mut self,
         rt: &H,
@@ -117,7 +117,7 @@ impl Desk {
         Ok(())
     }
 
-    /// Ends the loop if there are as many turns as may be.
+    /// Ends the loop if there are as many turns as there may be.
     fn check_full(&self, most: u32) -> Result<(), Halt>
         requires few { length self.now.turns.items ≤ most }
         ensures ok { OnOk result (length self.now.turns.items < most) }
@@ -129,7 +129,7 @@ impl Desk {
         Ok(())
     }
 
-    /// Takes a note, if one waits: its packet arrives, and what comes of it is sent. Answers whether one did.
+    /// Takes a note, if one waits: its packet arrives, and what comes of it is sent. Returns whether one did.
     pub(crate) fn take_note<H: Wait, R: Sink>(
         &mut self,
         rt: &H,
@@ -194,7 +194,7 @@ impl Desk {
         Ok(())
     }
 
-    /// Asks the pulse, and does the blocks that are due. Answers whether more may come.
+    /// Asks the pulse, and does the blocks that are due. Returns whether more may come.
     fn ask<H: Threads + Sync, R: Sink, T: Pulse, O: Sink, G: Gate>(
         &mut self,
         rt: &H,

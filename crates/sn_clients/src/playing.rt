@@ -27,7 +27,7 @@ pub(crate) enum Halt {
     NoMemory,
     /// The sink for the sound failed.
     SoundFault,
-    /// As many turns were done as may be.
+    /// As many turns were done as there may be.
     TurnsFull,
 }
 
@@ -79,7 +79,7 @@ pub(crate) fn send_all<R: Sink>(engine: &mut Engine, sinks: &mut [R], failed: &m
     }
 }
 
-/// A client's packet arrives, or it is told that its bytes are none.
+/// A client's packet arrives, or the client is told that its bytes are no packet.
 pub(crate) fn arrive(alloc: Global, engine: &mut Engine, note: &Note) -> Result<(), NoMemory>
     requires settled { engine.old.running.standing ≡ Settled }
     requires block { engine.old.running.block < most_count }
@@ -97,7 +97,7 @@ pub(crate) fn arrive(alloc: Global, engine: &mut Engine, note: &Note) -> Result<
     }
 }
 
-/// Writes the sound that is still to be written. After a fault a front of it was written.
+/// Writes the sound that is still to be written. After a fault, a prefix of it was written.
 fn write_sound<O: Sink>(engine: &mut Engine, sound: &mut O) -> Result<(), Halt>
     ensures written { OnOk result (Appends (O.taken sound.old) (O.taken sound.new) engine.old.running.sound) }
     ensures front { TakesFront (O.taken sound.old) (O.taken sound.new) engine.old.running.sound }
@@ -144,7 +144,7 @@ fn tick<H: Threads + Sync, R: Sink, O: Sink, G: Gate>(
     }
 }
 
-/// So many boundaries, each with its block unless `/quit` was accepted at it. What comes of them is written.
+/// `count` boundaries, each with its block unless `/quit` was accepted at it. What comes of them is written.
 pub(crate) fn play_blocks<H: Threads + Sync, R: Sink, O: Sink, G: Gate>(
     rt: &H,
     alloc: Global,

@@ -8,7 +8,7 @@ pub(crate) struct Presence {
 }
 
 impl Presence {
-    /// So many readers are to end.
+    /// `readers` readers are to end.
     pub(crate) fn new(readers: u32) -> Presence {
         Presence {
             left: AtomicU64::new(u64::from(readers)),

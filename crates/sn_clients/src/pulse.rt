@@ -9,7 +9,7 @@ use std::marker::Model;
 
 /// Says how many blocks are due, again and again.
 pub trait Pulse {
-    /// The numbers that are left, where it tells them.
+    /// The numbers that are left, if it tells them.
     ghost left: { Self → Option (List ℕ) };
 
     /// How often it gave 0. A call that gives 0 raises the count while it is below 2^64 - 1, and no other does.

@@ -37,7 +37,7 @@ fn read_client<H: Wait, S: Source, U: Watcher>(
     watcher.client_ended();
 }
 
-/// Reads the sources of all clients, each in a thread of its own where one can be had.
+/// Reads the sources of all clients, each in a thread of its own if one can be had.
 pub(crate) fn read_clients<H: Threads + Wait + Sync, S: Source + Send, U: Watcher>(
     rt: &H,
     alloc: Global,

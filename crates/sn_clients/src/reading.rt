@@ -21,7 +21,7 @@ use std::thread;
 /// How many bytes are asked for at once.
 const PIECE: usize = MOST_PACKET;
 
-/// As many frames are put as may.
+/// As many frames are put as there may be.
 const MOST_FRAMES: u32 = u32::MAX;
 
 /// Puts a frame, again and again while the relay is full. It gives up only if the stop word is set.

@@ -17,7 +17,7 @@ use std::alloc::Global;
 use std::sync::Wait;
 
 impl Relay {
-    /// A relay with an inlet for each of so many clients, client 0's first. It holds `room` notes at most.
+    /// A relay with an inlet for each of `clients` clients, client 0's first. It holds `room` notes at most.
     pub fn open(alloc: Global, clients: u32, room: u32) -> Result<(Relay, Inlets, Outlet), NoMemory>
         requires clients { (1 ≤ clients) × (clients ≤ most_clients) }
         requires room { (1 ≤ room) × (room ≤ most_relayed) }
@@ -33,7 +33,7 @@ impl Relay {
         Ok((relay, inlets, outlet))
     }
 
-    /// Makes an inlet for each of so many clients.
+    /// Makes an inlet for each of `clients` clients.
     fn make_inlets(
         &self,
         alloc: Global,
@@ -72,7 +72,7 @@ impl Relay {
         }
     }
 
-    /// Puts a frame of the inlet's client behind all that was put.
+    /// Puts a frame of the inlet's client after all that was put.
     ///
     /// `Full` gives the frame back. It comes only if there is a moment, with what this inlet has put, at which as many
     /// notes wait as may, each put by an inlet of this relay and not yet taken.
@@ -125,7 +125,7 @@ impl Relay {
         ensures end { end_of outlet.new ≡ with_gathered (end_of outlet.old) (sender_of inlet) }
         ensures front { IsFront (frames_of (sender_of inlet).client (taken_in (end_of outlet.old))) (sender_of inlet).frames }
         ensures stopped { has_stopped outlet.new ≡ has_stopped outlet.old }
-        // Where the inlet had found the stop word set, the outlet had set it.
+        // If the inlet had found the stop word set, the outlet had set it.
         ensures found { has_found inlet ≡ true → has_stopped outlet.old ≡ true }
     {
         let Inlet {
@@ -153,7 +153,7 @@ impl Relay {
         self.stop.shared.store::<Sets>(&mut outlet.seat, 0, 1);
     }
 
-    /// Whether the stop word is set. Once it is, it stays so.
+    /// Whether the stop word is set. Once set, it stays set.
     pub fn stopped(&self, inlet: &mut Inlet) -> bool
         requires inlet { IsInletOf self.now inlet.old }
         ensures inlet { IsInletOf self.now inlet.new }

@@ -129,7 +129,7 @@ fn tell_fault<S: Source>(client: &mut Client<S>, failed: bool)
     }
 }
 
-/// A flag, which is off where there is none.
+/// A flag, which is off if there is none.
 fn is_set(flags: &[bool], at: usize) -> bool
     ensures { result ≡ slice_index_or flags.now at false }
 {
@@ -198,7 +198,7 @@ fn play_each<H: Threads + Wait + Sync, R: Sink, O: Sink, T: Pulse, G: Gate, U: W
     )
 }
 
-/// Plays turns while the readers read, each in a thread of its own where one can be had.
+/// Plays turns while the readers read, each in a thread of its own if one can be had.
 fn play_and_read<
     H: Threads + Wait + Sync,
     S: Source + Send,
@@ -260,7 +260,8 @@ fn unbegun<S: Source>(alloc: Global, clients: &mut [Client<S>]) -> Session
     }
 }
 
-/// Serves 1 to 4 clients at once until the session ends, with block 0 at the time tag `base`, in `most` turns at most, 1 or more.
+/// Serves 1 to 4 clients at once until the session ends, with block 0 at the time tag `base`, in `most` turns at most,
+/// 1 or more.
 ///
 /// `sinks` has one sink for each client, which takes its replies. Each client is read in a thread of its own if one
 /// can be had, and the turns are played in this one. A client's `read` is told how its reader ended, and so is its

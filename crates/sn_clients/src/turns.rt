@@ -5,7 +5,7 @@
 pub enum Turn {
     /// The next frame of this client was taken.
     Frame(u32),
-    /// So many blocks were due, 1 to 1,024.
+    /// This many blocks were due, 1 to 1,024.
     Ticks(u32),
 }
 
@@ -23,7 +23,7 @@ pub enum How {
     NoMemory,
     /// The sink for the sound failed.
     SoundFault,
-    /// As many turns were done as may be.
+    /// As many turns were done as there may be.
     TurnsFull,
 }
 

@@ -35,7 +35,7 @@ pub struct Crew {
 }
 
 impl Crew {
-    /// A crew of so many workers, with what their jobs need and their deques.
+    /// A crew of `workers` workers, with what their jobs need and their deques.
     pub fn open(alloc: Global, workers: u32) -> Result<Crew, NoMemory>
         requires { (1 ≤ workers) × (workers ≤ most_workers) }
         ensures { IfOk result (λ c. length c.hands.items ≡ workers) }
@@ -48,15 +48,14 @@ impl Crew {
         })
     }
 
-    /// From now on a round is in at most so many threads, or in one if they are none.
+    /// After this a round is in at most `threads` threads, or in one if that is 0.
     pub fn allow_threads(&mut self, threads: usize)
         ensures { length self.new.hands.items ≡ length self.old.hands.items }
     {
         self.threads = threads;
     }
 
-    /// Runs every job of a plan, in threads where they can be had. The words after it are those of one job after
-    /// another.
+    /// Runs every job of a plan, in threads if they can be had. The words after it are those of one job after another.
     ///
     /// Each worker has a seat in the round. There are no more threads than jobs can run at the same time, no more than
     /// processors, or two, and no more than are allowed. Each job passes the gate between its claim and its run. What

@@ -10,7 +10,7 @@ use sn_ports::NoMemory;
 use sn_ports::limits::MOST_JOBS;
 use std::alloc::Global;
 
-/// No deque has more hints: a round has at most so many jobs, and each becomes ready once.
+/// No deque has more hints: a round has at most this many jobs, and each becomes ready once.
 const MOST_HINTS: u32 = MOST_JOBS;
 
 /// One worker's deque, with ways to take from those of the others. `Empty` says that the deque was empty at one moment
@@ -66,8 +66,7 @@ impl DequeHints {
         })
     }
 
-    /// Puts a hint at the end of its own deque. If there is no memory for it, it is dropped. It answers whether it was
-    /// put.
+    /// Appends a hint to its own deque. If there is no memory for it, it is dropped. It returns whether it was put.
     pub(crate) fn give(&mut self, hint: u32) -> bool
         requires { hint < most_jobs }
         ensures { self.new.counts ≡ self.old.counts }

@@ -47,7 +47,7 @@ pub fn open_deque(alloc: Global) -> Result<OwnDeque, NoMemory> {
     Ok(OwnDeque::fifo_as(alloc, ROOM)?)
 }
 
-/// Puts a hint at the end. If there is no memory for it, it is dropped. It answers whether it was put.
+/// Appends a hint. If there is no memory for it, it is dropped. It returns whether it was put.
 pub fn give(own: &mut OwnDeque, hint: u32) -> bool
     requires { hint < most_jobs }
 {

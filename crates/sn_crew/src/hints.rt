@@ -82,7 +82,7 @@ pub trait Hints {
     fn deques(&self) -> u32
         ensures { result ≡ size self.now };
 
-    /// Looks at a deque in a round of so many jobs. The count of what it answers rises, if there is one, and no other.
+    /// Looks at a deque in a round of `jobs` jobs. The count of what it answers rises, if there is one, and no other.
     fn look(&mut self, deque: u32, jobs: u32) -> Look
         requires { deque < size self.old }
         ensures size { size self.new ≡ size self.old }

@@ -13,15 +13,15 @@ pub struct HoldGate {
     one: u32,
     other: u32,
     turns: u32,
-    // 1 from when a job has come on.
+    // 1 after a job has come.
     one_came: AtomicU64,
     other_came: AtomicU64,
-    // 1 from when a hold ran out of turns.
+    // 1 after a hold ran out of turns.
     ran_out: AtomicU64,
 }
 
 impl HoldGate {
-    /// A gate that holds these two jobs for at most so many turns.
+    /// A gate that holds these two jobs for at most `turns` turns.
     pub fn new(one: u32, other: u32, turns: u32) -> HoldGate {
         HoldGate {
             one,

@@ -41,7 +41,7 @@ impl Pace {
         self.left.fetch_sub(1, Ordering::SeqCst);
     }
 
-    /// Waits for a hint, and reserves it. It answers whether it did: not if no job is left, or if all turns are over.
+    /// Waits for a hint, and reserves it. It returns whether it did: not if no job is left, or if all turns are over.
     pub fn reserve(&self) -> bool {
         for turn in 0..TURNS {
             let hints = self.hints.load(Ordering::SeqCst);

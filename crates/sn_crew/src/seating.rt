@@ -27,7 +27,7 @@ fn clear(hands: &mut [Hand])
     }
 }
 
-/// Deals hints at the jobs that have no predecessor to the hands in turn.
+/// Deals out hints for the jobs that have no predecessor, to each hand in turn.
 pub fn deal(hands: &mut [Hand], plan: &Plan, pace: &Pace)
     requires some { 0 < length hands.old }
     requires few { length plan.now ≤ most_jobs }

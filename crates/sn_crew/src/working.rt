@@ -22,7 +22,7 @@ use std::thread::{Threads, for_each_mut};
 const TAKES: u32 = 131_072;
 
 /// Pays every debt, and puts a hint at each job that becomes ready on the worker's own deque. The first of them is
-/// reserved for this worker. It answers whether there is one.
+/// reserved for this worker. It returns whether there is one.
 fn release_all(
     shared: &Shared,
     seat: &mut WorkerSeat,
@@ -56,7 +56,7 @@ fn release_all(
     is_reserved
 }
 
-/// Runs a job that was just got, ends it and pays what it owes. It answers whether a hint is reserved for this worker.
+/// Runs a job that was just got, ends it and pays what it owes. It returns whether a hint is reserved for this worker.
 fn play<W: Work>(
     shared: &Shared,
     seat: &mut WorkerSeat,
@@ -148,7 +148,7 @@ fn work_hand<W: Work, G: Gate>(
     hand.seat = Some(seat);
 }
 
-/// The hands work in so many threads, where they can be had.
+/// The hands work in `threads` threads, if they can be had.
 pub fn work_all<R: Threads + Sync, W: Work, G: Gate>(
     rt: &R,
     threads: usize,

@@ -460,7 +460,7 @@ control_line_back bytes v at d e c rest some none room fresh is h =
     goes_on v at d (with_line d c) e (control_bytes c) rest some (not_end (control_fields c) (control_bytes c) cut_line (word_no_end c.is_array))
     (ap (line_at v d) cut_line ∙ controls_line bytes v d c.is_array c.name c.literals c.defaults none room is.name fresh is.count is.values fields) h
 
--- what is read once the controls are
+-- what is read after the controls
 abbrev pub AfterControls : Version → Definition → List (List ℕ) → Type 0
 AfterControls v e rest = (at : ℕ) (n : Definition) → n.name ≡ e.name → n.controls ≡ e.controls → n.arrays ≡ e.arrays → n.units ≡ [] → n.wires ≡ [] → body_at v at n rest ≡ Ok e
 

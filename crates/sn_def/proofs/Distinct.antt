@@ -58,7 +58,7 @@ pub distinct-right : (xs ys : List (List ℕ)) → AreDistinct (xs ++ ys) → Ar
 distinct-right [] ys h = h
 distinct-right (x ∷ xs) ys h = distinct-right xs ys h.1
 
--- what stands behind does not stand in front
+-- a name that stands in the second list doesn't stand in the first
 pub distinct_before : (xs ys : List (List ℕ)) (n : List ℕ) (k : ℕ) → AreDistinct (xs ++ ys) → slice_get ys k ≡ Some n → place_of n xs ≡ None
 distinct_before [] ys n k h i = absent-none n
 distinct_before (x ∷ xs) ys n k h i = absent-from n x xs (other_way n x (absent_there x n ys k (absent_parts x xs ys h.0).1 i)) (distinct_before xs ys n k h.1 i)
@@ -71,7 +71,7 @@ get_first : (b : Bool) (xs : List (List ℕ)) (x n : List ℕ) (o : Option ℕ) 
 get_first true xs x n o is h = ap (λ (y : List ℕ). Some y) (is refl)
 get_first false xs x n o is h = h
 
--- where a name stands, it is
+-- the place of a name has this name
 pub place_get : (n : List ℕ) (xs : List (List ℕ)) → IfSome (place_of n xs) (λ k. slice_get xs k ≡ Some n)
 unfolding place_of
 place_get n [] = tt

@@ -1,4 +1,4 @@
--- A draft with a control, an array or a wire more.
+-- A draft with one more control, array or wire.
 use Rattle.std.proofs.Common.{◌≡◌, ℕ, ℤ, ◌+◌, ◌<◌, ◌≤◌, false, cond, List, [], ◌∷◌, ◌++◌, length, map, Option, Some, None, refl, sym, ap, subst, ◌∙◌, arith, Bor, length-append, lit≤}
 use Rattle.std.proofs.lemmas.List.{map_push}
 use Rattle.std.specs.Str.{bytes_eq}
@@ -24,7 +24,7 @@ Map = BTreeMap (Bor (List ℕ)) Input
 abbrev pub Adds : Map → Map → List ℕ → Input → Type 0
 Adds m new n x = (q : List ℕ) → value_at new q ≡ cond (bytes_eq n q) (Some x) (value_at m q)
 
--- what a name without a point stands for, behind a control or an array
+-- what a name without a point stands for, after a control or an array
 plain-more : (d e : Definition) (m new : Map) (n : List ℕ) (number : ℕ) → IsDraft d m → number ≡ length d.controls → Adds m new n (Control number)
     → ((q : List ℕ) → has_point q ≡ false → named e q ≡ cond (bytes_eq n q) (Some (Control (length d.controls))) (named d q)) → (q : List ℕ) → has_point q ≡ false → value_at new q ≡ named e q
 plain-more d e m new n number ok is adds goes q plain =

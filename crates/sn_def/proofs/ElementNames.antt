@@ -121,7 +121,7 @@ other_pointed p n h i = (
   false_from_ne_true (bytes_eq n p) (λ t. both_ways (has_point p) (ap has_point (sym ((bytes_eq-Decides n p).0 t)) ∙ i) h),
 )
 
--- the parts before and behind the point
+-- the parts before and after the point
 cut_head : (x y : ℕ) (xs ys : List ℕ) → x ∷ xs ≡ y ∷ ys → (x ≡ y) × (xs ≡ ys)
 cut_head x y xs ys h = (cc, cc)
 
@@ -138,9 +138,9 @@ same_parts (x ∷ xs) (y ∷ ys) a b h i e =
     let more = same_parts xs ys a b (or_parts (x == 46) (has_point xs) h).1 (or_parts (y == 46) (has_point ys) i).1 p.1 in
     (ap (λ (z : ℕ). z ∷ xs) p.0 ∙ ap (λ (zs : List ℕ). y ∷ zs) more.0, more.1)
 
--- ---- elements stand behind their array
+-- ---- elements stand after their array
 
--- where a name without a point is not given, none of its elements is
+-- if a name without a point is not given, none of its elements is
 abbrev pub IsRooted : List (List ℕ) → Type 0
 IsRooted ns = (m : List ℕ) (k : ℕ) → has_point m ≡ false → place_of m ns ≡ None → place_of (behind m k) ns ≡ None
 
@@ -152,7 +152,7 @@ pub rooted-plain : (ns : List (List ℕ)) (n : List ℕ) → has_point n ≡ fal
 rooted-plain ns n plain h m k is none =
     absent-append (behind m k) ns (n ∷ []) (h m k is (absent_parts m ns (n ∷ []) none).0) (absent-from (behind m k) n [] (other_pointed (behind m k) n (behind_pointed m k) plain).1 (absent-none (behind m k)))
 
--- elements behind the array of a name that is given already
+-- elements after the array of a name that is given already
 rooted-element : (ns : List (List ℕ)) (n : List ℕ) (j : ℕ) → has_point n ≡ false → (place_of n ns ≡ None → ⊥) → IsRooted ns → IsRooted (ns ++ behind n j ∷ [])
 rooted-element ns n j plain there h m k is none =
     let absent : place_of m ns ≡ None = (absent_parts m ns (behind n j ∷ []) none).0 in

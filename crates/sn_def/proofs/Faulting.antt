@@ -110,7 +110,7 @@ second_line bytes v text second more f read are line kind other = record {
   cut = kind;
 }
 
--- the first two lines and those read behind them, and the line at which reading ends
+-- the first two lines and those read after them, and the line at which reading ends
 pub record At (v : Version) (text : List ℕ) (second : List ℕ) (before : List (List ℕ)) (line : List ℕ) (later : List (List ℕ)) (draft : Definition) (f : DefFault) : Type 0 where
   pub read : text_at text ≡ Err f
   pub split : pieces 10 text ≡ (title v ∷ second ∷ before) ++ line ∷ later

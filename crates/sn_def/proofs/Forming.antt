@@ -121,12 +121,12 @@ outputs-push : (us : List UnitLine) (u : UnitLine) → outputs_of (us ++ u ∷ [
 outputs-push [] u = omega arith
 outputs-push (v ∷ us) u = let more = outputs-push us u in omega arith
 
--- more controls behind the last array
+-- more controls after the last array
 runs_wider : (from controls more : ℕ) (rs : List Run) → controls ≤ more → RunsFit from controls rs → RunsFit from more rs
 runs_wider from controls more [] le h = omega arith
 runs_wider from controls more (r ∷ rs) le h = (h.0, h.1, h.2, runs_wider (r.first + r.len) controls more rs le h.3)
 
--- an array behind all controls
+-- an array after all controls
 runs_fit-push : (from controls len : ℕ) (rs : List Run) → 1 ≤ len → len ≤ 64 → RunsFit from controls rs → RunsFit from (controls + len) (rs ++ run controls len ∷ [])
 runs_fit-push from controls len [] some few h = (h, some, few, omega arith)
 runs_fit-push from controls len (r ∷ rs) some few h = (h.0, h.1, h.2, runs_fit-push (r.first + r.len) controls len rs some few h.3)

@@ -18,7 +18,7 @@ use Rattle.sn_def.proofs.Prefix.{long}
 pub same_fault : {X : Type 0} (f g : DefFault) → ◌≡◌ {A = Result X DefFault} (Err f) (Err g) → g ≡ f
 same_fault f g h = cc
 
--- a line more is read
+-- one more line is read
 pub record Goes (v : Version) (n : Definition) : Type 0 where
   pub wires : length n.units ≡ 0 → length n.wires ≡ 0
   pub good : Good v n

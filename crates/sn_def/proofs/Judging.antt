@@ -22,7 +22,7 @@ use Rattle.sn_def.specs.StateWords.{is_longest}
 use Rattle.sn_def.specs.Grammar.{names_of}
 use Rattle.sn_def.specs.Faults.{Kinds, first_kind, is_literal, is_among, is_control, is_given, is_given_twice, asks_index, asks_constant, is_delay, def_kinds, control_kinds, literals_kinds, array_kinds, input_kinds, inputs_kinds, row_kinds, known_kinds, parts_kinds, line_kinds}
 
--- the kind of a fault, where there is one
+-- the kind of a fault, if there is one
 abbrev error_of : {A : Type 0} → Result A DefKind → Option DefKind
 error_of (Ok x) = None
 error_of (Err k) = Some k
@@ -278,7 +278,7 @@ is_error (Err j) k h = let same : j ≡ k = cc in ap (λ (e : DefKind). Err e) s
 pub line_judged : (v : Version) (d : Definition) (fields : List (List ℕ)) (kind : DefKind) → (line_at v d fields ≡ Err kind) ↔ (first_kind (line_kinds v d fields) ≡ Some kind)
 line_judged v d fields kind = (λ h. sym (line_error v d fields) ∙ ap error_of h, λ h. is_error (line_at v d fields) kind (line_error v d fields ∙ h))
 
--- the fault of the line `def NAME`, where there is one
+-- the fault of the line `def NAME`, if there is one
 abbrev fault_in : Result Definition DefFault → Option DefFault
 fault_in (Ok d) = None
 fault_in (Err f) = Some f

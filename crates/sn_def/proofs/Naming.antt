@@ -1,4 +1,4 @@
--- What a name stands for after a control, an array or a wire more.
+-- What a name stands for after one more control, array or wire.
 use Rattle.std.proofs.Common.{◌≡◌, ℕ, ℤ, ◌+◌, ◌<◌, Bool, true, false, cond, List, [], ◌∷◌, ◌++◌, length, Option, Some, None, refl, sym, ap, ◌∙◌, subst, add-one, append_assoc, arith}
 use Rattle.std.specs.List.{list_all}
 use Rattle.std.specs.Str.{bytes_eq}
@@ -20,7 +20,7 @@ pub nothing_known : (name q : List ℕ) (m : Option Input) → m ≡ None → or
 unfolding named place_of
 nothing_known name q m h = h
 
--- where a name stands once n is at the end
+-- where a name stands after n is put at the end
 abbrev after : Option ℕ → Bool → ℕ → Option ℕ
 after (Some k) same len = Some k
 after None same len = cond same (Some len) None

@@ -23,7 +23,7 @@ no_pieces c text h = let n : length (pieces c text) ≡ 0 = ap length h in let m
 pub head_same : (x y : List ℕ) (xs ys : List (List ℕ)) → x ∷ xs ≡ y ∷ ys → (x ≡ y) × (xs ≡ ys)
 head_same x y xs ys h = (cc, cc)
 
--- what stands behind a last line feed is cut by itself
+-- what follows a last line feed is cut by itself
 with_more : (x : ℕ) (same : Bool) (ps qs end ls : List (List ℕ)) → 0 < length ps → cond same ([] ∷ ps) (onto_first x ps) ≡ ls ++ [] ∷ [] → ((ms : List (List ℕ)) → ps ≡ ms ++ [] ∷ [] → qs ≡ ms ++ end) → cond same ([] ∷ qs) (onto_first x qs) ≡ ls ++ end
 with_more x true ps qs end [] some h more =
     let e = head_same [] [] ps [] h in
@@ -118,7 +118,7 @@ title_ends e [] h = cc
 title_ends e (first ∷ []) h = cc
 title_ends e (first ∷ second ∷ rest) h = versioned_ends e first second rest (version_of first) refl (past (length (second ∷ rest) == 0) (fault 1 wrong.Line) _ e h).1
 
--- what is read is read again before more lines: only where nothing follows
+-- what is read is read again before more lines: only if nothing follows
 pub record Again (text : List ℕ) (e : Definition) : Type 0 where
   pub last : ℕ
   pub with_more : (more : List ℕ) → text_at (text ++ more) ≡ end_at last e (pieces 10 more)

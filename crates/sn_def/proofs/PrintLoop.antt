@@ -118,7 +118,7 @@ plain_lines : (ps : List Param) → flat_map (λ c. line (control_fields c)) (ma
 plain_lines [] = refl
 plain_lines (p ∷ ps) = ap (λ (s : List ℕ). line (control_fields (control_printed (parameter_of p))) ++ s) (plain_lines ps)
 
--- an array that fits stands behind those before it, within the controls
+-- an array that fits stands after those before it, within the controls
 pub runs_within : (from controls : ℕ) (rs : List Run) → RunsFit from controls rs → from ≤ controls
 runs_within from controls [] h = h
 runs_within from controls (r ∷ rs) h = omega (arith, h.0, runs_within (r.first + r.len) controls rs h.3)
@@ -130,7 +130,7 @@ pub run_fits : (rs : List Run) (i : ℕ) (r q : Run) (next controls : ℕ) → i
 run_fits rs i r q next controls lt is h =
     first_fits r (drop (i + 1) rs) next controls (subst (RunsFit next controls) (drop_more rs i q lt ∙ ap (λ (s : Run). s ∷ drop (i + 1) rs) (sym is)) h)
 
--- an array's line behind those of the controls before it
+-- an array's line after those of the controls before it
 pub run_text : (ps : List Param) (r : Run) (width : ℕ) (t a n front : List ℕ) → width ≡ r.len → a ≡ t ++ front → n ≡ a ++ line (control_fields (array_printed (map parameter_of (take width (drop r.first ps)))))
     → n ≡ (t ++ front) ++ line (control_fields (array_printed (map parameter_of (take r.len (drop r.first ps)))))
 run_text ps r width t a n front wide ha hn =
@@ -165,7 +165,7 @@ arrays_text ps front part rs r q i next t a n total lt is le hf hp ha hn so_far 
     ∙ ap (λ (qs : List Run). t ++ flat_map write (controls_printed next rest qs)) (sym at)
     ∙ so_far
 
--- the controls behind the last array
+-- the controls after the last array
 pub last_text : (ps back : List Param) (rs : List Run) (i next : ℕ) (t e total : List ℕ) → length rs ≤ i → back ≡ drop next ps → e ≡ t ++ flat_map (λ c. line (control_fields (control_printed (parameter_of c)))) back
     → t ++ flat_map (λ c. line (control_fields c)) (controls_printed next (map parameter_of (drop next ps)) (drop i rs)) ≡ total → e ≡ total
 last_text ps back rs i next t e total le hb he so_far =

@@ -1,4 +1,4 @@
--- What is told of a line that was refused.
+-- What is answered for a line that was refused.
 use Rattle.std.proofs.Common.{◌≡◌, ℕ, Result, refl}
 use Rattle.sn_def.specs.declared.fault.DefKind.{DefKind}
 use Rattle.sn_def.specs.declared.fault.Refused.{Refused}

@@ -1,4 +1,4 @@
--- What is read of a text, its lines say.
+-- What is read from a text is said by its lines.
 use Rattle.std.proofs.Common.{◌≡◌, ℕ, ℤ, ◌+◌, ◌==◌, ◌&&◌, ◌||◌, Bool, true, false, cond, not, nat_le, nat_lt, List, [], ◌∷◌, ◌++◌, length, map, slice_get, Option, Some, None, IfSome, Result, Ok, Err, ◌⊎◌, inl, inr, refl, sym, ap, subst, ◌∙◌, arith, codes, append_assoc, append-nil, length-append, is_some, eqb-true, ◌<◌, ◌≤◌, leb-false, ltb-false}
 use Rattle.std.specs.Str.{bytes_eq}
 use Rattle.std.specs.List.{list_all, list_any}
@@ -39,7 +39,7 @@ is_fresh d n h =
     let none = nothing (or_else (as_control (place_of n (control_names d))) (as_wire (place_of n d.wires))) h in
     absent-append n (control_names d) d.wires (no_control (place_of n (control_names d)) (place_of n d.wires) none) (no_wire (place_of n (control_names d)) (place_of n d.wires) none)
 
--- the names of a definition, those of elements behind their array's, and the names of wires
+-- the names of a definition, those of elements after their array's, and the names of wires
 pub record Good (v : Version) (d : Definition) : Type 0 where
   pub names : AreRooted (names_of d)
   pub wires : list_all (is_name v) d.wires ≡ true
@@ -201,7 +201,7 @@ no_wires : (ws : List (List ℕ)) → length ws ≡ 0 → ws ≡ []
 no_wires [] h = refl
 no_wires (w ∷ ws) h = absurd (omega arith)
 
--- names of elements more, where there are no wires
+-- more names of elements, if there are no wires
 good-more : (v : Version) (d : Definition) (name : List ℕ) (vs : List ℤ) → d.wires ≡ [] → is_name v name ≡ true → is_known d name ≡ false → length vs ≤ 64 → Good v d → AreRooted (names_of (with_controls d (elements name 0 vs)))
 good-more v d name vs none named fresh few ok = subst AreRooted (sym (names-more d (elements name 0 vs) none)) (array_rooted v (names_of d) name vs named few (is_fresh d name fresh) ok.names)
 

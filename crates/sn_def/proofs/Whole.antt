@@ -1,4 +1,4 @@
--- What is read of a text is what its lines say, from the first to the last.
+-- What is read from a text is what its lines say, from the first to the last.
 use Rattle.std.proofs.Common.{◌≡◌, ℕ, ◌+◌, ◌<◌, ◌≤◌, ◌==◌, ◌||◌, Bool, true, false, cond, not, List, [], ◌∷◌, ◌++◌, length, map, flat_map, Option, Some, None, Ok, Err, ◌⊎◌, inl, inr, ⊎_elim, refl, sym, ap, subst, ◌∙◌, arith, lit≤, codes, append_assoc, append-nil, length-append, eqb-true, zero-le}
 use Rattle.std.specs.Str.{bytes_eq}
 use Rattle.std.specs.List.{join_with_byte}
@@ -132,7 +132,7 @@ units_alone v d e lines none no_wires few r = record {
   good = r.good;
 }
 
--- how many controls a line more gives
+-- how many controls one more line gives
 pub length-line : (d : Definition) (c : ControlLine) → length (with_line d c).controls ≡ length d.controls + length c.defaults
 length-line d c = length-append d.controls (elements c.name 0 c.defaults) ∙ ap (λ (k : ℕ). length d.controls + k) (length-elements c.name 0 c.defaults)
 

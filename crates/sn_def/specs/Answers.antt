@@ -12,7 +12,7 @@ use Rattle.sn_def.specs.Reading.{fault}
 abbrev pub texts : List (Bor (List ℕ)) → List (List ℕ)
 texts fields = map (λ f. f.now) fields
 
--- want of memory, or what reading gives
+-- `NoMemory`, or what reading gives
 abbrev pub RefusedAs : {Y : Type 0} → Refused → Result Y DefKind → Type 0
 RefusedAs refused.NoMemory read = Unit {0}
 RefusedAs (refused.Because kind) read = read ≡ Err kind
@@ -21,7 +21,7 @@ abbrev pub Gives : {X Y : Type 0} → (X → Y) → Result X Refused → Result 
 Gives view (Ok x) read = read ≡ Ok (view x)
 Gives view (Err e) read = RefusedAs e read
 
--- what is told of a line that was refused
+-- what is answered for a line that was refused
 abbrev pub told_at : ℕ → Refused → Unread
 told_at line refused.NoMemory = unread.NoMemory
 told_at line (refused.Because kind) = unread.Bad (fault line kind)

@@ -8,12 +8,13 @@ use Rattle.sn_def.specs.declared.unit.Input.{Input}
 use Rattle.sn_def.specs.declared.unit.Input.TheVariants.{Control, Wire}
 use Rattle.sn_def.specs.declared.unit.Unit.{Unit as UnitLine}
 
--- a control: its name, and its value at first
+-- a control: its name, and its first value
 pub record Parameter : Type 0 where
   pub name : List ℕ
   pub default : ℤ
 
--- controls, units and wires are numbered from 0 in their order; an array is a run of controls; the outputs of a unit are the next wires
+-- controls, units and wires are numbered from 0 in their order; an array is a run of controls; the outputs of a unit
+-- are the next wires
 pub record Definition : Type 0 where
   pub name : List ℕ
   pub controls : List Parameter
@@ -52,7 +53,7 @@ run first len = record { first = first; len = len }
 abbrev pub with_run : Definition → ℕ → ℕ → Definition
 with_run d first len = record d { arrays = d.arrays ++ run first len ∷ [] }
 
--- an array more: its elements are the next controls
+-- one more array: its elements are the next controls
 abbrev pub with_array : Definition → List ℕ → List ℤ → Definition
 with_array d name defaults = with_run (with_controls d (elements name 0 defaults)) (length d.controls) (length defaults)
 
@@ -65,7 +66,7 @@ with_wires d names = record d { wires = d.wires ++ names }
 abbrev pub with_unit : Definition → Kind → List Input → ℕ → Definition
 with_unit d kind inputs outputs = record d { units = d.units ++ unit_line kind inputs outputs ∷ [] }
 
--- one more, where there is one
+-- one more, if there is one
 abbrev pub one_more : Option ℕ → Option ℕ
 one_more (Some k) = Some (k + 1)
 one_more None = None

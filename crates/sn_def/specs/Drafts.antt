@@ -20,7 +20,8 @@ draft_of name controls arrays units wires = record { name = name.bytes; controls
 abbrev pub has_point : List ℕ → Bool
 has_point name = list_any (λ b. b == 46) name
 
--- The map knows what the definition names, but for elements of arrays, which stand among its controls. No list is longer than it may be.
+-- The map knows what the definition names, except elements of arrays, which stand among its controls. No list is longer
+-- than it may be.
 pub record IsDraft (d : Definition) (m : BTreeMap (Bor (List ℕ)) Input) : Type 0 where
   pub plain : (q : List ℕ) → has_point q ≡ false → value_at m q ≡ named d q
   pub known : (q : List ℕ) → or_else (as_control (place_of q (control_names d))) (value_at m q) ≡ named d q

@@ -17,7 +17,7 @@ use Rattle.sn_def.specs.Reading.{UnitParts, pieces, first_of, is_array_word, is_
 use Rattle.sn_def.specs.StateWords.{is_longest}
 use Rattle.sn_def.specs.Grammar.{DefinitionText, names_of}
 
--- The table of kinds. Each row is a test and the kind of a line where it holds; the first row that holds counts.
+-- The table of kinds. Each row is a test, and the kind of a line if it holds. The first row that holds counts.
 abbrev pub Kinds : Type 0
 Kinds = List (Bool × DefKind)
 
@@ -134,7 +134,8 @@ abbrev pub parts_kinds : Version → Definition → Option UnitParts → Kinds
 parts_kinds v d None = (true, wrong.Line) ∷ []
 parts_kinds v d (Some parts) = unit_kinds v d parts
 
--- A line behind the first two, where the lines before it define d: it is a control's or an array's where it begins with that word, and else a unit's, which begins with no word of another line.
+-- A line after the first two, if the lines before it define d. It is a control's or an array's if it begins with that
+-- word. Else it is a unit's, which begins with no word of another line.
 abbrev pub line_kinds : Version → Definition → List (List ℕ) → Kinds
 line_kinds v d fields =
     if bytes_eq (first_of fields) (codes "control") then control_kinds v d fields else
@@ -152,22 +153,23 @@ Defines text = (d : Definition) × DefinitionText text d
 abbrev pub Begins : List (List ℕ) → Type 0
 Begins lines = (more : List ℕ) × Defines (lines_text lines ++ more)
 
--- A line that is judged by what the earlier ones with the line `end` define; behind the line `end` there is none.
+-- A line that is judged by what the earlier ones with the line `end` define; after the line `end` there is none.
 abbrev pub IsWrong : Version → List (List ℕ) → List ℕ → DefKind → Type 0
 IsWrong v earlier line kind =
     ((d : Definition) × (DefinitionText (lines_text (earlier ++ codes "end" ∷ [])) d × (first_kind (line_kinds v d (pieces 32 line)) ≡ Some kind))) ⊎ (Defines (lines_text earlier) × (kind ≡ wrong.Line))
 
--- the first kind that applies to a line behind the title and the lines after it
+-- the first kind that applies to a line after the title and the lines that follow it
 abbrev pub KindBehind : Version → List ℕ → List (List ℕ) → List ℕ → DefKind → Type 0
 KindBehind v first [] line kind = first_kind (def_kinds v (pieces 32 line)) ≡ Some kind
 KindBehind v first (named ∷ lines) line kind = IsWrong v (first ∷ named ∷ lines) line kind
 
--- the first kind that applies to a line behind the earlier ones, of which the first tells the version
+-- the first kind that applies to a line after the earlier ones, of which the first names the version
 abbrev pub KindOf : List (List ℕ) → List ℕ → DefKind → Type 0
 KindOf [] line kind = kind ≡ wrong.Line
 KindOf (first ∷ lines) line kind = (v : Version) × ((first ≡ title v) × KindBehind v first lines line kind)
 
--- The text defines nothing. The lines before this one begin some definition text, and with this one, where it is whole, they begin none; its kind is the first that applies. Where the lines end before, the kind is `Line`.
+-- The text defines nothing. The lines before this one begin some definition text. If this line is whole, then together
+-- with it they begin none, and its kind is the first that applies. If the lines end before that, the kind is `Line`.
 pub record DefinitionFault (text : List ℕ) (number : ℕ) (kind : DefKind) : Type 0 where
   pub none : Defines text → ⊥
   pub earlier : List (List ℕ)

@@ -15,7 +15,8 @@ use Rattle.sn_def.specs.Versions.{title, most_controls}
 use Rattle.sn_def.specs.Reading.{UnitParts, is_name, is_name_byte, begins_name}
 use Rattle.sn_def.specs.WellFormed.{IsWellFormed}
 
--- What all names that a text gives have in common, those of elements among them: 1 to 35 letters, digits, `_` and `.`, not beginning with a digit or `.`.
+-- What all names that a text gives have in common, even those of elements: 1 to 35 letters, digits, `_` and `.`, not
+-- beginning with a digit or `.`.
 abbrev pub is_given_byte : ℕ → Bool
 is_given_byte b = is_name_byte b || (b == 46)
 
@@ -36,7 +37,7 @@ pub record ControlLine : Type 0 where
 abbrev pub control_fields : ControlLine → List (List ℕ)
 control_fields c = (if c.is_array then codes "array" else codes "control") ∷ c.name ∷ c.literals
 
--- the names of the output wires, and `=` where there are any
+-- the names of the output wires, and `=` if there are any
 abbrev pub output_fields : List (List ℕ) → List (List ℕ)
 output_fields [] = []
 output_fields (n ∷ ns) = (n ∷ ns) ++ codes "=" ∷ []
@@ -53,7 +54,7 @@ text_of v name controls units =
 abbrev pub controls_of : List ControlLine → List Parameter
 controls_of lines = flat_map (λ c. elements c.name 0 c.defaults) lines
 
--- and their arrays, where so many controls stand before them
+-- and their arrays, if so many controls stand before them
 abbrev pub arrays_of : ℕ → List ControlLine → List Run
 arrays_of before [] = []
 arrays_of before (c ∷ cs) = (if c.is_array then run before (length c.defaults) ∷ [] else []) ++ arrays_of (before + length c.defaults) cs

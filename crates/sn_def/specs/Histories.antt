@@ -1,4 +1,5 @@
--- A unit's blocks. It makes of its state words and of its inputs' blocks the state words after the block, and what it gives.
+-- A unit's blocks. It makes of its state words and of its inputs' blocks the state words after the block, and what it
+-- gives.
 use Rattle.std.specs.Prelude.{◌/◌, ◌%◌, ℕ, zero, suc, List, [], ◌∷◌, replicate, slice_index_or, ℤ, pos}
 use Rattle.sn_ports.specs.Limits.{block_frames}
 
@@ -6,8 +7,8 @@ use Rattle.sn_ports.specs.Limits.{block_frames}
 abbrev pub one_output : List ℕ × List ℤ → List ℕ × List (List ℤ)
 one_output r = (r.0, r.1 ∷ [])
 
--- A run gives each block's inputs, by the block's number. Its frame t is frame t % block_frames of block t / block_frames.
--- An input's sample at a frame of the run:
+-- A run gives each block's inputs, by the block's number. Its frame t is frame t % block_frames of block t /
+-- block_frames. An input's sample at a frame of the run:
 abbrev pub heard : (ℕ → List (List ℤ)) → ℕ → ℕ → ℤ
 heard run i t = slice_index_or (slice_index_or (run (t / block_frames)) i []) (t % block_frames) (pos 0)
 

@@ -35,7 +35,7 @@ first_name (p ∷ ps) = p.name
 abbrev pub array_printed : List Parameter → ControlLine
 array_printed ps = line_printed true (first_name ps) ps
 
--- the lines of controls from a number on, where these are their arrays
+-- the lines of controls from a number on, if these are their arrays
 abbrev pub controls_printed : ℕ → List Parameter → List Run → List ControlLine
 controls_printed from ps [] = map control_printed ps
 controls_printed from ps (r ∷ rs) =

@@ -219,7 +219,7 @@ is_over _ = false
 abbrev pub end_at : ℕ → Definition → List (List ℕ) → Result Definition DefFault
 end_at number d after = if is_over after then Ok d else Err (fault (number + 1) wrong.Line)
 
--- lines from this number on, where those before them define d; the last piece of a text is no whole line
+-- lines from this number on, if those before them define d; the last piece of a text is no whole line
 unfoldable pub body_at : Version → ℕ → Definition → List (List ℕ) → Result Definition DefFault
 body_at v number d [] = Err (fault number wrong.Line)
 body_at v number d (line ∷ after) =

@@ -1,5 +1,5 @@
--- The table of units: family, name, inputs that a unit always has, outputs, words of state; and what a unit reads or writes, its done action,
--- and whether it sends triggers.
+-- The table of units: family, name, inputs that a unit always has, outputs, words of state; and what a unit reads or
+-- writes, its done action, and whether it sends triggers.
 use Rattle.std.specs.Prelude.{ℕ, Bool, true, false, pos, List, [], ◌∷◌, codes, find, Option, Some, None}
 use Rattle.std.specs.Str.{bytes_eq}
 use Rattle.sn_def.specs.declared.kind.Kind.{Kind}

@@ -10,7 +10,7 @@ abbrev pub title : Version → List ℕ
 title versions.One = codes "snova 1"
 title versions.Two = codes "snova 2"
 
--- the version that a first line tells
+-- the version that a first line names
 abbrev pub version_of : List ℕ → Option Version
 version_of line =
     if bytes_eq line (codes "snova 1") then Some versions.One else

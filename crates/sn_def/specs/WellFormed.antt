@@ -21,7 +21,7 @@ pub record IsDelay (v : ℤ) : Type 0 where
   pub low : pos 0 ≤ℤ v
   pub high : v ≤ℤ pos 60000
 
--- an input that its mark allows, where there are so many controls, and so many wires of earlier lines
+-- an input that its mark allows, if there are so many controls and so many wires of earlier lines
 abbrev pub IsAllowed : Mark → ℕ → ℕ → Input → Type 0
 IsAllowed Signal controls wires (Literal v) = IsSample v
 IsAllowed Signal controls wires (Control k) = k < controls
@@ -59,7 +59,8 @@ abbrev pub outputs_of : List UnitLine → ℕ
 outputs_of [] = 0
 outputs_of (u ∷ us) = u.outputs + outputs_of us
 
--- arrays of so many controls, from this control on: each has 1 to 64 controls, which come after those of the array before it
+-- arrays of so many controls, from this control on: each has 1 to 64 controls, which come after those of the array
+-- before it
 abbrev pub RunsFit : ℕ → ℕ → List Run → Type 0
 RunsFit from controls [] = from ≤ controls
 RunsFit from controls (r ∷ rs) = (from ≤ r.first) × (1 ≤ r.len) × (r.len ≤ most_elements) × RunsFit (r.first + r.len) controls rs

@@ -53,8 +53,8 @@ fn place_of(controls: &[Param], name: &[u8]) -> Option<usize>
 }
 
 impl Def {
-    /// A definition keeps the limits, and each of its units takes as many inputs and gives as many
-    /// outputs as its row says, of the kinds that its row says, from earlier lines.
+    /// A definition keeps the limits. Each of its units takes as many inputs and gives as many outputs as its row says.
+    /// The inputs are of the kinds that its row says, and from earlier lines.
     pub fn well_formed(&self)
         ensures { IsWellFormed (definition_of self.now) }
     {}
@@ -66,8 +66,7 @@ impl Def {
         any_has_index(control, self.units.as_slice())
     }
 
-    /// The number of the control of this name, from 0. `None` comes exactly where no control has
-    /// the name.
+    /// The number of the control of this name, from 0. `None` comes exactly if no control has the name.
     pub fn control_named(&self, name: &[u8]) -> Option<u32>
         ensures { result ≡ control_named (definition_of self.now) name.now }
     {

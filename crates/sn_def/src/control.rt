@@ -1,9 +1,9 @@
-//! The controls of a synth, and what a unit is told of its surroundings.
+//! The controls of a synth, and what a unit is given of its surroundings.
 ghost use Rattle.std.specs.Prelude.{◌≡◌, List, slice_set};
 
 use std::marker::Model;
 
-/// What a unit's run is told of its surroundings.
+/// What the run of a unit is given of its surroundings.
 #[derive(Clone, Copy, Debug)]
 pub struct Now {
     /// The sample rate, in frames a second.
@@ -55,7 +55,7 @@ impl Controls {
         &self.items
     }
 
-    /// Sets the control with a number, where there is one.
+    /// Sets the control with a number, if there is one.
     #[tactic(auto, using(std::proofs::lemmas::List::set_past))]
     pub fn set(&mut self, number: usize, control: Control)
         ensures { self.new ≡ slice_set self.old number control }

@@ -16,7 +16,7 @@ use sn_fixed::literal;
 use sn_ports::limits::MOST_ELEMENTS;
 use std::alloc::Global;
 
-/// The value of a control of this name at first, or what is wrong with its line.
+/// The first value of a control of this name, or what is wrong with its line.
 #[tactic(auto, unfolding(crate::specs::Reading::control_at))]
 fn control_value<'a>(
     version: Version,
@@ -47,7 +47,7 @@ fn control_value<'a>(
     }
 }
 
-/// A control more. Its line is judged first, which takes no memory.
+/// One more control. Its line is judged first, which takes no memory.
 fn control<'a>(
     alloc: Global,
     version: Version,
@@ -99,7 +99,7 @@ fn defaults(alloc: Global, literals: &[&[u8]]) -> Result<Vec<i32>, Refused>
     Ok(values)
 }
 
-/// Whether an array of this name, with so many literals, may stand here, or what is wrong with its line.
+/// Whether an array of this name, with these literals, may stand here, or what is wrong with its line.
 #[tactic(auto, using(crate::proofs::ElementNames::name_plain), unfolding(crate::specs::Reading::array_at))]
 fn judge_array<'a>(
     version: Version,
@@ -131,7 +131,7 @@ fn judge_array<'a>(
     Ok(())
 }
 
-/// An array more. Its line is judged first, which takes no memory.
+/// One more array. Its line is judged first, which takes no memory.
 fn array<'a>(
     alloc: Global,
     version: Version,

@@ -15,12 +15,12 @@ use sn_ports::{NoMemory, Text};
 use std::alloc::Global;
 use std::marker::Model;
 
-/// A control of a definition: its name, and the value that it has at first.
+/// A control of a definition: its name, and its first value.
 #[derive(Debug, Drop)]
 pub struct Param {
     /// The control's name.
     pub name: Text,
-    /// The value at first: a raw sample, in units of 2^-24.
+    /// The first value: a raw sample, in units of 2^-24.
     pub default: i32,
 }
 
@@ -87,7 +87,7 @@ impl Names {
     }
 }
 
-/// A definition of an instrument. It always is the definition of some text.
+/// A definition of an instrument. It is always the definition of some text.
 #[derive(Debug, Drop)]
 pub struct Def {
     /// The definition's name.

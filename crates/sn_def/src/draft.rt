@@ -149,8 +149,8 @@ impl<'a> Draft<'a> {
         self.wires.len()
     }
 
-    /// The number of the line, from 1, that comes after the first two and so many more, of which
-    /// each gave a control or a unit.
+    /// The number of the line, from 1, that comes after the first two and `read` more, each of which gave a control or
+    /// a unit.
     pub fn line(&self, read: usize) -> u32
         requires { read ≤ length self.now.controls + length self.now.units }
         ensures count { result ≡ 3 + read }
@@ -161,7 +161,7 @@ impl<'a> Draft<'a> {
         3 + read as u32
     }
 
-    /// One control more, under a name that stands for nothing yet.
+    /// One more control, under a name that stands for nothing yet.
     pub fn with_control(self, alloc: Global, name: &'a [u8], default: i32) -> Result<Self, NoMemory>
         requires fresh { named self name.now ≡ None }
         requires room { length self.controls < most_wires }
@@ -177,7 +177,7 @@ impl<'a> Draft<'a> {
         Ok(draft)
     }
 
-    /// One array more, under a name that stands for nothing yet.
+    /// One more array, under a name that stands for nothing yet.
     pub fn with_array(
         self,
         alloc: Global,
@@ -202,7 +202,7 @@ impl<'a> Draft<'a> {
         Ok(draft)
     }
 
-    /// One wire more, under a name that stands for nothing yet.
+    /// One more wire, under a name that stands for nothing yet.
     pub fn with_wire(self, alloc: Global, name: &'a [u8]) -> Result<Self, NoMemory>
         requires fresh { named self name.now ≡ None }
         requires room { length self.wires < most_wires }
@@ -229,7 +229,7 @@ impl<'a> Draft<'a> {
         Ok(draft)
     }
 
-    /// The definition, once it has a unit and all its wires.
+    /// The definition, after it has a unit and all its wires.
     pub fn into_def(self, alloc: Global) -> Result<Def, NoMemory>
         requires { IsWritten self }
         ensures { IfOk result (λ d. definition_of d ≡ self.entry) }

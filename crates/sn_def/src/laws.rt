@@ -35,7 +35,7 @@ pub fn names_are_short()
     ensures { (d : Definition) → IsWritten d → list_all is_given_name (d.name ∷ names_of d) ≡ true }
 {}
 
-/// What is read of a text is what its lines say, and what they say is read.
+/// What is read from a text is what its lines say, and what they say is read.
 pub fn lines_are_read()
     ensures sound { (text : List ℕ) (d : Definition) → text_at text ≡ Ok d → DefinitionText text d }
     ensures complete { (text : List ℕ) (d : Definition) → DefinitionText text d → text_at text ≡ Ok d }
@@ -63,7 +63,7 @@ pub fn lines_are_judged()
     ensures lines { (v : Version) (d : Definition) (fields : List (List ℕ)) (kind : DefKind) → (line_at v d fields ≡ Err kind) ↔ (first_kind (line_kinds v d fields) ≡ Some kind) }
 {}
 
-/// Reading gives a fault exactly where it is the first fault of the text.
+/// Reading gives a fault exactly if it is the first fault of the text.
 pub fn first_fault_is_read()
     ensures sound { (text : List ℕ) (f : DefFault) → text_at text ≡ Err f → DefinitionFault text f.line f.kind }
     ensures complete { (text : List ℕ) (number : ℕ) (kind : DefKind) → DefinitionFault text number kind → text_at text ≡ Err (fault number kind) }

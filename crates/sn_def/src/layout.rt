@@ -49,7 +49,7 @@ fn words_if_there(units: &[Unit], number: usize, rate: u32) -> u32
     }
 }
 
-/// The first units, at most so many.
+/// The first units, at most `number`.
 fn first_units(units: &[Unit], number: usize) -> &[Unit]
     ensures { result.now ≡ take number units.now }
 {

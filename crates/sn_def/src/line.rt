@@ -43,10 +43,10 @@ fn unit_kind<'a>(version: Version, draft: &Draft<'a>, parts: Parts<'_, 'a>) -> R
     Ok(kind)
 }
 
-/// A unit more, of this kind and with right counts and names.
+/// One more unit, of this kind and with right counts and names.
 ///
-/// Its inputs are found before its names are given, so that none of them is a wire of its own. A name that is given twice comes before what
-/// is wrong with an input.
+/// Its inputs are found before its names are given, so none of them is a wire of its own. A name that is given twice
+/// comes before what is wrong with an input.
 fn unit_with<'a>(
     alloc: Global,
     draft: Draft<'a>,

@@ -50,7 +50,7 @@ pub(crate) fn unit_parts<'f, 'a>(fields: &'f [&'a [u8]]) -> Option<Parts<'f, 'a>
     }
 }
 
-/// Whether a unit takes so many inputs and gives so many outputs.
+/// Whether a unit takes `inputs` inputs and gives `outputs` outputs.
 pub(crate) fn counts_fit(row: &Row, inputs: usize, outputs: usize) -> bool
     ensures { result ≡ counts_fit (row_seen row.now) inputs outputs }
 {

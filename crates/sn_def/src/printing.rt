@@ -49,7 +49,7 @@ fn first_name(controls: &[Param]) -> &[u8]
     }
 }
 
-/// A value, behind a space.
+/// A value, after a space.
 fn print_value(alloc: Global, text: &mut Text, control: &Param) -> Result<(), NoMemory>
     ensures { OnOk result (text.new.bytes ≡ text.old.bytes ++ 32 ∷ signed_decimal control.now.default) }
 {
@@ -57,7 +57,7 @@ fn print_value(alloc: Global, text: &mut Text, control: &Param) -> Result<(), No
     text.append(show(alloc, control.default)?.as_slice())
 }
 
-/// The values of controls, each behind a space.
+/// The values of controls, each after a space.
 fn print_values(alloc: Global, text: &mut Text, controls: &[Param]) -> Result<(), NoMemory>
     ensures { OnOk result (text.new.bytes ≡ text.old.bytes ++ flat_map (λ c. 32 ∷ signed_decimal c.default) controls.now) }
 {
@@ -95,7 +95,7 @@ fn print_run(
     print_array(alloc, text, &controls[first..after])
 }
 
-/// The lines of controls, where these are their arrays.
+/// The lines of controls, if these are their arrays.
 fn print_control_lines(
     alloc: Global,
     text: &mut Text,
@@ -167,7 +167,7 @@ fn print_names(text: &mut Text, names: &[Text]) -> Result<(), NoMemory>
     Ok(())
 }
 
-/// The names of the output wires, and `=` where there are any.
+/// The names of the output wires, and `=` if there are any.
 fn print_outputs(text: &mut Text, names: &[Text]) -> Result<(), NoMemory>
     ensures { OnOk result (text.new.bytes ≡ text.old.bytes ++ flat_map (λ f. f ++ 32 ∷ []) (output_fields (map (λ n. n.bytes) names.now))) }
 {
@@ -240,12 +240,12 @@ fn print_title(alloc: Global, version: Version, name: &[u8]) -> Result<Text, NoM
     Ok(text)
 }
 
-/// The text of a definition, in which every value is written as a whole number: in version 1 if it
-/// has no array and at most 128 controls, else in version 2. `read` gives an equal definition.
+/// The text of a definition, in which every value is written as a whole number: in version 1 if it has no array and at
+/// most 128 controls, else in version 2. `read` gives an equal definition.
 ///
 /// # Errors
 ///
-/// Only want of memory.
+/// `NoMemory` alone.
 pub fn print(alloc: Global, def: &Def) -> Result<Text, NoMemory>
     ensures printed { IfOk result (λ text. text.bytes ≡ print_of (definition_of def.now)) }
     ensures read { IfOk result (λ text. text_at text.bytes ≡ Ok (definition_of def.now)) }

@@ -96,7 +96,7 @@ pub struct Row {
     pub name: &'static [u8],
     /// The inputs that it always has.
     pub inputs: &'static [Mark],
-    /// How many signals may follow these inputs, 0 or 8; where they may, there is at least one.
+    /// How many signals may follow these inputs, 0 or 8. If they may, there is at least one.
     pub signals: u32,
     /// The fewest outputs.
     pub least: u32,
@@ -163,8 +163,7 @@ pub(crate) const KINDS: [Kind; 47] = [
     Kind::PauseSelf,
 ];
 
-/// A unit with so many outputs that reads and writes no bus and no buffer, does not end and sends
-/// nothing.
+/// A unit with a number of outputs. It reads and writes no bus and no buffer, doesn't end, and sends nothing.
 macro_rules! row {
     ($family:ident $name:literal [$($mark:ident),*] => $outputs:literal, $words:ident$(($count:literal))?) => {
         Row {

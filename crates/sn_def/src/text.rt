@@ -36,7 +36,7 @@ fn is_over(after: &[&[u8]]) -> bool
     }
 }
 
-/// The whole definition, where nothing stands after the line `end`, which has this number.
+/// The whole definition, if nothing stands after the line `end`, which has this number.
 fn after_end<'a>(number: u32, draft: Draft<'a>, after: &[&'a [u8]]) -> Result<Draft<'a>, DefFault>
     requires { number < 4294967295 }
     ensures { result ≡ end_at number draft.entry (texts after.now) }
@@ -58,7 +58,7 @@ fn end<'a>(number: u32, draft: Draft<'a>, after: &[&'a [u8]]) -> Result<Draft<'a
     Ok(after_end(number, draft, after)?)
 }
 
-/// What is told of a line that was refused.
+/// What is answered for a line that was refused.
 fn told(line: u32, why: Refused) -> Unread
     ensures { result ≡ told_at line why }
 {
@@ -161,7 +161,7 @@ fn after_title<'a>(alloc: Global, version: Version, lines: &[&'a [u8]]) -> Resul
     }
 }
 
-/// The lines after the first, which tells the version.
+/// The lines after the first, which names the version.
 fn versioned<'a>(alloc: Global, title: &[u8], lines: &[&'a [u8]]) -> Result<Draft<'a>, Unread>
     ensures { Reads (λ d. d) result (versioned_at (version_of title.now) (texts lines.now)) }
 {
@@ -196,12 +196,11 @@ fn read_lines(alloc: Global, text: &[u8]) -> Result<Def, Unread>
     Ok(draft.into_def(alloc)?)
 }
 
-/// The definition that a text is, or the first line at which no valid text continues and what is
-/// wrong there.
+/// The definition that a text is, or the first line at which no valid text continues and what is wrong there.
 ///
 /// # Errors
 ///
-/// `Bad` comes exactly where the text is no definition text.
+/// `Bad` comes exactly if the text is no definition text.
 pub fn read(alloc: Global, text: &[u8]) -> Result<Def, Unread>
     ensures read { Reads definition_of result (text_at text.now) }
     ensures text { IfOk result (λ d. DefinitionText text.now (definition_of d)) }

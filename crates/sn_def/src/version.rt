@@ -15,7 +15,7 @@ pub enum Version {
 }
 
 impl Version {
-    /// The version that the first line of a text tells.
+    /// The version that the first line of a text names.
     pub fn of(line: &[u8]) -> Option<Self>
         ensures { result ≡ version_of line.now }
     {

@@ -11,7 +11,7 @@ use crate::fields::is_name;
 use crate::version::Version;
 use std::alloc::Global;
 
-/// Gives each name to a further wire. Each has to be new.
+/// Gives each name to a new wire. Each name has to be new.
 pub(crate) fn give_wires<'a>(
     alloc: Global,
     draft: Draft<'a>,

@@ -27,7 +27,7 @@ ended_alike d = ⊎_elim
     (λ (ne : d ≢ 1). ap (λ n. settled_word (ended n)) (stays d ne))
     (cases_eq d 1)
 
--- a unit that ends where a test says so, and where it does not
+-- a unit that ends if a test says so, and what it is if the test does not
 pub ended_if : (b : Bool) (d : ℕ) → settled_word (cond b (ended (settled_word d)) (settled_word d)) ≡ settled_word (cond b (ended d) d)
 ended_if true d = ended_alike d
 ended_if false d = twice d

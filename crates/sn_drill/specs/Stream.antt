@@ -6,7 +6,7 @@ use Rattle.sn_drill.specs.Definitions.{voice, mix8}
 
 -- ---- what is drawn
 
--- the number behind a number
+-- the number after a number
 abbrev pub following : ℕ → ℕ
 following r = (r * 1664525 + 1013904223) % 2 ^ 32
 
@@ -51,7 +51,7 @@ note x y = if x % 4 == 3 then retuning (frequency y) else beginning (frequency y
 
 -- ---- packets
 
--- both definitions, the parallel group of the voices, and the mix behind it
+-- both definitions, the parallel group of the voices, and the mix after it
 abbrev pub opening : Shape
 opening = bundle 0 (shapes_from (
     message_of (codes "/d_recv") (blob voice ∷ [])

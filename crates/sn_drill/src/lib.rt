@@ -1,4 +1,4 @@
-//! A drill: a long stream of commands that a seed chooses, and the line that tells what came of it.
+//! A drill: a long stream of commands that a seed chooses, and the line that says what came of it.
 #![tactic(auto)]
 
 mod definitions;

@@ -54,7 +54,7 @@ fn line_with(alloc: Global, played: &Played) -> Result<Text, NoMemory>
     Ok(Text::from_vec(line.into_bytes()))
 }
 
-/// The line that tells of a drill of so many blocks which sound and which replies it gave.
+/// The line that says which sound and which replies a drill of `blocks` blocks gave.
 pub fn line_of(alloc: Global, blocks: u32, sound: &[u8], replies: &[u8]) -> Result<Text, NoMemory>
     ensures { IfOk result (λ line. line.bytes ≡ drill_line blocks sound.now replies.now) }
 {

@@ -112,7 +112,7 @@ fn group(alloc: Global) -> Result<Packet, NoMemory>
     message_to(alloc, b"/p_new", args)
 }
 
-/// The mix begins, behind the group.
+/// The mix begins, after the group.
 fn mix(alloc: Global) -> Result<Packet, NoMemory>
     ensures { IfOk result (λ p. shape p ≡ message_of (codes "/s_new") (string (codes "mix8") ∷ int (pos 2) ∷ int (pos 1) ∷ int (pos 0) ∷ [])) }
 {
@@ -120,7 +120,7 @@ fn mix(alloc: Global) -> Result<Packet, NoMemory>
     message_to(alloc, b"/s_new", args)
 }
 
-/// Both definitions, the parallel group of the voices, and the mix behind it.
+/// Both definitions, the parallel group of the voices, and the mix after it.
 pub(crate) fn opening(alloc: Global) -> Result<Packet, NoMemory>
     ensures { IfOk result (λ p. shape p ≡ opening) }
 {

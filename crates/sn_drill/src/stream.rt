@@ -10,7 +10,7 @@ use sn_ports::NoMemory;
 use sn_queue::at;
 use std::alloc::Global;
 
-/// The number behind a number.
+/// The number after a number.
 fn following(number: u32) -> u32
     ensures { result ≡ following number }
 {
@@ -35,7 +35,7 @@ fn packets_before(rate: u32, block: u32, elements: Elements) -> Packet
     bundle_of(at(u64::from(block), 0, rate) as u64, elements)
 }
 
-/// Puts so many notes at the end, each before its block.
+/// Appends `count` notes, each before its block.
 fn put_notes(
     alloc: Global,
     seed: u32,
@@ -57,7 +57,7 @@ fn put_notes(
     Ok(())
 }
 
-/// The packets of the drill of so many blocks, at so many frames a second.
+/// The packets of the drill of `blocks` blocks, at `rate` frames a second.
 pub fn drill_packets(alloc: Global, seed: u32, blocks: u32, rate: u32) -> Result<Elements, NoMemory>
     requires rate { 0 < rate }
     requires some { 1 ≤ blocks }

@@ -42,7 +42,7 @@ taken_first now q w e = record {
 pub taken : (now : ℕ) (old new : WaitingList) (entry : Entry) → Some (waiting_of entry) ≡ first_due old now → new ≡ without_first_due old now → IsTaken now old new (waiting_of entry)
 taken now old new entry first is = subst (λ q. IsTaken now old q (waiting_of entry)) (sym is) (taken_first now old (waiting_of entry) (sym first))
 
--- where none is due, none acts, and all stay
+-- if none is due, none acts, and all stay
 pub record IsDone (now : ℕ) (old new : WaitingList) : Type 0 where
   pub acts : (t : Turn) → act_entries (due_at now old) t ≡ t
   pub asks : (t : Turn) → entries_ask (due_at now old) t ≡ nothing_asked
@@ -68,7 +68,7 @@ kept_then a b c one two = two ∙ ap (λ (q : WaitingList). record q { waiting =
 replaced : (a c : WaitingList) (ws : List Waiting) → c ≡ record a { waiting = ws } → c ≡ record a { waiting = c.waiting }
 replaced a c ws is = is ∙ ap (λ (q : WaitingList). record a { waiting = q.waiting }) (sym is)
 
--- behind what changed so before, where an entry is taken, and where those that are due later are dropped
+-- after what changed so before, if an entry is taken, and if those that are due later are dropped
 pub taken_kept : (now : ℕ) (a b c : WaitingList) → b ≡ record a { waiting = b.waiting } → c ≡ without_first_due b now → c ≡ record a { waiting = c.waiting }
 taken_kept now a b c so_far is = kept_then a b c so_far (replaced b c (without_first_due b now).waiting is)
 
@@ -128,7 +128,7 @@ not_mine h P is p = subst (λ x. UnlessDone (Ok x) P) is p
 pub none_there : (h : Handled) (o : Option (Result Turn Reason)) (t : Turn) → h ≡ NotMine → Handles (Ok h) o t → o ≡ None
 none_there h o t is row = subst (λ x. Handles (Ok x) o t) is row
 
--- the other commands are asked where the address is none of the first ones'
+-- the other commands are asked if the address is none of the first ones'
 pub handles_other : (r asked : Result Handled NoMemory) (o other told : Option (Result Turn Reason)) (t after : Turn) → r ≡ asked → t ≡ after → o ≡ None → told ≡ other → Handles asked told after → Handles r (first_there o other) t
 handles_other r asked o other told t after is same none as_told row =
     let found : Handles asked (first_there o other) after = subst (λ x. Handles asked (first_there x other) after) (sym none) (subst (λ x. Handles asked x after) as_told row) in

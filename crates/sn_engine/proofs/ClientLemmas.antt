@@ -4,7 +4,7 @@ use Rattle.sn_reply.specs.Frames.{with_frames, EachBegins}
 use Rattle.sn_reply.specs.Replies.{ReplyShape}
 use Rattle.sn_reply.proofs.FrameLaws.{each_begins_refl, frames_behind}
 
--- ---- where nothing was sent
+-- ---- if nothing was sent
 
 pub none_lost : (old now : List (List ℕ)) → now ≡ old → EachBegins old now
 none_lost old now same = subst (λ (ts : List (List ℕ)). EachBegins old ts) (sym same) (each_begins_refl old)
@@ -12,7 +12,7 @@ none_lost old now same = subst (λ (ts : List (List ℕ)). EachBegins old ts) (s
 pub none_sent : (old now : List (List ℕ)) (rs : List ReplyShape) → now ≡ old → EachBegins now (with_frames 0 rs old)
 none_sent old now rs same = subst (λ (ts : List (List ℕ)). EachBegins ts (with_frames 0 rs old)) (sym same) (frames_behind 0 rs old)
 
--- ---- where some was
+-- ---- if some was
 
 still_waits : (before old now new : List (List ℕ)) → before ≡ old → now ≡ new → EachBegins before new → EachBegins old now
 still_waits before old now new is same h = subst (λ (ts : List (List ℕ)). EachBegins ts now) is (subst (λ (ts : List (List ℕ)). EachBegins before ts) (sym same) h)

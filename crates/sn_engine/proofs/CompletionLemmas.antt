@@ -37,7 +37,7 @@ not_completed from quitting t none = refl
 not_completed from clearing t none = refl
 not_completed from (completing m) t none = absurd cc
 
--- where none is carried, no more is done
+-- if none is carried, no more is done
 pub none_carried : (n from : ℕ) (a : Acted) → is_completing a.next ≡ false → all_completed n from a ≡ a
 unfolding all_completed
 none_carried zero from a none = refl
@@ -45,7 +45,7 @@ none_carried (suc n) from a none = ap (all_completed n from) (not_completed from
 
 -- ---- none is left
 
--- what is done besides where a command carries none is no completion
+-- what is done besides, if a command carries none, is no completion
 ends : (h : Handled) (c : MessageShape) → ending_of h ≡ completing c → ⊥
 ends answers.Done c e = absurd cc
 ends (answers.Completion m) c e = absurd cc

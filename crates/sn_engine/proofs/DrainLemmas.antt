@@ -1,4 +1,4 @@
--- What was reserved stays where a client's replies are drained.
+-- What was reserved stays if a client's replies are drained.
 use Rattle.std.proofs.Common.{◌≡◌, ◌≤◌, ◌*◌, ℕ, zero, suc, List, [], ◌∷◌, length, map, get_or, ap, ◌∙◌, arith}
 use Rattle.std.specs.Prelude.{slice_set}
 use Rattle.sn_ports.specs.Octets.{Octets, bytes_of}
@@ -8,7 +8,7 @@ use Rattle.sn_engine.specs.declared.standing.Standing.{Standing}
 use Rattle.sn_engine.specs.declared.standing.Standing.TheVariants.{Settled, Bounded, Rendered, Spent}
 use Rattle.sn_engine.specs.Keeping.{CanSettle, HasRoom}
 
--- where one of the texts has no less room than it had
+-- if one of the texts has no less room than it had
 room_set : (n : ℕ) (ts : List Octets) (k : ℕ) (d new : Octets) → (get_or ts k d).spare ≤ new.spare → EachHasRoom n ts → EachHasRoom n (slice_set ts k new)
 room_set n [] k d new more h = h
 room_set n (t ∷ ts) zero d new more h = (omega (arith, more, h.0), h.1)

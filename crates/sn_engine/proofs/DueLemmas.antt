@@ -1,4 +1,4 @@
--- The first entry that is due, and the entries behind it.
+-- The first entry that is due, and the entries after it.
 use Rattle.std.proofs.Common.{◌≡◌, ◌<◌, suc, List, [], ◌∷◌, length, filter, Bool, true, false, cond, Some, None, refl, sym, ap, subst, ◌∙◌, arith}
 use Rattle.std.specs.List.{AllByRecursion}
 use Rattle.std.specs.Prelude.{not}
@@ -7,7 +7,7 @@ use Rattle.sn_queue.specs.Steps.{first, without_first}
 some_is : {A : Type 0} (x y : A) → Some x ≡ Some y → x ≡ y
 some_is x y e = cc
 
--- it stands in front of the others that pass
+-- it stands before the others that pass
 pub first_of_filtered : {X : Type 0} (test : X → Bool) (xs : List X) (x : X) → first test xs ≡ Some x → filter test xs ≡ x ∷ filter test (without_first test xs)
 first_of_filtered test [] x e = absurd cc
 first_of_filtered test (y ∷ ys) x e = at (test y) refl (λ e. first_of_filtered test ys x e) e
@@ -17,7 +17,7 @@ first_of_filtered test (y ∷ ys) x e = at (test y) refl (λ e. first_of_filtere
     at true is ih e = ap (λ z. z ∷ filter test ys) (some_is y x e)
     at false is ih e = ih e ∙ ap (λ zs. x ∷ zs) (sym (ap (λ b. cond b (y ∷ filter test (without_first test ys)) (filter test (without_first test ys))) is))
 
--- where there is none, none passes
+-- if there is none, none passes
 pub none_filtered : {X : Type 0} (test : X → Bool) (xs : List X) → first test xs ≡ None → filter test xs ≡ []
 none_filtered test [] e = refl
 none_filtered test (y ∷ ys) e = at (test y) (λ e. none_filtered test ys e) e
@@ -38,7 +38,7 @@ others_stay test (y ∷ ys) = at (test y) refl (others_stay test ys)
     at true is ih = refl
     at false is ih = ap (λ b. cond (not b) (y ∷ others test (without_first test ys)) (others test (without_first test ys))) is ∙ ap (λ zs. y ∷ zs) ih
 
--- where none passes, all the others are all
+-- if none passes, all the others are all
 pub all_others : {X : Type 0} (test : X → Bool) (xs : List X) → first test xs ≡ None → filter (λ x. not (test x)) xs ≡ xs
 all_others test [] e = refl
 all_others test (y ∷ ys) e = at (test y) (λ e. all_others test ys e) e
@@ -47,7 +47,7 @@ all_others test (y ∷ ys) e = at (test y) (λ e. all_others test ys e) e
     at true ih e = absurd cc
     at false ih e = ap (λ zs. y ∷ zs) (ih e)
 
--- what holds of all holds of the first, and of those behind it
+-- what holds of all holds of the first, and of those after it
 pub first_has : {X : Type 0} (P : X → Type 0) (test : X → Bool) (xs : List X) (x : X) → first test xs ≡ Some x → AllByRecursion P xs → P x
 first_has P test [] x e all = absurd cc
 first_has P test (y ∷ ys) x e all = at (test y) (λ e. first_has P test ys x e all.1) e
@@ -72,7 +72,7 @@ first_among test (y ∷ ys) x e = at (test y) (λ e. first_among test ys x e) e
     at true ih e = omega arith
     at false ih e = let h : length (without_first test ys) < length ys = ih e in omega arith
 
--- where there is none, nothing is taken
+-- if there is none, nothing is taken
 pub unchanged : {X : Type 0} (test : X → Bool) (xs : List X) → first test xs ≡ None → without_first test xs ≡ xs
 unchanged test [] e = refl
 unchanged test (y ∷ ys) e = at (test y) (λ e. unchanged test ys e) e

@@ -1,4 +1,4 @@
--- The synths of which something may come stay where the layout does.
+-- The synths of which something may come stay if the layout does.
 use Rattle.std.proofs.Common.{◌≡◌, ◌==◌, ℕ, ℤ, List, [], ◌∷◌, ◌++◌, map, refl, sym, ap, ◌∙◌}
 use Rattle.std.specs.Prelude.{if◌then◌else◌}
 use Rattle.sn_tree.specs.Trees.{Label, Nodes, running_labels, with_payloads}

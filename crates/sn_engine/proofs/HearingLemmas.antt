@@ -78,7 +78,7 @@ next_frame channels b w w' k items new so_far same put =
     ∙ ap (λ (v : World). frames_of channels b w k ++ frame_of channels b v k) same
     ∙ ap (λ (m : ℕ). frames_of channels b w m) (sym (add-one k))
 
--- a frame has room behind those before it
+-- a frame has room after those before it
 pub room_for_one : (k channels len room : ℕ) → channels ≤ 8 → k < 64 → len ≡ k * channels → 512 ≤ room → len + channels ≤ room
 room_for_one k channels len room few before is some =
     let whole : channels * suc k ≤ channels * 64 = mul-le-mul_left channels (omega (arith, before)) in

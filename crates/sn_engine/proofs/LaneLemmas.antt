@@ -34,7 +34,7 @@ block_ready w words pictures lanes planned early = record {
   early = early;
 }
 
--- the lanes still have room where the memory is as wide and the pool is where it was
+-- the lanes still have room if the memory is as wide and the pool is where it was
 pub still_laned : (old new : Stage) (ws us : List ℕ) → new.pool.region ≡ old.pool.region → length us ≡ length ws → HasLanes old ws → HasLanes new us
 still_laned old new ws us same long h =
     let len : new.pool.region.len ≡ old.pool.region.len = ap (λ (e : Extent). e.len) same in
@@ -49,7 +49,7 @@ rest_at_first stage n words zeros room = λ k lt.
     let none : slice_index words at ≡ 0 = ap (λ (ws : List ℕ). slice_index ws at) zeros ∙ get_or-replicate n at 0 0 (omega (arith, lt, room)) in
     subst (λ m. m ≤ 0) (sym none) (omega arith)
 
--- none does where the words behind the pool are as they were
+-- none does if the words after the pool are unchanged
 pub rest_on : (old new : Stage) (b : ℕ) (ws us : List ℕ) → old.pool.region.at ≡ 10368 → new.pool.region ≡ old.pool.region → KeepsOutside old.pool.region ws us → LanesRest old b ws → LanesRest new b us
 rest_on old new b ws us base same kept rest = λ k lt.
     let len : new.pool.region.len ≡ old.pool.region.len = ap (λ (e : Extent). e.len) same in
@@ -77,7 +77,7 @@ below_writes f region end base is w = record {
   pool = λ k from to. is_where (has f.writes) end k (omega (arith, to, base, is)) (w.pool k from to);
 }
 
--- those from there on are as before
+-- those from there on are unchanged
 pub kept_outside : (region : Extent) (end : ℕ) (old new : List ℕ) → region.at ≡ 10368 → end ≡ 10368 + region.len → drop end new ≡ drop end old → KeepsOutside region old new
 kept_outside region end old new base is same = λ k low from.
     let more : ℕ = k - end in

@@ -11,7 +11,7 @@ pub one_more : (b from : ℕ) (es : List Timed) (e : Timed) (o : Offered) → of
 one_more b from [] e o = refl
 one_more b from (x ∷ es) e o = one_more b from es e (offer_entry b from x o)
 
--- what waits doesn't hang on what was said before
+-- what waits doesn't depend on what was said before
 abbrev step : ℕ → ℕ → Timed → WaitingList → WaitingList
 step b from e q = if is_full q then q else put q e.tag b from e.messages
 

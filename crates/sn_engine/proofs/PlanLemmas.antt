@@ -15,7 +15,7 @@ no_jobs_are = record { few = omega arith; lower = λ i j l c. absurd (omega arit
 pub none_spanned : (jobs : List Job) (outputs : List Extent) (copies : ℕ) (spans : List SpanPlan) → spans ≡ [] → AreSpanned jobs outputs copies spans
 none_spanned jobs outputs copies spans none = All-same (IsSpanned jobs outputs copies) spans [] none (All-nil (IsSpanned jobs outputs copies))
 
--- the same where the jobs are, whether they are quiet, and the synths that are listed
+-- the same if the jobs are, whether they are quiet, and the synths that are listed
 pub planned_again : (workers : ℕ) (stage : Stage) (old new : List Job) (before after : Bool) (some same : Eventful) → new ≡ old → after ≡ before → same ≡ some → IsPlannedFor workers stage old before some → IsPlannedFor workers stage new after same
 planned_again workers stage old new before after some same jobs quiet eventful h =
     subst (λ (js : List Job). IsPlannedFor workers stage js after same) (sym jobs) (subst (λ (b : Bool). IsPlannedFor workers stage old b same) (sym quiet) (subst (IsPlannedFor workers stage old before) (sym eventful) h))

@@ -1,4 +1,4 @@
--- A boundary at which no entry is due: nothing acts, and where the clashes still hold, none is told.
+-- A boundary at which no entry is due: nothing acts, and if the clashes still hold, none is told.
 use Rattle.std.proofs.Common.{◌≡◌, ℕ, Bool, true, false, cond, ◌||◌, List, [], ◌∷◌, ◌++◌, Some, None, refl, sym, ap, ◌∙◌}
 use Rattle.std.specs.List.{list_any}
 use Rattle.std.specs.Prelude.{if◌then◌else◌}

@@ -1,4 +1,4 @@
--- One block more of those that are rendered in a row.
+-- One more block of those that are rendered in a row.
 use Rattle.std.proofs.Common.{IsTrue, ◌≡◌, ◌==◌, Bool, true, false, ℕ, suc, ◌+◌, ◌*◌, ◌/◌, ◌≤◌, List, [], ◌∷◌, ◌++◌, ℤ, refl, ap, sym, subst, ◌∙◌, arith, append-nil, append_assoc}
 use Rattle.std.specs.Prelude.{replicate}
 use Rattle.std.proofs.lemmas.Bool.Decides.{nat_tests}

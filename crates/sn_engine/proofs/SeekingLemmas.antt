@@ -1,4 +1,4 @@
--- A clash is found by its key exactly where it is there.
+-- A clash is found by its key exactly if it is there.
 use Rattle.std.proofs.Common.{◌≡◌, ◌<◌, ◌+◌, ℕ, Bool, true, false, cond, ◌&&◌, ◌||◌, List, take, length, get_or, refl, sym, ap, ◌∙◌}
 use Rattle.std.specs.Cmp.{tied_then, unsigned_tied}
 use Rattle.std.specs.List.{list_any}

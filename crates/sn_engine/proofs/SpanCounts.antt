@@ -7,7 +7,7 @@ use Rattle.sn_queue.specs.Steps.{is_due}
 use Rattle.sn_queue.specs.Waiting.{WaitingList}
 use Rattle.sn_span.specs.Unrolling.{start}
 
--- where one is due before the last block of so many, fewer may come
+-- if one is due before the last block of so many, fewer may come
 pub fewer_may : (q : WaitingList) (b most n : ℕ) (asked : Bool) → asked ≡ list_any (is_due q (b + most - 1)) q.waiting → asked ≡ true → n ≤ most → list_any (is_due q (b + n - 1)) q.waiting ≡ false → n ≤ most - 1
 fewer_may q b most n asked is on few none = ⊎_elim
     (λ (e : n ≡ most). absurd (true≢false (sym on ∙ (is ∙ (ap (λ m. list_any (is_due q (b + m - 1)) q.waiting) (sym e) ∙ none)))))

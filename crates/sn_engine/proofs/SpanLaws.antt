@@ -43,7 +43,7 @@ use Rattle.sn_engine.proofs.QuietLemmas.{same_world, all_wait, same_clashes, not
 quiet_settled : (q : Running) → are_quiet q.world.nodes ≡ true → with_settled q ≡ record q { standing = Settled; world = settled_world q.world }
 quiet_settled q h = ap (λ (t : Turn). record q { standing = Settled; world = t.world; replies = with_frames 0 t.replies q.replies }) (quiet_settles (q.block - 1) (unsaid q.world) h)
 
--- ---- a boundary at which none is due, where the clashes still hold
+-- ---- a boundary at which none is due, if the clashes still hold
 
 still_bounded : (q : Running) → list_any (is_due q.waiting q.block) q.waiting.waiting ≡ false → q.clashes ≡ clashes_of q.world → at_boundary q ≡ record q { standing = Bounded }
 still_bounded q none hold =

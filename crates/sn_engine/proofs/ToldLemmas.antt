@@ -1,4 +1,4 @@
--- Of clashes that were there before none is told.
+-- Of clashes that were there before, none is told.
 use Rattle.std.proofs.Common.{◌≡◌, Bool, true, ◌&&◌, ◌||◌, List, [], ◌∷◌, ◌++◌, refl, sym, ap, ◌∙◌}
 use Rattle.std.proofs.Math.Bool.{or-true}
 use Rattle.std.specs.Cmp.{int_eq_equiv, nat_eq_equiv}

@@ -1,4 +1,4 @@
--- Packets that arrive: their entries are put, or refused where as many wait as may.
+-- Packets that arrive: their entries are put, or refused if as many wait as may.
 use Rattle.std.specs.Prelude.{◌≡◌, ◌≤◌, ◌^◌, ℕ, ◌+◌, ◌==◌, Bool, false, if◌then◌else◌, List, [], ◌∷◌, ◌++◌, length, Option, Some, None, codes}
 use Rattle.sn_osc.specs.Shape.{MessageShape, Shape}
 use Rattle.sn_osc.specs.Grammar.{Spells}
@@ -45,7 +45,7 @@ is_full_at (Some limit) n = limit == n
 abbrev pub is_full : WaitingList → Bool
 is_full q = is_full_at q.limit (length q.waiting)
 
--- a refused entry is answered by the address of its first message, or as a bundle where it has none
+-- a refused entry is answered by the address of its first message, or as a bundle if it has none
 abbrev pub address_of : List MessageShape → List ℕ
 address_of [] = codes "#bundle"
 address_of (m ∷ ms) = m.address
@@ -71,7 +71,7 @@ offered from es r = offer_entries (next_boundary r) from es (nothing_offered r.w
 abbrev pub with_offered : ℕ → List Timed → Running → Running
 with_offered from es r = record r { waiting = (offered from es r).waiting; replies = with_frames 0 (offered from es r).replies r.replies }
 
--- Where memory ran out, the entries in front were offered, and the others were not.
+-- If memory ran out, the first entries were offered, and the others were not.
 pub record IsPartlyOffered (boundary from : ℕ) (es : List Timed) (old new : WaitingList) : Type 0 where
   pub front : List Timed
   pub rest : List Timed

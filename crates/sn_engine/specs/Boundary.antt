@@ -20,7 +20,8 @@ pub record Acted : Type 0 where
 abbrev pub acted : ℕ → MessageShape → Turn → Acted
 acted from m t = record { turn = command from m t; next = next_after from m t }
 
--- The completion message that was carried, if one was, acts as any message of the same client. If it fails, what carried it stays done.
+-- The completion message that was carried, if one was, acts as any message of the same client. If it fails, what
+-- carried it stays done.
 abbrev pub completed : ℕ → Next → Turn → Acted
 completed from nothing t = record { turn = t; next = nothing }
 completed from quitting t = record { turn = t; next = quitting }
@@ -32,8 +33,8 @@ unfoldable pub all_completed : ℕ → ℕ → Acted → Acted
 all_completed zero from a = a
 all_completed (suc n) from a = all_completed n from (completed from a.next a.turn)
 
--- A message of a client acts, and each completion message right after the command that carried it. A command in which more than eight
--- nest is refused, so after eight none is left: the law `no_completion_is_left` says so.
+-- A message of a client acts, and each completion message right after the command that carried it. A command in which
+-- more than eight nest is refused. So after eight none is left: the law `no_completion_is_left` says so.
 abbrev pub act_message : ℕ → MessageShape → Turn → Acted
 act_message from m t = all_completed deepest from (acted from m t)
 
@@ -76,7 +77,7 @@ due_at b q = filter (is_due q b) q.waiting
 abbrev pub later_than : ℕ → WaitingList → List Waiting
 later_than b q = filter (λ w. not (is_due q b w)) q.waiting
 
--- the entries that still wait after it: those that are not due, and none where one that is due clears them
+-- the entries that still wait after it: those that are not due, and none if one that is due clears them
 abbrev pub left_at : ℕ → WaitingList → Turn → List Waiting
 left_at b q t = if (entries_ask (due_at b q) t).clear then [] else later_than b q
 
@@ -88,7 +89,7 @@ unsaid w = record { world = w; replies = [] }
 abbrev pub turn_at : ℕ → WaitingList → World → Turn
 turn_at b q w = act_entries (due_at b q) (unsaid w)
 
--- the clashes of its members, once those entries acted
+-- the clashes of its members, after those entries acted
 abbrev pub clashes_at : ℕ → WaitingList → World → List Clash
 clashes_at b q w = clashes_of (turn_at b q w).world
 

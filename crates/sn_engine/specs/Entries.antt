@@ -3,7 +3,7 @@ use Rattle.std.specs.Prelude.{ℕ, List, [], ◌∷◌, ◌++◌}
 use Rattle.sn_osc.specs.Shape.{MessageShape, Shape, Shapes, message, bundle, none, more}
 use Rattle.sn_osc.specs.Bytes.{counts_as}
 
--- messages, and the time tag at which they act, where 1 is the time of their arrival
+-- messages, and the time tag at which they act; the tag 1 is the time of their arrival
 pub record Timed : Type 0 where
   pub tag : ℕ
   pub messages : List MessageShape
@@ -15,7 +15,7 @@ messages_in (more (message m) xs) = m ∷ messages_in xs
 messages_in (more (bundle tag inner) xs) = messages_in xs
 
 abbrev mutual
-  -- A bundle inside one that counts as around: its own messages, and behind them each enclosed bundle, in reading order.
+  -- A bundle inside one that counts as around: its own messages, and after them each enclosed bundle, in reading order.
   pub bundle_entries : ℕ → Shape → List Timed
   bundle_entries around (message m) = []
   bundle_entries around (bundle tag inner) = (record { tag = counts_as around tag; messages = messages_in inner }) ∷ enclosed_entries (counts_as around tag) inner

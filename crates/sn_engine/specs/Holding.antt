@@ -10,10 +10,10 @@ use Rattle.sn_layout.specs.Layout.{layout_of}
 abbrev pub AreClashesOf : Stage → List Clash → Type 0
 AreClashesOf stage clashes = (words : List ℕ) → clashes ≡ clashes_of (world_of stage words)
 
--- they are, where nothing is said to have changed since they were taken
+-- they are, if nothing is said to have changed since they were taken
 abbrev pub StillHold : Bool → Stage → List Clash → Type 0
 StillHold hold stage clashes = hold ≡ true → AreClashesOf stage clashes
 
--- where it is told that the layout stays, it was told so before, and a world has the layout of the one before
+-- if it is told that the layout stays, it was told so before, and a world has the layout of the one before
 abbrev pub LayoutStays : Bool → Bool → World → World → Type 0
 LayoutStays before now old new = now ≡ true → (before ≡ true) × (layout_of new ≡ layout_of old)

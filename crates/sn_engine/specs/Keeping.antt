@@ -11,7 +11,7 @@ pub record CanSettle (most room : ℕ) (out : List Octets) : Type 0 where
   pub endings : most ≤ room
   pub replies : EachHasRoom (48 * most) out
 
--- Behind a boundary there is room for the bytes of a span, for the samples of one, and to settle them.
+-- After a boundary there is room for the bytes of a span, for the samples of one, and to settle them.
 abbrev pub HasRoom : Standing → ℕ → ℕ → ℕ → ℕ → List Octets → Type 0
 HasRoom Settled bytes samples most endings replies = Unit {0}
 HasRoom Bounded bytes samples most endings replies = (3 * (most_span * block_samples) ≤ bytes) × (block_samples ≤ samples) × CanSettle most endings replies

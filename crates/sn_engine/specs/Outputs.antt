@@ -8,7 +8,8 @@ use Rattle.sn_pcm.specs.Pcm.{pcm}
 use Rattle.sn_quiet.specs.Walks.{walks}
 use Rattle.sn_world.specs.World.{World}
 
--- a frame of the sound of block b: the samples of the first audio buses, where a bus that was not written in this block gives 0
+-- a frame of the sound of block b: the samples of the first audio buses; a bus that was not written in this block gives
+-- 0
 abbrev pub frame_of : ℕ → ℕ → World → ℕ → List ℤ
 frame_of channels b w k = table (λ c. heard b (slice_index_or w.audio_buses c silent) k) channels
 
@@ -21,7 +22,8 @@ frames_of channels b w (suc k) = frames_of channels b w k ++ frame_of channels b
 abbrev pub outputs : Settings → ℕ → World → List ℤ
 outputs s b w = frames_of s.channels b w block_frames
 
--- a frame of the sound of a block out of its copy in the words from a place on: the samples of each of the first audio buses, one bus after the other
+-- a frame of the sound of a block out of its copy in the words from a place on: the samples of each of the first audio
+-- buses, one bus after the other
 abbrev pub copied_frame : ℕ → ℕ → List ℕ → ℕ → List ℤ
 copied_frame channels at ws k = table (λ c. sample_in (slice_index ws (at + block_frames * c + k))) channels
 

@@ -33,7 +33,7 @@ pub record IsPictured (stage : Stage) : Type 0 where
   pub words : List ℕ
   pub pictures : Pictures stage words
 
--- where the lanes begin: behind the copies of a span of the sound, which stand behind the words of the pool
+-- where the lanes begin: after the copies of a span of the sound, which stand after the words of the pool
 abbrev pub first_lane : Stage → ℕ
 first_lane stage = (bus_words + stage.pool.region.len) + most_span * block_samples
 
@@ -63,19 +63,20 @@ pub record IsPlanOf (stage : Stage) (jobs : List Job) : Type 0 where
   pub free : IsRaceFree jobs
   pub few : length jobs ≤ most_jobs
 
--- Jobs are the plan of a stage for so many workers. It is told whether its nodes are quiet: no synth that runs sends a trigger, or pauses or frees
--- itself. The synths of which something may come when a block is settled are listed.
+-- Jobs are the plan of a stage for so many workers. It is told whether its nodes are quiet: no synth that runs sends a
+-- trigger, or pauses or frees itself. The synths of which something may come when a block is settled are listed.
 pub record IsPlannedFor (workers : ℕ) (stage : Stage) (jobs : List Job) (quiet : Bool) (eventful : Eventful) : Type 0 where
   pub plan : IsPlanOf stage jobs
   pub lanes_are : (words : List ℕ) → plan.laned ≡ has_lanes workers (world_of stage words)
   pub quiet_is : (words : List ℕ) → quiet ≡ are_quiet (world_of stage words).nodes
   pub eventful_is : IsEventfulOf stage eventful
 
--- so they are, where nothing is said to have changed since the plan was made
+-- so they are, if nothing is said to have changed since the plan was made
 abbrev pub StillPlanned : Bool → ℕ → Stage → List Job → Bool → Eventful → Type 0
 StillPlanned hold workers stage jobs quiet eventful = hold ≡ true → IsPlannedFor workers stage jobs quiet eventful
 
--- n blocks from block b on may come in a row: a round has room for their jobs, no entry is due between them, and nothing is told or done at the settlings between them
+-- n blocks from block b on may come in a row: a round has room for their jobs, no entry is due between them, and
+-- nothing is told or done at the settlings between them
 pub record IsSpanOf (jobs : List Job) (quiet : Bool) (waiting : WaitingList) (b n : ℕ) : Type 0 where
   pub few : n ≤ most_span
   pub room : start (length jobs) n ≤ most_jobs
@@ -99,11 +100,11 @@ pub record IsRowReady (w : Span) : Type 0 where
   pub ready : IsSpanReady w
   pub first : ready.first ≡ first_lane w.first.stage.now
 
--- so they are, where nothing is said to have changed since the plan was made
+-- so they are, if nothing is said to have changed since the plan was made
 abbrev pub StillSpanned : Bool → List Job → List Extent → ℕ → List SpanPlan → Type 0
 StillSpanned hold jobs outputs copies spans = hold ≡ true → AreSpanned jobs outputs copies spans
 
--- The first audio buses are heard, and the copies of a span of their sound begin behind the words of the pool.
+-- The first audio buses are heard, and the copies of a span of their sound begin after the words of the pool.
 pub record HasCopies (channels : ℕ) (stage : Stage) (words : List ℕ) (outputs : List Extent) (copies : ℕ) : Type 0 where
   pub few : channels ≤ most_channels
   pub outputs_are : outputs ≡ table audio_place channels

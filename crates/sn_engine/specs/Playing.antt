@@ -5,7 +5,8 @@ use Rattle.sn_round.specs.declared.jobs.Job.{Job}
 use Rattle.sn_machine.specs.declared.views.Rested.{Rested}
 use Rattle.sn_engine.specs.Running.{Running}
 
--- the plan of the last boundary; the rounds that were rested; how often a word of the memory was stored to while no round ran; and how many workers each round has
+-- the plan of the last boundary; the rounds that were rested; how often a word of the memory was stored to while no
+-- round ran; and how many workers each round has
 pub record Past : Type 0 where
   pub jobs : List Job
   pub rounds : List Rested

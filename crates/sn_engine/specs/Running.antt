@@ -16,8 +16,8 @@ use Rattle.sn_clash.specs.declared.clash.Clash.{Clash}
 use Rattle.sn_engine.specs.Boundary.{unsaid, turn_at, clashes_at, replies_at, waiting_at, quits_at}
 use Rattle.sn_engine.specs.Outputs.{outputs}
 
--- the settings, which nothing changes; the world, what waits, the clashes of the last boundary, the number of the next block and how far it is; and the bytes that are
--- still to be written: of the sound, and for each client of the replies
+-- the settings, which nothing changes; the world, what waits, the clashes of the last boundary, the number of the next
+-- block and how far it is; and the bytes that are still to be written: of the sound, and for each client of the replies
 pub record Running : Type 0 where
   pub settings : Settings
   pub world : World
@@ -28,7 +28,8 @@ pub record Running : Type 0 where
   pub sound : List ℕ
   pub replies : List (List ℕ)
 
--- an engine before anything happened, whose block 0 begins at a time, in which so many entries may wait, for so many clients
+-- an engine before anything happened, whose block 0 begins at a time, in which so many entries may wait, for so many
+-- clients
 abbrev pub opened : Settings → ℕ → Option ℕ → ℕ → Running
 opened s base limit clients = record {
   settings = s;

@@ -28,7 +28,8 @@ IsSpan jobs r n = IsSpanOf jobs (are_quiet r.world.nodes) r.waiting r.block n
 abbrev pub IsQuiet : Playing → ℕ → Type 0
 IsQuiet p n = (n ≡ 1) ⊎ ((2 ≤ n) × IsSpan p.past.jobs p.running n)
 
--- the jobs of a round of so many blocks: those of the plan, or, if the blocks are more than one, those of the plan in so many
+-- the jobs of a round of so many blocks: those of the plan, or, if the blocks are more than one, those of the plan in
+-- so many
 abbrev pub jobs_in : List Job → List Extent → ℕ → ℕ → List Job
 jobs_in jobs outputs at blocks = if blocks == 1 then jobs else unrolled jobs outputs at blocks
 

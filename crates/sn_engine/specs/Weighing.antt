@@ -1,4 +1,4 @@
--- Whether members that mix one bus run beside each other, each onto a lane.
+-- Whether members that mix one bus run at the same time, each onto a lane.
 use Rattle.std.specs.Prelude.{ℕ, ◌+◌, ◌-◌, Bool, ◌&&◌, if◌then◌else◌, List, [], ◌∷◌, length, nat_le}
 use Rattle.sn_def.specs.Defs.{definition_of}
 use Rattle.sn_tree.specs.Trees.{Label, Nodes, none, node}
@@ -17,7 +17,8 @@ abbrev pub all_more : Nodes Content → ℕ
 all_more none = 0
 all_more (node label below after) = (if label.running then units_more label.payload + all_more below else 0) + all_more after
 
--- A plan for so many workers has lanes if there are several, and the synths that run have 128 such units: for so many a round of 32 blocks starts a thread.
+-- A plan for so many workers has lanes if there are several, and the synths that run have 128 such units: for so many a
+-- round of 32 blocks starts a thread.
 abbrev pub has_lanes : ℕ → World → Bool
 has_lanes workers w = nat_le 2 workers && nat_le 128 (all_more w.nodes)
 

@@ -66,7 +66,7 @@ fn asked_by(handled: &Handled) -> Asked
     }
 }
 
-/// Runs a message from a client, where its address is that of a command.
+/// Runs a message from a client, if its address is that of a command.
 fn run_known<P: Port>(
     alloc: Global,
     stage: &mut Stage,
@@ -95,7 +95,8 @@ fn run_known<P: Port>(
     }
 }
 
-/// Runs a message from a client, whichever command it is, and answers `/fail` where it is refused. Gives what was done with it.
+/// Runs a message from a client, whichever command it is, and answers `/fail` if it is refused. Returns what was done
+/// with it.
 fn run_command<P: Port>(
     alloc: Global,
     stage: &mut Stage,
@@ -128,8 +129,8 @@ fn run_command<P: Port>(
     Ok(Handled::Failed(reason))
 }
 
-/// Runs the completion message that a command carried, if it carried one. Gives what was done with it, or with the command that carried
-/// none.
+/// Runs the completion message that a command carried, if it carried one. Returns what was done with it, or with the
+/// command that carried none.
 fn complete<P: Port>(
     alloc: Global,
     stage: &mut Stage,
@@ -167,8 +168,8 @@ fn carries(handled: &Handled) -> bool
     }
 }
 
-/// Runs a message from a client, and right after it the completion messages that it carries, each inside the one before. Gives what they
-/// ask besides.
+/// Runs a message from a client, and right after it the completion messages that it carries, each inside the one
+/// before. Returns what they ask besides.
 fn act_message<P: Port>(
     alloc: Global,
     stage: &mut Stage,
@@ -197,7 +198,8 @@ fn act_message<P: Port>(
     Ok(asked_by(&handled))
 }
 
-/// Runs a message from a client with its completion messages, under a watch on the layout. Gives what they ask besides.
+/// Runs a message from a client with its completion messages, under a watch on the layout. Returns what they ask
+/// besides.
 fn act_one<P: Port>(
     alloc: Global,
     stage: &mut Stage,
@@ -222,7 +224,7 @@ fn act_one<P: Port>(
     act_message(alloc, stage, port, message, from, replies)
 }
 
-/// Runs messages of a client, one after another, under a watch on the layout. Gives what they ask besides.
+/// Runs messages of a client, one after another, under a watch on the layout. Returns what they ask besides.
 fn act_messages<P: Port>(
     alloc: Global,
     stage: &mut Stage,
@@ -252,7 +254,7 @@ fn act_messages<P: Port>(
 }
 
 /// Takes the entries that are due at boundary `now`, in their order, and runs their messages, under a watch on the
-/// layout. Gives what they ask besides.
+/// layout. Returns what they ask besides.
 fn act_taken<P: Port>(
     alloc: Global,
     stage: &mut Stage,
@@ -292,9 +294,9 @@ fn act_taken<P: Port>(
     Ok(asked)
 }
 
-/// Runs the messages of the entries that are due at boundary `now`, in their order. Where one of them clears what
-/// waits, the entries that are due later are dropped. A watch sees each message: if it tells that the layout stays,
-/// it does. Tells whether one of them ends the server.
+/// Runs the messages of the entries that are due at boundary `now`, in their order. If one of them clears what waits,
+/// the entries that are due later are dropped. A watch sees each message: if it tells that the layout stays, it does.
+/// Tells whether one of them ends the server.
 pub fn act_due<P: Port>(
     alloc: Global,
     stage: &mut Stage,
@@ -326,7 +328,7 @@ pub fn act_due<P: Port>(
     Ok(asked.quit)
 }
 
-/// The same over the words below `end` alone, where those of the pool end: the others stay as they are.
+/// The same over only the words below `end`, where those of the pool end: the others are unchanged.
 pub fn act_below<P: Port>(
     alloc: Global,
     stage: &mut Stage,

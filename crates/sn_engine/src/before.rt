@@ -1,4 +1,4 @@
-//! The clashes of the boundary before, among which those of a boundary are sought.
+//! The clashes of the boundary before, in which those of a boundary are looked up.
 ghost use Rattle.std.specs.Prelude.{◌≡◌, IfOk};
 ghost use Rattle.std.specs.List.{list_any};
 ghost use Rattle.sn_foot.specs.Footprints.{number_of};

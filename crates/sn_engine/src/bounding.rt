@@ -23,10 +23,10 @@ use sn_reply::Replies;
 use sn_world::Stage;
 use std::alloc::Global;
 
-/// The entries that are due at boundary `now` act in their order, and then the clashes are taken: those that were
-/// not there at the boundary before are told. Last the stage is planned. Where the clashes that are held still hold,
-/// and what acts leaves the layout, or nothing acts, clashes and plan are kept. The words of the pool end where
-/// the copies of a span begin; those behind stay as they are. Tells whether the server ends.
+/// The entries that are due at boundary `now` act in their order, and then the clashes are taken: those that were not
+/// there at the boundary before are told. Last the stage is planned. Clashes and plan are kept if the clashes that are
+/// held still hold, and what acts leaves the layout, or nothing acts. The words of the pool end where the copies of a
+/// span begin; those after it are unchanged. Tells whether the server ends.
 pub fn act_boundary<P: Port>(
     alloc: Global,
     stage: &mut Stage,

@@ -102,7 +102,8 @@ fn tell_clashes(
     tell_each(alloc, &before, found, said)
 }
 
-/// Takes the clashes of a stage in place of those of the boundary before, and tells every client of those that were not there then.
+/// Takes the clashes of a stage in place of those of the boundary before, and tells every client of those that were not
+/// there then.
 pub fn take_clashes(
     alloc: Global,
     stage: &Stage,

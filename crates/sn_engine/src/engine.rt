@@ -45,7 +45,7 @@ use std::alloc::Global;
 use std::marker::Model;
 use std::thread::Threads;
 
-/// Where the words of the pool begin: behind those of the buses.
+/// Where the words of the pool begin: after those of the buses.
 const POOL_AT: u32 = BUS_WORDS as u32;
 
 /// How many words the copies of a span take: one for each sample.
@@ -54,8 +54,8 @@ const COPIES: u32 = MOST_SPAN * COPY_WORDS;
 /// How many bytes the samples of a span take, with at most 3 each.
 const SPAN_BYTES: u32 = 3 * COPIES;
 
-/// What is played: the nodes, the memory with the crew that shares its words, the entries that wait, and the bytes that are still to
-/// be written.
+/// What is played: the nodes, the memory with the crew that shares its words, the entries that wait, and the bytes that
+/// are still to be written.
 #[derive(Drop)]
 pub struct Engine {
     settings: Settings,
@@ -73,7 +73,8 @@ pub struct Engine {
     clashes: Clashes,
     planned: Planned,
     holds: bool,
-    // The audio buses that are heard, and where the copies of their sound begin, behind the words of the pool. The lanes follow.
+    // The audio buses that are heard, and where the copies of their sound begin, after the words of the pool. The lanes
+    // follow.
     outputs: Extents,
     copies: u32,
     // How many blocks in a row a boundary makes ready, at most.
@@ -180,8 +181,8 @@ fn drain<S: Sink>(text: &mut Text, sink: &mut S) -> Result<(), Failed>
 }
 
 impl Engine {
-    /// The opening world for so many clients, at the boundary before block 0, which begins at the time tag `base`. At most `limit` entries
-    /// wait in it.
+    /// The opening world for so many clients, at the boundary before block 0, which begins at the time tag `base`. At
+    /// most `limit` entries wait in it.
     pub fn open(
         alloc: Global,
         settings: &Settings,
@@ -285,9 +286,9 @@ impl Engine {
         }
     }
 
-    /// Puts the entries of a packet that arrives at the next boundary from a client. An entry is refused exactly where as many wait as may,
-    /// and is answered by `/fail`; gives how many were refused. After `NoMemory` the entries before it stay, and what clients were to be sent
-    /// stays too, with a front of what this answers.
+    /// Puts the entries of a packet that arrives at the next boundary from a client. An entry is refused exactly if as
+    /// many wait as may, and is answered by `/fail`. Returns how many were refused. After `NoMemory` the entries before
+    /// it stay. What clients were to be sent stays too, with a prefix of what this answers.
     pub fn offer(&mut self, alloc: Global, packet: Packet, from: u32) -> Result<u32, NoMemory>
         requires block { next_boundary self.old.running < most_count }
         requires puts { self.old.running.waiting.puts + length (entries_of (shape packet)) ≤ most_count }
@@ -309,9 +310,9 @@ impl Engine {
         Ok(refused)
     }
 
-    /// The boundary before the next block: the entries that are due act in their order, the jobs of the block are planned, and its memory
-    /// is reserved. After `NoMemory` the engine is spent: clients are still to be sent what they were, with a front of what this answers,
-    /// and the sound that waits stays.
+    /// The boundary before the next block: the entries that are due act in their order, the jobs of the block are
+    /// planned, and its memory is reserved. After `NoMemory` the engine is spent. Clients are still to be sent what
+    /// they were, with a prefix of what this answers, and the sound that waits stays.
     pub fn boundary(&mut self, alloc: Global) -> Result<Flow, NoMemory>
         requires settled { self.old.running.standing ≡ Settled }
         ensures ok { OnOk result (self.new.running ≡ at_boundary self.old.running) }
@@ -356,14 +357,16 @@ impl Engine {
         Ok(if quits { Flow::Quit } else { Flow::On })
     }
 
-    /// Tells how many blocks may be asked for in a row: a boundary makes the jobs of a row ready, up to so many. It is 1 at first.
+    /// Tells how many blocks may be asked for in a row: a boundary makes the jobs of a row ready, up to so many. It is
+    /// 1 at first.
     pub fn want(&mut self, blocks: u32)
         ensures { self.new ≡ self.old }
     {
         self.wanted = blocks.min(MOST_SPAN);
     }
 
-    /// How many of so many blocks may be rendered before the next boundary. Behind a boundary this is the greatest such number.
+    /// How many of so many blocks may be rendered before the next boundary. After a boundary this is the greatest such
+    /// number.
     pub fn span(&self, want: u32) -> u32
         requires { 1 ≤ want }
         ensures want { result ≤ want }
@@ -376,9 +379,10 @@ impl Engine {
         self.planned.span(&self.queue, self.block, want)
     }
 
-    /// The next blocks, as many as may come before the next boundary, and their sound. Each round is of the jobs of the plan, or of those
-    /// of the plan in several blocks that a boundary made ready; the crew shares the jobs, in as many threads as pay. The world after them
-    /// is that of as many walks over the nodes, whatever their number of workers. Each job passes the gate before it runs. It takes no memory.
+    /// The next blocks, as many as may come before the next boundary, and their sound. Each round is of the jobs of the
+    /// plan, or of those of the plan in several blocks that a boundary made ready. The crew shares the jobs, in as many
+    /// threads as pay. The world after them is that of as many walks over the nodes, whatever their number of workers.
+    /// Each job passes the gate before it runs. It takes no memory.
     pub fn blocks<H: Threads + Sync, G: Gate>(&mut self, rt: &H, n: u32, gate: &G)
         requires quiet { IsQuiet self.old n }
         requires bounded { self.old.running.standing ≡ Bounded }
@@ -408,8 +412,8 @@ impl Engine {
         self.standing = Standing::Rendered;
     }
 
-    /// A law: behind a boundary, blocks in a row that are settled once, after the last, are as many that are settled each, after a
-    /// boundary each.
+    /// A law: after a boundary, blocks in a row that are settled once, after the last, are as many that are settled
+    /// each, after a boundary each.
     pub fn rows_are_turns(&self)
         ensures { self.now.running.standing ≡ Bounded → (r : Running) (n : ℕ) → self.now.running ≡ at_boundary r → IsQuiet self.now n → with_settled (with_blocks n self.now.running) ≡ in_turn n r }
     {
@@ -423,8 +427,8 @@ impl Engine {
         let _ = &self.stage;
     }
 
-    /// Settles the blocks that were rendered: triggers of the last are told, and the units that ended pause or free their synths. It takes no
-    /// memory.
+    /// Settles the blocks that were rendered: triggers of the last are told, and the units that ended pause or free
+    /// their synths. It takes no memory.
     pub fn settle(&mut self)
         requires rendered { self.old.running.standing ≡ Rendered }
         requires block { self.old.running.block < 2 ^ 63 }
@@ -444,7 +448,8 @@ impl Engine {
         self.room = 0;
     }
 
-    /// Writes the sound that is still to be written. After a fault the sink took a front of it, and the rest is dropped.
+    /// Writes the sound that is still to be written. After a fault the sink took a prefix of it, and the rest is
+    /// dropped.
     pub fn drain_sound<O: Sink>(&mut self, sink: &mut O) -> Result<(), Failed>
         ensures taken { TakesAll (O.taken sink.old) (O.taken sink.new) result self.old.running.sound }
         ensures cause { HasCause (O.faults sink.old) (O.faults sink.new) result }
@@ -455,7 +460,8 @@ impl Engine {
         drain(&mut self.sound, sink)
     }
 
-    /// Writes the replies that are still to be sent to a client. After a fault the sink took a front of them, and the rest is dropped.
+    /// Writes the replies that are still to be sent to a client. After a fault the sink took a prefix of them, and the
+    /// rest is dropped.
     pub fn drain_replies<R: Sink>(&mut self, client: u32, sink: &mut R) -> Result<(), Failed>
         requires client { client < length self.old.running.replies }
         ensures taken { TakesAll (R.taken sink.old) (R.taken sink.new) result (slice_index_or self.old.running.replies client []) }
@@ -467,8 +473,8 @@ impl Engine {
         drain(&mut self.replies[client as usize], sink)
     }
 
-    /// Sends a client over a link the replies that are still to be sent to it. After a fault a front of them was sent, and the rest is
-    /// dropped.
+    /// Sends a client over a link the replies that are still to be sent to it. After a fault a prefix of them was sent,
+    /// and the rest is dropped.
     pub fn send_replies<L: Link>(&mut self, client: u32, link: &mut L) -> Result<(), Failed>
         requires client { client < length self.old.running.replies }
         ensures sent { TakesAll (L.sent link.old) (L.sent link.new) result (slice_index_or self.old.running.replies client []) }
@@ -481,7 +487,8 @@ impl Engine {
         send_text(&mut self.replies[client as usize], link)
     }
 
-    /// Answers a client whose bytes are no packet. After `NoMemory` what clients were to be sent stays, with a front of this answer.
+    /// Answers a client whose bytes are no packet. After `NoMemory` what clients were to be sent stays, with a prefix
+    /// of this answer.
     pub fn refuse_packet(&mut self, alloc: Global, from: u32) -> Result<(), NoMemory>
         ensures ok { OnOk result (self.new.running ≡ with_bad_packet from self.old.running) }
         ensures others { self.new.running ≡ record self.old.running { replies = self.new.running.replies } }

@@ -68,7 +68,7 @@ fn put(left: &mut Vec<Enclosed>, mut ahead: Vec<Enclosed>) -> Result<(), NoMemor
     Ok(())
 }
 
-/// The entries of a bundle: its own messages, and behind them those of each bundle in it, in reading order.
+/// The entries of a bundle: its own messages, and after them those of each bundle in it, in reading order.
 fn bundle_entries(alloc: Global, bundle: Bundle) -> Result<Vec<Entry>, NoMemory>
     ensures { IfOk result (λ v. map timed_of v.items ≡ entries_of (shape (Packet.Bundle bundle))) }
 {

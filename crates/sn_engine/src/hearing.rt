@@ -58,7 +58,7 @@ fn heard(memory: &mut Memory, bus: u32, written: bool, frame: u32) -> i32
     sample_of(memory.word(Places::audio(bus).at + 1 + frame))
 }
 
-/// Appends a sample, where there is room.
+/// Appends a sample, if there is room.
 fn put_sample(samples: &mut Vec<i32>, sample: i32)
     requires room { length samples.old.items < vec_capacity samples.old }
     ensures samples { samples.new.items ≡ samples.old.items ++ sample ∷ [] }
@@ -125,8 +125,8 @@ fn sample_at(memory: &mut Memory, at: u32) -> i32
     sample_of(memory.word(at))
 }
 
-/// Appends a frame of the sound of a block out of its copy, which has a sample of each frame for each of the first audio
-/// buses.
+/// Appends a frame of the sound of a block out of its copy, which has a sample of each frame for each of the first
+/// audio buses.
 fn append_copied(memory: &mut Memory, channels: u32, at: u32, frame: u32, samples: &mut Vec<i32>)
     requires channels { channels ≤ most_channels }
     requires frame { frame < block_frames }

@@ -10,7 +10,7 @@ ghost use Rattle.sn_engine.specs.Boundary.{act_message};
 ghost use Rattle.sn_engine.specs.Running.{Running, opened, at_boundary, with_block, with_settled};
 ghost use Rattle.sn_engine.specs.Histories.{AreSteps};
 
-/// Whatever a message carries, all of its completion messages act: none is left once as many acted as may nest.
+/// Whatever a message carries, all of its completion messages act: none is left after as many acted as may nest.
 pub fn no_completion_is_left()
     ensures { (from : ℕ) (m : MessageShape) (t : Turn) → is_completing (act_message from m t).next ≡ false }
 {}

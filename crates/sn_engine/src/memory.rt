@@ -71,8 +71,8 @@ impl Memory {
         self.shared.load(&mut self.main, at)
     }
 
-    /// A round of the jobs of a block: after it the words stand for the world after the walk. If no lane counts as written in the
-    /// block, none does in the next one.
+    /// A round of the jobs of a block: after it the words stand for the world after the walk. If no lane counts as
+    /// written in the block, none does in the next one.
     pub fn round<H: Threads + Sync, G: Gate>(
         &mut self,
         rt: &H,
@@ -97,8 +97,9 @@ impl Memory {
         crew.round(rt, &self.shared, &mut self.main, block, block.plan, gate);
     }
 
-    /// A round of the jobs of several blocks: after it the words stand for the world after the walks of the blocks, and the copies hold
-    /// the sound of each. If no lane counts as written in the first block, none does in the block after them.
+    /// A round of the jobs of several blocks: after it the words stand for the world after the walks of the blocks, and
+    /// the copies hold the sound of each. If no lane counts as written in the first block, none does in the block after
+    /// them.
     pub fn span<H: Threads + Sync, G: Gate>(
         &mut self,
         rt: &H,

@@ -1,4 +1,4 @@
-//! Entries that arrive: they are put, or refused where as many wait as may.
+//! Entries that arrive: they are put, or refused if as many wait as may.
 ghost use Rattle.std.specs.Prelude.{◌≡◌, ◌≤◌, ◌<◌, ◌+◌, ◌^◌, ℕ, map, length, IfOk, OnOk, OnErr};
 ghost use Rattle.std.specs.List.{AllByRecursion};
 ghost use Rattle.sn_ports.specs.Limits.{most_count};
@@ -19,7 +19,7 @@ use sn_queue::{Messages, Queue};
 use sn_reply::{Reason, Replies, To, fail};
 use std::alloc::Global;
 
-/// `/fail` for a refused entry, by the address of its first message, or as a bundle where it has none.
+/// `/fail` for a refused entry, by the address of its first message, or as a bundle if it has none.
 fn refusal(alloc: Global, messages: &[Message]) -> Result<Message, NoMemory>
     requires { AllByRecursion IsAnswerable (map message_of messages.now) }
     ensures message { IfOk result (λ m. message_of m ≡ fail_message (address_of (map message_of messages.now)) QueueFull) }
@@ -57,7 +57,8 @@ fn put_entry(queue: &mut Queue, boundary: u64, from: u32, entry: Entry) -> Resul
     }
 }
 
-/// Puts an entry that arrives at a boundary from a client, or refuses it where as many wait as may. Gives how many were refused.
+/// Puts an entry that arrives at a boundary from a client, or refuses it if as many wait as may. Returns how many were
+/// refused.
 fn offer_entry(
     alloc: Global,
     queue: &mut Queue,
@@ -86,7 +87,8 @@ fn offer_entry(
     Ok(0)
 }
 
-/// Offers entries that arrive at a boundary from a client, in the order of their numbers. Gives how many were refused.
+/// Offers entries that arrive at a boundary from a client, in the order of their numbers. Returns how many were
+/// refused.
 pub fn offer_entries(
     alloc: Global,
     queue: &mut Queue,

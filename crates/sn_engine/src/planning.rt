@@ -42,7 +42,7 @@ pub struct Planned {
     pub quiet: bool,
     /// The synths of which something may come when a block is settled.
     pub eventful: Eventful,
-    /// How many units can run beside the longest chain of jobs.
+    /// How many units can run at the same time as the longest chain of jobs.
     pub beside: u32,
     /// The jobs in several blocks, once for each number of blocks that was needed.
     pub spans: Vec<SpanPlan>,
@@ -70,7 +70,7 @@ fn greatest_power(most: u32) -> u32
     power
 }
 
-/// The lanes of a plan, all or none, which begin behind the copies of a span.
+/// The lanes of a plan, all or none, which begin after the copies of a span.
 fn lanes_behind(copies: u32, laned: bool) -> Lanes
     requires { copies + most_span * block_samples < 2 ^ 32 }
     ensures first { result.first ≡ copies + most_span * block_samples }
@@ -96,8 +96,8 @@ impl Planned {
         })
     }
 
-    /// The plan of a stage, given its clashes, for so many workers, and where the copies of a span begin, behind which the lanes stand.
-    /// It has lanes if they pay.
+    /// The plan of a stage, given its clashes, for so many workers, and where the copies of a span begin. The lanes
+    /// stand after the copies. It has lanes if they pay.
     pub fn of(
         alloc: Global,
         stage: &Stage,
@@ -112,7 +112,7 @@ impl Planned {
         ensures planned { IfOk result (λ p. IsPlannedFor workers stage.now p.jobs p.quiet p.eventful) }
         ensures none { IfOk result (λ p. p.spans.items ≡ []) }
     {
-        // Hints for the proof alone: what a stage that stands for a world meets, and how few nodes a tree has.
+        // Hints for the proof only: what a stage that stands for a world meets, and how few nodes a tree has.
         worlds_are_disjoint(stage);
         worlds_lie_below(stage);
         world_has_the_clashes(stage);
@@ -221,8 +221,9 @@ impl Planned {
         Ok(())
     }
 
-    /// Makes the jobs ready by which so many blocks are rendered, if several workers share them: in 2, 4, 8, 16 or 32 blocks, where the
-    /// number is the sum of these powers of two, and of 1 if it is odd. So there are five plans at most, whatever numbers come.
+    /// Makes the jobs ready by which so many blocks are rendered, if several workers share them. It makes them in 2, 4,
+    /// 8, 16 or 32 blocks: the number is the sum of these powers of two, and of 1 if it is odd. So there are five plans
+    /// at most, whatever numbers come.
     pub fn unroll(
         &mut self,
         alloc: Global,

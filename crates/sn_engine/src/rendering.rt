@@ -167,8 +167,8 @@ fn render_span<H: Threads + Sync, G: Gate>(
     hear_copies(part, span.blocks, memory, samples, sound);
 }
 
-/// The first of the blocks and their sound: as many as the jobs were made for, in one round, or else all, in a round each. Tells how
-/// many they are.
+/// The first of the blocks and their sound: as many as the jobs were made for, in one round, or else all, in a round
+/// each. Tells how many they are.
 #[tactic(auto, using(crate::proofs::RoundLemmas::each_round))]
 fn render_first<H: Threads + Sync, G: Gate>(
     rt: &H,

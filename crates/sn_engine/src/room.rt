@@ -10,7 +10,7 @@ use sn_world::Endings;
 /// The most bytes of an event's frame.
 const EVENT_BYTES: u32 = 48;
 
-/// Makes room for so many bytes behind each text.
+/// Makes room for so many bytes after each text.
 fn reserve_each(texts: &mut [Text], room: u32) -> Result<(), NoMemory>
     ensures len { length texts.new ≡ length texts.old }
     ensures bytes { map bytes_of texts.new ≡ map bytes_of texts.old }
@@ -23,7 +23,8 @@ fn reserve_each(texts: &mut [Text], room: u32) -> Result<(), NoMemory>
     reserve_each(rest, room)
 }
 
-/// Makes room for so many triggers and ends, which may come of the next block. Gives how many bytes each client may be sent of it.
+/// Makes room for so many triggers and ends, which may come of the next block. Returns how many bytes each client may
+/// be sent of it.
 pub fn reserve_settling(
     most: u32,
     endings: &mut Endings,

@@ -17,8 +17,8 @@ use sn_ports::Text;
 use sn_settle::{Eventful, settle};
 use sn_world::{Endings, Stage};
 
-/// Settles the block before block `next`: clients are sent what they are told of it. Answers `false` only where the stage stays
-/// as it is, and always where no unit ended. The eventful synths are those of the stage. It takes no memory.
+/// Settles the block before block `next`: clients are sent what they are told of it. Returns `false` only if the stage
+/// is unchanged, and always if no unit ended. The eventful synths are those of the stage. It takes no memory.
 pub fn settle_before<P: Port>(
     stage: &mut Stage,
     eventful: &Eventful,

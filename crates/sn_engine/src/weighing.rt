@@ -1,4 +1,5 @@
-//! How much of a block can be done at the same time, and whether lanes and threads pay. No contract rests on the threads.
+//! How much of a block can be done at the same time, and whether lanes and threads pay. No contract rests on the
+//! threads.
 ghost use Rattle.std.specs.Prelude.{◌≡◌, ◌-◌, ℕ, List};
 ghost use Rattle.sn_tree.specs.Trees.{running_labels};
 ghost use Rattle.sn_world.specs.World.{world_of};
@@ -19,8 +20,8 @@ const UNITS_FOR_A_JOB: u32 = 2;
 /// To add a lane to its bus takes as long as so many units.
 const UNITS_FOR_A_LANE: u32 = 2;
 
-/// A synth on a lane takes as long as so many units more: it is a job of its own, its sound is stored sample by sample, and the lane is
-/// added to its bus.
+/// A synth on a lane takes as long as so many units more: it is a job of its own, its sound is stored sample by sample,
+/// and the lane is added to its bus.
 const UNITS_ON_A_LANE: usize = 10;
 
 /// For so many units a round of the most blocks starts one more thread.
@@ -81,8 +82,8 @@ fn units_to_share(jobs: u32) -> u32 {
     }
 }
 
-/// How many units of the jobs of the plan of a stage can run beside the longest chain of jobs, of which each follows
-/// the one before, and joints add their lanes. What it takes to share the jobs is taken off.
+/// How many units of the jobs of the plan of a stage can run at the same time as the longest chain of jobs. In a chain
+/// each job follows the one before, and joints add their lanes. What it takes to share the jobs is taken off.
 pub fn units_beside(alloc: Global, stage: &Stage, plan: &Plan) -> Result<u32, NoMemory> {
     let units = units_in_walk(alloc, stage)?;
     let mut left = units.as_slice();
@@ -119,8 +120,8 @@ fn more_units(held: &Held) -> usize
     }
 }
 
-/// How many units are left of those for which a round of many blocks starts a thread, if each synth that runs takes what it has more
-/// than a lane.
+/// How many units are left of those for which a round of many blocks starts a thread, if each synth that runs takes
+/// what it has more than a lane.
 fn units_left(stage: &Stage) -> usize
     ensures { result ≡ 128 - labels_more (running_labels stage.now.tree.attached) }
 {
@@ -131,14 +132,15 @@ fn units_left(stage: &Stage) -> usize
     left
 }
 
-/// Whether so many workers share a stage with members that mix one bus beside each other, each on a lane.
+/// Whether so many workers share a stage with members that mix one bus at the same time, each on a lane.
 pub fn lanes_pay(stage: &Stage, workers: u32) -> bool
     ensures { (words : List ℕ) → result ≡ has_lanes workers (world_of stage.now words) }
 {
     workers >= 2 && units_left(stage) == 0
 }
 
-/// In how many threads a round of so many blocks pays, if so many units of a block can run beside its longest chain.
+/// In how many threads a round of so many blocks pays, if so many units of a block can run at the same time as its
+/// longest chain.
 pub fn threads_for(beside: u32, blocks: u32) -> usize {
     let each = (UNITS_FOR_A_THREAD / blocks.max(1)).max(1);
     let more = beside.saturating_mul(blocks) / each;

@@ -74,7 +74,7 @@ module _ (earlier later : List Fill) (index next now : ℕ) (new : List Fill) (f
         (cases_lt n f.first))
         (cases_lt n mid)
 
-    -- the fill sets nothing behind the row
+    -- the fill sets nothing after the row
     over : (n : ℕ) → last ≤ n → fill_at n f ≡ None
     over n low = ⊎_elim
         (λ (l : n < 4294967295). sym (put.set n (omega (arith, put.grows, low)) l) ∙ none-behind n 0 last all put.order low)

@@ -1,4 +1,4 @@
--- Fills that are put behind a row.
+-- Fills that are put after a row.
 use Rattle.std.proofs.Common.{◌≡◌, ◌≤◌, ◌<◌, ◌+◌, ◌-◌, ⊎_elim, ℕ, ℤ, List, [], ◌∷◌, ◌++◌, drop, length, min, max, Some, None, refl, ap, sym, ◌∙◌, subst, arith}
 use Rattle.std.specs.Option.{option_or}
 use Rattle.std.proofs.lemmas.Bool.{cases_lt}

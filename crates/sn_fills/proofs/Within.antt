@@ -11,14 +11,14 @@ use Rattle.sn_fills.proofs.Lying.{set-inside, none-above}
 abbrev EndBy : ℕ → List Fill → Type 0
 EndBy end fs = All (λ (f : Fill). f.first + f.count ≤ end) fs
 
--- behind that place nothing is set
+-- from that place on nothing is set
 none-set : (n end : ℕ) (fs : List Fill) → EndBy end fs → end ≤ n → last_at n fs ≡ None
 none-set n end [] all high = refl
 none-set n end (f ∷ fs) all high =
     ap (λ o. option_or o (fill_at n f)) (none-set n end fs (All-tail (λ (g : Fill). g.first + g.count ≤ end) f fs all) high)
     ∙ none-above n f (omega (arith, high, All-head (λ (g : Fill). g.first + g.count ≤ end) f fs all))
 
--- where nothing is set, none of the fills sets anything
+-- if nothing is set at a place, none of the fills sets anything there
 first-none : (o p : Option ℤ) → option_or o p ≡ None → o ≡ None
 first-none None p h = refl
 first-none (Some v) p h = absurd cc

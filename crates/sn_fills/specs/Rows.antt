@@ -4,12 +4,12 @@ use Rattle.std.specs.Option.{option_or}
 use Rattle.sn_fills.specs.declared.fill.Fill.{Fill}
 use Rattle.sn_fills.specs.Fills.{fill_at, last_at}
 
--- None is empty, each one lies behind the one before, the first one from a place on, and all before another.
+-- None is empty, each one lies after the one before, the first one from a place on, and all before another.
 abbrev pub LieInOrder : ℕ → ℕ → List Fill → Type 0
 LieInOrder from until [] = from ≤ until
 LieInOrder from until (f ∷ fs) = (from ≤ f.first) × (0 < f.count) × LieInOrder (f.first + f.count) until fs
 
--- What a fill sets before `until` was put behind a row that ended at `end`.
+-- What a fill sets before `until` was put after a row that ended at `end`.
 pub record IsPut (f : Fill) (until end : ℕ) (old : List Fill) (new-end : ℕ) (new : List Fill) : Type 0 where
   pub order : LieInOrder 0 new-end new
   pub grows : end ≤ new-end

@@ -13,7 +13,7 @@ pub struct Fill {
 }
 
 impl Fill {
-    /// The place behind the last one.
+    /// The place after the last one.
     pub fn end(&self) -> u32
         requires { self.now.first + self.now.count < 2 ^ 32 }
         ensures { result ≡ self.now.first + self.now.count }

@@ -1,4 +1,4 @@
-//! Fills of places in a row, and those that come to the same and set each place once.
+//! Fills of places in a row, and equal ones that set each place once.
 #![tactic(auto)]
 
 mod fill;

@@ -8,9 +8,9 @@ use crate::order::in_order;
 use sn_ports::NoMemory;
 use std::alloc::Global;
 
-/// Fills that come to the same as these, one after the other, and set each place once. None of them is empty.
+/// Fills that have the same effect as these, one after the other, and set each place once. None of them is empty.
 ///
-/// For n fills it takes time that goes with n log n.
+/// For n fills its time grows with n log n.
 pub fn once_each(alloc: Global, fills: &[Fill]) -> Result<Vec<Fill>, NoMemory>
     requires { All (λ f. f.first + f.count < 2 ^ 32) fills.now }
     ensures same { IfOk result (λ once. (n : ℕ) → last_at n once.items ≡ last_at n fills.now) }

@@ -9,7 +9,7 @@ use crate::row::Row;
 use sn_ports::NoMemory;
 use std::alloc::Global;
 
-/// Puts what lies behind the row and before `until` of the fills from `index` on, and gives the index of the first one
+/// Puts what lies after the row and before `until` of the fills from `index` on, and returns the index of the first one
 /// that may go on there.
 fn put_before(row: &mut Row, fills: &[Fill], index: usize, until: u32) -> Result<usize, NoMemory>
     requires row { LieInOrder 0 row.old.end row.old.fills.items }

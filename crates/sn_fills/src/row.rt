@@ -7,7 +7,7 @@ use crate::fill::Fill;
 use sn_ports::NoMemory;
 use std::alloc::Global;
 
-/// Fills in order, and the place behind them.
+/// Fills in order, and the place after them.
 #[derive(Drop)]
 pub struct Row {
     pub fills: Vec<Fill>,
@@ -26,7 +26,7 @@ impl Row {
         }
     }
 
-    /// Puts the part of a fill that lies behind the row and before `until`.
+    /// Puts the part of a fill that lies after the row and before `until`.
     pub fn put(&mut self, fill: &Fill, until: u32) -> Result<(), NoMemory>
         requires order { LieInOrder 0 self.old.end self.old.fills.items }
         requires fill { fill.now.first + fill.now.count < 2 ^ 32 }

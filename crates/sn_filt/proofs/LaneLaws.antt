@@ -98,7 +98,7 @@ one_greatest x y low low' =
     ap (λ b. to_z w64 (cond (top 63 (cond b 18446744073709551615 0)) (of_z w64 y) (of_z w64 x))) (read_order x y f g)
     ∙ (by_order (of_z w64 y) (of_z w64 x) (int_lt x y) ∙ (ap (λ (z : ℤ). cond (int_lt x y) z (to_z w64 (of_z w64 x))) (to_z-of_z w64 y g) ∙ (ap (λ (z : ℤ). cond (int_lt x y) y z) (to_z-of_z w64 x f) ∙ max_is x y (int_lt x y) refl)))
 
--- where a choice lies
+-- what holds of both holds of a choice
 pub one_of : (P : ℤ → Type 0) (b : Bool) (x y : ℤ) → P x → P y → P (cond b x y)
 one_of P true x y p q = p
 one_of P false x y p q = q

@@ -140,7 +140,7 @@ pub(crate) fn greatest(a: Lanes, b: Lanes) -> Lanes
     }
 }
 
-/// 1.0 where a number is greater than the other, else 0.
+/// 1.0 if the first number is greater than the other, else 0.
 pub(crate) fn where_greater(a: Lanes, b: Lanes) -> Lanes
     requires long { length a.numbers ≡ 8 }
     requires a { Wide a.numbers }
@@ -221,7 +221,7 @@ pub(crate) trait Lanewise {
         ensures samples { Samples result.numbers };
 }
 
-/// Puts the output of a block at the end of `outputs`.
+/// Appends the output of a block to `outputs`.
 pub(crate) fn push_lanes<U: Lanewise>(unit: &U, inputs: &Blocks, outputs: &mut Blocks)
     requires inputs { U.arity unit.now ≤ length inputs.now }
     requires outputs { length outputs.old < most_wires }

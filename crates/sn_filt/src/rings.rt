@@ -213,7 +213,7 @@ pub(crate) fn run_delay_n<P: Port>(
     run_echo(&DelayN { rate, most }, port, state, inputs, outputs);
 }
 
-/// A block of CombN, likewise, its longest delay having at least one frame.
+/// A block of CombN, in the same way. Its longest delay has at least one frame.
 pub(crate) fn run_comb_n<P: Port>(
     rate: u32,
     port: &mut P,

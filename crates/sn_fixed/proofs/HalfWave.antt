@@ -21,7 +21,7 @@ pub height_small : (h : ℕ) → h ≤ 65536 → height h ≤ 16777216
 height_small h le = let b = product_small h le in let q : ℕ = h * (65536 - h) in
     div-le_of_le-mul (5 * 4294967296 - 4 * q) {m = 16 * q * 16777216} {n = 16777216} (omega arith)
 
--- a guess is the quotient where the rest is below the divisor
+-- a guess is the quotient if the rest is below the divisor
 pub guessed : (n d g : ℕ) → 0 < d → g * d ≤ n → n - g * d < d → g ≡ n / d
 guessed n d g some le lt = ⊎_elim
     (λ (h : g < n / d). let s : g + 1 ≤ n / d = omega arith in absurd (omega (arith, mul-le-mul_left d s)))

@@ -10,7 +10,7 @@ use Rattle.sn_fixed.proofs.Portions.{portion_between}
 use Rattle.sn_fixed.proofs.HalfWave.{guessed}
 use borrow.Author.Differences.{up, down, sum_is_lem}
 
--- the quotient and the remainder of a division are so
+-- the quotient and the remainder of a division
 divided : (z : ℤ) (n : ℕ) → 0 < n → IsDivided z n (floor z n) (unsigned_abs (int_rem_euclid z (pos n)))
 divided (pos a) n some = record { parts = omega (arith, ints); small = omega arith }
 divided (negsuc a) n some = record { parts = omega (arith, ints); small = omega arith }

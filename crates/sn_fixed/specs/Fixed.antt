@@ -14,7 +14,8 @@ sat z = int_max (negsuc 2147483647) (int_min (pos 2147483647) z)
 unfoldable pub mul : ℤ → ℤ → ℤ
 mul a b = sat (floor (a *ℤ b) 16777216)
 
--- By how much a phase, of which 2^32 is a turn, grows at each frame: freq is in millihertz, and rate in frames a second.
+-- By how much a phase, of which 2^32 is a turn, grows at each frame: freq is in millihertz, and rate in frames a
+-- second.
 unfoldable pub step_of : ℤ → ℕ → ℕ
 step_of freq rate = unsigned_abs (int_rem_euclid (floor (freq *ℤ pos 4294967296) (1000 * rate)) (pos 4294967296))
 

@@ -5,7 +5,7 @@ use Rattle.std.specs.Char.{is_ascii_digit}
 use Rattle.std.specs.Fmt.{signed_decimal}
 use Rattle.sn_fixed.specs.Literal.{literal}
 
--- The decimal digits of a sample, with `-` where it is negative, are a literal of it.
+-- The decimal digits of a sample, after a `-` if it is negative, are a literal of it.
 abbrev pub ReadsBack : ℤ → Type 0
 ReadsBack z = negsuc 2147483647 ≤ℤ z → z ≤ℤ pos 2147483647 → literal (signed_decimal z) ≡ Some z
 

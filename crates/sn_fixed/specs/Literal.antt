@@ -17,7 +17,7 @@ is_positive digits = list_all is_ascii_digit digits && nat_le 49 (slice_index di
 abbrev pub is_front : List ℕ → Bool
 is_front digits = is_zero digits || (is_positive digits && nat_le (length digits) 3)
 
--- the digits behind the point: one to eight
+-- the digits after the point: one to eight
 abbrev pub is_places : List ℕ → Bool
 is_places digits = list_all is_ascii_digit digits && nat_le 1 (length digits) && nat_le (length digits) 8
 
@@ -25,7 +25,7 @@ is_places digits = list_all is_ascii_digit digits && nat_le 1 (length digits) &&
 abbrev pub signed : Bool → ℕ → ℤ
 signed negative n = cond negative (neg_ℤ (pos n)) (pos n)
 
--- the number, where it is a sample
+-- the number, if it is a sample
 abbrev pub sample : ℤ → Option ℤ
 sample z = cond (int_le (negsuc 2147483647) z && int_le z (pos 2147483647)) (Some z) None
 
@@ -35,7 +35,8 @@ whole negative digits =
     cond (is_positive digits) (sample (signed negative (digits_value 10 digits)))
     (cond (is_zero digits && not negative) (Some (pos 0)) None)
 
--- A fraction is an optional `-`, the digits before the point, `.`, and the places behind it. Its value is the floor of the number times 2^24.
+-- A fraction is an optional `-`, the digits before the point, `.`, and the places after it. Its value is the floor of
+-- the number times 2^24.
 abbrev pub fraction : Bool → List ℕ → List ℕ → Option ℤ
 fraction negative front places =
     cond (is_front front && is_places places)
@@ -50,6 +51,6 @@ divided negative text None = whole negative text
 abbrev pub unsigned : Bool → List ℕ → Option ℤ
 unsigned negative text = divided negative text (position (λ byte. byte == 46) text)
 
--- The value of a literal, where the text is one; 45 is `-`.
+-- The value of a literal, if the text is one. 45 is `-`.
 unfoldable pub literal : List ℕ → Option ℤ
 literal text = cond (slice_index text 0 == 45) (unsigned true (drop 1 text)) (unsigned false text)

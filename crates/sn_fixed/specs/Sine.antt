@@ -1,4 +1,5 @@
--- The sine of a phase, of which 2^32 is a turn, by Bhaskara's approximation: 16 q / (5 - 4 q) at q = h (1 - h), where h is the place in the half turn.
+-- The sine of a phase, of which 2^32 is a turn, by Bhaskara's approximation: 16 q / (5 - 4 q) at q = h (1 - h), where h
+-- is the place in the half turn.
 use Rattle.std.specs.Prelude.{ℕ, ◌-◌, ◌*◌, ◌/◌, ◌%◌, nat_lt, ℤ, pos, neg_ℤ, cond}
 
 -- the place of a phase in its half turn, of which 65536 is the whole

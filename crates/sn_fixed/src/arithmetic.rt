@@ -5,7 +5,7 @@ ghost use Rattle.sn_fixed.specs.Fixed.{floor, sat, mul};
 /// 1.0 as a sample.
 pub const ONE: i32 = 16_777_216;
 
-/// The sample nearest to `x`: `x` itself where a sample can be so, or else the least or the greatest sample.
+/// The sample nearest to `x`: `x` itself if it is one, or else the least or the greatest sample.
 #[tactic(auto, unfolding(crate::specs::Fixed::sat))]
 pub fn sat(x: i64) -> i32
     ensures { result ≡ sat x }
@@ -99,7 +99,8 @@ fn scaled_product(a: i32, b: i32) -> i64
     scaled(times(a, b))
 }
 
-/// The sample nearest to the sum of a product and a sample. The product is brought to the scale of samples and rounded down first.
+/// The sample nearest to the sum of a product and a sample. The product is brought to the scale of samples and rounded
+/// down first.
 pub fn mul_add(a: i32, b: i32, x: i32) -> i32
     ensures { result ≡ sat (floor (a *ℤ b) 16777216 +ℤ x) }
 {

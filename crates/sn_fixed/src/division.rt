@@ -52,7 +52,7 @@ impl Division {
         }
     }
 
-    /// The division by `n` of the sum of two numbers, from theirs.
+    /// The division by `n` of the sum of two numbers, from their divisions.
     pub fn plus(self, other: Division, n: u32) -> Division
         requires first { unsigned_abs self.quotient ≤ 2 ^ 33 }
         requires second { unsigned_abs other.quotient ≤ 2 ^ 33 }
@@ -75,7 +75,7 @@ impl Division {
         }
     }
 
-    /// The division by `n` of the difference of two numbers, from theirs.
+    /// The division by `n` of the difference of two numbers, from their divisions.
     pub fn minus(self, other: Division, n: u32) -> Division
         requires first { unsigned_abs self.quotient ≤ 2 ^ 33 }
         requires second { unsigned_abs other.quotient ≤ 2 ^ 33 }

@@ -27,8 +27,8 @@ impl TimeFrames {
         }
     }
 
-    /// The frames of so many milliseconds, as `frames_of` gives them. They are computed only where the
-    /// time isn't the last one.
+    /// The frames of `ms` milliseconds, as `frames_of` gives them. They are computed only if the time isn't the last
+    /// one.
     pub fn at(&mut self, ms: i32) -> u32
         ensures value { result ≡ frames_of ms self.old.rate }
         ensures rate { self.new.rate ≡ self.old.rate }

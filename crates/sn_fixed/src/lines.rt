@@ -65,7 +65,7 @@ pub(crate) fn part(whole: i64, n: u32) -> i64
     whole.div_euclid(i64::from(n))
 }
 
-/// The start moved by so much.
+/// The start, moved by `by`.
 pub fn moved(start: i32, by: i64) -> i32
     requires { FitsSigned w32 (start +ℤ by) }
     ensures { result ≡ start +ℤ by }

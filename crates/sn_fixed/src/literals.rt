@@ -42,7 +42,7 @@ pub(crate) fn is_positive(digits: &[u8]) -> bool
     are_digits(digits) && digits.len() > 0 && digits[0] >= b'1'
 }
 
-/// The number of the digits, or `MOST_LITERAL` where it is greater.
+/// The number of the digits, or `MOST_LITERAL` if it is greater.
 pub(crate) fn number(digits: &[u8]) -> u64
     requires { IsTrue (list_all is_ascii_digit digits.now) }
     ensures { result ≡ min (digits_value 10 digits.now) 1000000000000 }
@@ -104,7 +104,7 @@ fn short_number(digits: &[u8]) -> u64
     number(digits)
 }
 
-/// Ten to the power of so many places.
+/// Ten to the power of `places`.
 #[tactic(auto, using(crate::proofs::Digits::scale_bounds))]
 fn scale(places: usize) -> u64
     requires { places ≤ 8 }
@@ -114,7 +114,7 @@ fn scale(places: usize) -> u64
     10u64.pow(places as u32)
 }
 
-/// The number of the digits before the point and the places behind it, in units of the last place.
+/// The number of the digits before the point and the places after it, in units of the last place.
 fn places_number(front: &[u8], places: &[u8]) -> u64
     requires front { IsTrue (is_front front.now) }
     requires places { IsTrue (is_places places.now) }
@@ -150,8 +150,8 @@ fn unsigned(negative: bool, text: &[u8]) -> Option<i32>
     }
 }
 
-/// The value of a literal: a whole number is a raw value, and a fraction such as `-0.5` is rounded
-/// down to a sample. `None` comes exactly where the text is no literal, or its value is no `i32`.
+/// The value of a literal: a whole number is a raw value, and a fraction such as `-0.5` is rounded down to a sample.
+/// `None` comes exactly if the text is no literal, or its value is no `i32`.
 #[tactic(auto, unfolding(crate::specs::Literal::literal))]
 pub fn literal(text: &[u8]) -> Option<i32>
     ensures { result ≡ literal text.now }

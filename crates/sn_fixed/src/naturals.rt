@@ -10,8 +10,8 @@ fn fits_32(value: u64) -> Option<u32>
     u32::try_from(value).ok()
 }
 
-/// The number of decimal digits without a leading zero. `None` comes exactly where the text is
-/// something else, or the number is 2^32 or more.
+/// The number of decimal digits without a leading zero. `None` comes exactly if the text is something else, or the
+/// number is 2^32 or more.
 #[tactic(auto, unfolding(crate::specs::Natural::natural))]
 pub fn natural(text: &[u8]) -> Option<u32>
     ensures { result ≡ natural text.now }

@@ -23,8 +23,8 @@ fn thousandth(whole: i64, rate: u32) -> i64
     }
 }
 
-/// By how much a phase grows at each frame. `freq` is in millihertz and `rate` in frames a second;
-/// a phase turns at 2^32, so that a negative frequency wraps.
+/// By how much a phase grows at each frame. `freq` is in millihertz and `rate` in frames a second; a phase turns at
+/// 2^32, so a negative frequency wraps.
 #[tactic(auto, unfolding(crate::specs::Fixed::step_of))]
 pub fn step_of(freq: i32, rate: u32) -> u32
     requires { 0 < rate }
@@ -33,7 +33,7 @@ pub fn step_of(freq: i32, rate: u32) -> u32
     thousandth(i64::from(freq) * TURN, rate).rem_euclid(TURN) as u32
 }
 
-/// The frames of so many milliseconds, rounded down: 0 where `ms` is negative, and at most 2^31 - 1.
+/// The frames of `ms` milliseconds, rounded down: 0 if `ms` is negative, and at most 2^31 - 1.
 #[tactic(auto, unfolding(crate::specs::Fixed::frames_of))]
 pub fn frames_of(ms: i32, rate: u32) -> u32
     ensures { result ≡ frames_of ms rate }
@@ -54,7 +54,7 @@ fn product(h: u32) -> u32
     (u64::from(h) * (65_536 - u64::from(h))) as u32
 }
 
-/// A guess at the height for this product. Nothing but its bound is promised of it.
+/// A guess at the height for this product. The contract promises its bound alone.
 fn guess(q: u32) -> u64
     ensures { result ≤ 16777216 }
 {
@@ -62,7 +62,7 @@ fn guess(q: u32) -> u64
     saturating_f64_to_u64(q * 67_108_864.0 / (5_368_709_120.0 - q)).min(16_777_216)
 }
 
-/// The quotient, rounded down. Where the guess is right it takes no division.
+/// The quotient, rounded down. If the guess is right, it takes no division.
 #[tactic(auto, using(crate::proofs::HalfWave::guessed))]
 fn quotient(dividend: u64, divisor: u64, guess: u64) -> u64
     requires some { 0 < divisor }

@@ -46,7 +46,7 @@ impl Slope {
         }
     }
 
-    /// A line of so many frames, at one of them.
+    /// A line of `frames` frames, at frame `frame`.
     #[cold]
     #[inline(never)]
     fn at(ends: Ends, frame: u32, frames: u32) -> Slope
@@ -103,7 +103,7 @@ impl Slope {
         }
     }
 
-    /// Goes to a frame of a line. It divides only where it isn't there already.
+    /// Goes to a frame of a line. It divides only if it isn't there already.
     fn go_to(&mut self, ends: Ends, frame: u32, frames: u32)
         requires within { frame ≤ frames }
         requires some { 0 < frames }
@@ -120,8 +120,8 @@ impl Slope {
         }
     }
 
-    /// The sample at a frame of a line, as `line_at` gives it. It divides only where the last frame
-    /// asked for isn't the one before it. It is inlined, so that a loop keeps the line in registers.
+    /// The sample at a frame of a line, as `line_at` gives it. It divides only if the last frame asked for isn't the
+    /// one before it. It is inlined, so that a loop keeps the line in registers.
     #[inline(always)]
     pub fn forward(&mut self, start: i32, end: i32, frame: u32, frames: u32) -> i32
         requires { frame < frames }
@@ -133,8 +133,8 @@ impl Slope {
         sample
     }
 
-    /// The same from the last frame towards the first one: it divides only where the last frame asked
-    /// for isn't the one after it.
+    /// The same from the last frame towards the first one: it divides only if the last frame asked for isn't the one
+    /// after it.
     #[inline(always)]
     pub fn backward(&mut self, start: i32, end: i32, frame: u32, frames: u32) -> i32
         requires some { 0 < frame }

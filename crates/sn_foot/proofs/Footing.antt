@@ -32,7 +32,7 @@ some_place x None h = absurd (true≢false (sym h))
 some_place x (Some e) h = refl
 
 module _ (buffers : List (Option BufferPlace)) (a : Role) where
-  -- the word is one of a resource that is used so
+  -- the word is one of a resource that is used in this way
   abbrev IsOfUse : List Use → ℕ → Type 0
   IsOfUse us x = (r : Resource) × ((uses_in a us r ≡ true) × (lies_in x (place_of buffers r) ≡ true))
 

@@ -43,7 +43,7 @@ one_is n =
     (λ (le : 2 ≤ n). ap (λ k. k == 1) (large n le) ∙ ne_eqb 2 1 (λ e. omega (arith, e)) ∙ sym (ne_eqb n 1 (λ e. omega (arith, e, le))))
     (cases_lt n 2)
 
--- one where a test holds, and none where it does not
+-- one if a test holds, and none if it doesn't
 pub one_if : (b : Bool) → b ≡ true → ◌≡◌ {A = ℕ} (if b then 1 else 0) 1
 one_if true e = refl
 one_if false e = absurd (true≢false (sym e))

@@ -1,5 +1,5 @@
--- What a foot that has the words of nodes does for them: it has the foot of each, and lies in the memory; and what the nodes make of words
--- depends on it alone.
+-- What a foot that has the words of nodes does for them: it has the foot of each, and lies in the memory; and what the
+-- nodes make of words depends on it alone.
 use Rattle.std.proofs.Common.{◌≡◌, ◌<◌, ◌⊎◌, inl, inr, ⊎_elim, ℕ, zero, suc, ◌+◌, nat_lt, Bool, true, false, ◌||◌, List, [], ◌∷◌, ◌++◌, length, get_or, ℤ, Option, Some, None, sym, ◌∙◌, arith, All, true≢false}
 use Rattle.std.specs.List.{list_any}
 use Rattle.std.specs.Prelude.{nat_le}

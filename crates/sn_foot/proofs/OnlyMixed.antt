@@ -1,5 +1,5 @@
--- A synth that moves buses that it only mixes: but for these it sees and changes the other words of its foot, and onto each of them it puts one
--- signal.
+-- A synth that moves buses that it only mixes: it sees and changes the other words of its foot, and onto each of these
+-- buses it puts one signal.
 use Rattle.std.proofs.Common.{◌≡◌, ◌≢◌, ◌≤◌, ◌<◌, ◌⊎◌, inl, inr, ⊎_elim, not, ℕ, zero, suc, ◌+◌, ◌*◌, ◌-◌, ◌==◌, nat_lt, Bool, true, false, ◌&&◌, ◌||◌, cond, if◌then◌else◌, List, [], ◌∷◌, ◌++◌, length, get_or, ℤ, pos, negsuc, ◌+ℤ◌, Option, Some, None, sym, refl, ap, subst, ◌∙◌, arith, All, true≢false}
 use Rattle.std.specs.List.{list_any}
 use Rattle.std.specs.Prelude.{nat_le}
@@ -89,7 +89,7 @@ none_mixes controls (u ∷ us) r h a = ⊎_elim
     (λ (m : list_any (λ u. unit_mixes controls u r) us ≡ true). none_mixes controls us r h.1 m)
     (or_cases (unit_mixes controls u r) (list_any (λ u. unit_mixes controls u r) us) a)
 
--- the units before the only one that uses a bus, and those behind it
+-- the units before the only one that uses a bus, and those after it
 pub record Cut (controls : List SynthControl) (units : List UnitLine) (r : Resource) : Type 0 where
   pub first : List UnitLine
   pub unit : UnitLine
@@ -378,7 +378,7 @@ module _ (rate b : ℕ) (node : ℤ) (size : ℕ) (whole : Foot) (places : List 
         let p = and_parts (list_any (λ u. unit_mixes controls u (Audio n)) d.units) (users controls d.units (Audio n) == 1) mixed in
         cut controls d.units (Audio n) (eqb-true (users controls d.units (Audio n)) 1 p.1) p.0
 
-    -- what holds of each unit, before, at and behind it
+    -- what holds of each unit, before, at and after it
     module _ (buses : List ControlBus) where
       abbrev Given : UnitLine → Type 0
       Given u = (uses controls u (Audio n) ≡ false → MayOutput others places (control_values buses controls) u) × (mixes_audio u.kind ≡ true → (wires : List (List ℤ)) → sample (input_blocks (control_values buses controls) wires u.inputs) 0 0 ≡ index_of controls u)
@@ -514,7 +514,7 @@ module _ (rate b : ℕ) (node : ℤ) (size : ℕ) (whole : Foot) (places : List 
         let Q : List ℤ → Type 0 = λ (values : List ℤ). Agree (touches left) (change us) (after_units rate b node places values d.units (begun ws state.at)).words in
         subst Q (values_are us ws a) (units_alike rate b node places (values_of us) left d.units [] state.at 0 us ws (subst (λ k. MayWrite left state.at k) is.long keeps_it) (alike_at us) a)
 
-    -- the signal is the same where the words agree
+    -- the signal is the same if the words agree
     same_signal : (n : ℕ) (low : n < 128) (mixed : synth_mixes d.units controls (Audio n) ≡ true) (us ws : List ℕ) → Agree (touches left) us ws → ins_of n low mixed us ≡ ins_of n low mixed ws
     unfolding standing
     same_signal n low mixed us ws a =

@@ -120,7 +120,7 @@ span_put a role bank first (suc i) us r low =
 
 -- ---- units
 
--- what a unit does to what it uses so
+-- what a unit does to what it uses in this way
 abbrev access_of : Role → Access
 access_of Read = accesses.Read
 access_of Write = accesses.Write
@@ -184,7 +184,7 @@ module _ (f : Access → Bank → ℕ → Bool) where
   either_alone accesses.Read bank r = bank_alone accesses.Read bank r ∙ sym (or-false (is_bank (bank_of r) bank && f accesses.Read (bank_of r) (number_of r)))
   either_alone accesses.Write bank r = bank_alone accesses.Write bank r
 
--- which numbers a unit may use so
+-- which numbers a unit may use in this way
 abbrev among : List SynthControl → UnitLine → Access → Bank → ℕ → Bool
 among controls u access bank n = is_among (index_of controls u) (span access bank u) n
 
@@ -486,7 +486,7 @@ module _ (controls : List SynthControl) (units : List UnitLine) where
   own_writes : (r : Resource) → number_of r < 1024 → uses_in Write own r ≡ list_any (λ (u : UnitLine). unit_puts Write controls u r) units
   own_writes r low = own_puts Write r low ∙ ap (λ b. b || list_any (λ (u : UnitLine). unit_puts Write controls u r) units) (none_of controls)
 
-  -- what is mixed is named once just where one unit uses it
+  -- what is mixed is named once just if one unit uses it
   alone_is : (r : Resource) → number_of r < 1024 → list_any (λ (u : UnitLine). unit_mixes controls u r) units ≡ true → is_alone own r ≡ (users controls units r == 1)
   alone_is (resources.Audio n) low h = ap (λ b. b && (times own (resources.Audio n) == 1)) (lt-ltb n 1024 low) ∙ ap (λ k. k == 1) (times_own controls n low units)
   alone_is (resources.Control n) low h = absurd (true≢false (sym h ∙ none_of units))

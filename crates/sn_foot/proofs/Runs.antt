@@ -40,7 +40,7 @@ no_sooner from e f es fs a b same =
     (λ (ge : e.at ≤ f.at). ge)
     (cases_lt f.at e.at)
 
--- nor does it end behind the first
+-- nor does it end after the first
 no_longer : (from : ℕ) (e f : Extent) (es fs : List Extent) → f.at ≤ e.at → AreApart from (e ∷ es) → ((x : ℕ) → has (e ∷ es) x ≡ has (f ∷ fs) x) → f.at + f.len ≤ e.at + e.len
 no_longer from e f es fs le a same =
     ⊎_elim

@@ -89,7 +89,7 @@ module _ (rate : ℕ) (region : Extent) (buffers : List (Option BufferPlace)) (h
       (λ (h : touches (unmoved reach) x ≡ false). h ∙ sym (false_from_ne_true (touches (unmoved reach) (65 * n)) (λ t. true≢false (sym (both_touched n (65 * n) x low (omega arith) (omega arith) from to t) ∙ h))))
       (cases_Bool (touches (unmoved reach) x))
 
--- ---- buffers behind the buses
+-- ---- buffers after the buses
 
 place_at_behind : (region : Extent) (q : Option BufferPlace) (p : BufferPlace) → MayBeBuffer region q → q ≡ Some p → region.at ≤ p.extent.at
 place_at_behind region None p may e = absurd cc

@@ -2,7 +2,7 @@
 use Rattle.std.specs.Prelude.{ℕ, ◌+◌, ◌-◌, ◌≤◌, ◌<◌, max, nat_le, nat_lt, List, [], ◌∷◌, ◌++◌, if◌then◌else◌}
 use Rattle.sn_mem.specs.declared.extents.Extent.{Extent}
 
--- Each has a word, and begins at a place or behind it; behind each there is a word before the next one begins.
+-- Each has a word, and begins at a place or after it; after each there is a word before the next one begins.
 abbrev pub AreApart : ℕ → List Extent → Type 0
 AreApart from [] = Unit {0}
 AreApart from (e ∷ es) = (from ≤ e.at) × (0 < e.len) × AreApart (e.at + e.len + 1) es
@@ -27,12 +27,12 @@ in_order (e ∷ es) = with_extent e (in_order es)
 abbrev pub where_some : Extent → List Extent
 where_some e = if nat_lt 0 e.len then e ∷ [] else []
 
--- each begins where the one before it begins, or behind that, and none before a place
+-- each begins where the one before it begins, or after that, and none before a place
 abbrev pub AreRising : ℕ → List Extent → Type 0
 AreRising from [] = Unit {0}
 AreRising from (e ∷ es) = (from ≤ e.at) × AreRising e.at es
 
--- two extents as one, where the second begins in the first or right behind it
+-- two extents as one, if the second begins in the first or right after it
 abbrev pub both : Extent → Extent → Extent
 both a b = record { at = a.at; len = max a.len (b.at + b.len - a.at) }
 

@@ -1,4 +1,4 @@
--- What a node may read and write beside its own state: audio buses, control buses and buffers.
+-- What a node may read and write besides its own state: audio buses, control buses and buffers.
 use Rattle.std.specs.Prelude.{◌≡◌, ◌↔◌, ◌⊎◌, ℕ, zero, suc, ◌+◌, ◌-◌, ◌==◌, nat_lt, ℤ, pos, negsuc, ◌+ℤ◌, Bool, true, false, not, ◌&&◌, ◌||◌, if◌then◌else◌, List, [], ◌∷◌, ◌++◌, length, map, slice_index_or, Option, Some, None, is_some}
 use Rattle.std.specs.List.{list_any}
 use Rattle.std.specs.Ordering.{int_eq}
@@ -92,7 +92,7 @@ follows control (Audio n) = false
 follows control (Control n) = is_bus control.bus n
 follows control (Buffer n) = false
 
--- A synth reads what its controls follow, also a control that no unit uses, and what its units read.
+-- A synth reads what its controls follow, even those that no unit uses, and what its units read.
 abbrev pub synth_reads : List UnitLine → List SynthControl → Resource → Bool
 synth_reads units controls r = list_any (λ c. follows c r) controls || list_any (λ u. unit_reads controls u r) units
 
@@ -122,7 +122,7 @@ held_mixes (held.Synth def controls state) r = synth_mixes (definition_of def.va
 abbrev pub is_reached : {P : Type 0} → ℤ → Nodes P → Bool
 is_reached id nodes = list_any (λ l. int_eq l.id id) (running_labels nodes)
 
--- what the walk finds at a node and below it, nothing where it does not reach the node
+-- what the walk finds at a node and below it, nothing if it doesn't reach the node
 abbrev pub found_at : {P : Type 0} → ℤ → Nodes P → List P
 found_at id nodes = if is_reached id nodes then map (λ l. l.payload) (running_labels (subtree id nodes)) else []
 

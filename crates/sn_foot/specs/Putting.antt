@@ -1,4 +1,4 @@
--- The uses of nodes by themselves, put to others.
+-- The uses of nodes by themselves, appended to others.
 use Rattle.std.specs.Prelude.{ℕ, zero, suc, ◌-◌, nat_lt, ℤ, pos, negsuc, ◌+ℤ◌, Bool, if◌then◌else◌, List, [], ◌∷◌, ◌++◌, length, Option, Some, None}
 use Rattle.sn_ports.specs.Limits.{control_bus_count}
 use Rattle.sn_def.specs.declared.control.Control.{Control as SynthControl}
@@ -26,7 +26,7 @@ resource Audio n = resources.Audio n
 resource Control n = resources.Control n
 resource Buffer n = resources.Buffer n
 
--- a number, where it is below 1,024
+-- a number, if it is below 1,024
 abbrev pub number_at : ℤ → Option ℕ
 number_at (pos n) = if nat_lt n control_bus_count then Some n else None
 number_at (negsuc n) = None
@@ -42,7 +42,7 @@ put_span role bank first (suc i) us = put_number role bank (number_at (first +�
 
 -- ---- units
 
--- how many buses or buffers a unit uses that uses them so, from its index on
+-- how many buses or buffers a unit uses in this way, from its index on
 abbrev pub span : Access → Bank → UnitLine → ℕ
 span accesses.Read Audio u = u.outputs
 span accesses.Read Control u = u.outputs
@@ -51,7 +51,7 @@ span accesses.Write Audio u = length u.inputs - 1
 span accesses.Write Control u = length u.inputs - 1
 span accesses.Write Buffer u = 1
 
--- how a unit uses them, which adds to what audio buses hold or does not
+-- how a unit uses them, which either adds to what audio buses hold or doesn't
 abbrev pub role_in : Bool → Access → Bank → Role
 role_in adds accesses.Read bank = Read
 role_in adds accesses.Write Audio = if adds then Mix else Write

@@ -18,7 +18,8 @@ abbrev pub Suffices : Foot → List (Option BufferPlace) → Held → Type 0
 Suffices foot buffers held.Group = Unit {0}
 Suffices foot buffers (held.Synth def controls state) = MayRun foot buffers controls (definition_of def.value) state
 
--- What some nodes of a world hold: the states of synths and the buffers lie in the pool's region, which begins behind the buses.
+-- What some nodes of a world hold: the states of synths and the buffers lie in the pool's region, which begins after
+-- the buses.
 pub record AreOfWorld (rate : ℕ) (region : Extent) (buffers : List (Option BufferPlace)) (hs : List Held) : Type 0 where
   pub base : region.at ≡ bus_words
   pub bounded : region.at + region.len < 4294967296

@@ -32,7 +32,7 @@ uses_in role uses r = list_any (λ u. is_role role u.role && is_same u.resource 
 abbrev pub footprint_in : (Resource → Bool) → List Use → Footprint
 footprint_in there uses = record { reads = λ r. there r && uses_in Read uses r; writes = λ r. there r && uses_in Write uses r; mixes = λ r. there r && uses_in Mix uses r }
 
--- where the resources lie that they use in this way, as far as they are there
+-- the places of the resources that they use in this way, as far as they are there
 abbrev pub places_of : List (Option BufferPlace) → Role → List Use → List Extent
 places_of buffers role [] = []
 places_of buffers role (u ∷ us) = where_used (is_role role u.role) (place_of buffers u.resource) ++ places_of buffers role us
@@ -48,6 +48,6 @@ held_uses Mix h r = held_mixes h r
 abbrev pub nodes_use : List (Option BufferPlace) → Role → List Held → Resource → Bool
 nodes_use buffers role hs r = is_there buffers r && list_any (λ h. held_uses role h r) hs
 
--- after a node was put to uses, what has a number below 1,024 is used just where it was used before, or by the node itself
+-- after a node was put to uses, what has a number below 1,024 is used just if it was used before, or by the node itself
 abbrev pub PutsUses : Held → List Use → List Use → Type 0
 PutsUses h before after = (role : Role) (r : Resource) → number_of r < control_bus_count → uses_in role after r ≡ (uses_in role before r || held_uses role h r)

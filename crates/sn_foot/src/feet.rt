@@ -38,7 +38,7 @@ impl From<NoMemory> for Unfooted {
     }
 }
 
-/// Puts where a node by itself has its state at the end.
+/// Appends the extent of a node's own state.
 fn put_state(places: &mut Vec<Extent>, held: &Held) -> Result<(), NoMemory>
     ensures { OnOk result (places.new.items ≡ places.old.items ++ held_extents held.now) }
 {
@@ -51,7 +51,7 @@ fn put_state(places: &mut Vec<Extent>, held: &Held) -> Result<(), NoMemory>
     }
 }
 
-/// Puts where nodes have their states at the end.
+/// Appends the extents of nodes' states.
 pub fn put_states(places: &mut Vec<Extent>, nodes: &[&Held]) -> Result<(), NoMemory>
     ensures { OnOk result (places.new.items ≡ places.old.items ++ states_of (map (λ h. h.now) nodes.now)) }
 {

@@ -60,7 +60,7 @@ impl BusCounts {
         self.counts.get(number as usize).copied().unwrap_or(0)
     }
 
-    /// Counts a number, where there is room for it.
+    /// Counts a number, if there is room for it.
     #[tactic(auto, using(std::proofs::lemmas::List::set_past))]
     fn count_number(&mut self, number: u32)
         ensures { self.new ≡ slice_set self.old number (more (slice_index_or self.old number 0)) }
@@ -135,7 +135,7 @@ fn judged_one(counts: &BusCounts, used: &Use) -> Use
     }
 }
 
-/// Puts uses at the end, judged by the counts.
+/// Appends uses, judged by the counts.
 #[tactic(auto, using(crate::proofs::Judged::one_judged))]
 fn push_counted(uses: &mut Vec<Use>, counts: &BusCounts, own: &[Use]) -> Result<(), NoMemory>
     ensures { OnOk result (uses.new.items ≡ uses.old.items ++ judged (is_counted counts.now) own.now) }
@@ -146,8 +146,8 @@ fn push_counted(uses: &mut Vec<Use>, counts: &BusCounts, own: &[Use]) -> Result<
     Ok(())
 }
 
-/// Puts all that a synth uses at the end. A signal that is added to an audio bus mixes it, if nothing else of the
-/// synth names the bus, and writes it otherwise.
+/// Appends all that a synth uses. A signal that is added to an audio bus mixes it, if nothing else of the synth names
+/// the bus, and writes it otherwise.
 pub fn push_judged(alloc: Global, uses: &mut Vec<Use>, own: &[Use]) -> Result<(), NoMemory>
     ensures { OnOk result (uses.new.items ≡ uses.old.items ++ judged (is_alone own.now) own.now) }
 {

@@ -15,8 +15,8 @@ ghost use Rattle.sn_foot.specs.Canonical.{IsCanonical};
 ghost use Rattle.sn_foot.specs.Footprints.{AreItsWords, foot_of};
 ghost use Rattle.sn_foot.specs.Suffices.{AreOfWorld, Suffices, held_by};
 
-/// A law: the words of nodes are just those of the resources of their footprint and, among the writes, of their states; and each list is
-/// the canonical one of its words.
+/// A law: the words of nodes are just those of the resources of their footprint and, among the writes, of their states;
+/// and each list is the canonical one of its words.
 pub fn foot_has_its_words()
     ensures words { (buffers : List (Option BufferPlace)) (hs : List Held) → AreItsWords buffers hs (foot_of buffers hs) }
     ensures canonical { (buffers : List (Option BufferPlace)) (hs : List Held) → IsCanonical (foot_of buffers hs).reads × IsCanonical (foot_of buffers hs).writes × IsCanonical (foot_of buffers hs).mixes }
@@ -47,7 +47,8 @@ pub fn foot_lies_in_memory()
     ensures { (rate : ℕ) (region : Extent) (buffers : List (Option BufferPlace)) (hs : List Held) (reach : Reach) (x : ℕ) → AreOfWorld rate region buffers hs → AreItsWords buffers hs reach → touches (unmoved reach) x ≡ true → x < region.at + region.len }
 {}
 
-/// A law: with a foot that suffices for some nodes of a world, what they make of words one after the other sees and changes the foot alone.
+/// A law: with a foot that suffices for some nodes of a world, what they make of words one after the other sees and
+/// changes the foot alone.
 pub fn nodes_run_by_foot()
     ensures { (rate b : ℕ) (region : Extent) (buffers : List (Option BufferPlace)) (foot : Foot) (ls : List (Label Held)) → AreOfWorld rate region buffers (held_by ls) → All (Suffices foot buffers) (held_by ls) → IsByFoot foot (walk_words rate b buffers ls) }
 {}

@@ -15,7 +15,7 @@ fn end(extent: Extent) -> u64
     extent.at as u64 + extent.len as u64
 }
 
-/// Two extents as one, where the second begins in the first or right behind it.
+/// Two extents as one, if the second begins in the first or right after it.
 fn both(first: Extent, second: Extent) -> Extent
     requires order { first.at ≤ second.at }
     requires first { Ends first }
@@ -30,7 +30,7 @@ fn both(first: Extent, second: Extent) -> Extent
     }
 }
 
-/// Puts an extent at the end, where it has a word.
+/// Appends an extent, if it has a word.
 fn push_some(extents: &mut Extents, extent: Extent) -> Result<(), NoMemory>
     ensures { OnOk result (extents.new ≡ extents.old ++ where_some extent) }
 {
@@ -40,8 +40,8 @@ fn push_some(extents: &mut Extents, extent: Extent) -> Result<(), NoMemory>
     Ok(())
 }
 
-/// Puts the next extent behind one that is still open. Where they touch they are one, and else the first is done. Answers
-/// the one that is open then.
+/// Puts the next extent after one that is still open. If they touch, they become one; else the first is done. Returns
+/// the one that is then open.
 fn absorb(found: &mut Extents, last: Extent, next: Extent) -> Result<Extent, NoMemory>
     requires order { last.at ≤ next.at }
     requires first { Ends last }

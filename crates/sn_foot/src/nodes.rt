@@ -28,7 +28,7 @@ fn is_reached(tree: &Tree<Held>, node: &NodeId) -> bool
     false
 }
 
-/// What the walk finds at a node and below it, in its order; nothing where it does not reach the node.
+/// What the walk finds at a node and below it, in its order; nothing if it doesn't reach the node.
 #[tactic(auto, using(crate::proofs::Finding::found_nothing))]
 pub fn found_at<'a>(
     alloc: Global,

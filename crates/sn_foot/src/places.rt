@@ -52,7 +52,7 @@ fn buffer_place(buffers: &Buffers, number: u32) -> Option<Extent>
     }
 }
 
-/// Where a resource lies, or `None` where it is not there.
+/// Where a resource lies, or `None` if it is not there.
 fn place_of(buffers: &Buffers, resource: Resource) -> Option<Extent>
     ensures { result ≡ place_of buffers.now resource }
 {
@@ -63,7 +63,7 @@ fn place_of(buffers: &Buffers, resource: Resource) -> Option<Extent>
     }
 }
 
-/// Puts the place of a resource at the end, where it is used in this way and there.
+/// Appends the place of a resource, if it is used in this way and is there.
 fn put_place(
     places: &mut Vec<Extent>,
     buffers: &Buffers,

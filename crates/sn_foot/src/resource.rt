@@ -1,4 +1,4 @@
-//! What units use beside their own states.
+//! What units use besides their own states.
 ghost use Rattle.std.specs.Prelude.{◌≡◌};
 ghost use Rattle.sn_foot.specs.declared.resource.Resource.TheVariants as resources;
 ghost use Rattle.sn_foot.specs.Footprints.{is_there};

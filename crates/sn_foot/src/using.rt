@@ -19,7 +19,7 @@ use sn_ports::limits::CONTROL_BUS_COUNT;
 use sn_world::Held;
 use std::alloc::Global;
 
-/// How a unit uses what its row says, which adds to what audio buses hold or does not.
+/// How a unit uses what its row says. It adds to what audio buses hold, or it doesn't.
 fn role_in(adds: bool, access: Access, bank: Bank) -> Role
     ensures { result ≡ role_in adds access bank }
 {
@@ -47,7 +47,7 @@ fn number_at(first: i32, more: usize) -> Option<u32>
     }
 }
 
-/// Puts a use at the end, if there is a number.
+/// Appends a use, if there is a number.
 fn push_number(
     uses: &mut Vec<Use>,
     role: Role,
@@ -66,7 +66,7 @@ fn push_number(
     Ok(())
 }
 
-/// Puts the uses of so many numbers from a first one on at the end.
+/// Appends the uses of `count` numbers from `first` on.
 #[tactic(auto, using(crate::proofs::Putting::span_next, crate::proofs::Putting::span_none))]
 fn push_span(
     uses: &mut Vec<Use>,
@@ -84,7 +84,7 @@ fn push_span(
     Ok(())
 }
 
-/// Puts what a unit uses at the end, as the row of its kind says.
+/// Appends what a unit uses, as the row of its kind says.
 fn push_unit(uses: &mut Vec<Use>, controls: &[SynthControl], unit: &Unit) -> Result<(), NoMemory>
     ensures { OnOk result (uses.new.items ≡ put_used (mixes_audio unit.now.kind) (row_of unit.now.kind).uses controls.now unit.now uses.old.items) }
 {
@@ -100,7 +100,7 @@ fn push_unit(uses: &mut Vec<Use>, controls: &[SynthControl], unit: &Unit) -> Res
     }
 }
 
-/// Puts what units use at the end.
+/// Appends what units use.
 fn push_units(
     uses: &mut Vec<Use>,
     controls: &[SynthControl],
@@ -114,7 +114,7 @@ fn push_units(
     Ok(())
 }
 
-/// Puts what controls read at the end: the control buses that they follow.
+/// Appends what controls read: the control buses that they follow.
 fn push_controls(uses: &mut Vec<Use>, controls: &[SynthControl]) -> Result<(), NoMemory>
     ensures { OnOk result (uses.new.items ≡ put_controls controls.now uses.old.items) }
 {
@@ -134,7 +134,7 @@ fn own_uses(alloc: Global, controls: &[SynthControl], units: &[Unit]) -> Result<
     Ok(own)
 }
 
-/// Puts what a synth uses at the end.
+/// Appends what a synth uses.
 fn push_synth(
     alloc: Global,
     uses: &mut Vec<Use>,
@@ -147,7 +147,7 @@ fn push_synth(
     push_judged(alloc, uses, &own)
 }
 
-/// Puts what a node uses by itself at the end, as the rows of its units say.
+/// Appends what a node uses by itself, as the rows of its units say.
 fn push_node(alloc: Global, uses: &mut Vec<Use>, held: &Held) -> Result<(), NoMemory>
     ensures { OnOk result (uses.new.items ≡ put_held held.now uses.old.items) }
 {
@@ -159,14 +159,14 @@ fn push_node(alloc: Global, uses: &mut Vec<Use>, held: &Held) -> Result<(), NoMe
     }
 }
 
-/// Puts what a node uses by itself at the end. A bus or buffer below 1,024 is then used if it was before, or by the node.
+/// Appends what a node uses by itself. A bus or buffer below 1,024 is then used if it was before, or by the node.
 pub fn push_held(alloc: Global, uses: &mut Vec<Use>, held: &Held) -> Result<(), NoMemory>
     ensures { OnOk result (PutsUses held.now uses.old.items uses.new.items) }
 {
     push_node(alloc, uses, held)
 }
 
-/// Puts what nodes use at the end.
+/// Appends what nodes use.
 fn push_nodes(alloc: Global, uses: &mut Vec<Use>, nodes: &[&Held]) -> Result<(), NoMemory>
     ensures { OnOk result (uses.new.items ≡ put_nodes (map (λ h. h.now) nodes.now) uses.old.items) }
 {

@@ -1,4 +1,4 @@
--- Slots that are linked anew are as many, under the same keys.
+-- After nodes are linked again there are as many slots, under the same keys.
 use Rattle.std.proofs.Common.{◌≡◌, ℕ, ◌<◌, ◌≤◌, List, length, Option, Some, None, is_some, cond, count_by, sym, refl, ap, ◌∙◌, ⊎_elim, arith}
 use Rattle.std.specs.Prelude.{if◌then◌else◌}
 use Rattle.std.specs.Option.{option_map}

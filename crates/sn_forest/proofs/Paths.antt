@@ -8,8 +8,8 @@ use Rattle.sn_forest.specs.Links.{slot_at}
 use Rattle.sn_forest.specs.Linked.{slot_for, Linked}
 use Rattle.sn_forest.proofs.Keys.{one_other, some_or_none}
 
--- where a hole is: on the top level before all trees; below a node, which these trees follow; or after a node, with these
--- trees below it
+-- where a hole is: on the top level before all trees; below a node, which these trees follow; or after a node, with
+-- these trees below it
 pub data Path (T : Type 0) : Type 0 where
   top : Path T
   under : ℕ → T → Trees T → Path T → Path T
@@ -44,7 +44,7 @@ module _ {T : Type 0} where
   path_count (under key value after p) = 1 + (count after + path_count p)
   path_count (beside key value below p) = 1 + (count below + path_count p)
 
-  -- each node of the path has its slot, where the trees from the hole on begin with the key `first`, and the level of the
+  -- each node of the path has its slot, if the trees from the hole on begin with the key `first`, and the level of the
   -- hole ends with the key `last`; the top level ends with the key `end`
   abbrev pub LinkedPath : List (Option (Slot T)) → Option ℕ → Path T → Option ℕ → Option ℕ → Type 0
   LinkedPath slots end top first last = end ≡ last

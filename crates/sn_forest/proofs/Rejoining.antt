@@ -1,4 +1,4 @@
--- A hole whose trees are others than before: what stands before it and after it is linked anew.
+-- A hole whose trees are others than before: what stands before it and after it is linked again.
 use Rattle.std.proofs.Common.{◌≡◌, ◌≢◌, ℕ, ◌+◌, ◌≤◌, Option, Some, None, refl, ◌∙◌, subst, arith}
 use Rattle.slab.specs.Slab.{Slab}
 use Rattle.sn_forest.specs.declared.slot.Slot.{Slot}
@@ -41,7 +41,7 @@ module _ {T : Type 0} where
   forward_others s (under key value after p) to j z = at_other s.slots key First to j (λ e. absurd (omega (arith, one_same key, subst (λ x. path_uses x (under key value after p) ≡ 0) e z)))
   forward_others s (beside key value below p) to j z = at_other s.slots key Next to j (λ e. absurd (omega (arith, one_same key, subst (λ x. path_uses x (beside key value below p) ≡ 0) e z)))
 
-  -- the parent is on the path, and no other node changes where the hole is the last of its level
+  -- the parent is on the path, and no other node changes if the hole is the last of its level
   pub backward_others : (s : Slab (Slot T)) (p : Path T) (to : Option ℕ) (j : ℕ) → path_uses j p ≡ 0
       → slot_at (backward (parent_of p) None to s).slots j ≡ slot_at s.slots j
   backward_others s top to j z = refl

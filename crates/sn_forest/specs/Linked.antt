@@ -18,7 +18,7 @@ module _ {T : Type 0} where
       × Linked slots (Some key) None below
       × Linked slots parent (Some key) after
 
-  -- a node of a slot, where these make the trees that begin with a key
+  -- a node of a slot, if these make the trees that begin with a key
   abbrev pub grown : ℕ → Option (Slot T) → (Option ℕ → Trees T) → Trees T
   grown key None make = none
   grown key (Some slot) make = tree key slot.value (make slot.links.first) (make slot.links.next)

@@ -1,4 +1,4 @@
--- What becomes of slots whose nodes are linked anew.
+-- What becomes of slots whose nodes are linked again.
 use Rattle.std.specs.Prelude.{ℕ, List, Option, Some, None, slice_index_or, slice_set}
 use Rattle.std.specs.Option.{option_map}
 use Rattle.slab.specs.Slab.{Slab}
@@ -50,7 +50,7 @@ end_after parent (Some next) to end = end
 end_after (Some parent) None to end = end
 end_after None None to end = to
 
--- what a node in a slot is linked with, or nothing where the slot is empty
+-- what a node in a slot is linked with, or nothing if the slot is empty
 abbrev pub links_in : {T : Type 0} → Option (Slot T) → Links
 links_in None = record { parent = None; previous = None; next = None; first = None; last = None }
 links_in (Some slot) = slot.links

@@ -3,7 +3,7 @@ use Rattle.std.specs.Prelude.{ℕ, ◌==◌, if◌then◌else◌}
 use Rattle.sn_forest.specs.Trees.{Trees, none, tree, has_key, joined}
 
 module _ {T : Type 0} where
-  -- what a walk reaches from a node on: its tree, and behind it, as trees beside it, what comes after
+  -- what a walk reaches from a node on: its tree, and after it, as trees beside it, what comes after
   abbrev pub from : ℕ → Trees T → Trees T
   from k none = none
   from k (tree key value below after) =
@@ -11,7 +11,7 @@ module _ {T : Type 0} where
       else if has_key k below then joined (from k below) after
       else from k after
 
-  -- what is left behind the first node, and behind the first tree
+  -- what is left after the first node, and after the first tree
   abbrev pub behind_node : Trees T → Trees T
   behind_node none = none
   behind_node (tree key value below after) = joined below after

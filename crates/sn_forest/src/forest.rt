@@ -11,8 +11,8 @@ use slab::Slab;
 use std::alloc::{AllocFailed, Global};
 use std::marker::Model;
 
-/// Trees of values, each node named by a key. There is always a first tree, whose top stays. A key stays with its node, and
-/// is given out again only after that node was removed.
+/// Trees of values, each node named by a key. There is always a first tree, whose top stays. A key stays with its node,
+/// and is used again only after that node was removed.
 #[derive(Drop)]
 pub struct Forest<T> {
     slots: Slab<Slot<T>>,
@@ -125,8 +125,8 @@ impl<T: Drop> Forest<T> {
         let _ = &self.slots;
     }
 
-    /// The node that a walk over the tree of `top` reaches after a node and all below it. From call to call of a whole walk
-    /// it goes up each link once.
+    /// The node that a walk over the tree of `top` reaches after a node and all below it. A whole walk goes up each
+    /// link once.
     pub fn past(&self, key: usize, top: usize) -> Option<usize>
         requires top { 1 ≤ uses top self.now }
         requires node { 1 ≤ uses key (subtree top self.now) }
@@ -165,7 +165,7 @@ impl<T: Drop> Forest<T> {
         }
     }
 
-    /// Puts a new node in at a place, and gives its key.
+    /// Puts a new node in at a place, and returns its key.
     pub fn insert(&mut self, place: Place, value: T) -> Result<usize, AllocFailed<T>>
         requires place { IsPlaceIn self.old place }
         ensures fresh { IfOk result (λ key. uses key self.old ≡ 0) }
@@ -206,7 +206,7 @@ impl<T: Drop> Forest<T> {
         hold(&mut self.slots, key, value);
     }
 
-    /// Removes a node that has none below it, and gives what it held.
+    /// Removes a node that has none below it, and returns what it held.
     pub fn remove(&mut self, key: usize) -> T
         requires node { 1 ≤ uses key self.old }
         requires inner { first_key self.old ≢ Some key }

@@ -17,7 +17,7 @@ impl<T: Drop> Forest<T> {
         self.keys_differ();
     }
 
-    /// A law: where a new node is removed, all is as it was.
+    /// A law: after a new node is removed, all is as it was.
     pub fn new_nodes_go_back(&self, key: usize, place: Place, value: &T)
         requires fresh { uses key self.now ≡ 0 }
         requires place { IsPlaceIn self.now place }
@@ -26,7 +26,7 @@ impl<T: Drop> Forest<T> {
         self.keys_differ();
     }
 
-    /// A law: where a node holds again what it held, all is as it was.
+    /// A law: after a node holds again what it held, all is as it was.
     pub fn values_go_back(&self, key: usize, old: &T, value: &T)
         requires node { 1 ≤ uses key self.now }
         requires held { value_of key self.now ≡ Some old.now }

@@ -17,7 +17,7 @@ pub(crate) enum Link {
     Last,
 }
 
-/// The neighbours of a node, by their keys, where it has them.
+/// The neighbours of a node, by their keys, if it has them.
 #[derive(Clone, Copy, Debug, PartialEq, Eq)]
 pub struct Links {
     /// The node that it is a child of.

@@ -1,4 +1,4 @@
-//! The slots of nodes, and how they are linked anew.
+//! The slots of nodes, and how they are linked again.
 ghost use Rattle.std.specs.Prelude.{◌≡◌, Some};
 ghost use Rattle.sn_forest.specs.Links.{slot_at, with_link, forward, backward, end_after, links_in, unlinked, end_without, placed, inlinked, holding};
 
@@ -25,7 +25,7 @@ pub struct Corner {
     pub next: Option<usize>,
 }
 
-/// Names a neighbour of a node, or that there is none. Where there is no such node nothing changes.
+/// Names a neighbour of a node, or that there is none. If there is no such node, nothing changes.
 fn point<T>(slots: &mut Slab<Slot<T>>, key: usize, link: Link, to: Option<usize>)
     ensures { slots.new ≡ with_link key link to slots.old }
 {
@@ -74,7 +74,7 @@ fn point_backward<T>(
     }
 }
 
-/// What a node is linked with; with nothing where there is no such node.
+/// What a node is linked with: nothing, if there is no such node.
 pub fn links_at<T>(slots: &Slab<Slot<T>>, key: usize) -> Links
     ensures { result ≡ links_in (slot_at slots.now.slots key) }
 {
@@ -99,7 +99,7 @@ pub fn cut<T>(slots: &mut Slab<Slot<T>>, end: &mut Option<usize>, links: Links)
     point_backward(slots, end, links.parent, links.next, links.previous);
 }
 
-/// Tells a node where it is.
+/// Sets the parent of a node, and the nodes before and after it.
 fn place<T>(slots: &mut Slab<Slot<T>>, key: usize, corner: Corner)
     ensures { slots.new ≡ placed key corner slots.old }
 {
@@ -123,7 +123,7 @@ pub fn paste<T>(slots: &mut Slab<Slot<T>>, end: &mut Option<usize>, key: usize, 
     place(slots, key, corner);
 }
 
-/// Gives a node another value. Where there is no such node nothing changes.
+/// Gives a node another value. If there is no such node, nothing changes.
 pub fn hold<T: Drop>(slots: &mut Slab<Slot<T>>, key: usize, value: T)
     ensures { slots.new ≡ holding key value slots.old }
 {

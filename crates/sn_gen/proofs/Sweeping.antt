@@ -53,7 +53,7 @@ ended_once : (b : Bool) → ended (cond b 1 0) ≡ 1
 ended_once true = refl
 ended_once false = refl
 
--- 1 where m is past n, by the test
+-- 1 if m is past n, by the test
 past : (n m : ℕ) → n < m → ◌≡◌ {A = ℕ} (cond (ltb n m) 1 0) 1
 past n m lt = ap (λ c. let x : ℕ = cond c 1 0 in x) (lt-ltb n m lt)
 

@@ -97,7 +97,7 @@ passed_alike : (e : Envelope) (y : ℤ) → settle_envelope (passed (settle_enve
 unfolding settle_envelope
 passed_alike e y = ap (λ d. record { done = d; segment = e.segment; frame = cond (nat_lt e.frame e.frames) (e.frame + 1) e.frame; frames = e.frames; level = e.level; top = e.top; last = y }) (done_alike e.segment e)
 
--- where the gate was looked at, the rest of a step
+-- the rest of a step, after the gate was looked at
 after_gate : Envelope → Envelope × ℤ
 after_gate e = (passed e (height e), height e)
 

@@ -1,4 +1,5 @@
--- What a generator makes of its state words and of its inputs' blocks: the state words after the block, and the output blocks.
+-- What a generator makes of its state words and of its inputs' blocks: the state words after the block, and the output
+-- blocks.
 use Rattle.std.specs.Prelude.{ℕ, Bool, List, [], ℤ}
 use Rattle.sn_def.specs.declared.kind.Kind.{Kind}
 use Rattle.sn_def.specs.declared.kind.Kind.TheVariants as kinds

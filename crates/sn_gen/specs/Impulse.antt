@@ -4,7 +4,7 @@ use Rattle.sn_fixed.specs.Fixed.{step_of}
 use Rattle.sn_mem.specs.Blocks.{sample}
 use Rattle.sn_gen.specs.declared.impulse.Beat.{Beat}
 
--- the phase, and 0 where an impulse is due, as it is at first
+-- the phase, and 0 if an impulse is due, as it is at first
 abbrev pub beat_in : List ℕ → Beat
 beat_in ws = record { phase = slice_index ws 0 % 4294967296; due = slice_index ws 1 == 0 }
 
@@ -15,7 +15,7 @@ beat_words b = b.phase ∷ cond b.due 0 1 ∷ []
 abbrev pub growth : ℕ → ℕ → ℤ → ℕ
 growth rate p freq = p + step_of freq rate
 
--- Impulse freq: at the first frame, and where the last growth of the phase reached 2^32
+-- Impulse freq: at the first frame, and if the last growth of the phase reached 2^32
 abbrev pub impulse : ℕ → Beat → List (List ℤ) → ℕ → Beat × ℤ
 impulse rate b inputs k =
     let p = growth rate b.phase (sample inputs 0 k) in

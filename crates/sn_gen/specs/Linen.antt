@@ -16,14 +16,16 @@ segment_word Waiting = 0
 segment_word Open = 1
 segment_word Released = 2
 
--- the done word, the segment, the next frame of the segment and how many it has, the level, the output that the release falls from, and the last output
+-- the done word, the segment, the next frame of the segment and how many it has, the level, the output that the release
+-- falls from, and the last output
 abbrev pub envelope_in : List ℕ → Envelope
 envelope_in ws = record { done = slice_index ws 0; segment = segment_in (slice_index ws 1); frame = slice_index ws 2 % 4294967296; frames = slice_index ws 3 % 4294967296; level = sample_in (slice_index ws 4); top = sample_in (slice_index ws 5); last = sample_in (slice_index ws 6) }
 
 abbrev pub envelope_words : Envelope → List ℕ
 envelope_words e = e.done ∷ segment_word e.segment ∷ e.frame ∷ e.frames ∷ word_for e.level ∷ word_for e.top ∷ word_for e.last ∷ []
 
--- the attack begins at the first frame with the gate above 0, and the release at the first frame after that with the gate at most 0
+-- the attack begins at the first frame with the gate above 0, and the release at the first frame after that with the
+-- gate at most 0
 abbrev pub gated_at : Segment → ℕ → Envelope → List (List ℤ) → ℕ → Envelope
 gated_at Waiting rate e inputs k = cond (int_lt (pos 0) (sample inputs 0 k)) (record e { segment = Open; frame = 0; frames = frames_of (sample inputs 1 k) rate; level = sample inputs 2 k }) e
 gated_at Open rate e inputs k = cond (int_lt (pos 0) (sample inputs 0 k)) e (record e { segment = Released; frame = 0; frames = frames_of (sample inputs 3 k) rate; top = e.last })

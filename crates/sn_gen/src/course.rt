@@ -1,4 +1,4 @@
-//! 64 frames of a line that goes on behind them.
+//! 64 frames of a line that goes on after them.
 ghost use Rattle.std.specs.Prelude.{◌≡◌, ◌<◌, ◌≤◌, ◌+◌, pos, ◌*ℤ◌, ◌-ℤ◌};
 ghost use Rattle.sn_ports.specs.Limits.{block_frames};
 ghost use Rattle.sn_fixed.specs.Divisions.{IsDivided};
@@ -10,8 +10,8 @@ use sn_fixed::{Division, distance, moved};
 use sn_mem::Block;
 use sn_ports::limits::BLOCK_FRAMES;
 
-/// A line at its next frame. Unlike a `Slope` it is not told at each frame where it is, and goes from each to the one
-/// after it.
+/// A line at its next frame. Unlike a `Slope` it isn't given its frame each time: it goes from each frame to the next
+/// one.
 #[derive(Clone, Copy)]
 struct Course {
     line: Sweep,
@@ -59,7 +59,7 @@ impl Course {
     }
 }
 
-/// The samples of 64 frames of a line. Gives the line after them.
+/// The samples of 64 frames of a line. Returns the line after them.
 pub(crate) fn run_course(line: Sweep, samples: &mut Block) -> Sweep
     requires { line.frame + block_frames ≤ line.frames }
     ensures line { result ≡ record line { frame = line.frame + block_frames } }

@@ -21,7 +21,7 @@ const FRAMES: u32 = BLOCK_FRAMES as u32;
 pub(crate) struct Sweep {
     /// The done word, 0 until the end.
     pub done: u64,
-    /// The next frame, up to the number of frames, or 1 where that is 0. It is 0 only before the first frame.
+    /// The next frame, up to the number of frames, or 1 if that is 0. It is 0 only before the first frame.
     pub frame: u32,
     /// The first sample.
     pub start: i32,
@@ -129,7 +129,7 @@ impl Recurrence for Line {
     }
 }
 
-/// A block of a line that has begun and goes on behind it. Gives the line after it.
+/// A block of a line that has begun and goes on after it. Returns the line after it.
 fn along(sweep: Sweep, outputs: &mut Blocks) -> Sweep
     requires begun { 0 < sweep.frame }
     requires within { sweep.frame + block_frames ≤ sweep.frames }
@@ -143,7 +143,7 @@ fn along(sweep: Sweep, outputs: &mut Blocks) -> Sweep
     after
 }
 
-/// A block after the end of a line. Gives the line after it.
+/// A block after the end of a line. Returns the line after it.
 fn past(sweep: Sweep, outputs: &mut Blocks) -> Sweep
     requires begun { 0 < sweep.frame }
     requires over { sweep.frames ≤ sweep.frame }
@@ -156,8 +156,8 @@ fn past(sweep: Sweep, outputs: &mut Blocks) -> Sweep
     Sweep { done, ..sweep }
 }
 
-/// A block in which a line neither begins nor comes to its end, so that no frame asks for either. Gives the line after
-/// it. Gives `None` for any other block, and then puts nothing out.
+/// A block in which a line neither begins nor comes to its end, so no frame asks for either. Returns the line after it.
+/// Returns `None` for any other block, and then puts nothing out.
 fn passed(sweep: Sweep, outputs: &mut Blocks) -> Option<Sweep>
     ensures sweep { IfSome result (λ after. (rate : ℕ) (inputs : List (List ℤ)) → after ≡ (scan (line rate) sweep inputs block_frames).0) }
     ensures outputs { IfSome result (λ _. (rate : ℕ) (inputs : List (List ℤ)) → outputs.new ≡ (scan (line rate) sweep inputs block_frames).1 ∷ []) }

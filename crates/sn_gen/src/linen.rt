@@ -96,7 +96,7 @@ impl Stored for Envelope {
     }
 }
 
-/// Begins the attack or the release where the gate says so.
+/// Begins the attack or the release if the gate says so.
 fn gated(rate: u32, envelope: Envelope, inputs: &Blocks, frame: usize) -> Envelope
     requires inputs { 4 ≤ length inputs.now }
     requires frame { frame < block_frames }

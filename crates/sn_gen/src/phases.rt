@@ -46,7 +46,7 @@ impl PhaseStep {
         }
     }
 
-    /// The step at a frequency. It is computed only where the frequency isn't the last one.
+    /// The step at a frequency. It is computed only if the frequency isn't the last one.
     pub(crate) fn at(&mut self, freq: i32) -> u32
         ensures value { result ≡ step_of freq self.old.rate }
         ensures rate { self.new.rate ≡ self.old.rate }

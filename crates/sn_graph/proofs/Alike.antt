@@ -129,7 +129,7 @@ module _ (first most : ℕ) where
       let r = laned first most above a.taken rest in
       record { nodes = group None a.nodes r.nodes; taken = r.taken }
 
-  -- a group may be split, and there are lanes enough
+  -- a group may be split, and there are enough lanes
   abbrev pub is_laned : List Bool → ℕ → Option (List Moved) → HeardNodes → Bool
   is_laned above taken may inner = is_some may && nat_le (taken + pairs (shared_by above inner) (voices inner)) most
 

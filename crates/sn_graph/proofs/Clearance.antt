@@ -346,7 +346,8 @@ below_is_of first S (group (Some lanes) inner rest) f l w h =
 
 -- ---- members
 
--- synths of two members: none of their words clash, they mix no bus together that is not shared, and they have other lanes
+-- synths of two members: none of their words clash, they mix no bus together that is not shared, and they have other
+-- lanes
 record AreParted (first : ℕ) (S : ℕ → Bool) (vs ws : List Voice) : Type 0 where
   pub meet : (v w : Voice) → Among vs v → Among ws w → ReachesClash v.reach w.reach → ⊥
   pub share : (n : ℕ) (v w : Voice) → n < 128 → Among vs v → Among ws w → mixes v n ≡ true → mixes w n ≡ true → S n ≡ true

@@ -1,4 +1,4 @@
--- Where ids are distinct, what the walk reaches by an id is one node.
+-- If ids are distinct, what the walk reaches by an id is one node.
 use Rattle.std.proofs.Common.{◌≡◌, ◌≤◌, ◌⊎◌, inl, inr, ⊎_elim, ℕ, ◌+◌, ℤ, true, false, ◌||◌, refl, if◌then◌else◌, List, ◌∷◌, ◌++◌, Option, Some, sym, ap, ◌∙◌, subst, arith, true≢false}
 use Rattle.std.specs.Prelude.{◌↔◌, map}
 use Rattle.std.specs.List.{list_any}

@@ -69,7 +69,7 @@ one_append (v ∷ vs) ws n = ap (λ b. mixes v n || b) (one_append vs ws n) ∙ 
     grouped true b c = refl
     grouped false b c = refl
 
--- where two members mix it, one does
+-- if two members mix it, one does
 pub two_is_one : (t : HeardNodes) (n : ℕ) → two_mix t n ≡ true → one_mixes (voices t) n ≡ true
 two_is_one none n h = absurd (true≢false (sym h))
 two_is_one (synth v rest) n h = ⊎_elim
@@ -145,7 +145,7 @@ moved_found (k ∷ ms) n m rest h =
     (λ (e : here ≡ false). or_right here (is_moved ms n) (moved_found ms n m rest (sym (cond-false here (k ∷ on n ms) (on n ms) e) ∙ h)))
     (cases_Bool here)
 
--- a synth below groups that share a bus does not touch it, but for what it moves
+-- a synth below groups that share a bus does not touch it, except for what it moves
 untouched : (first : ℕ) (S : ℕ → Bool) (v : Voice) (n : ℕ) → n < 128 → MovesThose first S v → S n ≡ true → uses_bus v n ≡ false → touches_bus v n ≡ true → ⊥
 untouched first S v n lt m s u t =
     let p = and_parts (touches (unmoved v.reach) (65 * n)) (not (is_moved v.moves n)) t in
@@ -162,7 +162,7 @@ untouched first S v n lt m s u t =
 
 -- ---- the steps of nodes
 
--- the lanes that wait behind nodes: those that waited, and those of the nodes, on buses that groups above share
+-- the lanes that wait after nodes: those that waited, and those of the nodes, on buses that groups above share
 abbrev waiting : (ℕ → Bool) → (ℕ → List Moved) → List Voice → ℕ → List Moved
 waiting S q vs n = if S n then q n ++ on n (all_moves vs) else []
 
@@ -250,7 +250,7 @@ module _ (first : ℕ) where
       (fits_same (waiting S mid (voices rest)) f (λ n lt. sym (waiting_more S q (voices inner) (voices rest) n))))))
       at_joint))
 
-  -- with no groups above, no lane waits before the nodes, and none behind them
+  -- with no groups above, no lane waits before the nodes, and none after them
   pub all_fit : (t : HeardNodes) → AreLaned first (λ n. false) (λ n. false) t → SplitsMeetNone t → Fits (voices t) (λ n. []) (steps_of t) (λ n. [])
   all_fit t l c =
       subst (λ (steps : List Step). Fits (voices t) (λ n. []) steps (λ n. [])) (append-nil (steps_of t))

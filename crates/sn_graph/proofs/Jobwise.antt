@@ -26,7 +26,7 @@ none_with ids (v ∷ vs) h = cond-false (is_listed ids v.id) (v ∷ synths_with 
 not_one : (ss : List Voice) (a : ℤ) → (has ss a ≡ true → ⊥) → is_listed (ids_of ss) a ≡ false
 not_one ss a h = listed-ids ss a ∙ false_from_ne_true (has ss a) h
 
--- where no id stands twice, those with the ids of some that stand together are these
+-- if no id stands twice, those with the ids of some that stand together are these
 between : (before ss after : List Voice) → Once (before ++ (ss ++ after)) → synths_with (ids_of ss) (before ++ (ss ++ after)) ≡ ss
 between before ss after once =
     let ids : List ℤ = ids_of ss in

@@ -19,7 +19,7 @@ abbrev pub times : ℕ → ℕ → List Moved → ℕ
 times first k [] = 0
 times first k (m ∷ ms) = one_where (m.lane.at == first + 65 * k) + times first k ms
 
--- 1 where k is from a on and below b, and 0 otherwise
+-- 1 if k is at least a and below b, and 0 otherwise
 abbrev pub within : ℕ → ℕ → ℕ → ℕ
 within a b k = one_where (nat_le a k && nat_lt k b)
 

@@ -1,5 +1,5 @@
--- What lanes are given: each synth moves just the buses that it mixes and that a split group above shares, each onto one lane; and a joint has
--- the lanes of the synths below it, in the order of the walk.
+-- What lanes are given: each synth moves just the buses that it mixes and that a split group above shares, each onto
+-- one lane; and a joint has the lanes of the synths below it, in the order of the walk.
 use Rattle.std.proofs.Common.{◌≡◌, ◌<◌, ◌≤◌, ◌⊎◌, ⊎_elim, ℕ, zero, suc, ◌+◌, ◌*◌, ◌==◌, Bool, true, false, not, ◌&&◌, ◌||◌, if◌then◌else◌, List, [], ◌∷◌, ◌++◌, length, Some, None, sym, refl, ap, ◌∙◌, subst, arith, true≢false, append-nil, append_assoc}
 use Rattle.std.specs.Prelude.{nat_lt, slice_index_or}
 use Rattle.std.specs.List.{filter}
@@ -213,7 +213,8 @@ pub record JoinsThose (first : ℕ) (shared : ℕ → Bool) (lanes : List Moved)
   pub joined : (n : ℕ) → n < 128 → shared n ≡ true → on n lanes ≡ on n (all_moves (voices inner))
   pub others : (n : ℕ) → n < 128 → shared n ≡ false → on n lanes ≡ []
 
--- Synths move what split groups above share, of which A says what those that were given lanes share, and S what all share.
+-- Synths move what split groups above share, of which A says what those that were given lanes share, and S what all
+-- share.
 abbrev pub AreLaned : ℕ → (ℕ → Bool) → (ℕ → Bool) → HeardNodes → Type 0
 AreLaned first S A none = Unit {0}
 AreLaned first S A (synth v rest) = MovesThose first A v × AreLaned first S A rest

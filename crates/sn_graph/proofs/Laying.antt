@@ -144,7 +144,7 @@ module _ (first : ℕ) where
 
 -- ---- how many lanes pairs take
 
--- the number of the lane behind them, if there are so many
+-- the number of the lane after them, if there are so many
 abbrev pub end_if : ℕ → ℕ → Option ℕ
 end_if most end = if nat_le end most then Some end else None
 

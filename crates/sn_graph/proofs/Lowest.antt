@@ -1,4 +1,4 @@
--- Where one synth stands before another, they are parted exactly where the lowest group that holds both is split.
+-- If one synth stands before another, they are parted exactly if the lowest group that holds both is split.
 use Rattle.std.proofs.Common.{◌≡◌, ◌⊎◌, ℤ, Bool, true, false, ◌&&◌, List, [], ◌∷◌, ◌++◌, sym, refl, ◌∙◌, ⊎_elim, inl, inr, true≢false}
 use Rattle.std.specs.Prelude.{is_some}
 use Rattle.std.proofs.lemmas.Bool.{or_cases, or_parts, and_parts, and_from, or_left, or_right, false_from_ne_true}

@@ -139,13 +139,13 @@ module _ (buffers : List (Option BufferPlace)) where
   abbrev all_of : Label Held → Nodes Held → List (Label Held)
   all_of label below = running_labels (node label below none)
 
-  -- where no resource is that of a clash, there is none
+  -- if no resource is that of a clash, there is none
   none_on : (ls ms : List (Label Held)) → filter (clash_on (used ls) (used ms)) resources ≡ [] → FootprintsClash (footprint_of buffers (map (λ l. l.payload) ls)) (footprint_of buffers (map (λ l. l.payload) ms)) → ⊥
   none_on ls ms e c =
       let d : FootprintsClash (used ls) (used ms) = subst (λ (f : Footprint). FootprintsClash f (used ms)) (sym (same_footprint ls)) (subst (λ (g : Footprint). FootprintsClash (footprint_of buffers (map (λ l. l.payload) ls)) g) (sym (same_footprint ms)) c) in
       true≢false (sym (on_there (used ls) (used ms) (there_is ls) (there_is ms) d) ∙ none_passes (clash_on (used ls) (used ms)) resources e)
 
-  -- and where one is, they clash
+  -- and if one is, they clash
   some_on : (ls ms : List (Label Held)) (r : Resource) → clash_on (used ls) (used ms) r ≡ true → FootprintsClash (footprint_of buffers (map (λ l. l.payload) ls)) (footprint_of buffers (map (λ l. l.payload) ms))
   some_on ls ms r t =
       let d : FootprintsClash (used ls) (used ms) = (r, t) in

@@ -1,4 +1,4 @@
--- Jobs that stand apart do not clash, where nothing below a member of a split group clashes with what is below another.
+-- Jobs that stand apart do not clash, if nothing below a member of a split group clashes with what is below another.
 use Rattle.std.proofs.Common.{◌≡◌, ◌⊎◌, ℕ, ◌+◌, ◌<◌, ◌≤◌, true, List, [], ◌∷◌, ◌++◌, length, Some, None, sym, refl, ap, ◌∙◌, subst, ⊎_elim, inl, inr, arith, true≢false}
 use Rattle.std.proofs.lemmas.Bool.{cases_lt, cases_order, or_cases, or_left, or_right}
 use Rattle.sn_mem.specs.declared.extents.Foot.{Foot}

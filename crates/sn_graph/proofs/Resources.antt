@@ -1,4 +1,4 @@
--- Two reaches clash exactly where the footprints that they are of do.
+-- Two reaches clash exactly if the footprints that they are of do.
 use Rattle.std.proofs.Common.{◌≡◌, ◌≤◌, ◌<◌, ◌⊎◌, inl, inr, ⊎_elim, ℕ, zero, suc, ◌+◌, ◌*◌, Bool, true, false, ◌&&◌, ◌||◌, List, [], ◌∷◌, ◌++◌, Option, Some, None, sym, refl, ap, ◌∙◌, subst, arith, true≢false, if◌then◌else◌}
 use Rattle.std.specs.Prelude.{◌↔◌, ◌==◌, slice_index_or, nat_lt, nat_le, is_some}
 use Rattle.std.specs.List.{All, list_any}
@@ -71,7 +71,7 @@ place_behind : (x : ℕ) (p : Option BufferPlace) → MayBePlace p → lies_in x
 place_behind x None m h = absurd (true≢false (sym h))
 place_behind x (Some p) m h = omega (arith, (covers_from p.extent x h).0, m.behind)
 
--- where there is an extent, it has a word
+-- if there is an extent, it has a word
 abbrev IsLong : Option Extent → Type 0
 IsLong None = Unit {0}
 IsLong (Some e) = 1 ≤ e.len
@@ -242,7 +242,7 @@ module _ (buffers : List (Option BufferPlace)) (hs ks : List Held) (is : AreDisj
       b)
       a
 
-  -- where the words of the first meet those of the second, their footprints meet
+  -- if the words of the first meet those of the second, their footprints meet
   pub shared : (x : ℕ) → MeetsAt (foot_of buffers hs) (foot_of buffers ks) x → (r : Resource) × (meets_on (footprint_of buffers hs) (footprint_of buffers ks) r ≡ true)
   shared x m =
       let f : Footprint = footprint_of buffers hs in
@@ -350,7 +350,7 @@ module _ (buffers : List (Option BufferPlace)) (h : Held) where
   of_bus n (Control m) u l = absurd (one_only (λ k. held_mixes k (Control m)) h (and_parts (is_there buffers (Control m)) (list_any (λ k. held_mixes k (Control m)) (h ∷ [])) u).1 (mixes_no_control h m))
   of_bus n (Buffer m) u l = absurd (one_only (λ k. held_mixes k (Buffer m)) h (and_parts (is_there buffers (Buffer m)) (list_any (λ k. held_mixes k (Buffer m)) (h ∷ [])) u).1 (mixes_no_buffer h m))
 
-  -- a synth mixes a bus exactly where its words say so
+  -- a synth mixes a bus exactly if its words say so
   pub mixes_bus : (n : ℕ) → n < 128 → has (foot_of buffers (h ∷ [])).mixes (65 * n) ≡ held_mixes h (Audio n)
   mixes_bus n lt =
       let w = (its_words buffers (h ∷ [])).mixes (65 * n) in

@@ -51,7 +51,8 @@ weight none = 0
 weight (synth s rest) = 1 + weight rest
 weight (group g inner rest) = 1 + (weight inner + weight rest)
 
--- the lowest group that holds both is split, and a comes first; the nodes are the children of a group that is split or not
+-- the lowest group that holds both is split, and a comes first; the nodes are the children of a group that is split or
+-- not
 abbrev pub is_parted : Bool → HeardNodes → ℤ → ℤ → Bool
 is_parted g none a b = false
 is_parted g (synth s rest) a b = (g && int_eq s.id a && has (voices rest) b) || is_parted g rest a b

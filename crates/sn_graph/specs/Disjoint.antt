@@ -7,7 +7,7 @@ use Rattle.sn_mem.specs.declared.buffers.BufferPlace.{BufferPlace}
 use Rattle.sn_mem.specs.Words.{has}
 use Rattle.sn_mem.specs.Buffers.{MayBePlace, overlaps, live_places}
 
--- The buffers and the states lie behind the buses, and no word is that of two of them.
+-- The buffers and the states lie after the buses, and no word is that of two of them.
 pub record AreDisjoint (buffers : List (Option BufferPlace)) (states : List Extent) : Type 0 where
   pub places : All MayBePlace buffers
   pub behind : (x : ℕ) → has states x ≡ true → bus_words ≤ x

@@ -8,7 +8,7 @@ abbrev pub listed : Option ℕ → List ℕ
 listed None = []
 listed (Some n) = n ∷ []
 
--- the jobs of a row were put after those that were there, and which is the last then
+-- the jobs of a row were put after those that were there, and which one is then the last
 pub record Puts (before after : List Job) (e f : Option ℕ) (r : Row) : Type 0 where
   pub jobs_put : after ≡ before ++ jobs (length before) (listed e) r
   pub last_is : listed f ≡ last (length before) (listed e) r

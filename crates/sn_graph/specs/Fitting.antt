@@ -23,8 +23,9 @@ abbrev pub IsIn : List Voice → Voice → Type 0
 IsIn [] v = ⊥
 IsIn (w ∷ vs) v = (w ≡ v) ⊎ IsIn vs v
 
--- The lanes that wait for each bus before steps, and behind them. A synth, one of these, finds none that wait for a bus that it touches, and puts
--- the lanes of those that it moves behind the others. A lane that is added is the first one that waits for its bus.
+-- The lanes that wait for each bus before steps, and after them. A synth, one of these, finds none that wait for a bus
+-- that it touches, and puts the lanes of those that it moves after the others. A lane that is added is the first one
+-- that waits for its bus.
 pub data Fits (vs : List Voice) : (ℕ → List Moved) → List Step → (ℕ → List Moved) → Type 0 where
   at_end : {q r : ℕ → List Moved} → ((n : ℕ) → n < audio_bus_count → r n ≡ q n) → Fits vs q [] r
   rendered : {q p r : ℕ → List Moved} {rest : List Step} (v : Voice) → IsIn vs v

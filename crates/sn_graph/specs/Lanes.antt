@@ -11,7 +11,8 @@ use Rattle.sn_graph.specs.Sharing.{mixes, two_mix}
 
 -- ---- shared buses
 
--- The members of a group share a bus if two of them mix it, and no split group above shares it. A flag of each bus says whether one does.
+-- The members of a group share a bus if two of them mix it, and no split group above shares it. A flag of each bus says
+-- whether one does.
 abbrev pub shared_by : List Bool → HeardNodes → List ℕ
 shared_by above inner = filter (λ n. two_mix inner n && not (slice_index_or above n false)) (table (λ n. n) audio_bus_count)
 
@@ -60,8 +61,8 @@ pub record Laned : Type 0 where
   pub nodes : HeardNodes
   pub taken : ℕ
 
--- A group that may be split is split, if the lanes that are left are enough for each pair of a synth below it and a bus that its members
--- share and this synth mixes. It then takes so many.
+-- A group that may be split is split if enough lanes are left. It takes one for each pair of a synth below it and a bus
+-- that its members share and this synth mixes.
 abbrev pub laned : ℕ → ℕ → List Bool → ℕ → HeardNodes → Laned
 laned first most above taken none = record { nodes = none; taken = taken }
 laned first most above taken (synth v rest) =

@@ -25,7 +25,7 @@ abbrev pub members : Row → List Row → Members
 members r [] = one r
 members r (q ∷ rs) = more r (members q rs)
 
--- two members or more are split, and these lanes are added behind them
+-- two members or more are split, and these lanes are added after them
 abbrev pub joined : List Moved → List Row → Row
 joined lanes [] = done
 joined lanes (r ∷ []) = r
@@ -37,8 +37,8 @@ keep done rs = rs
 keep (job vs a) rs = job vs a ∷ rs
 keep (split lanes ms a) rs = split lanes ms a ∷ rs
 
--- The row of nodes that are rendered in order, after an open run of synths, which a group ends; and the rows of the members
--- of a split group.
+-- The row of nodes that are rendered in order, after an open run of synths, which a group ends; and the rows of the
+-- members of a split group.
 abbrev mutual
   pub row_of : List Voice → HeardNodes → Row
   row_of run none = close run done
@@ -118,12 +118,13 @@ AreJoined (group lanes inner rest) = (length (rows_of inner) ≤ 1 → joint_lan
 pub record IsPlanned (nodes : HeardNodes) (js : List Job) : Type 0 where
   -- the synths of the jobs, joined, are those of the nodes in the order of the walk
   pub synths : joined_synths js ≡ ids_of (voices nodes)
-  -- of jobs with synths, one is ordered before another exactly where it stands before it and the lowest group that holds the synths of both is not split
+  -- of jobs with synths, one is ordered before another exactly if it stands before it and the lowest group that holds
+  -- the synths of both is not split
   pub ordered : (i j : ℕ) (a b : ℤ) → Plays js i a → Plays js j b → Ordered js i j ↔ ((i < j) × (lowest_is_split false nodes a b ≡ false))
   -- what a job may touch is what its synths may touch, the lanes that it adds, and their buses
   pub feet : (i : ℕ) → i < length js → foot_at js i ≡ foot_of (synths_with (job_at js i).synths (voices nodes)) (lanes_at js i)
-  -- What the jobs do, one after the other, is what the nodes do in the order of the walk, each lane behind the members of its group.
-  -- The nodes of a stage are joined (lanes_are_joined).
+  -- What the jobs do, one after the other, is what the nodes do in the order of the walk, each lane after the members
+  -- of its group. The nodes of a stage are joined (lanes_are_joined).
   pub steps : AreJoined nodes → joined_steps js ≡ steps_of nodes
   -- there are at most twice as many predecessors as jobs
   pub few : edges js ≤ 2 * length js

@@ -5,7 +5,8 @@ use Rattle.sn_mem.specs.declared.moves.Moved.{Moved}
 use Rattle.sn_graph.specs.declared.nodes.Voice.{Voice}
 use Rattle.sn_graph.specs.Voices.{ids_of, foot_of}
 
--- what is rendered in order: jobs, and splits whose members are not ordered among themselves, with the lanes that are added behind them
+-- what is rendered in order: jobs, and splits whose members are not ordered among themselves, with the lanes that are
+-- added after them
 mutual
   pub data Row : Type 0 where
     done : Row
@@ -27,7 +28,7 @@ abbrev mutual
   size_all (one r) = size r
   size_all (more r ms) = size r + size_all ms
 
--- the last job of a row whose first job has the number n, or its entry where it has none
+-- the last job of a row whose first job has the number n, or its entry if it has none
 abbrev pub last : ℕ → List ℕ → Row → List ℕ
 last n e done = e
 last n e (job vs rest) = last (n + 1) (n ∷ []) rest
@@ -43,12 +44,12 @@ abbrev pub moves_of : List Voice → List (List Moved)
 moves_of [] = []
 moves_of (v ∷ vs) = v.moves ∷ moves_of vs
 
--- the job of synths, and of lanes that are added behind them; without synths it is a joint
+-- the job of synths, and of lanes that are added after them; without synths it is a joint
 abbrev pub job_of : List Voice → List Moved → List ℕ → Job
 job_of vs lanes before = record { synths = ids_of vs; moves = moves_of vs; lanes = lanes; foot = foot_of vs lanes; before = before }
 
--- The jobs of a row, of which the first has the number n and the entry e. A split is followed by its joint, whose predecessors
--- are the last jobs of its members.
+-- The jobs of a row, of which the first has the number n and the entry e. A split is followed by its joint, whose
+-- predecessors are the last jobs of its members.
 abbrev mutual
   pub jobs : ℕ → List ℕ → Row → List Job
   jobs n e done = []

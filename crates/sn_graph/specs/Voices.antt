@@ -14,7 +14,8 @@ use Rattle.std.specs.List.{All}
 use Rattle.sn_ports.specs.Limits.{audio_bus_count}
 use Rattle.sn_foot.specs.Canonical.{Ends, canonical}
 
--- The children of a group that are kept, each group with its own. A group that is split has the lanes that its joint adds.
+-- The children of a group that are kept, each group with its own. A group that is split has the lanes that its joint
+-- adds.
 pub data HeardNodes : Type 0 where
   none : HeardNodes
   synth : Voice → HeardNodes → HeardNodes
@@ -88,7 +89,7 @@ abbrev pub all_writes : List Voice → List Extent
 all_writes [] = []
 all_writes (v ∷ vs) = (own_foot v).writes ++ all_writes vs
 
--- the words of synths, and of lanes that are added to their buses behind them
+-- the words of synths, and of lanes that are added to their buses after them
 abbrev pub foot_of : List Voice → List Moved → Foot
 foot_of vs lanes = record { reads = canonical (lanes_in lanes ++ all_reads vs); writes = canonical (buses_in lanes ++ all_writes vs) }
 

@@ -21,7 +21,7 @@ use sn_ports::limits::AUDIO_BUS_COUNT;
 use sn_round::{Ids, Job, Jobs, Plan, SharedFoot};
 use std::alloc::Global;
 
-/// Puts extents at the end.
+/// Appends extents.
 fn append(extents: &mut Vec<Extent>, more: &[Extent]) -> Result<(), NoMemory>
     ensures { OnOk result (extents.new.items ≡ extents.old.items ++ more.now) }
 {
@@ -76,7 +76,7 @@ fn is_left(voice: &Voice, bus: u32) -> bool
     mixes(voice, bus as usize) && !is_moved(voice.moves.as_slice(), bus)
 }
 
-/// Puts the buses at the end that a synth mixes by itself.
+/// Appends the buses that a synth mixes by itself.
 fn append_left(extents: &mut Vec<Extent>, voice: &Voice) -> Result<(), NoMemory>
     ensures { OnOk result (extents.new.items ≡ extents.old.items ++ buses_left voice.now.moves voice.now.reach.mixes) }
 {
@@ -88,7 +88,7 @@ fn append_left(extents: &mut Vec<Extent>, voice: &Voice) -> Result<(), NoMemory>
     Ok(())
 }
 
-/// Puts lanes at the end.
+/// Appends lanes.
 fn append_lanes(extents: &mut Vec<Extent>, moves: &[Moved]) -> Result<(), NoMemory>
     ensures { OnOk result (extents.new.items ≡ extents.old.items ++ lanes_in moves.now) }
 {
@@ -98,7 +98,7 @@ fn append_lanes(extents: &mut Vec<Extent>, moves: &[Moved]) -> Result<(), NoMemo
     Ok(())
 }
 
-/// Puts buses at the end.
+/// Appends buses.
 fn append_buses(extents: &mut Vec<Extent>, moves: &[Moved]) -> Result<(), NoMemory>
     ensures { OnOk result (extents.new.items ≡ extents.old.items ++ buses_in moves.now) }
 {
@@ -108,7 +108,7 @@ fn append_buses(extents: &mut Vec<Extent>, moves: &[Moved]) -> Result<(), NoMemo
     Ok(())
 }
 
-/// Puts what a synth mixes at the end, with its lane in place of each bus that is moved.
+/// Appends what a synth mixes, with its lane in place of each bus that is moved.
 fn append_mixed(extents: &mut Vec<Extent>, voice: &Voice) -> Result<(), NoMemory>
     ensures { OnOk result (extents.new.items ≡ extents.old.items ++ mixed_onto voice.now.moves voice.now.reach.mixes) }
 {
@@ -210,7 +210,7 @@ fn list_of(alloc: Global, entry: Option<u32>) -> Result<Jobs, NoMemory>
     Ok(before)
 }
 
-/// Puts the open run as a job, if it has a synth. Answers the last job.
+/// Puts the open run as a job, if it has a synth. Returns the last job.
 fn end_run(
     alloc: Global,
     jobs: &mut Vec<Job>,
@@ -238,7 +238,7 @@ fn last_of(has_jobs: bool, last: Option<u32>) -> Option<u32>
     if has_jobs { last } else { None }
 }
 
-/// Puts the last job of a member at the end.
+/// Appends the last job of a member.
 fn put_last(lasts: &mut Jobs, last: Option<u32>) -> Result<(), NoMemory>
     ensures { OnOk result (lasts.new ≡ lasts.old ++ listed last) }
 {
@@ -248,7 +248,7 @@ fn put_last(lasts: &mut Jobs, last: Option<u32>) -> Result<(), NoMemory>
     Ok(())
 }
 
-/// Puts the joint of members, if there are two or more. Answers the last job.
+/// Puts the joint of members, if there are two or more. Returns the last job.
 fn put_joint(
     alloc: Global,
     jobs: &mut Vec<Job>,
@@ -271,7 +271,7 @@ fn put_joint(
     Ok(Some(number))
 }
 
-/// Puts the jobs of nodes that are rendered in order. Answers the last job.
+/// Puts the jobs of nodes that are rendered in order. Returns the last job.
 #[cycle(put)]
 fn put_row(
     alloc: Global,
@@ -306,7 +306,7 @@ fn put_row(
     end_run(alloc, jobs, run.as_slice(), last)
 }
 
-/// Puts the jobs of a group. Answers the last job.
+/// Puts the jobs of a group. Returns the last job.
 #[cycle(put)]
 fn put_group(
     alloc: Global,
@@ -327,7 +327,7 @@ fn put_group(
     }
 }
 
-/// Puts the jobs of the members of a split group, and their joint. Answers the last job.
+/// Puts the jobs of the members of a split group, and their joint. Returns the last job.
 #[cycle(put)]
 fn put_members(
     alloc: Global,

@@ -108,7 +108,7 @@ fn count_mixed(buses: &[u32], voice: &Voice) -> u32
     count
 }
 
-/// The number of the lane after those of all pairs, if there are so many lanes.
+/// The number of the lane after those of all pairs, if there are enough lanes.
 fn end_of(buses: &[u32], most: u32, taken: u32, nodes: &HeardNodes) -> Option<u32>
     requires few { length buses.now ≤ audio_bus_count }
     requires buses { All (λ n. n < audio_bus_count) buses.now }
@@ -132,7 +132,8 @@ fn end_of(buses: &[u32], most: u32, taken: u32, nodes: &HeardNodes) -> Option<u3
     }
 }
 
-/// Gives a lane to each of these buses that a synth mixes, and puts it at the end of the joint's. Answers the number of the next lane.
+/// Gives a lane to each of these buses that a synth mixes, and puts it at the end of the joint's. Returns the number of
+/// the next lane.
 fn give_voice(
     lanes: Lanes,
     buses: &[u32],
@@ -159,7 +160,8 @@ fn give_voice(
     Ok(lane)
 }
 
-/// Gives a lane to each pair of a synth below and one of these buses, in the order of the walk. Answers the number of the next lane.
+/// Gives a lane to each pair of a synth below and one of these buses, in the order of the walk. Returns the number of
+/// the next lane.
 fn give(
     lanes: Lanes,
     buses: &[u32],
@@ -187,7 +189,7 @@ fn give(
     }
 }
 
-/// The same for nodes whose joint has no lanes yet. Answers these.
+/// The same for nodes whose joint has no lanes yet. Returns these.
 fn lanes_below(
     alloc: Global,
     lanes: Lanes,
@@ -208,7 +210,7 @@ fn lanes_below(
 
 // ---- groups in the order of the walk
 
-/// Splits those groups below nodes that may be split, as far as there are lanes. Answers how many lanes are taken then.
+/// Splits those groups below nodes that may be split, as far as there are lanes. Returns how many lanes are taken then.
 #[cycle(lay)]
 fn lay(
     alloc: Global,
@@ -235,7 +237,8 @@ fn lay(
     }
 }
 
-/// Splits a group, if it may be split and there are lanes enough, and groups below it. Answers how many lanes are taken then.
+/// Splits a group, if it may be split and there are enough lanes, and the groups below it. Returns how many lanes are
+/// taken then.
 #[cycle(lay)]
 fn lay_group(
     alloc: Global,

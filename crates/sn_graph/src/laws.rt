@@ -17,13 +17,14 @@ ghost use Rattle.sn_graph.specs.Voices.{AreHeard};
 
 use sn_world::Stage;
 
-/// A law: where no two of the buses, the buffers and the states share a word, the words of some nodes clash with those of others
-/// exactly where their footprints clash. A synth's own state clashes with nothing.
+/// A law: if no two of the buses, the buffers and the states share a word, the words of some nodes clash with those of
+/// others exactly if their footprints clash. A synth's own state clashes with nothing.
 pub fn feet_clash_as_footprints()
     ensures { (buffers : List (Option BufferPlace)) (first second : List Held) → AreDisjoint buffers (states_of first ++ states_of second) → ReachesClash (foot_of buffers first) (foot_of buffers second) ↔ FootprintsClash (footprint_of buffers first) (footprint_of buffers second) }
 {}
 
-/// A law: a stage that stands for a world meets what its plan asks for, and no two of its buses, buffers and states share a word.
+/// A law: a stage that stands for a world meets what its plan asks for, and no two of its buses, buffers and states
+/// share a word.
 pub fn worlds_are_disjoint(stage: &Stage)
     ensures buffers { (words : List ℕ) → Pictures stage.now words → All Ends (live_places stage.now.buffers) }
     ensures states { (words : List ℕ) → Pictures stage.now words → All Ends (live_held stage.now.tree.attached) }
@@ -32,8 +33,8 @@ pub fn worlds_are_disjoint(stage: &Stage)
     let _ = stage;
 }
 
-/// A law: in a stage that stands for a world, the words of two nodes of which neither stands at or below the other clash exactly
-/// where their footprints clash.
+/// A law: in a stage that stands for a world, the words of two nodes of which neither stands at or below the other
+/// clash exactly if their footprints clash.
 pub fn nodes_clash_as_footprints(stage: &Stage)
     ensures { let buffers = stage.now.buffers in let nodes = stage.now.tree.attached in (words : List ℕ) (a b : ℤ) → Pictures stage.now words → holds a (subtree b nodes) ≡ false → holds b (subtree a nodes) ≡ false → ReachesClash (foot_at buffers a nodes) (foot_at buffers b nodes) ↔ FootprintsClash (footprint_at buffers a nodes) (footprint_at buffers b nodes) }
 {
@@ -47,15 +48,16 @@ pub fn clashes_name_the_groups(stage: &Stage)
     stage.tree.ids_are_distinct();
 }
 
-/// A law: in each group of the nodes that a plan is made of, a synth runs. Paused nodes and silent groups are left out first.
+/// A law: in each group of the nodes that a plan is made of, a synth runs. Paused nodes and silent groups are left out
+/// first.
 pub fn silent_groups_are_left_out(stage: &Stage)
     ensures { AreHeard (nodes_in stage.now) }
 {
     let _ = stage;
 }
 
-/// A law: in the nodes that a plan is made of, each group with lanes to add has two members with jobs or more, and so a joint that
-/// adds them. With it, what the jobs do is what the nodes do (`steps` of `IsPlanned`).
+/// A law: in the nodes that a plan is made of, each group with lanes to add has two members with jobs or more, and so a
+/// joint that adds them. With it, what the jobs do is what the nodes do (`steps` of `IsPlanned`).
 pub fn lanes_are_joined(stage: &Stage)
     ensures { (first most : ℕ) → AreJoined (nodes_with first most stage.now) }
 {

@@ -117,7 +117,7 @@ impl Linked {
         Ok(linked)
     }
 
-    /// A group before them, with those below it, which may be split or not.
+    /// A group before them, with those below it. It may be split or not.
     pub fn after_group(self, alloc: Global, split: bool, inner: Linked) -> Result<Linked, NoMemory>
         ensures { IfOk result (λ nodes. nodes_of nodes ≡ group (lanes_if split) (nodes_of inner) (nodes_of self)) }
     {

@@ -37,7 +37,7 @@ fn is_among(sorted: &[i32], id: &i32) -> bool
     sorted.binary_search(id).is_ok()
 }
 
-/// The groups that clashes name. Whether a group is one of them is found in the logarithm of how many there are.
+/// The groups that clashes name. Whether a group is one of them is found in time in the logarithm of their number.
 #[derive(Drop)]
 pub struct NamedGroups<'a> {
     clashes: &'a [Clash],

@@ -17,7 +17,8 @@ pub struct Voice {
 /// How the members of a group are joined.
 #[derive(Drop)]
 pub struct Joint {
-    /// The lanes that are added to their buses behind the members, if the group is split, so that these may run beside each other.
+    /// The lanes that are added to their buses after the members, if the group is split. With them the members may run
+    /// beside each other.
     pub lanes: Option<Moves>,
     /// Which audio buses two of the members mix.
     pub shared: [bool; BUSES],

@@ -68,7 +68,7 @@ fn move_first(parts: &mut Vec<Part>, taken: &mut Vec<Part>) -> Result<(), NoMemo
     }
 }
 
-/// Takes the first nodes, so many, in order.
+/// Takes the first `count` nodes, in order.
 pub fn take_nodes(alloc: Global, parts: &mut Vec<Part>, count: usize) -> Result<Linked, NoMemory>
     ensures nodes { IfOk result (λ nodes. nodes_of nodes ≡ linked (take count (pieces parts.old.items)) none) }
     ensures left { OnOk result (pieces parts.new.items ≡ drop count (pieces parts.old.items)) }

@@ -47,7 +47,7 @@ fn running_nodes(
     Ok(nodes.into_nodes())
 }
 
-/// The nodes that are heard, with their lanes, of which these parallel groups have members that clash.
+/// The nodes that are heard, with their lanes. These parallel groups of them have members that clash.
 fn nodes_with(
     alloc: Global,
     stage: &Stage,
@@ -65,7 +65,7 @@ fn nodes_with(
     Ok(nodes)
 }
 
-/// The plan of a stage, of which these parallel groups have members that clash.
+/// The plan of a stage. These parallel groups of it have members that clash.
 fn plan_of_stage(
     alloc: Global,
     stage: &Stage,
@@ -89,9 +89,9 @@ fn plan_of_stage(
     plan_of_nodes(alloc, &nodes)
 }
 
-/// The plan of a stage, given its clashes and the lanes that there are. A parallel group is split, so that its members may run
-/// beside each other, unless two of them clash, or the lanes that are left are too few for what its members mix together: then it
-/// is rendered in order.
+/// The plan of a stage, given its clashes and the lanes that there are. A parallel group is split, so its members may
+/// run beside each other. But if two of them clash, or the lanes that are left are too few for what its members mix
+/// together, it is rendered in order.
 pub fn plan(alloc: Global, stage: &Stage, clashes: &[Clash], lanes: Lanes) -> Result<Plan, NoMemory>
     requires buffers { All Ends (live_places stage.now.buffers) }
     requires states { All Ends (live_held stage.now.tree.attached) }

@@ -23,7 +23,7 @@ int_cases a b = ⊎_elim (λ (h : int_eq a b ≡ true). inl ((Decides-int_eq a b
 abbrev pub NoneBefore : Pairs → ℤ → ℕ → Type 0
 NoneBefore l id i = (j : ℕ) → j < i → id_at l j ≢ id
 
--- no pair behind place i has the id
+-- no pair after place i has the id
 abbrev pub NoneBehind : Pairs → ℤ → ℕ → Type 0
 NoneBehind l id i = (j : ℕ) → i < j → j < length l → id_at l j ≢ id
 

@@ -59,7 +59,7 @@ impl Ids {
         self.pairs.reserve(additional)
     }
 
-    /// Puts a key under an id that has none, where there is room for it. It takes no memory.
+    /// Puts a key under an id that has none. There must be room for it. It takes no memory.
     pub fn insert(&mut self, id: i32, key: u32)
         requires absent { key_for id self.old.pairs ≡ None }
         requires room { length self.old.pairs < self.old.room }

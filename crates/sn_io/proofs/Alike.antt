@@ -12,7 +12,7 @@ use Rattle.sn_io.proofs.Agreeing.{AreSeen}
 use Rattle.sn_io.proofs.BusByFoot.{block_agrees}
 use Rattle.sn_io.proofs.Mixing.{apart_from, onto_apart, onto_long}
 
--- ---- where no word of a bus is seen
+-- ---- if no word of a bus is seen
 
 abbrev pub AreUnseen : (ℕ → Bool) → ℕ → ℕ → Type 0
 AreUnseen seen at n = (j : ℕ) → at ≤ j → j < at + n → seen j ≡ false

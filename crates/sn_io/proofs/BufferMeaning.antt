@@ -104,12 +104,12 @@ length-buffers : (ws : List ℕ) (places : List (Option BufferPlace)) → length
 unfolding buffers_of
 length-buffers ws places = length-map places (option_map (buffer_of ws))
 
--- where the words of all buffers stay, they stay
+-- if the words of all buffers stay, so do the buffers
 pub buffers_same : (us ws : List ℕ) (places : List (Option BufferPlace)) → ((n : ℕ) (p : BufferPlace) → get_or places n None ≡ Some p → buffer_of us p ≡ buffer_of ws p) → buffers_of us places ≡ buffers_of ws places
 buffers_same us ws places h = ext_get_or None (buffers_of us places) (buffers_of ws places) (length-buffers us places ∙ sym (length-buffers ws places))
     (λ k lt. buffer_there us places k ∙ (option_same us ws (get_or places k None) (h k) ∙ sym (buffer_there ws places k)))
 
--- where the words of all others stay, one is changed
+-- if the words of all others stay, one is changed
 buffers_set : (us ws : List ℕ) (places : List (Option BufferPlace)) (n : ℕ) (p : BufferPlace) (b : Buffer) → get_or places n None ≡ Some p → buffer_of us p ≡ b → ((m : ℕ) (q : BufferPlace) → m ≢ n → get_or places m None ≡ Some q → buffer_of us q ≡ buffer_of ws q)
     → buffers_of us places ≡ set (buffers_of ws places) n (Some b)
 buffers_set us ws places n p b there is others = ext_get_or None (buffers_of us places) (set (buffers_of ws places) n (Some b)) (length-buffers us places ∙ sym (length-set (buffers_of ws places) n (Some b) ∙ length-buffers ws places))
@@ -132,8 +132,8 @@ record Wrote (places : List (Option BufferPlace)) (vs us : List ℕ) (after : Li
   pub long : length us ≡ length vs
   pub others : (j : ℕ) → IsNoBuffers places j → get_or us j 0 ≡ get_or vs j 0
 
--- Where a unit's state and the buffers lie: the state and the buffer that is written, if one is, are inside the words, a buffer has a word for
--- each sample, and no word is in two of them.
+-- Where a unit's state and the buffers lie. The state and the buffer that is written, if one is, are inside the words.
+-- A buffer has a word for each sample, and no word is in two of them.
 pub record Stand (at len words : ℕ) (places : List (Option BufferPlace)) (o : Option ℕ) : Type 0 where
   pub inside : 0 < len → at + len ≤ words
   pub size : (n : ℕ) (p : BufferPlace) → get_or places n None ≡ Some p → p.extent.len ≡ p.frames * p.channels

@@ -1,4 +1,4 @@
--- What a run of a unit on a buffer leaves, where its state and the buffers are apart.
+-- What a run of a unit on a buffer leaves, if its state and the buffers are apart.
 use Rattle.std.proofs.Common.{◌≡◌, ◌<◌, ℕ, true, false, Option, List, ℤ, length, get_or, ap, sym, subst, ◌∙◌}
 use Rattle.sn_def.specs.declared.kind.Kind.{Kind}
 use Rattle.sn_def.specs.declared.control.Now.{Now}

@@ -35,7 +35,7 @@ masked_agree f ws = record {
       (cases_lt x (length ws));
 }
 
--- such a change is the same where it is kept to its foot
+-- such a change is the same if it is kept to its foot
 pub kept_same : (f : Foot) (change : List ℕ → List ℕ) (ws : List ℕ) → IsByFoot f change → kept_to f change ws ≡ change ws
 kept_same f change ws by =
     let long : length (kept_to f change ws) ≡ length ws = kept_long f change ws in

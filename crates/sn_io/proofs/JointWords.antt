@@ -16,7 +16,7 @@ use Rattle.sn_io.proofs.BusByFoot.{block_agrees}
 use Rattle.sn_io.proofs.ByFoot.{by_foot_none, by_foot_then}
 use Rattle.sn_io.proofs.Mixing.{apart_from, onto_apart, onto_long}
 
--- what a lane holds is the same where its words agree
+-- what a lane holds is the same if its words agree
 lane_samples : (seen : ℕ → Bool) (us ws : List ℕ) (at : ℕ) → AreSeen seen at 65 → Agree seen us ws → samples_at us (at + 1) ≡ samples_at ws (at + 1)
 lane_samples seen us ws at on a =
     table_same (λ k. sample_in (get_or us (at + 1 + k) 0)) (λ k. sample_in (get_or ws (at + 1 + k) 0)) 64

@@ -78,7 +78,7 @@ trigger_long kinds.FreeSelf now state inputs frames h = sym h
 trigger_long kinds.PauseSelf now state inputs frames h = sym h
 trigger_long _ now state inputs frames h = refl
 
--- where a state has none of the buses' words
+-- if a state has none of the buses' words
 pub no_bus : (at n j : ℕ) → (0 < n → 10368 ≤ at) → j < 10368 → (j < at) ⊎ (at + n ≤ j)
 no_bus at zero j apart low = ⊎_elim (λ (l : j < at). inl l) (λ (r : at ≤ j). inr (omega arith)) (cases_lt j at)
 no_bus at (suc n) j apart low = let a : 10368 ≤ at = apart (omega arith) in inl (omega arith)

@@ -35,7 +35,7 @@ changed_long f ws at xs = length-put ws at (table (λ k. f (get_or ws (at + k) 0
 same_bus : (w w' : ℕ) (xs xs' : List ℤ) → w ≡ w' → xs ≡ xs' → ◌≡◌ {A = AudioBus} (record { written = w; samples = xs }) (record { written = w'; samples = xs' })
 same_bus w w' xs xs' p q = cc
 
--- ---- one signal, where it is added to the bus and where not
+-- ---- one signal, if it is added to the bus and if it isn't
 
 mixed_by : Bool → ℕ → List ℕ → ℕ → List ℤ → ℕ → ℤ
 mixed_by t b ws at xs k = sat (cond t (get_or (samples_at ws (at + 1)) k (pos 0)) (pos 0) +ℤ sat (get_or xs k (pos 0)))

@@ -1,4 +1,4 @@
--- Where all words of the buses may be written, a unit reaches its buses.
+-- If all words of the buses may be written, a unit reaches its buses.
 use Rattle.std.proofs.Common.{◌≡◌, ◌<◌, ℕ, ◌+◌, ◌*◌, Option, Some, None, refl, arith}
 use Rattle.std.proofs.lemmas.Bool.{or_left}
 use Rattle.sn_mem.specs.declared.extents.Foot.{Foot}

@@ -1,4 +1,4 @@
--- Where the lane that waits first for a bus is added, the others wait as before.
+-- After the lane that waits first for a bus is added, the others wait as before.
 use Rattle.std.proofs.Common.{◌≡◌, ◌≢◌, ◌≤◌, ◌<◌, ◌⊎◌, inl, inr, ⊎_elim, ℕ, ◌+◌, ◌*◌, Bool, true, false, ◌||◌, List, [], ◌∷◌, ◌++◌, ℤ, pos, length, get_or, refl, ap, sym, subst, ◌∙◌, arith, true≢false}
 use Rattle.std.specs.List.{All}
 use Rattle.std.specs.Prelude.{◌&&◌, nat_le, nat_lt}
@@ -82,7 +82,7 @@ module _ (b : ℕ) (is_lane : ℕ → Bool) (past : (x : ℕ) → is_lane x ≡ 
   lanes_long [] ws = refl
   lanes_long (m ∷ ms) ws = lanes_long ms (with_lane b m ws) ∙ onto_long true b ws m.bus.at (samples_at ws (m.lane.at + 1))
 
-  -- lanes that are added to a bus change nothing behind the buses
+  -- lanes that are added to a bus change nothing after the buses
   past_kept : (n : ℕ) (ms : List Moved) (ws : List ℕ) (x : ℕ) → n < 128 → All (IsOn is_lane n) ms → 8320 ≤ x → get_or (with_lanes b ms ws) x 0 ≡ get_or ws x 0
   past_kept n [] ws x low is far = refl
   past_kept n (m ∷ ms) ws x low is far =
@@ -96,7 +96,8 @@ module _ (b : ℕ) (is_lane : ℕ → Bool) (past : (x : ℕ) → is_lane x ≡ 
   abbrev pub in_bus : ℕ → ℕ → Bool
   in_bus n x = nat_le (65 * n) x && nat_lt x (65 * n + 65)
 
-  -- The walk put a signal onto a bus for which lanes wait. If one lane more has it, and what the others need is as it was, they wait together.
+  -- The walk put a signal onto a bus for which lanes wait. If one more lane has it, and what the others need is as it
+  -- was, they wait together.
   pub bus_more : (n : ℕ) (m : Moved) (ms : List Moved) (walked laned next after : List ℕ) (xs : List ℤ) → n < 128 → All (IsOn is_lane n) ms → m.bus.at ≡ 65 * n → 8320 ≤ m.lane.at
       → length walked ≡ length laned → Agree (near n) next laned
       → ((x : ℕ) → 65 * n ≤ x → x < 65 * n + 65 → get_or walked x 0 ≡ get_or (with_lanes b ms laned) x 0)

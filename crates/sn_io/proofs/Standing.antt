@@ -1,4 +1,4 @@
--- Where the state of a unit and the buffers are apart, they stand as the laws of units on buffers ask.
+-- If the state of a unit and the buffers are apart, they stand as the laws of units on buffers ask.
 use Rattle.std.proofs.Common.{◌≡◌, ◌≢◌, ◌≤◌, ◌<◌, ◌+◌, ◌*◌, ℕ, zero, suc, Bool, true, false, cond, List, [], ◌∷◌, ℤ, Option, Some, None, get_or, refl, ap, sym, ◌∙◌, subst, arith, All}
 use Rattle.std.proofs.lemmas.List.Elements.{All-head, All-tail}
 use Rattle.std.proofs.Math.Nat.{mul-le-mul_right}

@@ -32,7 +32,7 @@ writes_buffer kind = touches accesses.Write banks.Buffer kind
 
 -- ---- the buffer of a unit
 
--- the number of a buffer, where there is one: from 0 to 1,023
+-- the number of a buffer, if there is one: from 0 to 1,023
 abbrev pub buffer_number : List (List ℤ) → Option ℕ
 buffer_number inputs = control_number (sample inputs 0 0)
 
@@ -44,7 +44,7 @@ numbered (Some n) buffers = slice_index_or buffers n None
 abbrev pub chosen : {B : Type 0} → List (List ℤ) → List (Option B) → Option B
 chosen inputs buffers = numbered (buffer_number inputs) buffers
 
--- a buffer can be used where it has as many channels as the unit
+-- a buffer can be used if it has as many channels as the unit
 abbrev pub usable : {B : Type 0} → (B → ℕ) → ℕ → Option B → Option B
 usable channels n None = None
 usable channels n (Some b) = cond (channels b == n) (Some b) None
@@ -57,7 +57,7 @@ frames_in buffer = option_map (λ b. b.frames) buffer
 
 -- ---- reading
 
--- the sample of a channel at a frame, 0 where there is no frame
+-- the sample of a channel at a frame, 0 if there is no frame
 abbrev pub sample_at : Option Buffer → Option ℕ → ℕ → ℤ
 sample_at None frame channel = pos 0
 sample_at (Some b) None channel = pos 0
@@ -105,7 +105,7 @@ rewritten inputs first frames buffers = replaced_at (buffer_number inputs) buffe
 
 -- ---- units
 
--- the number of frames, 0 where there is no buffer
+-- the number of frames, 0 if there is no buffer
 abbrev pub length_in : Option ℕ → ℕ
 length_in None = 0
 length_in (Some frames) = frames

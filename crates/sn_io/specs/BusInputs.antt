@@ -5,16 +5,16 @@ use Rattle.sn_mem.specs.Blocks.{table}
 use Rattle.sn_mem.specs.Buses.{AudioBus, ControlBus, silent, resting}
 use Rattle.sn_io.specs.Channels.{audio_channel, control_channel}
 
--- Whether an audio bus is heard in block b, by the number that it keeps: In.ar hears what was written in this block, and
--- InFeedback also what was written in the block before. Before block 0 there is no block.
+-- Whether an audio bus is heard in block b, by the number that it keeps: In.ar hears what was written in this block,
+-- and InFeedback also what was written in the block before. Before block 0 there is no block.
 abbrev pub hears : Bool → ℕ → ℕ → Bool
 hears feedback b written = written == b + 1 || (feedback && nat_lt 0 b && written == b)
 
--- the samples of the bus where it is heard, else 0
+-- the samples of the bus if it is heard, else 0
 abbrev pub heard_block : Bool → ℕ → AudioBus → List ℤ
 heard_block feedback b bus = table (λ k. cond (hears feedback b bus.written) (slice_index_or bus.samples k (pos 0)) (pos 0)) block_frames
 
--- from the bus of a number; 0 where there is none
+-- from the bus of a number; 0 if there is none
 abbrev pub audio_in : Bool → ℕ → List AudioBus → Option ℕ → List ℤ
 audio_in feedback b buses None = replicate block_frames (pos 0)
 audio_in feedback b buses (Some n) = heard_block feedback b (slice_index_or buses n silent)

@@ -13,8 +13,8 @@ pub record BlocksAgree (seen : ℕ → Bool) (r s : List ℕ × List (List ℤ))
   pub words : Agree seen r.0 s.0
   pub outputs : r.1 ≡ s.1
 
--- A change sees and changes a foot alone: it keeps the number of the words and each word that may not be written, and what it makes of the
--- words that may be touched depends on them alone.
+-- A change sees and changes a foot alone. It keeps the number of the words, and each word that may not be written. What
+-- it makes of the words that may be touched depends on them alone.
 pub record IsByFoot (f : Foot) (change : List ℕ → List ℕ) : Type 0 where
   pub long : (ws : List ℕ) → length (change ws) ≡ length ws
   pub keeps : (ws : List ℕ) (x : ℕ) → writes f x ≡ false → slice_index (change ws) x ≡ slice_index ws x

@@ -4,7 +4,7 @@ use Rattle.sn_ports.specs.Limits.{control_bus_count}
 use Rattle.sn_mem.specs.Blocks.{block, sample}
 use Rattle.sn_mem.specs.Buses.{audio_number}
 
--- the number of a control bus, where there is one
+-- the number of a control bus, if there is one
 abbrev pub control_number : ℤ → Option ℕ
 control_number (pos n) = cond (nat_lt n control_bus_count) (Some n) None
 control_number (negsuc n) = None

@@ -9,7 +9,7 @@ use Rattle.sn_io.specs.Channels.{audio_channel, control_channel}
 use Rattle.sn_io.specs.BusUnits.{reads_audio, reads_control, writes_audio, writes_control}
 use Rattle.sn_io.specs.BufferUnits.{chosen, reads_buffer, writes_buffer}
 
--- the words of a bus may be read, or written, where there is one
+-- the words of a bus may be read, or written, if there is one
 abbrev pub MayReadAudio : Foot → Option ℕ → Type 0
 MayReadAudio f None = Unit {0}
 MayReadAudio f (Some n) = MayRead f (audio_place n).at (audio_place n).len
@@ -35,7 +35,7 @@ pub record MayReach (kind : Kind) (f : Foot) (n : ℕ) (inputs : List (List ℤ)
 
 -- ---- buffers
 
--- a buffer has a frame, as many as a sample can say, and a word for each of its samples
+-- a buffer has at least one frame and at most as many as a sample can say, and a word for each of its samples
 pub record IsWhole (p : BufferPlace) : Type 0 where
   pub some : 1 ≤ p.frames
   pub short : p.frames < 2147483648
@@ -45,7 +45,7 @@ abbrev pub IsWholeIfSome : Option BufferPlace → Type 0
 IsWholeIfSome None = Unit {0}
 IsWholeIfSome (Some p) = IsWhole p
 
--- its words may be read, or written, where there is one
+-- its words may be read, or written, if there is one
 abbrev pub MayReadBuffer : Foot → Option BufferPlace → Type 0
 MayReadBuffer f None = Unit {0}
 MayReadBuffer f (Some p) = MayRead f p.extent.at p.extent.len
@@ -60,7 +60,7 @@ pub record MayReachBuffer (kind : Kind) (f : Foot) (inputs : List (List ℤ)) (p
   pub reads : reads_buffer kind ≡ true → MayReadBuffer f (chosen inputs places)
   pub writes : writes_buffer kind ≡ true → MayWriteBuffer f (chosen inputs places)
 
--- each of some frames lies in a buffer with so many, where there is one
+-- each of some frames lies in a buffer with so many, if there is one
 abbrev pub AreWithin : Option ℕ → List (Option ℕ) → Type 0
 AreWithin None frames = Unit {0}
 AreWithin (Some n) frames = (k : ℕ) → IfSome (slice_index_or frames k None) (λ i. i < n)

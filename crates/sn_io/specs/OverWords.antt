@@ -17,7 +17,7 @@ summed w x = word_for (sat (sample_in w +ℤ sat x))
 abbrev pub overwritten : ℤ → ℕ
 overwritten x = word_for (sat (pos 0 +ℤ x))
 
--- a signal onto the audio bus at a place; where it adds, it is added to what was written in block b
+-- a signal onto the audio bus at a place; if it adds, it is added to what was written in block b
 abbrev pub onto_block : Bool → ℕ → List ℕ → ℕ → List ℤ → List ℕ
 onto_block adds b ws at xs = cond (adds && slice_index ws at == b + 1) (changed summed ws (at + 1) xs) (slice_set (changed (λ w. overwritten) ws (at + 1) xs) at (b + 1))
 

@@ -9,12 +9,12 @@ use Rattle.sn_mem.specs.Done.{ended}
 use Rattle.sn_io.specs.declared.playing.Playing.{Playing}
 use Rattle.sn_io.specs.declared.recording.Recording.{Recording}
 
--- the frame of a number, where it is one of so many
+-- the frame of a number, if it is one of so many
 abbrev pub frame_at : ℕ → ℤ → Option ℕ
 frame_at frames (pos n) = cond (nat_lt n frames) (Some n) None
 frame_at frames (negsuc n) = None
 
--- of a buffer, where there is one that can be used
+-- of a buffer, if there is one that can be used
 abbrev pub frame_in : Option ℕ → ℤ → Option ℕ
 frame_in None x = None
 frame_in (Some frames) x = frame_at frames x
@@ -47,18 +47,18 @@ begun_at p start = cond p.begun p.position start
 abbrev pub started : Playing → ℤ → ℤ → ℤ
 started p trigger start = cond (rises p.trigger trigger) start (begun_at p start)
 
--- a position outside is taken modulo the frames where `loop` is above 0
+-- a position outside is taken modulo the frames if `loop` is above 0
 abbrev pub looped : ℕ → ℤ → ℤ → ℤ
 looped frames loop x = cond (not (is_some (frame_at frames x)) && int_lt (pos 0) loop) (int_rem_euclid x (pos frames)) x
 
--- A frame, or the end where the position lies outside; `step` is added to the position in any case.
+-- A frame, or the end if the position lies outside; `step` is added to the position in any case.
 abbrev pub played : ℕ → Playing → ℤ → ℤ → ℤ → Playing × Option ℕ
 played frames p trigger step x = (
   record { done = cond (is_some (frame_at frames x)) p.done (ended p.done); trigger = trigger; position = sat (x +ℤ step); begun = true },
   frame_at frames x,
 )
 
--- PlayBuf buf# step trig start loop done!, with the frames of its buffer where that can be used
+-- PlayBuf buf# step trig start loop done!, with the frames of its buffer, if that can be used
 abbrev pub play_buf : Option ℕ → Playing → List (List ℤ) → ℕ → Playing × Option ℕ
 play_buf None p inputs k = (record { done = p.done; trigger = sample inputs 2 k; position = begun_at p (sample inputs 3 k); begun = true }, None)
 play_buf (Some frames) p inputs k = played frames p (sample inputs 2 k) (sample inputs 1 k) (looped frames (sample inputs 4 k) (started p (sample inputs 2 k) (sample inputs 3 k)))
@@ -76,13 +76,13 @@ recording_words r = r.done ∷ r.position ∷ []
 abbrev pub records : ℕ → Recording → ℤ → Bool
 records frames r run = int_lt (pos 0) run && nat_lt r.position frames
 
--- After that frame: past the last one the position is 0 again where `loop` is above 0, else the unit ends.
+-- After that frame: past the last one the position is 0 again if `loop` is above 0, else the unit ends.
 abbrev pub recorded : ℕ → ℤ → Recording → Recording
 recorded frames loop r = cond (r.position + 1 == frames)
     (cond (int_lt (pos 0) loop) (record { done = r.done; position = 0 }) (record { done = ended r.done; position = r.position + 1 }))
     (record { done = r.done; position = r.position + 1 })
 
--- RecordBuf buf# run loop done! signals, with the frames of its buffer where that can be used
+-- RecordBuf buf# run loop done! signals, with the frames of its buffer, if that can be used
 abbrev pub record_buf : Option ℕ → Recording → List (List ℤ) → ℕ → Recording × Option ℕ
 record_buf None r inputs k = (r, None)
 record_buf (Some frames) r inputs k = (

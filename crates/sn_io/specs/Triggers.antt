@@ -16,9 +16,9 @@ use Rattle.sn_io.specs.declared.triggers.DoneWord.{DoneWord}
 
 -- ---- SendTrig
 
--- Its four words: the number of the last block in which the trigger rose plus 1, or 0; the id and the value at the frame of
--- the first rise in that block; and the trigger's last sample. So block b sends a trigger exactly where the first word after
--- it is b + 1.
+-- Its four words. The first is the number of the last block in which the trigger rose plus 1, or 0. Then come the id
+-- and the value at the frame of the first rise in that block, and the trigger's last sample. So block b sends a trigger
+-- exactly if the first word after it is b + 1.
 abbrev pub sent_in : List ℕ → Sent
 sent_in ws = record { rose = slice_index ws 0; id = sample_in (slice_index ws 1); value = sample_in (slice_index ws 2); trigger = sample_in (slice_index ws 3) }
 
@@ -37,7 +37,7 @@ send_trig b s inputs k =
 
 -- ---- DetectSilence
 
--- how many frames were quiet since the last one that was not, once there was one: none before, which is word 0
+-- how many frames were quiet since the last one that was not, if there was one: none before, which is word 0
 abbrev pub count_in : ℕ → Option ℕ
 count_in w = cond (w == 0) None (Some (w - 1))
 
@@ -52,20 +52,20 @@ quiet_in ws = record { done = slice_index ws 0; count = count_in (slice_index ws
 abbrev pub quiet_words : Quiet → List ℕ
 quiet_words s = s.done ∷ count_word s.count ∷ []
 
--- One more, where there was a frame that was not quiet. The count stops where no time reaches it.
+-- One more, if there was a frame that was not quiet. The count stops at a number that no time reaches.
 abbrev pub one_quieter : Option ℕ → Option ℕ
 one_quieter None = None
 one_quieter (Some n) = Some (cond (nat_lt n 4294967294) (n + 1) n)
 
--- the count after a frame, where it is quiet and where not
+-- the count after a frame, if it is quiet and if it isn't
 abbrev pub counted : Bool → Option ℕ → Option ℕ
 counted quiet count = cond quiet (one_quieter count) (Some 0)
 
--- a frame is quiet where the distance of the signal from 0 is less than amp
+-- a frame is quiet if the distance of the signal from 0 is less than amp
 abbrev pub is_quiet : List (List ℤ) → ℕ → Bool
 is_quiet inputs k = int_lt (pos (unsigned_abs (sample inputs 0 k))) (sample inputs 1 k)
 
--- the unit ends where the count reaches the time, at least one frame
+-- the unit ends if the count reaches the time, at least one frame
 abbrev pub is_silent : ℕ → ℤ → Option ℕ → Bool
 is_silent rate time None = false
 is_silent rate time (Some n) = nat_le (max 1 (frames_of time rate)) n

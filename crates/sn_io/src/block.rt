@@ -57,14 +57,14 @@ fn run_kind<P: Port>(
     }
 }
 
-/// Runs a unit on buses, a trigger or one that ends its synth for a block of 64 frames, with its state in the words of
-/// `state`.
+/// Runs a unit on buses, a trigger, or a unit that ends its synth, for a block of 64 frames, with its state in the
+/// words of `state`.
 ///
-/// The inputs are those of its row in their order. `outputs` comes with as many blocks as the unit
-/// has outputs, and these take the place of what it held. No unit asks `_places`: where each bus lies is fixed.
+/// The inputs are those of its row in their order. `outputs` comes with as many blocks as the unit has outputs, and
+/// these take the place of what it held. No unit asks `_places`: the place of each bus is fixed.
 ///
-/// `words` and `outputs` say what it does over the memory words, as the walk of a block is said; the clauses behind them say it of buses
-/// and of state.
+/// `words` and `outputs` say what it does over the memory words, in the terms of the walk of a block. The clauses after
+/// them say it of buses and of state.
 pub fn run<P: Port>(
     kind: Kind,
     now: &Now,

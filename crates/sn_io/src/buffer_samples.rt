@@ -26,7 +26,7 @@ fn word_at(place: BufferPlace, frame: u32, channel: u32) -> u32
     place.extent.at + (frame * place.channels + channel)
 }
 
-/// The sample of a channel at a frame, or 0 where there is none.
+/// The sample of a channel at a frame, or 0 if there is none.
 fn sample_at<P: Port>(port: &mut P, place: BufferPlace, frame: Option<u32>, channel: u32) -> i32
     requires whole { IsWhole place }
     requires reads { MayRead (P.foot port.old) place.extent.at place.extent.len }
@@ -89,8 +89,7 @@ fn channel_at<P: Port>(
     }
 }
 
-/// The channels of a buffer at a block of its frames, as many as `outputs` has blocks, and 0 where there
-/// is no buffer.
+/// The channels of a buffer at a block of its frames, as many as `outputs` has blocks, and 0 if there is no buffer.
 pub(crate) fn gather<P: Port>(
     port: &mut P,
     place: Option<BufferPlace>,
@@ -180,8 +179,8 @@ fn scatter_frames<P: Port>(
     }
 }
 
-/// Sets a block of frames of a buffer, one after the other, to the samples of the inputs from `first` on,
-/// where there is a buffer.
+/// Sets a block of frames of a buffer, one after the other, to the samples of the inputs from `first` on, if there is a
+/// buffer.
 pub(crate) fn scatter<P: Port>(
     port: &mut P,
     place: Option<BufferPlace>,

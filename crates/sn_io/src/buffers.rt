@@ -30,7 +30,7 @@ pub(crate) fn chosen(buffers: &Buffers, inputs: &Blocks) -> Option<BufferPlace>
     }
 }
 
-/// A buffer, where it has so many channels.
+/// A buffer, if it has `channels` channels.
 fn usable(place: Option<BufferPlace>, channels: usize) -> Option<BufferPlace>
     ensures { result ≡ usable (λ p. p.channels) channels place }
 {
@@ -117,7 +117,7 @@ fn write<P: Port>(buffers: &Buffers, port: &mut P, inputs: &Blocks)
     scatter(port, place, inputs, 2, &frames);
 }
 
-/// The number of frames, 0 where there is no buffer.
+/// The number of frames, 0 if there is no buffer.
 fn length_in(frames: Option<u32>) -> u32
     ensures { result ≡ length_in frames }
 {
@@ -172,15 +172,14 @@ fn run_kind<P: Port>(
     }
 }
 
-/// Runs PlayBuf, RecordBuf, BufRd, BufWr or BufFrames for a block of 64 frames, with its state in
-/// the words of `state`.
+/// Runs PlayBuf, RecordBuf, BufRd, BufWr or BufFrames for a block of 64 frames, with its state in the words of `state`.
 ///
-/// The inputs are those of its row in their order. `outputs` comes with as many blocks as the unit
-/// has outputs, and these take the place of what it held. Where the state and the buffers are
-/// apart, it changes no word but those of its state and of the buffer that it writes.
+/// The inputs are those of its row in their order. `outputs` comes with as many blocks as the unit has outputs, and
+/// these take the place of what it held. If the state and the buffers are apart, it changes no word but those of its
+/// state and of the buffer that it writes.
 ///
-/// `words` and `outputs` say what it does over the memory words, as the walk of a block is said; the clauses behind them say it of buffers
-/// and of state.
+/// `words` and `outputs` say what it does over the memory words, in the terms of the walk of a block. The clauses after
+/// them say it of buffers and of state.
 pub fn run_buffer_unit<P: Port>(
     kind: Kind,
     now: &Now,

@@ -24,7 +24,7 @@ fn audio_number(number: i64) -> Option<u32>
     }
 }
 
-/// The number of a control bus or of a buffer, where it is one.
+/// The number of a control bus or of a buffer, if it is one.
 pub(crate) fn control_number(number: i64) -> Option<u32>
     ensures number { result ≡ control_number number }
     ensures bound { IfSome result (λ n. n < control_bus_count) }
@@ -36,7 +36,7 @@ pub(crate) fn control_number(number: i64) -> Option<u32>
     }
 }
 
-/// The audio bus of a channel, where its number is one.
+/// The audio bus of a channel, if its number is one.
 pub(crate) fn audio_channel(inputs: &Blocks, channel: usize) -> Option<u32>
     requires index { 1 ≤ length inputs.now }
     requires channel { channel < most_wires }
@@ -46,7 +46,7 @@ pub(crate) fn audio_channel(inputs: &Blocks, channel: usize) -> Option<u32>
     audio_number(i64::from(inputs.at(0, 0)) + channel as i64)
 }
 
-/// The control bus of a channel, where its number is one.
+/// The control bus of a channel, if its number is one.
 pub(crate) fn control_channel(inputs: &Blocks, channel: usize) -> Option<u32>
     requires index { 1 ≤ length inputs.now }
     requires channel { channel < most_wires }

@@ -43,7 +43,7 @@ pub fn by_wider_foot()
     ensures { (part whole : Foot) (change : List ℕ → List ℕ) → IsPart part whole → IsByFoot part change → IsByFoot whole change }
 {}
 
-/// A law: to add lanes to their buses sees and changes a foot alone that may read the lanes and write the buses.
+/// A law: adding lanes to their buses sees and changes only a foot that may read the lanes and write the buses.
 pub fn lanes_by_foot()
     ensures { (f : Foot) (b : ℕ) (lanes : List Moved) → All (MayAdd f) lanes → IsByFoot f (with_lanes b lanes) }
 {}
@@ -54,8 +54,8 @@ pub fn lanes_add_what_was_put()
     ensures { (b : ℕ) (ws ls : List ℕ) (at lane : ℕ) (signal : List ℤ) → (slice_index ls lane ≡ b + 1 → ⊥) → lane + audio_bus_words ≤ length ls → onto_block true b ws at (samples_at (onto_block true b ls lane signal) (lane + 1)) ≡ onto_block true b ws at signal }
 {}
 
-/// A law: if words agree where a foot may touch them, and the foot has what a unit on buses reaches,
-/// they agree there after the unit's block, and its outputs are the same.
+/// A law: let words agree where a foot may touch them, and let the foot have what a unit on buses reaches. Then they
+/// agree there after the unit's block, and its outputs are the same.
 pub fn bus_unit_by_foot()
     ensures { (kind : Kind) (now : Now) (f : Foot) (n : ℕ) (us ws : List ℕ) (at len : ℕ) (inputs : List (List ℤ)) → MayWrite f at len → MayReach kind f n inputs → Agree (touches f) us ws → BlocksAgree (touches f) (bus_unit_over kind now n us at len inputs) (bus_unit_over kind now n ws at len inputs) }
 {}

@@ -46,8 +46,8 @@ fn set_block<P: Port>(port: &mut P, at: u32, signal: &Block)
     port.store_samples(at, &sums(&silence, signal));
 }
 
-/// Puts a signal onto the audio bus at a place. With `adds` it adds to what was written in this
-/// block, and overwrites else.
+/// Puts a signal onto the audio bus at a place. With `adds` it adds to what was written in this block, and otherwise
+/// overwrites.
 pub(crate) fn put_block<P: Port>(port: &mut P, adds: bool, block: u64, at: u32, signal: &Block)
     requires block { block < 2 ^ 63 }
     requires bus { MayWrite (P.foot port.old) at audio_bus_words }

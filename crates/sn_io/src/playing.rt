@@ -71,7 +71,7 @@ fn started(playing: Playing, trigger: i32, start: i32) -> i32
     }
 }
 
-/// A position outside of so many frames, modulo the frames where `looping` is above 0.
+/// A position outside of `frames` frames, modulo the frames if `looping` is above 0.
 fn looped(frames: u32, looping: i32, position: i32) -> i32
     requires some { 1 ≤ frames }
     requires few { frames < 2147483648 }
@@ -108,8 +108,7 @@ fn played(
     (after, frame)
 }
 
-/// PlayBuf buf# step trig start loop done!, with the number of frames of its buffer where that can
-/// be used.
+/// PlayBuf buf# step trig start loop done!, with the number of frames of its buffer, if that can be used.
 #[derive(Clone, Copy)]
 pub(crate) struct PlayBuf {
     /// The number of frames of a buffer that can be used, 1 to 2^31 - 1.

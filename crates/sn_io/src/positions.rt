@@ -11,7 +11,7 @@ use sn_ports::limits::BLOCK_FRAMES;
 /// One frame of a buffer or none, for each frame of a block.
 pub(crate) type Frames = [Option<u32>; BLOCK_FRAMES];
 
-/// The frame of a number, where it is one of so many.
+/// The frame `number`, if it is one of `frames`.
 pub(crate) fn frame_at(frames: u32, number: i32) -> Option<u32>
     ensures { result ≡ frame_at frames number }
 {
@@ -22,7 +22,7 @@ pub(crate) fn frame_at(frames: u32, number: i32) -> Option<u32>
     }
 }
 
-/// The same of a buffer with so many frames, where there is one.
+/// The same of a buffer with `frames` frames, if there is one.
 fn frame_in(frames: Option<u32>, number: i32) -> Option<u32>
     ensures { result ≡ frame_in frames number }
 {

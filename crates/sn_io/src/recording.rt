@@ -65,8 +65,7 @@ fn recorded(frames: u32, looping: i32, recording: Recording) -> Recording
     }
 }
 
-/// RecordBuf buf# run loop done! signals, with the number of frames of its buffer where that can be
-/// used.
+/// RecordBuf buf# run loop done! signals, with the number of frames of its buffer, if that can be used.
 #[derive(Clone, Copy)]
 pub(crate) struct RecordBuf {
     /// The number of frames of a buffer that can be used.

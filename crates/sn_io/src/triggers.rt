@@ -95,7 +95,7 @@ impl Recurrence for SendTrig {
 pub(crate) struct Quiet {
     /// The done word, 0 until the end.
     pub done: u64,
-    /// How many frames were quiet since the last one that was not, once there was one.
+    /// How many frames were quiet since the last one that was not, if there was one.
     pub count: Option<u32>,
 }
 
@@ -149,7 +149,7 @@ fn is_quiet(inputs: &Blocks, frame: usize) -> bool
     i64::from(inputs.at(0, frame).unsigned_abs()) < i64::from(inputs.at(1, frame))
 }
 
-/// One more, where there was a frame that was not quiet.
+/// One more, if there was a frame that was not quiet.
 fn one_quieter(count: Option<u32>) -> Option<u32>
     ensures { result ≡ one_quieter count }
 {
@@ -166,7 +166,7 @@ fn counted(quiet: bool, count: Option<u32>) -> Option<u32>
     if quiet { one_quieter(count) } else { Some(0) }
 }
 
-/// Whether so many frames were quiet that the unit ends.
+/// Whether enough frames were quiet that the unit ends.
 fn is_silent(frames: &mut TimeFrames, time: i32, count: Option<u32>) -> bool
     ensures value { result ≡ is_silent frames.old.rate time count }
     ensures rate { frames.new.rate ≡ frames.old.rate }

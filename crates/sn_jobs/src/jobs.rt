@@ -16,7 +16,7 @@ pub fn no_jobs(alloc: Global) -> Vec<Job>
     Vec::new(alloc)
 }
 
-/// Whether numbers rise, from one on and below another.
+/// Whether numbers rise, and each is at least `from` and below `end`.
 fn rise(from: u32, end: u32, numbers: &[u32]) -> bool
     ensures from { result ≡ true → All (λ n. from ≤ n) numbers.now }
     ensures below { result ≡ true → All (λ n. n < end) numbers.now }
@@ -28,8 +28,8 @@ fn rise(from: u32, end: u32, numbers: &[u32]) -> bool
     }
 }
 
-/// Puts a job at the end, if there are at most 1,000 jobs and its predecessors rise and stand before it. It answers
-/// whether it was put. If it wasn't, nothing changes.
+/// Appends a job, if there are at most 1,000 jobs and its predecessors rise and stand before it. It returns whether it
+/// was put. If it wasn't, nothing changes.
 #[tactic(auto, using(crate::proofs::Rising::jobs_more))]
 pub fn put(jobs: &mut Vec<Job>, job: Job) -> Result<bool, NoMemory>
     requires jobs { AreJobs jobs.old.items }

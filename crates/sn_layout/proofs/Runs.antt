@@ -24,7 +24,7 @@ pub none_laid : (d : Definition) (cs : List Control) (k n : ℕ) → n ≤ 0 →
 none_laid d cs k zero few = refl
 none_laid d cs k (suc n) few = absurd (omega (arith, few))
 
--- ---- what is read of arguments
+-- ---- what is read from arguments
 
 module _ (reached : Nodes Held) (read : List Argument → Option (ControlRun × List Argument)) where
   another_plain : (r : ControlRun) (o : Option (List ControlRun)) → any_node (holds_laid r.control (length r.values)) reached ≡ false → MayBePlain reached o → MayBePlain reached (another (Some r) o)

@@ -19,7 +19,8 @@ abbrev pub kept_values : (ℕ → Bool) → List Control → List Control
 kept_values test [] = []
 kept_values test (c ∷ cs) = kept_value (test zero) c ∷ kept_values (λ k. test (suc k)) cs
 
--- Of a synth the layout has its definition, where its state is, the values of its index controls, and which buses its controls follow.
+-- Of a synth the layout has its definition, where its state is, the values of its index controls, and which buses its
+-- controls follow.
 abbrev pub laid : Content → Content
 laid group = group
 laid (synth s) = synth (record s { controls = kept_values (is_index s.definition) s.controls; state = [] })
@@ -32,6 +33,7 @@ pub record Layout : Type 0 where
   pub nodes : Nodes Content
   pub buffers : List (Option Extent)
 
--- The layout of a world: its nodes, each with its id, its kind, its run flag and what is laid of it, and where its buffers are.
+-- The layout of a world: its nodes, each with its id, its kind, its run flag and what is laid of it, and where its
+-- buffers are.
 abbrev pub layout_of : World → Layout
 layout_of w = record { nodes = with_payloads laid w.nodes; buffers = map (option_map extent_of) w.buffers }

@@ -33,7 +33,8 @@ pub record LeavesLayout (m : MessageShape) (t : Turn) : Type 0 where
 
 -- ---- controls
 
--- A control of a synth that the layout has: an index control, or one that follows a bus. A value that is set would change it.
+-- A control of a synth that the layout has: an index control, or one that follows a bus. A value that is set would
+-- change it.
 abbrev pub is_laid : Definition → List Control → ℕ → Bool
 is_laid d controls k = is_index d k || is_some (slice_index_or controls k no_control).bus
 
@@ -64,7 +65,7 @@ module _ {P : Type 0} (test : ControlName → ℕ → P → Bool) where
   runs_laid reached [] = false
   runs_laid reached (r ∷ rs) = any_node (test r.control (length r.values)) reached || runs_laid reached rs
 
-  -- None is, in the node that is named and in all nodes below it. Where no runs are named the command is refused.
+  -- None is, in the node that is named and in all nodes below it. If no runs are named, the command is refused.
   abbrev pub runs_plain : Nodes P → Option (ForNode ControlRun) → Bool
   runs_plain all None = true
   runs_plain all (Some r) = not (runs_laid (subtree r.id all) r.all)
@@ -75,7 +76,8 @@ module _ {P : Type 0} (test : ControlName → ℕ → P → Bool) where
 
 -- ---- commands
 
--- where the controls that runs set are told to be plain, or not, by how a run is read
+-- a command on nodes leaves the layout; `plain` says, by how a run is read, whether the controls that runs set are
+-- plain
 abbrev pub node_leaves : ((List Argument → Option (ControlRun × List Argument)) → Bool) → NodeCommand → Bool
 node_leaves plain nodes.SetControls = plain value_run
 node_leaves plain nodes.SetRuns = plain values_run

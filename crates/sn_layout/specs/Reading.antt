@@ -6,11 +6,11 @@ use Rattle.sn_world.specs.declared.stage.Held.{Held}
 use Rattle.sn_world.specs.ControlRuns.{ControlRun, repeated}
 use Rattle.sn_layout.specs.Leaving.{holds_laid, runs_laid}
 
--- runs, where there are some, set no control that is laid in one of these nodes
+-- runs, if there are some, set no control that is laid in one of these nodes
 abbrev pub MayBePlain : Nodes Held → Option (List ControlRun) → Type 0
 MayBePlain reached None = Unit {0}
 MayBePlain reached (Some rs) = runs_laid holds_laid reached rs ≡ false
 
--- the same of what is read of arguments, of however many runs at most
+-- the same of what is read from arguments, of any number of runs
 abbrev pub ArePlain : Nodes Held → (List Argument → Option (ControlRun × List Argument)) → List Argument → Type 0
 ArePlain reached read xs = (n : ℕ) → MayBePlain reached (repeated read n xs)

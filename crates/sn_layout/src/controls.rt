@@ -28,7 +28,7 @@ fn is_laid(def: &Def, controls: &Controls, number: u32) -> bool
     }
 }
 
-/// Whether the layout may have one of so many controls from one on.
+/// Whether the layout may have one of `count` controls from number `number` on.
 fn any_laid(def: &Def, controls: &Controls, number: u32, count: usize) -> bool
     ensures { result ≡ false → any_laid (definition_of def.now) controls.now number count ≡ false }
 {
@@ -73,7 +73,7 @@ fn units_of(held: &Held) -> usize {
     }
 }
 
-/// Pays for so many looks at a node and one more, if enough is left.
+/// Pays for `count` looks at each of `units` units and one more, if enough are left.
 fn pay(looks: &mut u32, units: usize, count: usize) -> bool {
     let Some(price) = units.checked_mul(count) else {
         return false;
@@ -108,7 +108,7 @@ fn any_held(tree: &Tree<Held>, node: &NodeId, run: &Run<'_>, looks: &mut u32) ->
     false
 }
 
-/// The same of all runs that arguments say.
+/// The same of all runs that arguments give.
 fn runs_laid(
     tree: &Tree<Held>,
     node: &NodeId,

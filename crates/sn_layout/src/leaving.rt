@@ -25,7 +25,7 @@ fn node_leaves(tree: &Tree<Held>, command: NodeCommand, arguments: &[Arg], looks
     }
 }
 
-/// Whether a command with so many arguments leaves the layout, and carries no completion message.
+/// Whether a command with `arguments` arguments leaves the layout, and carries no completion message.
 fn server_leaves(command: ServerCommand, arguments: usize) -> bool
     ensures { result ≡ server_leaves arguments command }
 {
@@ -60,8 +60,8 @@ fn command_leaves(stage: &Stage, command: Command, arguments: &[Arg], looks: &mu
     }
 }
 
-/// Whether a message surely leaves the layout, and no completion message acts after it. It is judged by the
-/// address, and where it sets controls by these too, as long as a look at them is left.
+/// Whether a message surely leaves the layout, and no completion message acts after it. It is judged by the address
+/// and, if it sets controls, by these too, as long as a look at them is left.
 pub fn leaves_layout(stage: &Stage, message: &Message, looks: &mut u32) -> bool
     ensures { result ≡ true → asked_leaves (sets_plain holds_laid stage.now.tree.attached) (command_of message.now.address.bytes) (body_of message.now.body) ≡ true }
 {

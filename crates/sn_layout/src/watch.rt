@@ -10,7 +10,7 @@ use crate::leaving::leaves_layout;
 use sn_osc::Message;
 use sn_world::Stage;
 
-/// How many units are looked at in all: a watch that has looked at so many tells that the layout may change.
+/// How many units are looked at in all. A watch that has looked at this many says that the layout may change.
 const MOST_LOOKS: u32 = 262_144;
 
 /// Whether the layout surely stays as it is while messages act.

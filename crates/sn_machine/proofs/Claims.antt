@@ -19,7 +19,7 @@ use Rattle.sn_machine.proofs.Orders.{begun_claimed, begun_ended, claimed_unended
 use Rattle.sn_machine.proofs.Counts.{claimed_else, begun_else, claimed_is, ended_stays, unbegun}
 use Rattle.sn_machine.proofs.Waits.{waiting_none, same_job, same_picture, no_run}
 
--- main's part stays, where the changed view keeps its own
+-- main's part stays, if the changed view keeps its own
 pub main_stays : (views : List View) (id : ℕ) (v w : View) (main : Main) → At views id v → w.main ≡ v.main → HasMain views main → HasMain (set views id w) main
 main_stays views id v w main at same h =
     ⊎_elim
@@ -31,7 +31,7 @@ main_stays views id v w main at same h =
 pub idle_dead : (s : State) (id : ℕ) (v : View) → Between s → At s.views id v → v.worker.live ≡ true → ⊥
 idle_dead s id v b at live = both_ways v.worker.live live (b.blank id v at).dead
 
--- what is known of some view stays known where the changed view knows as much
+-- what is known of some view stays known if the changed view knows as much
 pub known_stays : (views : List View) (id : ℕ) (v w : View) (j : ℕ) → At views id v → (Knows v j → Knows w j) → (i : ℕ) × (u : View) × At views i u × Knows u j → (i : ℕ) × (u : View) × At (set views id w) i u × Knows u j
 known_stays views id v w j at more h =
     ⊎_elim

@@ -1,4 +1,5 @@
--- Extents as sets of words, lists that name a job, jobs that are ordered, words that are set one after the other, and debts.
+-- Extents as sets of words, lists that name a job, jobs that are ordered, words that are set one after the other, and
+-- debts.
 use Rattle.std.proofs.Common.{◌≡◌, ◌≢◌, ◌⊎◌, ⊎_elim, inl, inr, ℕ, zero, suc, ◌+◌, ◌<◌, Bool, true, false, ◌||◌, eqb, nat_le, nat_lt, List, [], ◌∷◌, ◌++◌, length, get_or, set, take, refl, ap, sym, subst, ◌∙◌, arith, true≢false}
 use Rattle.std.specs.Prelude.{Contains}
 use Rattle.std.specs.List.{list_any, list_all}

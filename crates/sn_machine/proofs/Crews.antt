@@ -11,7 +11,7 @@ use Rattle.sn_machine.specs.History.{begins, splits, joins, has_joined, crew_of}
 use Rattle.sn_machine.proofs.Replaced.{at_set, set_here, set_else, same_at}
 use Rattle.sn_machine.proofs.Splitting.{at_front}
 
--- what the history says of main, where it is in a round
+-- what the history says of main, if it is in a round
 abbrev Counted : Bool → ℕ → List View → Type 0
 Counted joined crew views = (m : View) → At views 0 m → IsInRound m → (m.main.joined ≡ joined) × (crew_in m.main.phase ≡ crew)
 

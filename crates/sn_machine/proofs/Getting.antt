@@ -41,7 +41,7 @@ apart s b r =
     sym b.phase ∙ (ap (λ (y : Main). y.phase) (sym b.has_main.2) ∙ (ap (λ (y : View). y.main.phase) (same_at s.views 0 b.has_main.0 r.has_main.0 b.has_main.1 r.has_main.1) ∙ (ap (λ (y : Main). y.phase) r.has_main.2 ∙ r.phase))) in
     cc
 
--- a round runs after a step only where it ran before, or begins
+-- a round runs after a step only if it ran before, or begins
 pub ran : {s t : State} → (x : Step s t) → begins x ≡ false → RoundHolds s → InRound t → InRound s
 ran (idle_store s m x a at i) n h t = absurd (idle_round _ (set_memory m x a) t (set_here s.views 0 (set_memory m x a) m at) refl)
 ran (arm s m j a at i) n h t = absurd (idle_round _ (set_count m j a) t (set_here s.views 0 (set_count m j a) m at) refl)

@@ -21,7 +21,7 @@ use Rattle.sn_machine.proofs.Counts.{unbegun}
 use Rattle.sn_machine.proofs.Waits.{no_run}
 use Rattle.sn_machine.proofs.Owing.{total_zero, one_or}
 
--- Between two rounds, where main's view changes and its phase shows the words
+-- Between two rounds, if main's view changes and its phase shows the words
 module _ (s t : State) (m w : View) (b : Between s) (at : At s.views 0 m) (views : t.views ≡ set s.views 0 w) (phase : w.main.phase ≡ Idle t.memory t.counts)
     (ended : w.main.ended ≡ []) (live : w.main.live ≡ m.main.live) (worker : w.worker ≡ m.worker) where
   pub still_between : Between t
@@ -96,7 +96,7 @@ sum_small (suc j) xs h = omega (arith, h j, sum_small j xs h)
 pub pigeons : (j : ℕ) (xs : List ℕ) → ((x : ℕ) → Contains xs x → x < j) → ((x : ℕ) → occurs x xs ≤ 1) → length xs ≤ j
 pigeons j xs a b = omega (arith, sum_is j xs a, sum_small j xs b)
 
--- where none has ended, all wait
+-- if none has ended, all wait
 pub waiting_all : (ended : ℕ → Bool) (ps : List ℕ) → ((p : ℕ) → Contains ps p → ended p ≡ false) → waiting ended ps ≡ length ps
 waiting_all ended [] h = refl
 waiting_all ended (p ∷ ps) h =

@@ -28,7 +28,7 @@ ordered_ended jobs counts views order begun {i} {j} (through {k = k} o c) l h =
     let lower : k < j = (order j l).0 k c in
     ordered_ended jobs counts views order begun o (omega arith) (begun_ended counts k (begun.before j k l h c))
 
--- of two jobs of which one writes what the other touches, the lower has ended where the higher has begun
+-- of two jobs of which one writes what the other touches, the lower has ended if the higher has begun
 pub lower_ended : (jobs : List Job) (counts : List ℕ) (views : List View) → IsInOrder jobs → Sound jobs → BegunHold jobs counts views → (i j x : ℕ) → i < j → j < length jobs
     → ((writes (foot_at jobs i) x ≡ true) × (touches (foot_at jobs j) x ≡ true)) ⊎ ((writes (foot_at jobs j) x ≡ true) × (touches (foot_at jobs i) x ≡ true))
     → has_begun counts j ≡ true → is_ended counts i ≡ true

@@ -38,7 +38,7 @@ times_contains (y ∷ ys) x h = ⊎_elim
 pub times_zero : (xs : List ℕ) (x : ℕ) → (Contains xs x → ⊥) → occurs x xs ≡ 0
 times_zero xs x h = tally_zero (λ y. eqb y x) xs (λ y c. ne_eqb y x (λ e. h (subst (λ z. Contains xs z) e c)))
 
--- where j is among ps, one of them ends
+-- if j is among ps, one of them ends
 pub waiting_end : (was now : ℕ → Bool) (j : ℕ) (ps : List ℕ) → was j ≡ false → now j ≡ true → ((k : ℕ) → k ≢ j → now k ≡ was k) → waiting was ps ≡ waiting now ps + occurs j ps
 waiting_end was now j [] a b h = refl
 waiting_end was now j (p ∷ ps) a b h = ⊎_elim

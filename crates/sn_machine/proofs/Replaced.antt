@@ -50,7 +50,7 @@ total_le f [] i v e = absurd (some-ne-none v (sym e))
 total_le f (x ∷ xs) zero v e = let h : f x ≡ f v = ap f (some-injective x v e) in omega arith
 total_le f (x ∷ xs) (suc i) v e = omega (arith, total_le f xs i v e)
 
--- main's seat stays no worker's, where the changed view is as live as before
+-- main's seat stays no worker's, if the changed view is as live as before
 pub first_stays : (views : List View) (id : ℕ) (v w : View) → At views id v → w.worker.live ≡ v.worker.live → ((u : View) → At views 0 u → u.worker.live ≡ false) → (u : View) → At (set views id w) 0 u → u.worker.live ≡ false
 first_stays views id v w at same h u a = ⊎_elim
     (λ (t : (0 ≡ id) × (w ≡ u)). ap (λ (y : View). y.worker.live) (sym t.1) ∙ (same ∙ h v (subst (λ k. At views k v) (sym t.0) at)))

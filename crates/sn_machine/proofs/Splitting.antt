@@ -43,7 +43,7 @@ choose false jobs script crew at_go = refl
 not_live : (u : View) → live_of u ≡ 0 → u.worker.live ≡ false
 not_live u e = false_from_ne_true u.worker.live (λ h. let one : ◌≡◌ {A = ℕ} (cond u.worker.live 1 0) 1 = ap (λ (l : Bool). cond l 1 0) h in absurd (omega arith))
 
--- where main's number is 0, no seat is live
+-- if main's number is 0, no seat is live
 pub all_dead : (s : State) (r : InRound s) → r.main.live ≡ 0 → (i : ℕ) (u : View) → At s.views i u → u.worker.live ≡ false
 all_dead s r none i u a = not_live u (omega (arith, total_le live_of s.views i u a, r.seats.number, none))
 
@@ -106,7 +106,7 @@ module _ (s : State) (r : InRound s) (m : View) (at : At s.views 0 m) (can : Can
       (λ (c : Contains o.1.worker.ended k). let x = subst (λ (es : List ℕ). Contains es k) (r.seats.dead o.0 o.1 o.2 (dead j o.0 o.1 o.2)).ended c in let g : x.0 < 0 = x.1 in absurd (omega arith))
       o.3
 
-  -- an old sweep is over where a new seat may be split
+  -- an old sweep is over if a new seat may be split
   no_sweep : (i : ℕ) (x : View) → At s.views i x → x.worker.live ≡ true → x.worker.sweeps ≡ true → ⊥
   no_sweep i x a lx sx = both_ways x.worker.live lx (dead (ap (λ (y : Main). y.joined) main_is ∙ r.sweep.joined i x a lx sx) i x a)
 

@@ -62,7 +62,7 @@ module _ (s : State) (r : InRound s) (id : ℕ) (v : View) (j : ℕ) (at : At s.
             knows p (let i = inside in omega arith) (waiting_none (is_ended s.counts) (predecessors r.jobs j) p none c'),
       )
 
--- on the sweep's seat a claim finds 0 exactly where the job is free
+-- on the sweep's seat a claim finds 0 exactly if the job is free
 pub sweep_finds : (s : State) (id : ℕ) (v : View) (j : ℕ) → RoundHolds s → At s.views id v → CanClaim v j → v.worker.sweeps ≡ true → (get_or s.counts j 0 ≡ 0) ↔ IsFree v j
 sweep_finds s id v j h at can sweeps = ⊎_elim
     (λ b. absurd (idle_dead s id v b at can.live))

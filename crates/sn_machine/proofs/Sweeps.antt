@@ -10,7 +10,7 @@ use Rattle.sn_machine.specs.States.{At}
 use Rattle.sn_machine.specs.Rule.{SweepHolds}
 use Rattle.sn_machine.proofs.Replaced.{at_set}
 
--- a worker's part that another seat had, but for what it knows
+-- a worker's part that another seat had, except for what it knows
 module _ (views : List View) (id : ℕ) (v w : View) (at : At views id v) (live : w.worker.live ≡ v.worker.live) (sweeps : w.worker.sweeps ≡ v.worker.sweeps) where
   pub was : (i : ℕ) (u : View) → At (set views id w) i u → (x : View) × At views i x × (x.worker.live ≡ u.worker.live) × (x.worker.sweeps ≡ u.worker.sweeps) × (((i ≡ id) × (x ≡ v) × (w ≡ u)) ⊎ ((i ≢ id) × (x ≡ u)))
   was i u a = ⊎_elim
@@ -18,7 +18,7 @@ module _ (views : List View) (id : ℕ) (v w : View) (at : At views id v) (live 
       (λ (t : (i ≢ id) × At views i u). (u, t.1, refl, refl, inr (t.0, refl)))
       (at_set views id i w u a)
 
--- the sweep's seat stays where the changed view knows as much
+-- the sweep's seat stays if the changed view knows as much
 pub sweep_stays : (jobs : List Job) (ended : ℕ → Bool) (views : List View) (main : Main) (id : ℕ) (v w : View) → At views id v → w.worker.live ≡ v.worker.live → w.worker.sweeps ≡ v.worker.sweeps → w.worker.ended ≡ v.worker.ended
     → SweepHolds jobs ended views main → SweepHolds jobs ended (set views id w) main
 sweep_stays jobs ended views main id v w at live sweeps knows h = record {
@@ -33,7 +33,7 @@ sweep_stays jobs ended views main id v w at live sweeps knows h = record {
   joined = λ i u a lu su. let f = was views id v w at live sweeps i u a in h.joined i f.0 f.1 (f.2 ∙ lu) (f.3 ∙ su);
 }
 
--- and where a live view learns that j has ended
+-- and if a live view learns that j has ended
 pub sweep_learns : (jobs : List Job) (old now : ℕ → Bool) (views : List View) (main : Main) (id : ℕ) (v w : View) (j : ℕ) → At views id v → v.worker.live ≡ true → w.worker.live ≡ v.worker.live → w.worker.sweeps ≡ v.worker.sweeps
     → w.worker.ended ≡ v.worker.ended ++ j ∷ [] → ((k : ℕ) → k ≢ j → now k ≡ old k) → SweepHolds jobs old views main → SweepHolds jobs now (set views id w) main
 sweep_learns jobs old now views main id v w j at awake live sweeps knows same h = record {

@@ -16,7 +16,7 @@ waiting_at ended (x ∷ xs) zero p l e w =
     (cases_Bool (ended x))
 waiting_at ended (x ∷ xs) (suc k) p l e w = let w' : cond (not (ended x)) 1 0 + waiting ended xs ≡ 0 = w in waiting_at ended xs k p (omega arith) e (omega arith)
 
--- where none waits, each has ended
+-- if none waits, each has ended
 pub waiting_none : (ended : ℕ → Bool) (ps : List ℕ) (p : ℕ) → waiting ended ps ≡ 0 → Contains ps p → ended p ≡ true
 waiting_none ended ps p w c = waiting_at ended ps c.0 p c.1 c.2 w
 

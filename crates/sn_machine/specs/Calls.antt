@@ -13,7 +13,7 @@ use Rattle.sn_machine.specs.Steps.{CanJoin, after_join}
 abbrev pub state_of : Machine → State
 state_of m = record { memory = m.memory; counts = m.counts; views = m.views.items }
 
--- The seat i is asked for a step. It takes it, which its view allows, and the state after it is this; or nothing changes.
+-- The seat i is asked for a step. Either its view allows the step, and the state after it is this, or nothing changes.
 abbrev pub Takes : State → ℕ → (View → Type 0) → (View → State) → Bool → State → Type 0
 Takes s i allows after false t = t ≡ s
 Takes s i allows after true t = (v : View) × At s.views i v × allows v × (t ≡ after v)
@@ -49,11 +49,11 @@ abbrev pub set_count_in : Phase → ℕ → ℕ → Phase
 set_count_in (Idle memory counts) j a = Idle memory (slice_set counts j a)
 set_count_in (Round jobs script crew at_go) j a = Round jobs script crew at_go
 
--- main, which takes a worker's seat in that knows these jobs to have ended
+-- main, after it joined a worker's seat that knows these jobs to have ended
 abbrev pub learned : View → List ℕ → View
 learned v ended = record v { main = record v.main { live = v.main.live - 1; joined = true; ended = v.main.ended ++ ended } }
 
--- so are two seats asked: main's, and one that it takes in
+-- the same for two seats: main's, and one that it joins
 abbrev pub Joins : State → ℕ → Bool → State → Type 0
 Joins s other false t = t ≡ s
 Joins s other true t = (m : View) × (w : View) × At s.views 0 m × (other ≢ 0) × At s.views other w × CanJoin w × (t ≡ after_join s m other w)

@@ -8,7 +8,7 @@ abbrev pub begins : {s t : State} → Step s t → Bool
 begins (go s m jobs script at can) = true
 begins _ = false
 
--- 1 where the step is a claim that got the job k
+-- 1 if the step is a claim that got the job k
 abbrev pub gets : {s t : State} → Step s t → ℕ → ℕ
 gets (claim s id v j at can) k = cond ((j == k) && (slice_index s.counts j == 0)) 1 0
 gets _ k = 0

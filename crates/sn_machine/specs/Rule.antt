@@ -37,14 +37,15 @@ abbrev pub level : (ℕ → Bool) → ℕ → ℕ
 level p zero = zero
 level p (suc n) = cond (p n) (suc n) (level p n)
 
--- (a) No debt is owed twice, each names an ended job and its successor, and the word of a job that has not begun is what it waits for.
+-- (a) No debt is owed twice, each names an ended job and its successor, and the word of a job that has not begun is
+--   what it waits for.
 pub record DebtsHold (jobs : List Job) (counts : List ℕ) (views : List View) : Type 0 where
   pub once : (p s : ℕ) → total (owing_pair p s) views ≤ 1
   pub named : (i : ℕ) (v : View) (p s : ℕ) → At views i v → Contains v.worker.debts (p, s) → (s < length jobs) × (is_ended counts p ≡ true) × Contains (predecessors jobs s) p
   pub counted : (s : ℕ) → s < length jobs → has_begun counts s ≡ false → slice_index counts s ≡ waiting (is_ended counts) (predecessors jobs s) + total (owing s) views
   pub small : (s : ℕ) → s < length jobs → has_begun counts s ≡ false → slice_index counts s < 2 ^ 32
 
--- (b) A word is CLAIMED exactly where one live worker runs the job. Who runs a job owes nothing.
+-- (b) A word is CLAIMED exactly if one live worker runs the job. A worker that runs a job owes nothing.
 pub record ClaimsHold (jobs : List Job) (counts : List ℕ) (views : List View) : Type 0 where
   pub has_runner : (j : ℕ) → j < length jobs → is_claimed counts j ≡ true → (i : ℕ) × (v : View) × (picture : List ℕ) × At views i v × RunsJob v j picture
   pub runner : (i : ℕ) (v : View) (j : ℕ) (picture : List ℕ) → At views i v → RunsJob v j picture → (v.worker.live ≡ true) × (j < length jobs) × (is_claimed counts j ≡ true) × (v.worker.debts ≡ [])
@@ -83,7 +84,8 @@ live_of v = cond v.worker.live 1 0
 abbrev pub Knows : View → ℕ → Type 0
 Knows v j = Contains v.main.ended j ⊎ Contains v.worker.ended j
 
--- (f) The live views carry main's jobs and script. Main's number is the number of live worker seats. The ended jobs are those that main or a live view knows.
+-- (f) The live views carry main's jobs and script. Main's number is the number of live worker seats. The ended jobs are
+--   those that main or a live view knows.
 pub record ViewsHold (jobs : List Job) (script : List (List ℕ)) (counts : List ℕ) (views : List View) (main : Main) : Type 0 where
   pub live : (i : ℕ) (v : View) → At views i v → v.worker.live ≡ true → (v.worker.jobs ≡ jobs) × (v.worker.script ≡ script)
   pub dead : (i : ℕ) (v : View) → At views i v → v.worker.live ≡ false → IsBlank v.worker
@@ -93,7 +95,7 @@ pub record ViewsHold (jobs : List Job) (script : List (List ℕ)) (counts : List
   pub known : (j : ℕ) → j < length jobs → is_ended counts j ≡ true → (i : ℕ) × (v : View) × At views i v × Knows v j
   pub only : (i : ℕ) (v : View) (j : ℕ) → At views i v → Knows v j → (j < length jobs) × (is_ended counts j ≡ true)
 
--- Where the sweep's seat is live no other seat is, its view has every ended job, and a seat was joined.
+-- If the sweep's seat is live, no other seat is, its view has every ended job, and a seat was joined.
 pub record SweepHolds (jobs : List Job) (ended : ℕ → Bool) (views : List View) (main : Main) : Type 0 where
   pub alone : (i k : ℕ) (v u : View) → At views i v → v.worker.live ≡ true → v.worker.sweeps ≡ true → At views k u → u.worker.live ≡ true → k ≡ i
   pub knows : (i : ℕ) (v : View) (j : ℕ) → At views i v → v.worker.live ≡ true → v.worker.sweeps ≡ true → j < length jobs → ended j ≡ true → Contains v.worker.ended j

@@ -35,7 +35,7 @@ has_begun counts j = is_claimed counts j || is_ended counts j
 abbrev pub At : List View → ℕ → View → Type 0
 At views i v = get_elem? views i ≡ some v
 
--- the worker runs the job j, and sees the memory so
+-- the worker runs the job j, and this is the memory as it sees it
 abbrev pub RunsJob : View → ℕ → List ℕ → Type 0
 RunsJob v j picture = v.worker.runs ≡ Some (record { job = j; picture = picture })
 

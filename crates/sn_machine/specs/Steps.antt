@@ -1,4 +1,4 @@
--- The kinds of step: for each where it is allowed, the view after it, and the state after it. `Step` lists them all.
+-- The kinds of step: for each, whether it is allowed, the view after it, and the state after it. `Step` lists them all.
 use Rattle.std.specs.Prelude.{◌≡◌, ◌≢◌, ◌⊎◌, ℕ, zero, suc, ◌+◌, ◌-◌, ◌<◌, ◌≤◌, ◌==◌, true, false, cond, List, [], ◌∷◌, ◌++◌, length, slice_index, slice_set, Contains, Some, None}
 use Rattle.sn_mem.specs.Words.{writes, touches}
 use Rattle.sn_round.specs.declared.jobs.Job.{Job}
@@ -23,9 +23,9 @@ set_count v j a = record v { main = record v.main { phase = Idle (memory_in v.ma
 abbrev pub after_count : State → View → ℕ → ℕ → State
 after_count s v j a = record { memory = s.memory; counts = slice_set s.counts j a; views = slice_set s.views 0 (set_count v j a) }
 
--- Go, by main, which reads a word. Allowed while no round runs, where the script begins with main's memory list, main's job list has each job's number
--- of predecessors, and the jobs are free of races and lie in the memory.
--- Main is in a round, in which no seat was joined and no job is known to have ended.
+-- Go, by main, which reads a word. Allowed while no round runs, if three conditions hold. The script begins with main's
+-- memory list. Main's job list has each job's number of predecessors. The jobs are free of races and lie in the memory.
+-- Main is then in a round, in which no seat was joined and no job is known to have ended.
 pub record CanGo (v : View) (jobs : List Job) (script : List (List ℕ)) : Type 0 where
   pub idle : IsIdle v
   pub base : list_at script 0 ≡ memory_in v.main.phase
@@ -42,8 +42,9 @@ go_view v jobs script = record v { main = record v.main { phase = Round jobs scr
 abbrev pub after_go : State → View → List Job → List (List ℕ) → State
 after_go s v jobs script = record { memory = s.memory; counts = s.counts; views = slice_set s.views 0 (go_view v jobs script) }
 
--- Claim, by a worker, of a job's word. Allowed where it runs nothing and owes nothing, and the job is one of the round's.
--- 0 becomes CLAIMED, and it runs the job j with list j of the script as its picture; else nothing changes. Either way it has one more reading.
+-- Claim, by a worker, of a job's word. Allowed if it runs nothing and owes nothing, and the job is one of the round's.
+-- If the word is 0, it becomes CLAIMED, and the worker runs the job j with list j of the script as its picture; else
+-- nothing changes. Either way it has one more reading.
 pub record CanClaim (v : View) (j : ℕ) : Type 0 where
   pub live : v.worker.live ≡ true
   pub runs : v.worker.runs ≡ None
@@ -65,13 +66,14 @@ claim_word word = cond (word == 0) CLAIMED word
 abbrev pub after_claim : State → ℕ → View → ℕ → State
 after_claim s id v j = record { memory = s.memory; counts = slice_set s.counts j (claim_word (slice_index s.counts j)); views = slice_set s.views id (claim_view v j (slice_index s.counts j)) }
 
--- Load, by a worker, of a memory word. Allowed where it runs a job, and the word is in its foot. Nothing changes.
--- Main may load any word while no round runs.
+-- Load, by a worker, of a memory word. Allowed if it runs a job, and the word is in its foot. Nothing changes. Main may
+-- load any word while no round runs.
 pub record CanLoad (v : View) (j : ℕ) (picture : List ℕ) (x : ℕ) : Type 0 where
   pub runs : RunsJob v j picture
   pub touches : touches (foot_at v.worker.jobs j) x ≡ true
 
--- Store, by a worker, of a memory word. Allowed where it runs a job that may write the word. The word changes, and the picture.
+-- Store, by a worker, of a memory word. Allowed if it runs a job that may write the word. The word changes, and the
+-- picture.
 pub record CanStore (v : View) (j : ℕ) (picture : List ℕ) (x : ℕ) : Type 0 where
   pub runs : RunsJob v j picture
   pub writes : writes (foot_at v.worker.jobs j) x ≡ true
@@ -82,7 +84,7 @@ pictured v j picture = record v { worker = record v.worker { runs = Some (record
 abbrev pub after_store : State → ℕ → View → ℕ → List ℕ → ℕ → ℕ → State
 after_store s id v j picture x a = record { memory = slice_set s.memory x a; counts = s.counts; views = slice_set s.views id (pictured v j (slice_set picture x a)) }
 
--- End, by a worker, of a job's word. Allowed where its picture is list j + 1 of the script on what the job j may write.
+-- End, by a worker, of a job's word. Allowed if its picture is list j + 1 of the script on what the job j may write.
 -- The word becomes ENDED. The worker runs nothing, knows that j has ended, and owes each successor once.
 pub record CanEnd (v : View) (j : ℕ) (picture : List ℕ) : Type 0 where
   pub runs : RunsJob v j picture
@@ -99,7 +101,8 @@ ended_view v j = record v { worker = record v.worker { runs = None; ended = v.wo
 abbrev pub after_end : State → ℕ → View → ℕ → State
 after_end s id v j = record { memory = s.memory; counts = slice_set s.counts j ENDED; views = slice_set s.views id (ended_view v j) }
 
--- Release, by a worker, of a successor's word. Allowed where it owes that. The word falls by 1, the debt goes, and it has one more reading, of the word left.
+-- Release, by a worker, of a successor's word. Allowed if it owes that. The word falls by 1, the debt goes, and it has
+-- one more reading, of the word left.
 abbrev pub Owes : View → List (ℕ × ℕ) → ℕ → ℕ → List (ℕ × ℕ) → Type 0
 Owes v front p q back = v.worker.debts ≡ front ++ (p, q) ∷ back
 
@@ -109,9 +112,9 @@ paid_view v q debts left = record v { worker = record v.worker { debts = debts; 
 abbrev pub after_release : State → ℕ → View → ℕ → List (ℕ × ℕ) → State
 after_release s id v q debts = record { memory = s.memory; counts = slice_set s.counts q (slice_index s.counts q - 1); views = slice_set s.views id (paid_view v q debts (slice_index s.counts q - 1)) }
 
--- Rest, by main, which reads a word. Allowed in a round where no seat is live, and each job is known to have ended.
--- Main is idle. Its memory list is the script's last, and its job list has ENDED for each job of the round, and else the words at go. The round is one more
--- of its rested ones.
+-- Rest, by main, which reads a word. Allowed in a round, if no seat is live and each job is known to have ended. Main
+-- is idle. Its memory list is the script's last, and its job list has ENDED for each job of the round, and else the
+-- words at go. The round is one more of its rested ones.
 pub record CanRest (v : View) : Type 0 where
   pub running : IsInRound v
   pub none_live : v.main.live ≡ 0
@@ -132,8 +135,8 @@ rested_view v = record v { main = record v.main { phase = Idle (last_list v.main
 abbrev pub after_rest : State → View → State
 after_rest s v = record { memory = s.memory; counts = s.counts; views = slice_set s.views 0 (rested_view v) }
 
--- Split, by main, which reads a word. Allowed in a round where no seat was joined yet, or none is live.
--- There is one more live seat, which knows what main knows. It is the sweep's where a seat was joined before; else the crew is one more.
+-- Split, by main, which reads a word. Allowed in a round, if no seat was joined yet, or none is live. There is one more
+-- live seat, which knows what main knows. It is the sweep's if a seat was joined before; else the crew is one more.
 pub record CanSplit (v : View) : Type 0 where
   pub running : IsInRound v
   pub turn : (v.main.joined ≡ false) ⊎ (v.main.live ≡ 0)
@@ -151,8 +154,8 @@ split_worker v = record { size = v.size; room = v.room; main = no_main; worker =
 abbrev pub after_split : State → View → State
 after_split s v = record { memory = s.memory; counts = s.counts; views = slice_set s.views 0 (split_main v) ++ split_worker v ∷ [] }
 
--- Join, by main and a worker, which reads a word. Allowed where the worker runs nothing and owes nothing.
--- Main knows what the worker knew to have ended, one live seat less, and that a seat was joined. The worker's view is spent.
+-- Join, by main and a worker, which reads a word. Allowed if the worker runs nothing and owes nothing. Main knows what
+-- the worker knew to have ended, one live seat less, and that a seat was joined. The worker's view is spent.
 pub record CanJoin (w : View) : Type 0 where
   pub live : w.worker.live ≡ true
   pub runs : w.worker.runs ≡ None
@@ -168,7 +171,7 @@ after_join s v other w = record { memory = s.memory; counts = s.counts; views = 
 abbrev pub after_look : State → ℕ → View → ℕ → State
 after_look s id v j = record { memory = s.memory; counts = s.counts; views = slice_set s.views id (read_view v j (slice_index s.counts j)) }
 
--- One step: by which seat, of which view, where it is allowed, and the state after it.
+-- One step: by which seat, of which view, whether it is allowed, and the state after it.
 pub data Step : State → State → Type 0 where
   -- main, a memory word
   idle_store : (s : State) (m : View) (x a : ℕ) → At s.views 0 m → IsIdle m → Step s (after_memory s m x a)

@@ -1,4 +1,4 @@
-//! Which words a job may touch, and where lists of words agree on them.
+//! Which words a job may touch, and whether lists of words agree on them.
 ghost use Rattle.std.specs.Prelude.{◌≡◌, ◌≤◌, ◌<◌, ℕ, IsTrue, true, false, length, slice_index};
 ghost use Rattle.sn_mem.specs.Words.{touches, writes};
 

@@ -47,7 +47,7 @@ fn comes_first(plan: &Plan, first: u32) -> bool
 
 /// Whether of each two jobs that clash the lower is ordered before the higher.
 ///
-/// It takes each pair of jobs, and of those that clash each way from one to the other.
+/// It looks at each pair of jobs, and for those that clash it may follow each path from one to the other.
 pub fn is_race_free(plan: &Plan) -> bool
     ensures { IsTrue result → IsRaceFree plan.now }
 {
@@ -73,7 +73,7 @@ fn lies_in(foot: &Foot, size: u64) -> bool
     end_below(foot.writes.as_slice(), size) && end_below(foot.reads.as_slice(), size)
 }
 
-/// Whether each foot lies in a memory of so many words.
+/// Whether each foot lies in a memory of `size` words.
 pub fn are_within(plan: &Plan, size: u64) -> bool
     ensures { IsTrue result → AreWithin size plan.now }
 {
@@ -85,8 +85,8 @@ pub fn are_within(plan: &Plan, size: u64) -> bool
     true
 }
 
-/// Whether the lists are one more than the jobs, all of one length, and each as the one before outside what its job may
-/// write.
+/// Whether there is one list more than jobs, all lists have one length, and each agrees with the one before outside
+/// what its job may write.
 pub fn is_script(plan: &Plan, size: usize, script: &Script) -> bool
     ensures { IsTrue result → IsScript plan.now size script.now }
 {

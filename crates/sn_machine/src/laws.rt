@@ -40,14 +40,13 @@ pub fn claim_keeps()
     ensures { (s : State) (id : ℕ) (v : Seen) (j : ℕ) → RoundHolds s → At s.views id v → CanClaim v j → RoundHolds (after_claim s id v j) }
 {}
 
-/// A law: a claim finds 0 only where each predecessor of the job has ended, and no view owes a release of the job for
-/// it.
+/// A law: a claim finds 0 only if each predecessor of the job has ended, and no view owes a release of the job for it.
 pub fn claim_is_ready()
     ensures { (s : State) (id : ℕ) (v : Seen) (j : ℕ) → RoundHolds s → At s.views id v → CanClaim v j → slice_index s.counts j ≡ 0
         → (p : ℕ) → Contains (predecessors v.worker.jobs j) p → (is_ended s.counts p ≡ true) × ((i : ℕ) (u : Seen) → At s.views i u → Contains u.worker.debts (p, j) → ⊥) }
 {}
 
-/// A law: on the sweep's seat a claim finds 0 exactly where the job is not known to have ended, and each of its
+/// A law: on the sweep's seat a claim finds 0 exactly if the job is not known to have ended, and each of its
 /// predecessors is.
 pub fn sweep_finds()
     ensures { (s : State) (id : ℕ) (v : Seen) (j : ℕ) → RoundHolds s → At s.views id v → CanClaim v j → v.worker.sweeps ≡ true → (slice_index s.counts j ≡ 0) ↔ IsFree v j }
@@ -118,7 +117,7 @@ pub fn runs_count_the_crew()
     ensures { (s t : State) (run : Reaches s t) (m : Seen) → ((u : Seen) → At s.views 0 u → IsInRound u → ⊥) → At t.views 0 m → IsInRound m → crew_in m.main.phase ≡ crew_of run }
 {}
 
-/// A law: where main may rest after a list of steps, the memory is the last list of the script.
+/// A law: if main may rest after a list of steps, the memory is the last list of the script.
 pub fn runs_end_in_the_script()
     ensures { (s t : State) (m : Seen) → RoundHolds s → Reaches s t → At t.views 0 m → CanRest m → t.memory ≡ last_list m.main.phase }
 {}
@@ -144,7 +143,8 @@ pub fn mains_fit()
 {}
 
 /// A law: from the beginning a list of steps leads through one round to rest, so the conditions of these steps can be
-/// met. It is a round of one job of an empty foot, and main goes, splits, joins and rests, and a worker claims and ends.
+/// met. It is a round of one job of an empty foot, and main goes, splits, joins and rests, and a worker claims and
+/// ends.
 pub fn a_round_can_be_played()
     ensures { (x : ℕ) → (t : State) × Reaches (opening (x ∷ []) (0 ∷ [])) t × ((m : Seen) × At t.views 0 m × (length m.main.rested ≡ 1)) }
 {}

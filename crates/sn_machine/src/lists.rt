@@ -175,7 +175,7 @@ impl Debts {
         &self.items
     }
 
-    /// Puts a debt at the end.
+    /// Appends a debt.
     pub fn push(&mut self, job: u32, successor: u32) -> Result<(), NoMemory>
         ensures { OnOk result (self.new ≡ self.old ++ (job, successor) ∷ []) }
     {
@@ -183,7 +183,7 @@ impl Debts {
         Ok(())
     }
 
-    /// Takes the debt with this number away.
+    /// Removes the debt with this number.
     pub fn remove(&mut self, number: usize)
         requires { number < length self.old }
         ensures { self.new ≡ take number self.old ++ drop (number + 1) self.old }
@@ -224,7 +224,7 @@ impl RestedRounds {
         &self.items
     }
 
-    /// Puts a round at the end.
+    /// Appends a round.
     pub fn push(&mut self, round: Rested) -> Result<(), NoMemory>
         ensures { OnOk result (self.new ≡ self.old ++ round ∷ []) }
     {

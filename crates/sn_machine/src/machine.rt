@@ -198,7 +198,7 @@ impl Machine {
         Ok(true)
     }
 
-    /// Main takes a worker's seat in.
+    /// Main joins a worker's seat.
     pub fn join(&mut self, alloc: Global, seat: usize) -> Result<bool, NoMemory>
         ensures { IfOk result (λ done. Joins (state_of self.old) seat done (state_of self.new)) }
     {

@@ -1,4 +1,4 @@
-//! The steps of main, on its view: where each is allowed, and the view after it.
+//! The steps of main, on its view: whether each is allowed, and the view after it.
 ghost use Rattle.std.specs.Prelude.{◌≡◌, ◌<◌, ◌^◌, ◌-◌, ℕ, [], Contains, IsTrue, IfOk, OnOk, length};
 ghost use Rattle.sn_round.specs.Jobs.{AreJobs};
 ghost use Rattle.sn_machine.specs.States.{IsIdle, no_main, no_worker, spent, jobs_in, script_in, counts_in, crew_in};
@@ -292,7 +292,7 @@ impl View {
         }
     }
 
-    /// Takes in what a worker knows to have ended, and counts its seat no more.
+    /// Adds what a worker knows to have ended, and no longer counts its seat.
     pub fn take_in(&mut self, ended: &[u32]) -> Result<(), NoMemory>
         ensures { OnOk result (self.new ≡ learned self.old ended.now) }
     {

@@ -1,4 +1,4 @@
-//! The steps of a worker, on its view: where each is allowed, and the view after it.
+//! The steps of a worker, on its view: whether each is allowed, and the view after it.
 ghost use Rattle.std.specs.Prelude.{◌≡◌, ◌<◌, ◌^◌, ◌-◌, ◌++◌, true, [], length, IsTrue, IfOk, IfSome, OnOk, None};
 ghost use Rattle.sn_machine.specs.Steps.{CanClaim, claim_view, claim_word, CanLoad, CanStore, CanEnd, read_view, got_view, ended_view, paid_view, debts_of};
 ghost use Rattle.sn_machine.specs.Fits.{job_of, picture_of};
@@ -16,7 +16,7 @@ pub const CLAIMED: u64 = 1 << 62;
 /// The word of a job that has ended.
 pub const ENDED: u64 = 1 << 63;
 
-/// The word of a job after a claim that found this word.
+/// The word of a job after a claim that found `word`.
 pub fn claim_word(word: u64) -> u64
     ensures { result ≡ claim_word word }
 {
@@ -119,7 +119,7 @@ impl View {
         self.worker.last = (job, word);
     }
 
-    /// Begins to run a job, whose word was 0.
+    /// Begins to run a job whose word was 0.
     fn get(&mut self, alloc: Global, job: u32) -> Result<(), NoMemory>
         requires { self.old.worker.readings < 2 ^ 64 - 1 }
         ensures { OnOk result (self.new ≡ got_view self.old job) }
@@ -130,7 +130,7 @@ impl View {
         Ok(())
     }
 
-    /// Claims a job, whose word was this.
+    /// Claims a job whose word was `word`.
     pub fn claim(&mut self, alloc: Global, job: u32, word: u64) -> Result<(), NoMemory>
         requires { self.old.worker.readings < 2 ^ 64 - 1 }
         ensures { OnOk result (self.new ≡ claim_view self.old job word) }
@@ -174,7 +174,7 @@ impl View {
     }
 }
 
-/// What is owed of a job to these successors.
+/// What a job owes to these successors.
 #[tactic(auto, using(crate::proofs::Covering::debts_more))]
 fn debts_of(alloc: Global, job: u32, successors: &[u32]) -> Result<Debts, NoMemory>
     ensures { IfOk result (λ debts. debts ≡ debts_of job successors.now) }

@@ -80,7 +80,7 @@ own_behind : (p : Option BufferPlace) (x : ℕ) → MayBePlace p → 0 < overlap
 own_behind None x is more = absurd (omega (arith, more))
 own_behind (Some p) x is more = omega (arith, is.behind, covered_from p.extent x more)
 
--- the buffers' words lie behind those of the buses
+-- the buffers' words lie after those of the buses
 pub places_behind : (ps : List (Option BufferPlace)) (x : ℕ) → All MayBePlace ps → 0 < overlaps x (live_places ps) → 10368 ≤ x
 places_behind [] x are more = absurd (omega (arith, more, nothing-overlaps x))
 places_behind (p ∷ ps) x are more = elim (leb_tells 1 (overlaps x (place_extents p))) [

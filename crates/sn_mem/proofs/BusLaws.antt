@@ -42,7 +42,7 @@ pub control_at : (ws : List ℕ) (n : ℕ) (d : ControlBus) → n < 1024 → get
 unfolding control_buses
 control_at ws n d low = table_at (control_bus ws) 1024 n d low
 
--- where the words of the audio buses stay, they stay
+-- if the words of the audio buses stay, so do the buses
 pub audio_same : (us ws : List ℕ) → ((j : ℕ) → j < 8320 → get_or us j 0 ≡ get_or ws j 0) → audio_buses us ≡ audio_buses ws
 unfolding audio_buses
 audio_same us ws h = table_same (audio_bus us) (audio_bus ws) 128 (λ n low. audio_bus_same us ws n (λ j p q. h j (omega arith)))
@@ -54,7 +54,7 @@ control_same us ws h = table_same (control_bus us) (control_bus ws) 1024 (λ n l
 pub buses_same : (us ws : List ℕ) → ((j : ℕ) → j < 10368 → get_or us j 0 ≡ get_or ws j 0) → buses_of us ≡ buses_of ws
 buses_same us ws h = same_buses (audio_buses us) (audio_buses ws) (control_buses us) (control_buses ws) (audio_same us ws (λ j p. h j (omega arith))) (control_same us ws (λ j p q. h j q))
 
--- where all other words of the audio buses stay, one bus is changed
+-- if all other words of the audio buses stay, one bus is changed
 pub audio_set : (us ws : List ℕ) (n : ℕ) → n < 128 → ((j : ℕ) → j < 8320 → (65 * n ≤ j → j < 65 * n + 65 → ⊥) → get_or us j 0 ≡ get_or ws j 0) → audio_buses us ≡ set (audio_buses ws) n (audio_bus us n)
 unfolding audio_buses
 audio_set us ws n low h = table_set (audio_bus us) (audio_bus ws) 128 n (audio_bus ws n) low

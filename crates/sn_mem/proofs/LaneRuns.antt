@@ -13,7 +13,7 @@ use Rattle.sn_mem.proofs.Windows.{samples_of_window}
 
 -- ---- what may be read and written
 
--- where a word may be read or written, the moves have room
+-- if a word may be read or written, the moves have room
 pub read_rooms : (ms : List Moved) (size : ℕ) (f : Foot) (at n : ℕ) → MayRead (foot_through ms size f) at n → 0 < n → All HasRoom ms
 read_rooms ms size f at n may lt = rooms size ms (touched_through ms size f (at + 0) (may.each 0 lt)).1.0
 

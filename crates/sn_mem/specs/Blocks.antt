@@ -45,7 +45,8 @@ unfoldable pub scan : {S : Type 0} → (S → List (List ℤ) → ℕ → S × �
 scan step s inputs zero = (s, [])
 scan step s inputs (suc k) = let r = scan step s inputs k in let t = step r.0 inputs k in (t.0, r.1 ++ t.1 ∷ [])
 
--- a recurrence over a block, from the words that hold its state: the words that hold it after the block, and the samples
+-- a recurrence over a block, from the words that hold its state: the words that hold it after the block, and the
+-- samples
 abbrev pub recurrence : {S : Type 0} → (List ℕ → S) → (S → List ℕ) → (S → List (List ℤ) → ℕ → S × ℤ) → List ℕ → List (List ℤ) → List ℕ × List ℤ
 recurrence loaded stored step state inputs = let r = scan step (loaded state) inputs block_frames in (stored r.0, r.1)
 

@@ -52,7 +52,8 @@ unfoldable pub live_places : List (Option BufferPlace) → List Extent
 live_places [] = []
 live_places (p ∷ ps) = place_extents p ++ live_places ps
 
--- a buffer has at least one frame, as many as a sample can say, and 1 to 8 channels, and for each sample a word behind those of the buses
+-- a buffer has at least one frame and at most as many as a sample can say, 1 to 8 channels, and for each sample a word
+-- after those of the buses
 pub record IsPlace (p : BufferPlace) : Type 0 where
   pub frames : 1 ≤ p.frames
   pub short : p.frames < 2147483648

@@ -19,18 +19,18 @@ pub record Buses : Type 0 where
   pub audio : List AudioBus
   pub control : List ControlBus
 
--- what is read where no such bus is
+-- what is read if there is no such bus
 abbrev pub silent : AudioBus
 silent = record { written = 0; samples = [] }
 
 abbrev pub resting : ControlBus
 resting = record { written = 0; value = pos 0 }
 
--- the sample at frame k of an audio bus in block b: 0 where the bus was not written in this block
+-- the sample at frame k of an audio bus in block b: 0 if the bus was not written in this block
 abbrev pub heard : ℕ → AudioBus → ℕ → ℤ
 heard b bus k = cond (bus.written == b + 1) (slice_index_or bus.samples k (pos 0)) (pos 0)
 
--- the number of an audio bus, where there is one
+-- the number of an audio bus, if there is one
 abbrev pub audio_number : ℤ → Option ℕ
 audio_number (pos n) = cond (nat_lt n audio_bus_count) (Some n) None
 audio_number (negsuc n) = None

@@ -1,4 +1,5 @@
--- The done word of a unit that ends: 0 before its end, 1 from the frame of the end until the block is settled, and 2 after that.
+-- The done word of a unit that ends: 0 before its end, 1 from the frame of the end until the block is settled, and 2
+-- after that.
 use Rattle.std.specs.Prelude.{ℕ, ◌==◌, cond}
 
 -- a unit ends once

@@ -72,7 +72,8 @@ words_where test (suc n) = words_where test n ++ (if test n then record { at = n
 abbrev pub is_through : List Moved → ℕ → List Extent → ℕ → Bool
 is_through ms size es x = are_moves size ms && (not (has (lanes_in ms) x) && has es (place_in ms x))
 
--- A foot through lanes: of a bus what it has of its lane, nothing of a lane, and of all else the same. Nothing, if they are no moves.
+-- A foot through lanes: of a bus what it has of its lane, nothing of a lane, and of all else the same. If the list is
+-- not one of moves, it has nothing.
 abbrev pub foot_through : List Moved → ℕ → Foot → Foot
 foot_through ms size f = record { reads = words_where (is_through ms size f.reads) size; writes = words_where (is_through ms size f.writes) size }
 
@@ -82,13 +83,14 @@ foot_through ms size f = record { reads = words_where (is_through ms size f.read
 unfoldable pub seen_through : List Moved → List ℕ → List ℕ
 seen_through ms ws = table (λ x. slice_index ws (if has (buses_in ms) x then place_in ms x else x)) (length ws)
 
--- What a change makes of the words: what it made of a bus goes to the lane, the bus stays as it was, and all else is as it was made.
+-- What a change makes of the words: what it made of a bus goes to the lane, the bus stays as it was, and all else is as
+-- it was made.
 unfoldable pub laid : List Moved → List ℕ → List ℕ → List ℕ
 laid ms us ws = table (λ x. if has (buses_in ms) x then slice_index ws x else if has (lanes_in ms) x then slice_index us (place_in ms x) else slice_index us x) (length ws)
 
 abbrev pub through : List Moved → (List ℕ → List ℕ) → List ℕ → List ℕ
 through ms change ws = laid ms (change (seen_through ms ws)) ws
 
--- the same where the words have room for the moves; or else nothing is changed
+-- the same if the words have room for the moves; or else nothing is changed
 abbrev pub through_if : List Moved → (List ℕ → List ℕ) → List ℕ → List ℕ
 through_if ms change ws = if are_moves (length ws) ms then through ms change ws else ws

@@ -5,7 +5,7 @@ use Rattle.sn_mem.specs.declared.extents.Extent.{Extent}
 use Rattle.sn_mem.specs.declared.extents.Foot.{Foot}
 use Rattle.sn_mem.specs.Words.{covers}
 
--- the later begin lies in both
+-- the later first word lies in both
 abbrev pub meet : Extent → Extent → Bool
 meet a b = nat_lt (max a.at b.at) (a.at + a.len) && nat_lt (max a.at b.at) (b.at + b.len)
 

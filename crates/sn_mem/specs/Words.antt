@@ -33,7 +33,7 @@ pub record MayRead (f : Foot) (at n : ℕ) : Type 0 where
   pub below : at + n < 4294967296
   pub each : (i : ℕ) → i < n → touches f (at + i) ≡ true
 
--- a port is the same but for its words: what may be read and written, and what else a caller knows of it
+-- a port is the same except for its words: what may be read and written, and what else a caller knows of it
 abbrev pub SameButWords : {Port Rest : Type 0} → (Port → Foot) → (Port → Rest) → Port → Port → Type 0
 SameButWords foot rest old new = (foot new ≡ foot old) × (rest new ≡ rest old)
 

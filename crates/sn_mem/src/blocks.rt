@@ -53,7 +53,7 @@ impl Blocks {
         self.used
     }
 
-    /// Takes all blocks out.
+    /// Removes all blocks.
     pub fn clear(&mut self)
         ensures { self.new ≡ [] }
     {
@@ -61,7 +61,7 @@ impl Blocks {
         self.steady = true;
     }
 
-    /// Puts a block at the end.
+    /// Appends a block.
     pub fn push(&mut self, samples: &Block)
         requires { length self.old < most_wires }
         ensures { self.new ≡ self.old ++ samples.now ∷ [] }
@@ -71,7 +71,7 @@ impl Blocks {
         self.used += 1;
     }
 
-    /// Puts a block of equal samples at the end.
+    /// Appends a block of equal samples.
     pub fn push_equal(&mut self, value: i32)
         requires { length self.old < most_wires }
         ensures { self.new ≡ self.old ++ replicate block_frames value ∷ [] }
@@ -80,7 +80,7 @@ impl Blocks {
         self.used += 1;
     }
 
-    /// Puts the blocks of another list at the end.
+    /// Appends the blocks of another list.
     pub fn append(&mut self, other: &Blocks)
         requires { length self.old + length other.now ≤ most_wires }
         ensures { self.new ≡ self.old ++ other.now }
@@ -90,7 +90,7 @@ impl Blocks {
         }
     }
 
-    /// Makes it a list of so many blocks, whatever is in them.
+    /// Resizes the list to `count` blocks. What they hold is not specified.
     pub fn resize(&mut self, count: usize)
         requires { count ≤ most_wires }
         ensures { length self.new ≡ count }
@@ -112,8 +112,8 @@ impl Blocks {
         self.steady
     }
 
-    /// The sample of a block at a frame. Where all blocks are known to be of equal samples it is read at the first
-    /// frame, so that a loop over frames reads it once.
+    /// The sample of a block at a frame. If all blocks are known to have equal samples, it is read at the first frame,
+    /// so that a loop over frames reads it once.
     pub fn at(&self, number: usize, frame: usize) -> i32
         requires number { number < length self.now }
         requires frame { frame < block_frames }

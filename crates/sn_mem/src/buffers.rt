@@ -35,7 +35,7 @@ impl Model for Buffers {
     ghost view = { λ b. b.places.items };
 }
 
-/// So many numbers without a buffer.
+/// `numbers` numbers without a buffer.
 fn none_allocated(alloc: Global, numbers: u32) -> Result<Vec<Option<BufferPlace>>, NoMemory>
     ensures { IfOk result (λ places. places.items ≡ replicate numbers None) }
 {
@@ -52,7 +52,7 @@ impl Buffers {
         })
     }
 
-    /// Where a buffer is, or `None` where none is allocated by this number.
+    /// Where a buffer is, or `None` if none is allocated by this number.
     pub fn place(&self, number: u32) -> Option<BufferPlace>
         ensures { result ≡ slice_index_or self.now number None }
     {

@@ -42,7 +42,7 @@ fn either_meets(a: &Foot, b: &Foot) -> bool
 
 /// Whether one of the two writes a word that the other reads or writes.
 ///
-/// Takes time in the product of the lengths of the two feet.
+/// Its time grows with the product of the lengths of the two feet.
 #[tactic(auto, using(crate::proofs::Meetings::clash_is))]
 pub fn clash(a: &Foot, b: &Foot) -> bool
     ensures { IsTrue result ↔ Clash a.now b.now }

@@ -57,7 +57,7 @@ impl Extents {
         }
     }
 
-    /// Puts an extent at the end. An `Err` changes nothing.
+    /// Appends an extent. An `Err` changes nothing.
     pub fn push(&mut self, extent: Extent) -> Result<(), NoMemory>
         ensures ok { OnOk result (self.new ≡ self.old ++ extent ∷ []) }
         ensures err { OnErr result (self.new ≡ self.old) }

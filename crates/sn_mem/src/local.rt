@@ -37,7 +37,7 @@ pub struct LocalPort<'a, P> {
     pub copy: &'a mut [u64],
 }
 
-/// The number of the first word past an extent, or the number of words where that is less.
+/// The number of the first word past an extent, or the number of words if that is less.
 fn end_within(extent: Extent, words: u32) -> u32
     ensures { result ≡ min (extent.at + extent.len) words }
 {
@@ -59,7 +59,7 @@ fn take_extent<P: Port>(port: &mut P, extent: Extent, copy: &mut [u64])
     }
 }
 
-/// Puts a word at a place of a port, by a store only where another one stands there.
+/// Puts a word at a place of a port, by a store only if another one stands there.
 fn put_word<P: Port>(port: &mut P, at: u32, word: u64)
     requires { writes (P.foot port.old) at ≡ true }
     ensures words { P.words port.new ≡ slice_set (P.words port.old) at word }

@@ -40,7 +40,7 @@ impl Moves {
         }
     }
 
-    /// Puts one at the end. An `Err` changes nothing.
+    /// Appends one. An `Err` changes nothing.
     pub fn push(&mut self, moved: Moved) -> Result<(), NoMemory>
         ensures ok { OnOk result (self.new ≡ self.old ++ moved ∷ []) }
         ensures err { OnErr result (self.new ≡ self.old) }
@@ -101,7 +101,7 @@ impl AllMoves {
         }
     }
 
-    /// Puts a list at the end. An `Err` changes nothing.
+    /// Appends a list. An `Err` changes nothing.
     pub fn push(&mut self, moves: Moves) -> Result<(), NoMemory>
         ensures ok { OnOk result (self.new ≡ self.old ++ moves ∷ []) }
         ensures err { OnErr result (self.new ≡ self.old) }

@@ -21,7 +21,7 @@ pub const BUS_WORDS: usize = (AUDIO_WORDS + CONTROL_BUS_COUNT * CONTROL_BUS_WORD
 /// How many lanes there may be.
 pub const MOST_LANES: u32 = 4096;
 
-/// The words of so many lanes.
+/// The words of `MOST_LANES` lanes.
 pub const LANE_WORDS: u32 = MOST_LANES * AUDIO_BUS_WORDS;
 
 /// The places of buses in the memory words: audio buses from word 0 on, then control buses.

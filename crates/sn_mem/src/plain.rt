@@ -12,7 +12,7 @@ pub struct PlainPort {
 }
 
 impl PlainPort {
-    /// So many words, all 0.
+    /// This many words, all 0.
     pub fn new(alloc: Global, words: u32) -> Result<PlainPort, NoMemory>
         ensures { IfOk result (λ p. p.words.items ≡ replicate words 0) }
     {

@@ -12,8 +12,8 @@ use sn_ports::limits::BLOCK_FRAMES;
 
 /// A unit with one output, by its recurrence.
 ///
-/// A unit may remember what it has computed, so as not to compute it again at the next frame. What it
-/// remembers ends with the block, and its step doesn't depend on it.
+/// A unit may remember what it has computed, and needn't compute it again at the next frame. What it remembers ends
+/// with the block, and its step doesn't depend on it.
 pub trait Recurrence: Copy {
     type State: Stored;
 
@@ -23,7 +23,7 @@ pub trait Recurrence: Copy {
     /// From the state before a frame: the state after it, and the frame's sample.
     ghost step: { Self → Self.State → List (List ℤ) → ℕ → Self.State × ℤ };
 
-    /// One frame. The unit stays the same but for what it remembers.
+    /// One frame. The unit stays the same except for what it remembers.
     fn next(&mut self, state: Self::State, inputs: &Blocks, frame: usize) -> (Self::State, i32)
         requires inputs { arity self.old ≤ length inputs.now }
         requires frame { frame < block_frames }
@@ -32,7 +32,7 @@ pub trait Recurrence: Copy {
         ensures arity { arity self.new ≡ arity self.old };
 }
 
-/// Runs a unit from a state for the frames of a block. Gives the state after them.
+/// Runs a unit from a state for the frames of a block. Returns the state after them.
 #[inline(always)]
 fn run_frames<U: Recurrence>(
     unit: &U,
@@ -54,8 +54,8 @@ fn run_frames<U: Recurrence>(
     state
 }
 
-/// The same where the inputs are steady. It is a function of its own, so that a compiler doesn't make one call of both,
-/// and its loop reads the inputs once and not at each frame.
+/// The same if the inputs are steady. It is a function of its own, so that a compiler doesn't merge the two, and its
+/// loop reads the inputs once and not at each frame.
 #[inline(always)]
 fn run_steady_frames<U: Recurrence>(
     unit: &U,

@@ -23,7 +23,7 @@ pub fn load_words<P: Port>(port: &mut P, at: u32, into: &mut [u64])
     port.load_run(at, into);
 }
 
-/// Stores the words at word `at` and on.
+/// Stores the words from word `at` on.
 pub fn store_words<P: Port>(port: &mut P, at: u32, words: &[u64])
     requires { MayWrite (P.foot port.old) at (length words.now) }
     ensures words { P.words port.new ≡ put (P.words port.old) at words.now }

@@ -38,14 +38,14 @@ impl Values {
         Ok(Values { items, used: 0 })
     }
 
-    /// Takes all values out.
+    /// Removes all values.
     pub fn clear(&mut self)
         ensures { self.new ≡ [] }
     {
         self.used = 0;
     }
 
-    /// Puts a value at the end.
+    /// Appends a value.
     pub fn push(&mut self, value: i32)
         requires { length self.old < most_wires }
         ensures { self.new ≡ self.old ++ value ∷ [] }
@@ -63,8 +63,8 @@ impl Values {
     }
 }
 
-/// What a synth needs besides its port while it runs. What it holds between two runs means nothing,
-/// but for the heights, which never change.
+/// What a synth needs besides its port while it runs. What it holds between two runs means nothing, except for the
+/// heights, which never change.
 #[derive(Drop)]
 pub struct Scratch {
     /// The outputs of the units so far.
@@ -81,7 +81,7 @@ pub struct Scratch {
     pub buses: Vec<u64>,
 }
 
-/// So many words.
+/// This many words.
 fn some_words(alloc: Global, count: usize) -> Result<Vec<u64>, NoMemory> {
     Ok(vec![in alloc; 0u64; count]?)
 }

@@ -11,7 +11,7 @@ use Rattle.sn_nodecmd.specs.declared.runs.Run.{Run}
 use Rattle.sn_nodecmd.specs.Runs.{run_of}
 use Rattle.sn_nodecmd.specs.Covering.{Covers, IsCovered, AreLeft}
 
--- ---- controls that agree but for n of them from the one at k on
+-- ---- controls that agree except for n of them from the one at k on
 
 abbrev Agree : List Control → List Control → ℕ → ℕ → Type 0
 Agree [] [] k n = Unit {0}
@@ -84,7 +84,7 @@ values-over (v ∷ vs) xs ys k (suc n) few a =
     let next : suc k ≡ k + 1 = omega arith in
     values-over vs (set xs k (plain v)) (set ys k (plain v)) (k + 1) n (omega arith) (subst (λ (m : ℕ). Agree (set xs k (plain v)) (set ys k (plain v)) m n) next (agree-first xs ys k n (plain v) a))
 
--- controls that agree but for those of a run
+-- controls that agree except for those of a run
 abbrev AgreeBut : Option ℕ → ℕ → List Control → List Control → Type 0
 AgreeBut None n xs ys = xs ≡ ys
 AgreeBut (Some k) n xs ys = Agree xs ys k n

@@ -95,7 +95,7 @@ within d (numbered (pos n)) k e = numbered-within (nat_lt n (length d.controls))
 within d (numbered (negsuc n)) k e = absurd cc
 within d (named name) k e = (position-Some (λ (c : Parameter). bytes_eq c.name name) d.controls k no_parameter e).0
 
--- the control with a number may be read where all may be read
+-- the control with a number may be read if all may be read
 single : (f : Foot) (cs : List Control) (k : ℕ) → k < length cs → MayFollow f cs → MayFollow f (get_or cs k no_control ∷ [])
 single f cs k lt all zero e one = all k no_control lt
 single f cs k lt all (suc j) e one = absurd (omega arith)

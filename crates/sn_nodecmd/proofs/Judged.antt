@@ -34,7 +34,7 @@ by_tests false false false false synth true many = refl
 by_tests false false false false synth false true = refl
 by_tests false false false false synth false false = refl
 
--- where a node goes inside its target, that is no synth
+-- if a node goes inside its target, that is no synth
 pub outside_synth : (inside synth : Bool) → (inside && synth) ≡ false → inside ≡ true → synth ≡ false
 outside_synth true synth h is = h
 outside_synth false synth h is = absurd (true≢false (sym is))

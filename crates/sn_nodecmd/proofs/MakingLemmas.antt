@@ -59,7 +59,7 @@ pub record IsMade (id : ℤ) (r : NewNode) (d : Definition) (controls : List Con
   pub added : IsAdded id r held (state_words old.rate d) old new e
   pub words : us ≡ cleared ws e.at e.len
 
--- the extents that are live once those of the replaced nodes are given back
+-- the extents that are live after those of the replaced nodes are given back
 pub freed_live : (r : NewNode) (old : Stage) (ws : List ℕ) (pool : PoolState) → IsFreed r old pool → Pictures old ws
     → (e : Extent) → 1 ≤ e.len → times e pool.live ≡ times e (left_live (replaces r.action) r.target old)
 freed_live r old ws pool freed before e some = omega (
@@ -162,7 +162,7 @@ made_is id r d controls held old new ws us e what each allowed o adds is words =
 
 -- ---- the row
 
--- a world with a synth more
+-- a world with one more synth
 abbrev with_node : Stage → List ℕ → ℤ → Definition → ℕ → NewNode → List Control → World
 with_node old ws id d at r controls = record (world_of old ws) { nodes = placed r (leaf id kinds.Synth (synth (record { definition = d; controls = controls; state = replicate (state_words old.rate d) 0; extent = record { at = at; len = state_words old.rate d } }))) (world_of old ws).nodes }
 

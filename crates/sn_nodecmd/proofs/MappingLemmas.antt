@@ -136,7 +136,7 @@ all-fine t (m ∷ ms) h =
 
 -- ---- controls that follow buses
 
--- each control as it was, but for the one that is set
+-- each control as it was, except for the one that is set
 set-keeps-but : (P : Control → Type 0) (cs : List Control) (k j : ℕ) (new d : Control) → (j ≡ k → P new) → P (get_or cs j d) → P (get_or (set cs k new) j d)
 set-keeps-but P [] k j new d pn h = h
 set-keeps-but P (c ∷ cs) zero zero new d pn h = pn refl

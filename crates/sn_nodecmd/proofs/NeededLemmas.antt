@@ -1,4 +1,4 @@
--- Mappings that later ones make needless, and those behind the first one that is refused.
+-- Mappings that later ones make unnecessary, and those after the first one that is refused.
 use Rattle.std.proofs.Common.{◌≡◌, ◌≢◌, ◌<◌, ◌≤◌, ◌+◌, ℕ, zero, suc, ℤ, Bool, true, false, not, nat_lt, List, [], ◌∷◌, ◌++◌, map, length, drop, take, get_or, Option, Some, None, ◌⊎◌, inl, inr, Result, Ok, refl, ap, sym, subst, ◌∙◌, ⊎_elim, arith}
 use Rattle.std.specs.Prelude.{if◌then◌else◌}
 use Rattle.std.specs.List.{position, position_or_len}
@@ -75,7 +75,7 @@ module _ (t : Nodes Held) where
   left_refused (m ∷ ms) left more f (inl l) = ap (λ all. all_refuse (all ++ more)) l.1.0 ∙ ap (or_else (refuses m)) (left_refused ms l.0 more f.1 l.1.1)
   left_refused (m ∷ ms) left more f (inr l) = left_refused ms left more f.1 l.1 ∙ sym (without_covered m ms more f.0 f.1 l.0)
 
-  -- none behind a refused one is asked
+  -- none after a refused one is asked
   pub bus_refused : (b : Read) → is_followable b.bus ≡ false → refuses b ≡ Some Bus
   bus_refused b f = ap (λ g. first_of ((not g, Bus) ∷ (takes b, IndexControl) ∷ [])) f
 

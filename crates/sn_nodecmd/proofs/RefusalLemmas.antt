@@ -50,7 +50,7 @@ followable-to ms i some =
 pub followable-whole : (ms : List Read) → None ≡ position is_bad ms → ms ≡ followable ms
 followable-whole ms none = sym (take_all (position_or_len is_bad ms) ms (none_bad ms (sym none)))
 
--- the first one whose bus can't be followed, and those behind it
+-- the first one whose bus can't be followed, and those after it
 record IsBadIn (ms : List Read) (before : List Read) : Type 0 where
   first : Read
   others : List Read

@@ -148,7 +148,7 @@ allowed_tests false true false false false false h = (refl, refl, refl)
 move_allowed : (m : NodeMove) (t : Nodes Held) → move_refusal m t ≡ None → (holds m.target t ≡ true) × (holds m.target (subtree m.id t) ≡ false) × (is_in_synth m.action m.target t ≡ false)
 move_allowed m t allowed = allowed_tests (is_missing m.id t) (holds m.target t) (int_eq m.id (pos 0)) (is_beside_root m.action m.target) (is_in_synth m.action m.target t) (holds m.target (subtree m.id t)) allowed
 
--- the target stays where the node is taken out
+-- the target stays when the node is taken out
 target_left : (m : NodeMove) (t : Nodes Held) → move_refusal m t ≡ None → holds m.target (without m.id t) ≡ true
 target_left m t allowed = let tests = move_allowed m t allowed in left_there m.target m.id t tests.0 tests.1
 

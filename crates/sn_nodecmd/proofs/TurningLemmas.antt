@@ -77,7 +77,7 @@ keeps_running id on tree = record {
 pub keeps_turned : (old new : Stage) (id : ℤ) (on : Bool) → new ≡ with_tree (running id on old.tree) old → Keeps old new
 keeps_turned old new id on is = keeps_with old new (running id on old.tree) old.next_id (keeps_running id on old.tree) is
 
--- ---- replies behind others
+-- ---- replies after others
 
 pub earlier-more : (a b c : List ReplyShape) → take (length a) b ≡ a → take (length b) c ≡ b → take (length a) c ≡ a
 earlier-more a b c first second =

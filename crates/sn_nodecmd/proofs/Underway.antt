@@ -59,7 +59,7 @@ module _ (left : ℕ) (mark : Mark) (old now : Stage) (is : IsUnderway left mark
         closed = closed;
       }
 
--- a repetition more
+-- one more repetition
 pub underway_more : (left : ℕ) (mark : Mark) (old now new : Stage) → IsUnderway (1 + left) mark old now → Keeps now new → IsUnderway left mark old new
 underway_more left mark old now new is keeps = record {
   pool = keeps.pool ∙ is.pool;

@@ -1,4 +1,4 @@
--- One repetition, where the arguments are no more than that.
+-- One repetition, if the arguments are no more than that.
 use Rattle.std.specs.Prelude.{List, [], ◌∷◌, Option, None}
 use Rattle.sn_osc.specs.Shape.{Argument}
 

@@ -6,7 +6,7 @@ use Rattle.sn_world.specs.Rows.{pairs}
 use Rattle.sn_world.specs.NewSynth.{NewSynth, control_value}
 use Rattle.sn_nodecmd.specs.declared.asked.AskedSynth.{AskedSynth}
 
--- controls and their values in turns
+-- controls and their values, in turn
 abbrev pub AreValues : List Arg → Type 0
 AreValues args = is_some (pairs control_value (map argument_of args)) ≡ true
 

@@ -4,7 +4,7 @@ use Rattle.sn_reply.specs.declared.reason.Reason.TheVariants as Reasons
 use Rattle.sn_tree.specs.declared.node.TreeFault.{TreeFault}
 use Rattle.sn_tree.specs.declared.node.TreeFault.TheVariants as faults
 
--- what a client is told where the tree has a fault
+-- what a client is told if the tree has a fault
 abbrev pub reason_of : TreeFault → Reason
 reason_of faults.InUse = Reasons.IdInUse
 reason_of faults.NoNode = Reasons.NoSuchNode

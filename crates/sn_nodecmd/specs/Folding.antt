@@ -22,20 +22,21 @@ abbrev pub saved_in : Option (Journal Held) → Option (Sides Held)
 saved_in None = None
 saved_in (Some journal) = Some (record { attached = journal.attached; detached = journal.detached })
 
--- no journal is open, and nothing is detached; each extent with a word is live as often as it is that of a synth or a buffer
+-- no journal is open, and nothing is detached; each extent with a word is live as often as it is that of a synth or a
+-- buffer
 pub record IsAtRest (stage : Stage) : Type 0 where
   pub live : (e : Extent) → 1 ≤ e.len → times e stage.pool.live ≡ times e (live_held stage.tree.attached) + times e (live_places stage.buffers)
   pub detached : stage.tree.detached ≡ none
   pub settled : stage.tree.journal ≡ None
   pub closed : stage.pool.journal ≡ None
 
--- a journal is open, with room to take out each node and for a step more
+-- a journal is open, with room to take out each node and for one more step
 pub record CanStep (tree : NodeTree Held) : Type 0 where
   pub is_open : is_some (saved_in tree.journal) ≡ true
   pub room : 1 + count tree.attached ≤ room_in tree.journal
 
--- What no repetition changes: the nodes that the journal restores, and the extents of all nodes, attached or detached. It takes as much
--- of the journal's room as it takes out nodes, and one more at most.
+-- What no repetition changes: the nodes that the journal restores, and the extents of all nodes, attached or detached.
+-- It takes as much of the journal's room as it takes out nodes, and one more at most.
 pub record KeepsTree (old new : NodeTree Held) : Type 0 where
   pub saved : saved_in new.journal ≡ saved_in old.journal
   pub room : room_in old.journal + count new.attached ≤ 1 + room_in new.journal + count old.attached

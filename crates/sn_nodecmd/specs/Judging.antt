@@ -10,7 +10,7 @@ use Rattle.sn_tree.specs.Trees.{Nodes}
 use Rattle.sn_tree.specs.Faults.{insert_fault, replace_fault}
 use Rattle.sn_nodecmd.specs.Faults.{reason_of}
 
--- An add action that is none comes after an id that is in use, and before all others.
+-- An unknown add action comes after an id that is in use, and before all others.
 abbrev pub reason_against_new : Bool → Option TreeFault → Option Reason
 reason_against_new known (Some faults.InUse) = Some Reasons.IdInUse
 reason_against_new false fault = Some Reasons.AddAction

@@ -12,7 +12,7 @@ use Rattle.sn_world.specs.Pictures.{live_held}
 use Rattle.sn_world.specs.declared.stage.Held.{Held}
 use Rattle.sn_world.specs.declared.stage.Stage.{Stage}
 
--- the least place of a pool for so many words; no words stand at the region's begin
+-- the least place of a pool for so many words; no words stand at the beginning of the region
 abbrev pub place_in : PoolState → ℕ → Option ℕ
 place_in pool n = if nat_eq n 0 then Some pool.region.at else least_place pool.region pool.live n
 
@@ -43,7 +43,7 @@ pub record IsAdded (id : ℤ) (r : NewNode) (held : Extent → Held) (n : ℕ) (
   pub place : IsPlace pool n e
   pub stage : new ≡ record old { tree = record { attached = placed r (leaf id kinds.Synth (held e)) old.tree.attached; detached = none; journal = None }; pool = taken e pool }
 
--- where it is there, or else nothing has changed
+-- the synth was added with these words, or else nothing has changed
 abbrev pub Adds : ℤ → NewNode → (Extent → Held) → ℕ → Stage → Stage → Result (Option Extent) NoMemory → Type 0
 Adds id r held n old new (Ok (Some e)) = IsAdded id r held n old new e
 Adds id r held n old new (Ok None) = (pool : PoolState) × IsFreed r old pool × (place_in pool n ≡ None) × (new ≡ old)

@@ -13,7 +13,7 @@ abbrev pub with_pair : Definition → Option ControlValue → List Control → L
 with_pair d None controls = controls
 with_pair d (Some v) controls = with_value (control_of d v.control) v.value controls
 
--- by arguments, which are controls and values in turns
+-- by arguments, which are controls and values, in turn
 abbrev pub set_pairs : Definition → List Argument → List Control → List Control
 set_pairs d [] controls = controls
 set_pairs d (x ∷ []) controls = controls

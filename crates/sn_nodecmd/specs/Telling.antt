@@ -1,4 +1,4 @@
--- What clients are told of a node, beside what they were told before.
+-- What clients are told of a node, besides what they were told before.
 use Rattle.std.specs.Prelude.{◌≡◌, ℤ, Bool, List, ◌++◌, Option, Some, None, Result, Ok, Err}
 use Rattle.sn_ports.specs.declared.failed.NoMemory.{NoMemory}
 use Rattle.sn_mem.specs.declared.extents.Extent.{Extent}
@@ -14,12 +14,13 @@ use Rattle.sn_world.specs.declared.repetition.NewNode.{NewNode}
 use Rattle.sn_world.specs.NewNodes.{replaces, told_if}
 use Rattle.sn_world.specs.World.{World}
 
--- an event of a node that stands so; nothing of one that is not there
+-- an event of a node with this view; nothing of one that isn't there
 abbrev pub told_replies : NodeEvent → ℤ → Option NodeView → List Bool → List ReplyShape → List ReplyShape
 told_replies event id None flags replies = replies
 told_replies event id (Some view) flags replies = replies ++ notices 0 flags (event_message event id view)
 
--- The nodes that are replaced were told to end, and then a new node was told to be there, at its place. What is told rests on the flags.
+-- Clients were told that the replaced nodes end, and then that a new node is there, at its place. What is told depends
+-- on the flags.
 abbrev pub Tells : Bool → List (ℤ × NodeView) → ℤ → Option NodeView → List Bool → List ReplyShape → List ReplyShape → Type 0
 Tells b gone id view flags old new = (w : World) → w.notify ≡ flags → new ≡ told_replies Went id view flags (told_if b gone (record { world = w; replies = old })).replies
 

@@ -16,7 +16,7 @@ pub struct AskedSynth<'a> {
     /// The name of a definition.
     pub name: &'a [u8],
     pub node: NewNode,
-    /// Controls and their values in turns.
+    /// Controls and their values, in turn.
     pub values: &'a [Arg],
 }
 
@@ -39,7 +39,7 @@ fn is_value(control: &Arg, value: &Arg) -> bool
     }
 }
 
-/// Whether the arguments are controls and values in turns.
+/// Whether the arguments are controls and values, in turn.
 fn are_values(arguments: &[Arg]) -> bool
     ensures { result ≡ is_some (pairs control_value (map argument_of arguments.now)) }
 {
@@ -53,7 +53,7 @@ fn are_values(arguments: &[Arg]) -> bool
     rest.is_empty()
 }
 
-/// What arguments ask for, where they are those of `/s_new`.
+/// What arguments ask for, if they are those of `/s_new`.
 pub fn asked_by(arguments: &[Arg]) -> Option<AskedSynth<'_>>
     ensures request { option_map request_of result ≡ new_synth (map argument_of arguments.now) }
     ensures values { IfSome result (λ a. AreValues a.values.now) }

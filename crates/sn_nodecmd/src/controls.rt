@@ -13,7 +13,7 @@ use sn_osc::Arg;
 use sn_ports::NoMemory;
 use std::alloc::Global;
 
-/// The control with a number, where the definition has one.
+/// The control with a number, if the definition has one.
 pub fn numbered(def: &Def, number: i32) -> Option<u32>
     ensures { result ≡ control_of (definition_of def.now) (numbered number) }
 {
@@ -42,7 +42,7 @@ fn put_value(controls: &mut [Control], number: u32, value: i32)
     }
 }
 
-/// Gives a control its value. One that is none of the definition's is ignored.
+/// Gives a control its value. A control that the definition doesn't have is ignored.
 fn set_control(def: &Def, control: &Arg, value: &Arg, controls: &mut [Control])
     ensures { controls.new ≡ with_pair (definition_of def.now) (control_value (argument_of control.now) (argument_of value.now)) controls.old }
 {

@@ -67,7 +67,7 @@ fn push_members(answer: &mut Answer, members: Members<'_, Held>) -> Result<(), N
     Ok(())
 }
 
-/// The message `/g_queryTree.reply` of a group with so many children and these nodes below it.
+/// The message `/g_queryTree.reply` of a group with `children` children and these nodes below it.
 fn tree_message(
     alloc: Global,
     group: i32,

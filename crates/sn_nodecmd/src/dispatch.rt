@@ -97,10 +97,10 @@ fn run_row<P: Port>(
     }
 }
 
-/// Runs a message from a client, where it is a command on nodes.
+/// Runs a message from a client, if it is a command on nodes.
 ///
-/// `Done` comes where the command was carried out, `Failed` with the first reason against it, and `NotMine` where the address is that of
-/// another command or of none. All but `Done` leave the stage, the words and the replies as they were.
+/// `Done` comes if the command was carried out, `Failed` with the first reason against it, and `NotMine` if the address
+/// is that of another command or of none. All but `Done` leave the stage, the words and the replies as they were.
 pub fn run_node_command<P: Port>(
     alloc: Global,
     stage: &mut Stage,

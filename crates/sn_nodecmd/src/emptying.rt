@@ -1,4 +1,4 @@
-//! What lies below groups is freed.
+//! Commands that free what lies below groups.
 ghost use Rattle.std.specs.Prelude.{◌≡◌, ◌<◌, ◌+◌, ◌*◌, ◌^◌, IfOk, OnOk, List, [], ℕ, pos, false, length, map};
 ghost use Rattle.std.specs.List.{All};
 ghost use Rattle.std.specs.Ordering.{int_eq};
@@ -58,7 +58,7 @@ fn synths_of(tree: &Tree<Held>, group: &NodeId) -> Result<Vec<i32>, NoMemory>
     tree.synths_below(group.id)
 }
 
-/// Frees a node and all below it, and tells of each of them. Where it is gone nothing changes.
+/// Frees a node and all below it, and tells of each of them. If it is gone, nothing changes.
 fn free_one(
     alloc: Global,
     stage: &mut Stage,
@@ -78,7 +78,7 @@ fn free_one(
     free_node(alloc, stage, node, replies)
 }
 
-/// Frees nodes one after the other. Each is told at the place where it stands when the earlier ones are gone.
+/// Frees nodes one after the other. Each is told at the place where it stands after the earlier ones are gone.
 fn free_each(
     alloc: Global,
     stage: &mut Stage,

@@ -5,7 +5,7 @@ ghost use Rattle.sn_nodecmd.specs.Faults.{reason_of};
 use sn_reply::Reason;
 use sn_tree::TreeFault;
 
-/// The reason that a client is told where the tree has a fault.
+/// The reason that a client is told if the tree has a fault.
 pub fn reason_of(fault: TreeFault) -> Reason
     ensures { result ≡ reason_of fault }
 {

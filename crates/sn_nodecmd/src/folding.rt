@@ -28,8 +28,8 @@ pub trait Repetition {
     /// What it does.
     ghost act: { Self → Turn → Turn };
 
-    /// Judges a repetition, and does what it asks for where nothing is against it. Else the stage and the replies may be left in the
-    /// midst of it.
+    /// Judges a repetition, and does what it asks for if nothing is against it. Else the stage and the replies may be
+    /// left half changed.
     fn step(
         &self,
         alloc: Global,
@@ -84,8 +84,8 @@ fn commit(stage: &mut Stage, mark: Mark)
     stage.pool.commit(mark);
 }
 
-/// Carries out repetitions one after the other, each judged in what the earlier ones left: all of them, or none. Where there is a reason
-/// against one, or memory runs out, the stage and the replies are as they were.
+/// Carries out repetitions one after the other, each judged in what the earlier ones left: all of them, or none. If
+/// there is a reason against one, or memory runs out, the stage and the replies are as they were.
 pub fn each<R: Repetition>(
     alloc: Global,
     stage: &mut Stage,
@@ -118,7 +118,7 @@ pub fn each<R: Repetition>(
     Ok(None)
 }
 
-/// Carries out repetitions as they were read from arguments, where there is at least one, as `each` does.
+/// Carries out repetitions as they were read from arguments, if there is at least one, as `each` does.
 pub fn run<R: Repetition + Drop>(
     alloc: Global,
     stage: &mut Stage,

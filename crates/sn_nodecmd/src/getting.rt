@@ -100,7 +100,7 @@ fn control_at(controls: &Controls, number: u32) -> Control
     controls.as_slice()[number as usize]
 }
 
-/// Puts a control and its value behind an answer. One that is none of the definition's is ignored.
+/// Appends a control and its value to an answer. A control that the definition doesn't have is ignored.
 fn push_value<P: Port>(
     answer: &mut Answer,
     port: &mut P,
@@ -122,7 +122,7 @@ fn push_value<P: Port>(
     answer.push_int(value)
 }
 
-/// Puts controls and their values behind an answer, one after the other.
+/// Appends controls and their values to an answer, one after the other.
 fn push_values<P: Port>(
     answer: &mut Answer,
     port: &mut P,

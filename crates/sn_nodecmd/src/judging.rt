@@ -72,7 +72,7 @@ pub fn replaces(new: &NewNode) -> bool
     new.action == 4
 }
 
-/// Where the node goes, at the head where no add action has the number.
+/// Where the node goes: at the head if no add action has the number.
 pub fn spot_of(new: &NewNode) -> Spot
     ensures { result ≡ record { action = action_for new.now.action; target = new.now.target } }
 {
@@ -101,21 +101,21 @@ fn reason_against_new(known: bool, fault: Option<TreeFault>) -> Option<Reason>
     }
 }
 
-/// Why the tree refuses a new node that is put beside others, but for want of memory.
+/// Why the tree refuses a new node that is put beside others, apart from `NoMemory`.
 fn fault_of_insert(tree: &Tree<Held>, node: &NodeId, spot: Spot) -> Option<TreeFault>
     ensures { result ≡ insert_fault node.now.id spot.action spot.target tree.now.attached }
 {
     tree.refusal(node.id, spot)
 }
 
-/// Why the tree refuses a new node in the place of its target, but for want of memory.
+/// Why the tree refuses a new node in the place of its target, apart from `NoMemory`.
 fn fault_of_replace(tree: &Tree<Held>, node: &NodeId, new: &NewNode) -> Option<TreeFault>
     ensures { result ≡ replace_fault node.now.id new.now.target tree.now.attached }
 {
     tree.refusal_to_replace(node.id, new.target)
 }
 
-/// Why the tree refuses a new node, but for want of memory.
+/// Why the tree refuses a new node, apart from `NoMemory`.
 fn fault_of(tree: &Tree<Held>, node: &NodeId, new: &NewNode) -> Option<TreeFault>
     ensures { result ≡ fault_by (replaces new.now.action) node.now.id (action_for new.now.action) new.now.target tree.now.attached }
 {
@@ -129,7 +129,8 @@ fn fault_of(tree: &Tree<Held>, node: &NodeId, new: &NewNode) -> Option<TreeFault
 pub fn refusal(tree: &Tree<Held>, node: &NodeId, new: &NewNode) -> Option<Reason>
     ensures { result ≡ node_refusal (Some node.now.id) new.now.action new.now.target tree.now.attached }
 {
-    // A hint for the proof alone: a tree has at most 4,096 nodes, so there is room for one more in the place of another.
+    // A hint for the proof alone: a tree has at most 4,096 nodes, so there is room for one more in the place of
+    // another.
     let _nodes = tree.len();
     reason_against_new(is_known(new), fault_of(tree, node, new))
 }

@@ -1,4 +1,4 @@
-//! Requests of controls without those that later ones make needless.
+//! Requests of controls, without those that later ones make unnecessary.
 ghost use Rattle.std.specs.Prelude.{◌≡◌, true, IfOk};
 ghost use Rattle.sn_nodecmd.specs.Runs.{name_of};
 ghost use Rattle.sn_nodecmd.specs.Covering.{AreJudged, AreLeft, items_in, uncovered};
@@ -7,7 +7,7 @@ use crate::names::NamedControl;
 use sn_ports::NoMemory;
 use std::alloc::Global;
 
-/// From so many requests on those that later ones cover are left out.
+/// From this many requests on, those that later ones cover are left out.
 const MANY: usize = 16;
 
 /// A request of controls. A later one may cover it: that one does all that this one does.
@@ -113,7 +113,7 @@ fn uncovered<T: Copy>(alloc: Global, judged: &[Judged<T>]) -> Result<Vec<T>, NoM
     Ok(left)
 }
 
-/// What is left of requests. If there are many, those that a later one of the same control covers are left out, so that of
+/// What is left of requests. If there are many, those that a later one of the same control covers are left out, so of
 /// many requests of one control only the last is met.
 pub fn latest<T: Copy + Covering>(alloc: Global, items: Vec<T>) -> Result<Vec<T>, NoMemory>
     ensures { IfOk result (λ v. AreLeft T.covered items.items v.items) }

@@ -40,7 +40,7 @@ fn with_number(field: Field, number: i32, control: &Control) -> Control
     }
 }
 
-/// Gives the control at a place a number, if both are there.
+/// Gives a number to the control at a place, if both are there.
 fn lay_at(field: Field, number: Option<i32>, place: usize, controls: &mut Controls)
     ensures { controls.new ≡ laid_at field number place controls.old }
 {

@@ -55,7 +55,7 @@ fn read_mapping<'a>(control: &'a Arg, bus: &Arg) -> Option<Mapping<'a>>
     }
 }
 
-/// The mappings that arguments say, one after the other.
+/// The mappings that arguments give, one after the other.
 fn mappings_of(alloc: Global, arguments: &[Arg]) -> Result<Option<Vec<Mapping<'_>>>, NoMemory>
     ensures { IfOk result (λ found. option_map (λ v. map mapping_of v.items) found ≡ pairs mapping (map argument_of arguments.now)) }
 {

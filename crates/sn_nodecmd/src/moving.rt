@@ -53,7 +53,8 @@ fn move_from(action: AddAction, first: &Arg, second: &Arg) -> Option<NodeMove>
     }
 }
 
-/// Moves with an action, each of two arguments: (id target).. for `/n_before` and `/n_after`, (group id).. for `/g_head` and `/g_tail`.
+/// Moves with an action, each of two arguments: (id target).. for `/n_before` and `/n_after`, (group id).. for
+/// `/g_head` and `/g_tail`.
 fn moves(
     alloc: Global,
     action: AddAction,
@@ -97,7 +98,7 @@ fn shift(tree: &mut Tree<Held>, to: &NodeMove) -> Result<(), TreeFault>
     tree.move_to(to.id, spot_of(to))
 }
 
-/// Moves a node in the tree, where nothing is against it.
+/// Moves a node in the tree, if nothing is against it.
 fn relocate(tree: &mut Tree<Held>, to: &NodeMove) -> Result<(), Reason>
     requires room { HasRoom tree.old.journal }
     ensures reason { refused_by result ≡ move_refusal to.now tree.old.attached }
@@ -156,7 +157,7 @@ fn alone(action: AddAction, arguments: &[Arg]) -> Option<NodeMove>
     }
 }
 
-/// Moves a node, where nothing is against it, and tells no client. It takes no memory, and there is nothing to undo.
+/// Moves a node, if nothing is against it, and tells no client. It takes no memory, and there is nothing to undo.
 fn move_unheard(stage: &mut Stage, to: &NodeMove) -> Option<Reason>
     requires rest { IsAtRest stage.old }
     requires unheard { list_any (λ on. on) stage.old.notify ≡ false }

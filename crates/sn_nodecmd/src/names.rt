@@ -28,7 +28,7 @@ pub fn control_name(argument: &Arg) -> Option<NamedControl<'_>>
     }
 }
 
-/// Its number, where it is one of the definition's.
+/// Its number, if it is one of the definition's.
 pub fn number_of(def: &Def, control: NamedControl<'_>) -> Option<u32>
     ensures { result ≡ control_of (definition_of def.now) (name_of control.entry) }
 {

@@ -39,8 +39,8 @@ pub fn first_bad(mappings: &[Mapping<'_>]) -> Option<usize>
     mappings.iter().position(|mapping| is_bad(mapping))
 }
 
-/// The mapping at a place and what is needed of those before it. That one is the first whose bus can't be followed, so none
-/// after it is looked at.
+/// The mapping at a place and what is needed of those before it. That one is the first whose bus can't be followed, so
+/// none after it is looked at.
 fn needed_to<'a>(
     alloc: Global,
     mappings: Vec<Mapping<'a>>,
@@ -57,8 +57,8 @@ fn needed_to<'a>(
     Ok(left)
 }
 
-/// Mappings that are refused for the same reason as these, or else do the same: of many mappings of one control only the
-/// last is needed.
+/// Mappings that are refused for the same reason as these, or else do the same. Of many mappings of one control only
+/// the last is needed.
 pub fn needed<'a>(alloc: Global, mappings: Vec<Mapping<'a>>) -> Result<Vec<Mapping<'a>>, NoMemory>
     ensures { IfOk result (λ v. AreNeeded (map mapping_of mappings.entry.items) (map mapping_of v.items)) }
 {

@@ -21,7 +21,7 @@ fn notify_flag(arguments: &[Arg]) -> Option<bool>
     }
 }
 
-/// Sets the flag of a client, where there is one with this number.
+/// Sets the flag of a client, if there is one with this number.
 #[tactic(auto, using(std::proofs::lemmas::List::set_past))]
 fn set_flag(flags: &mut Flags, client: u32, on: bool)
     ensures { flags.new ≡ slice_set flags.old client on }

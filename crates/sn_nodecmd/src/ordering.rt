@@ -33,7 +33,7 @@ struct AskedOrder {
     nodes: Vec<NodeId>,
 }
 
-/// What arguments ask for, where they are those of `/n_order`.
+/// What arguments ask for, if they are those of `/n_order`.
 fn asked_by(alloc: Global, arguments: &[Arg]) -> Result<Option<AskedOrder>, NoMemory>
     ensures order { IfOk result (λ found. option_map order_of found ≡ node_order (map argument_of arguments.now)) }
     ensures few { IfOk result (λ found. IfSome found (λ a. length a.nodes.items ≤ length arguments.now)) }
@@ -57,7 +57,7 @@ fn is_place(place: &NodePlace) -> bool
     add_action(place.action).is_some() && place.action != 4
 }
 
-/// Where the first node goes, at the head where no add action has the number.
+/// Where the first node goes: at the head if no add action has the number.
 fn spot_of(place: &NodePlace) -> Spot
     ensures { result ≡ record { action = action_for place.now.action; target = place.now.target } }
 {
@@ -118,7 +118,7 @@ fn attached(tree: &Tree<Held>, nodes: Vec<NodeId>) -> Vec<NodeId>
     nodes
 }
 
-/// The nodes that are there, each once where it comes several times in a row.
+/// The nodes that are there, each once if it comes several times in a row.
 fn listed(tree: &Tree<Held>, nodes: Vec<NodeId>) -> Vec<NodeId>
     ensures listed { result.items ≡ listed nodes.items tree.now.attached }
     ensures few { length result.items ≤ length nodes.items }

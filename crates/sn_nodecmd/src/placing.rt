@@ -33,7 +33,7 @@ use sn_world::{Flags, Held, NewNode, NodeEvent, NodeId, Stage, give_back};
 use std::alloc::Global;
 use std::sync::Arc;
 
-/// Takes so many words at their least place. No words stand where the pool begins.
+/// Takes `words` words at their least place. No words stand where the pool begins.
 fn place(pool: &mut Pool, words: u32) -> Result<Extent, Untaken>
     requires base { pool.old.region.at ≡ bus_words }
     ensures free { IfOk result (λ extent. (extent.len ≡ words) × IsFree pool.old.region pool.old.live words extent.at) }
@@ -78,8 +78,8 @@ fn give_back_replaced(tree: &Tree<Held>, new: &NewNode, pool: &mut Pool)
     }
 }
 
-/// Adds a synth to the tree, and tells of it at its place there, after the ends of the nodes that it replaces. After want of memory it may
-/// be in the tree, and some clients may have been told.
+/// Adds a synth to the tree, and tells of it at its place there, after the ends of the nodes that it replaces. After
+/// `NoMemory` it may be in the tree, and some clients may have been told.
 fn add_and_tell(
     alloc: Global,
     tree: &mut Tree<Held>,
@@ -116,8 +116,8 @@ fn drop_detached(tree: &mut Tree<Held>)
     while let Some(_ended) = tree.free() {}
 }
 
-/// Adds a synth to the tree, and tells of it at its place there, after the ends of the nodes that it replaces. After want of memory the tree
-/// and the replies are as they were.
+/// Adds a synth to the tree, and tells of it at its place there, after the ends of the nodes that it replaces. After
+/// `NoMemory` the tree and the replies are as they were.
 fn add_told(
     alloc: Global,
     tree: &mut Tree<Held>,
@@ -149,8 +149,9 @@ fn add_told(
     }
 }
 
-/// Puts a synth into the tree, tells of it, and answers where its words are: `None` where the pool has no place for them, also once the
-/// nodes that the synth replaces have given theirs back. But for a synth that is there nothing has changed, and nothing was told.
+/// Puts a synth into the tree, tells of it, and returns where its words are. `None` comes if the pool has no place for
+/// them, even after the nodes that the synth replaces have given theirs back. If no synth was put, nothing has changed,
+/// and nothing was told.
 pub fn add_synth(
     alloc: Global,
     stage: &mut Stage,

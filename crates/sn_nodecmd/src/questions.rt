@@ -22,7 +22,7 @@ pub trait Question {
     /// What a client is told.
     ghost act: { ℕ → Self → Turn → Turn };
 
-    /// Answers to a client, where nothing is against it.
+    /// Answers to a client, if nothing is against it.
     fn answer(
         &self,
         alloc: Global,
@@ -34,7 +34,8 @@ pub trait Question {
         ensures earlier { take (length replies.old) replies.new ≡ replies.old };
 }
 
-/// Answers to a client: all questions, or none. Where there is a reason against one, or memory runs out, the replies are as they were.
+/// Answers to a client: all questions, or none. If there is a reason against one, or memory runs out, the replies are
+/// as they were.
 pub fn answer_all<Q: Question>(
     alloc: Global,
     stage: &Stage,

@@ -17,10 +17,10 @@ use sn_world::Held;
 use std::alloc::Global;
 use std::sync::Arc;
 
-/// From so many runs on they are resolved.
+/// From this many runs on, they are resolved.
 const MANY: usize = 16;
 
-/// They are resolved for so many definitions at most.
+/// They are resolved for this many definitions at most.
 const MOST_DEFS: usize = 8;
 
 /// For a definition, the last number that runs give each of its controls.
@@ -30,7 +30,7 @@ pub struct ForDef {
     pub last: Vec<Option<i32>>,
 }
 
-/// Gives the controls from one with a number on their numbers, up to the last control.
+/// Gives numbers to the controls from number `first` on, up to the last control.
 fn enter_from(last: &mut [Option<i32>], first: u32, values: RunValues<'_>)
     ensures { last.new ≡ entered_from first (values_of values.entry) last.old }
 {
@@ -65,7 +65,7 @@ fn enter_all(def: &Def, runs: &[Run<'_>], last: &mut [Option<i32>])
     }
 }
 
-/// So many controls that are given no number yet.
+/// `count` controls that are given no number yet.
 fn no_numbers(alloc: Global, count: usize) -> Result<Vec<Option<i32>>, NoMemory>
     ensures { IfOk result (λ last. last.items ≡ replicate count None) }
 {
@@ -114,7 +114,7 @@ fn has_same_controls(a: &Def, b: &Def) -> bool
     false
 }
 
-/// Whether what was found for a definition is that for another one, and is for at least so many controls.
+/// Whether what was found for a definition is that for another one, and is for at least `count` controls.
 fn serves(one: &ForDef, def: &Def, count: usize) -> bool
     ensures names { result ≡ true → control_names (definition_of one.now.def.value) ≡ control_names (definition_of def.now) }
     ensures enough { result ≡ true → count ≤ length one.now.last.items }
@@ -134,8 +134,8 @@ pub struct Resolved<'a> {
 }
 
 impl Resolved<'_> {
-    /// The last numbers for a definition, if they were found for one whose controls have the same names. They are at
-    /// least so many.
+    /// The last numbers for a definition, if they were found for one whose controls have the same names. There are at
+    /// least `count` of them.
     pub fn last_for(&self, def: &Def, count: usize) -> Option<&[Option<i32>]>
         ensures last { IfSome result (λ last. last.now ≡ last_of (map run_of self.now.runs.now) (definition_of def.now)) }
         ensures enough { IfSome result (λ last. count ≤ length last.now) }
@@ -167,13 +167,13 @@ fn count_all(runs: &[Run<'_>]) -> usize {
     values
 }
 
-/// Whether runs are to be resolved for a definition: it has no more controls than the runs have values, so that to look
-/// at each of its controls takes no longer than to set the values, and none that was found before serves it.
+/// Whether runs are to be resolved for a definition. It has no more controls than the runs have values, so a look at
+/// each of its controls takes no longer than setting the values. And what was found before doesn't serve it.
 fn is_wanted(def: &Def, values: usize, found: &[ForDef]) -> bool {
     def.controls.as_slice().len() <= values && found.len() < MOST_DEFS && !is_known(found, def)
 }
 
-/// Resolves runs, which have so many values, for a definition where that is wanted.
+/// Resolves runs, which have `values` values, for a definition, if that is wanted.
 fn add_def(
     alloc: Global,
     def: &Arc<Def, Global>,

@@ -103,7 +103,7 @@ fn one_value<'a>(value: &Arg) -> Option<RunValues<'a>>
     }
 }
 
-/// One value for so many controls.
+/// One value for `count` controls.
 fn same_values<'a>(count: u32, value: &Arg) -> Option<RunValues<'a>>
     ensures { option_map values_of result ≡ same_values (Some count) (given.number (argument_of value.now)) }
 {
@@ -122,7 +122,7 @@ fn are_ints(arguments: &[Arg]) -> bool
     arguments.iter().all(|argument| is_int(argument))
 }
 
-/// So many values, which the arguments begin with.
+/// `count` values, with which the arguments begin.
 fn first_values(count: u32, arguments: &[Arg]) -> Option<RunValues<'_>>
     ensures within { IfSome result (λ _. count ≤ length arguments.now) }
     ensures values { option_map values_of result ≡ first_values (Some count) (map argument_of arguments.now) }
@@ -243,7 +243,7 @@ pub fn read_run(form: RunForm, arguments: &[Arg]) -> Option<ReadRun<'_>>
     }
 }
 
-/// The runs that arguments say, one after the other.
+/// The runs that arguments give, one after the other.
 pub fn runs_of(
     alloc: Global,
     form: RunForm,

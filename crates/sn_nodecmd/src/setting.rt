@@ -83,7 +83,7 @@ fn asked_runs(
     Ok(Some(AskedRuns { id: *id, runs }))
 }
 
-/// Sets controls in a node and in all nodes below it. Want of memory changes nothing.
+/// Sets controls in a node and in all nodes below it. After `NoMemory` nothing has changed.
 fn set_below(
     alloc: Global,
     tree: &mut Tree<Held>,

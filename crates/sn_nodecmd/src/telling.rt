@@ -1,4 +1,4 @@
-//! Clients are told of events of nodes.
+//! How clients are told of events of nodes.
 ghost use Rattle.std.specs.Prelude.{◌≡◌, ◌++◌, IfOk, OnOk, List, ℕ};
 ghost use Rattle.std.specs.List.{list_any};
 ghost use Rattle.sn_tree.specs.Trees.{view_of};
@@ -35,7 +35,7 @@ fn views_of(tree: &Tree<Held>, node: &NodeId) -> Result<Vec<(i32, NodeView)>, No
     tree.views(node.id)
 }
 
-/// Tells of an event of a node that stands so.
+/// Tells of an event of a node with this view.
 pub fn tell_of(
     alloc: Global,
     flags: &Flags,

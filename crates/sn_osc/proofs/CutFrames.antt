@@ -1,4 +1,4 @@
--- The front of a frame is no longer than a frame.
+-- A prefix of a frame is no longer than the frame.
 use Rattle.std.proofs.Common.{◌≡◌, ℕ, ℤ, ◌≤◌, Bool, true, false, not, cond, ltb, List, length, take, drop, refl, arith}
 use Rattle.std.proofs.lemmas.Bool.{ltb-true}
 use Rattle.std.proofs.lemmas.List.{length-drop}

@@ -1,4 +1,5 @@
--- Where reading a message meets a fault, whole data stand before it that the grammar allows, and a datum that is at fault.
+-- If reading a message meets a fault, whole data that the grammar allows stand before it, and then a datum that is at
+-- fault.
 use Rattle.std.proofs.Common.{◌≡◌, ◌≢◌, ℕ, pos, negsuc, zero, suc, ◌+◌, ◌-◌, ◌%◌, ◌^◌, ◌<◌, ◌≤◌, ◌⊎◌, inl, inr, Bool, true, false, not, cond, ltb, leb, eqb, ◌&&◌, List, [], ◌∷◌, ◌++◌, length, take, drop, map, replicate, Result, Ok, Err, refl, sym, ap, subst, ◌∙◌, append_assoc, append-nil, arith, eq-eqb, take_all}
 use Rattle.std.specs.Int.{w32, to_be_bytes, cast_signed}
 use Rattle.std.specs.List.{list_all}

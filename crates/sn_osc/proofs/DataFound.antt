@@ -1,4 +1,4 @@
--- Reading a message meets the fault that stands behind whole data that the grammar allows.
+-- Reading a message meets the fault that stands after whole data that the grammar allows.
 use Rattle.std.proofs.Common.{◌≡◌, ◌≢◌, ℕ, pos, negsuc, zero, suc, ◌+◌, ◌-◌, ◌%◌, ◌^◌, ◌<◌, inl, inr, Bool, true, false, not, cond, ltb, leb, eqb, ◌&&◌, List, [], ◌∷◌, ◌++◌, length, take, drop, map, replicate, Ok, refl, sym, ap, ◌∙◌, append_assoc, append-nil, arith, ne_eqb}
 use Rattle.std.specs.Int.{w32, to_be_bytes, cast_signed}
 use Rattle.std.proofs.lemmas.Bool.{ltb-false, lt-ltb, le-ltb, le-leb, lt-leb}

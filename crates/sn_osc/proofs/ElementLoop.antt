@@ -21,7 +21,7 @@ pub no_front : (read : Result (List Shape) PacketFault) → with_front [] read �
 no_front (Ok xs) = refl
 no_front (Err f) = refl
 
--- how the rest is read, where there is some
+-- how the rest is read, if there is some
 pub step : (reader : Reader) (end n : ℕ) (bytes : List ℕ) → 0 < length bytes
     → elements_in reader end (suc n) bytes ≡ (element_at end bytes >>= λ parts. reader (end - length parts.1) parts.0 >>= λ first. elements_in reader end n parts.1 >>= λ others. Ok (first ∷ others))
 unfolding elements_in

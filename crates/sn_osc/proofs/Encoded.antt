@@ -64,7 +64,7 @@ mutual
       let b = elements_are xs deep around rest others in
       (parts ∙ ap (λ (t : List ℕ). to_be_bytes w32 (length t) ++ t ++ rest) a.0 ∙ ap (λ (t : List ℕ). to_be_bytes w32 (length (packet_bytes x)) ++ packet_bytes x ++ t) b.0, and_from _ _ a.1 b.1)
 
--- ---- what is allowed is spelled by its bytes, where these are few enough
+-- ---- what is allowed is spelled by its bytes, if these are few enough
 
 argument_spelled : (x : Argument) → is_argument x ≡ true → length (argument_bytes x) < 2 ^ 31 → SpellsArgument x (argument_bytes x)
 argument_spelled (int n) h small = (h, refl)

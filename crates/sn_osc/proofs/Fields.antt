@@ -50,7 +50,7 @@ pub not_yes : (a : Bool) → not a ≡ true → a ≡ false
 not_yes true e = absurd cc
 not_yes false e = refl
 
--- what a reader took from the front
+-- what a reader took from the start
 pub record Takes (bytes text rest : List ℕ) : Type 0 where
   pub parts : bytes ≡ text ++ rest
   pub rest_fits : IsBytes rest

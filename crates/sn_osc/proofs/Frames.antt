@@ -1,4 +1,4 @@
--- Frames stand by themselves: where one begins a list of bytes, what follows does not change it.
+-- Frames stand by themselves: if one begins a list of bytes, what follows doesn't change it.
 use Rattle.std.proofs.Common.{◌≡◌, ℕ, ℤ, ◌+◌, ◌^◌, ◌%◌, ◌<◌, ◌≤◌, Bool, true, false, not, cond, ltb, leb, eqb, ◌&&◌, List, [], ◌++◌, length, take, drop, refl, sym, ap, ◌∙◌, append_assoc, arith}
 use Rattle.std.specs.Int.{w32, to_be_bytes}
 use Rattle.std.proofs.lemmas.Bool.{ltb-false, le-ltb, leb-true}
@@ -28,7 +28,7 @@ first_again packet rest ok few =
     let inside : ltb (length (packet ++ rest)) n ≡ false = le-ltb _ _ (omega (arith, length-append packet rest)) in
     rw (four, size, after, ok, inside, take_at packet rest n refl, drop_at packet rest n refl) refl
 
--- a frame at the front is found, whatever follows it
+-- a frame at the start is found, whatever follows it
 pub frame_found : (packet rest : List ℕ) → is_frame_size (length packet) ≡ true → first_frame (frame_bytes packet ++ rest) ≡ frame packet rest
 frame_found packet rest ok =
     let tests = and_yes (leb 4 (length packet) && leb (length packet) 65536) (eqb (length packet % 4) 0) ok in
@@ -46,7 +46,7 @@ not_bad false size x packet rest e = (refl, e)
 pub same_frame : (a b c d : List ℕ) → frame a b ≡ frame c d → (a ≡ c) × (b ≡ d)
 same_frame a b c d e = (cc, cc)
 
--- a frame that is found stands at the front
+-- a frame that is found stands at the start
 pub frame_stands : (bytes packet rest : List ℕ) → IsBytes bytes → first_frame bytes ≡ frame packet rest → bytes ≡ frame_bytes packet ++ rest
 frame_stands bytes packet rest fits e =
     let n = size_in bytes in

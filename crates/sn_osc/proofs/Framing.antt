@@ -20,7 +20,7 @@ none_at_cut bytes e packet rest size parts = cut_is_not_frame (first_frame bytes
 pub none_at_bad : (bytes : List ℕ) (n : ℤ) → first_frame bytes ≡ bad_size n → HasNoFrame bytes
 none_at_bad bytes n e packet rest size parts = bad_is_not_frame (first_frame bytes) n packet rest e (frame_first packet rest bytes size parts)
 
--- what is kept behind a frame that is taken
+-- what is kept after a frame that is taken
 pub taken_from : (all items bytes front after : List ℕ) (given : ℕ) → all ≡ items → bytes ≡ front → IsTrue (is_frame_size (length front)) → take (length all - given) (drop given all) ≡ frame_bytes front ++ after
     → IsTrue (is_frame_size (length bytes)) × (drop given items ≡ frame_bytes bytes ++ drop (given + (4 + length front)) items)
 taken_from all items bytes front after given are is size parts =

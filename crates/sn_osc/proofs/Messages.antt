@@ -89,7 +89,7 @@ known_tags (blob b ∷ xs) = known_tags xs
 
 -- ---- the tags
 
--- the string at the front begins as the bytes do
+-- the string at the start begins as the bytes do
 pub first_byte : (k : ℕ) (s bytes front rest : List ℕ) → eqb 0 k ≡ false → front ≡ string_bytes s → bytes ≡ front ++ rest → begins_with k bytes ≡ true → begins_with k s ≡ true
 first_byte k [] bytes front rest other spelled parts begins =
     let zero_first : begins_with k bytes ≡ eqb 0 k = ap (begins_with k) (parts ∙ ap (λ (t : List ℕ). t ++ rest) spelled) in

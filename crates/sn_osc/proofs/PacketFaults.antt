@@ -1,4 +1,5 @@
--- Where reading a packet meets a fault, whole data stand before it that the grammar allows, and a datum that is at fault.
+-- If reading a packet meets a fault, whole data that the grammar allows stand before it, and then a datum that is at
+-- fault.
 use Rattle.std.proofs.Common.{◌≡◌, ◌≢◌, ℕ, zero, suc, ◌+◌, ◌-◌, ◌%◌, ◌^◌, ◌<◌, ◌≤◌, ◌⊎◌, inl, inr, Bool, true, false, not, ltb, leb, eqb, ◌&&◌, ◌||◌, List, [], ◌∷◌, ◌++◌, length, take, drop, Ok, Err, refl, sym, ap, subst, ◌∙◌, append_assoc, arith, eq-eqb, IsTrue}
 use Rattle.std.specs.Int.{w32, to_be_bytes}
 use Rattle.std.proofs.lemmas.Bool.{ltb-true, leb-true, eqb-true}
@@ -19,7 +20,7 @@ use Rattle.sn_osc.proofs.DataFaults.{err_is, ok_not_err, bind_err, guard_err, un
 abbrev pub Fault : Type 1
 Fault = ℕ → List ℕ → PacketKind → ℕ → Type 0
 
--- where the reader meets a fault, there is one
+-- if the reader meets a fault, there is one
 abbrev pub Finds : Fault → Reader → Type 0
 Finds Inner reader = (end at : ℕ) (bytes : List ℕ) (g : PacketFault) → at + length bytes ≡ end → length bytes % 4 ≡ 0 → length bytes < 2 ^ 31 → IsBytes bytes → reader end bytes ≡ Err g → Inner at bytes g.kind g.place
 
@@ -139,7 +140,7 @@ bundle_faults deep around reader end at bytes g takes finds is whole small long 
           ]
     ]
 
--- the start of a packet, or what is read where the head of a bundle stands
+-- the start of a packet, or what is read if the head of a bundle stands there
 by_start : (deep around end at : ℕ) (bytes : List ℕ) (g : PacketFault) (slash hash head : Bool) → begins_with 47 bytes ≡ slash → begins_with 35 bytes ≡ hash → is_headed bytes ≡ head → at + length bytes ≡ end → length bytes % 4 ≡ 0 → length bytes < 2 ^ 31 → IsBytes bytes
     → packet_in deep around end bytes ≡ Err g → StartFault at bytes g.kind g.place ⊎ ((slash ≡ false) × (hash ≡ true) × (head ≡ true))
 by_start deep around end at bytes g true hash head is-s is-h is-d is whole small fits e =

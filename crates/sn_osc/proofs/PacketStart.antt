@@ -1,4 +1,4 @@
--- What is read of a packet, by how it begins.
+-- What is read from a packet, by how it begins.
 use Rattle.std.proofs.Common.{◌≡◌, ℕ, zero, suc, ◌-◌, ◌<◌, true, false, List, length, Result, Ok, refl, ap, ◌∙◌, arith}
 use Rattle.sn_osc.specs.declared.fault.PacketFault.{PacketFault}
 use Rattle.sn_osc.specs.declared.fault.PacketKind.TheVariants.{Start, Head, TooDeep}
@@ -11,7 +11,7 @@ use Rattle.sn_osc.specs.Reading.{◌>>=◌, Fails, fault, message_in, tag_in, is
 abbrev pub Read : Type 0
 Read = Result Shape PacketFault
 
--- what is read where the head of a bundle stands
+-- what is read if the head of a bundle stands there
 abbrev pub enclosing : ℕ → ℕ → ℕ → List ℕ → Result Shape PacketFault
 enclosing zero around end bytes = fault TooDeep (end - length bytes)
 enclosing (suc deep) around end bytes = bundle_in (packet_in deep (counts_as around (tag_in bytes))) around end bytes

@@ -59,7 +59,7 @@ frame_first f a bytes size parts = ap (λ t. first_frame t) parts ∙ frame_foun
 no_fault : (x : Shape) (f : List ℕ) (kind : PacketKind) (p : ℕ) → length f ≤ 65536 → Spells x f → FirstFault f kind p → ⊥
 no_fault x f kind p few spelled fault = let read = read_again f x few spelled in let met = read_found f kind p fault in cc
 
--- where a frame stands there is no fault
+-- if a frame stands there, there is no fault
 good_frame : (x : Shape) (f a bytes : List ℕ) (at place : ℕ) (fault : StreamFault) → IsTrue (is_frame_size (length f)) → Spells x f → bytes ≡ frame_bytes f ++ a → FrameFault at bytes place fault → ⊥
 good_frame x f a bytes at place FrameCut size spelled parts h = cut_is_not_frame (first_frame bytes) f a h.2 (frame_first f a bytes size parts)
 good_frame x f a bytes at place FrameSize size spelled parts h = let (n, is, bad) = h in bad_is_not_frame (first_frame bytes) n f a bad (frame_first f a bytes size parts)
@@ -130,7 +130,7 @@ some_left at bytes place FrameCut h = h.1
 some_left at bytes place FrameSize h = let (n, is, bad) = h in not_empty bytes (λ e. cut_is_not_bad (first_frame bytes) n e bad)
 some_left at bytes place (Packet kind) h = let (f, a, p, is, found, first) = h in not_empty bytes (λ e. cut_is_not_frame (first_frame bytes) f a e found)
 
--- the front of a stream that begins with a frame
+-- the start of a stream that begins with a frame
 regroup : (f more rest : List ℕ) → (frame_bytes f ++ more) ++ rest ≡ frame_bytes f ++ (more ++ rest)
 regroup f more rest = append_assoc (frame_bytes f) more rest
 
@@ -182,7 +182,7 @@ one_more (y ∷ ys) front f x h size spelled =
     let (g, more, size', spelled', others, whole) = h in
     (g, more ++ (frame_bytes f), size', spelled', one_more ys more f x others size spelled, ap (λ (t : List ℕ). t ++ (frame_bytes f)) whole ∙ regroup g more (frame_bytes f))
 
--- the bytes at the front are the frame that their size says
+-- the bytes at the start are the frame that their size says
 pub front_frame : (bytes f after : List ℕ) (n : ℕ) → IsBytes bytes → 4 ≤ length bytes → n ≡ size_in bytes → n ≤ length (drop 4 bytes) → f ≡ take n (drop 4 bytes) → after ≡ drop n (drop 4 bytes) → bytes ≡ frame_bytes f ++ after
 front_frame bytes f after n fits long is whole front back =
     let len : length f ≡ n = ap length front ∙ omega (arith, length-take n (drop 4 bytes)) in

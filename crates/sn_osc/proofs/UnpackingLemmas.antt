@@ -1,4 +1,4 @@
--- The whole frames at the front of a stream are the same in whatever pieces it comes.
+-- The whole frames at the start of a stream are the same in whatever pieces it comes.
 use Rattle.std.proofs.Common.{◌≡◌, ℕ, zero, suc, ℤ, ◌+◌, ◌<◌, ◌≤◌, Bool, true, false, not, cond, ltb, List, [], ◌∷◌, ◌++◌, length, take, drop, refl, sym, ap, subst, ◌∙◌, append_assoc, arith}
 use Rattle.std.specs.Int.{w32, from_be_bytes}
 use Rattle.std.proofs.lemmas.Bool.{ltb-false, le-ltb}
@@ -24,13 +24,13 @@ abbrev parts_of : (bytes g r : List ℕ) → first_frame bytes ≡ frame g r
     → (ltb (length bytes) 4 ≡ false) × (not (is_frame_size (size_in bytes)) ≡ false) × (ltb (length (drop 4 bytes)) (size_in bytes) ≡ false) × (take (size_in bytes) (drop 4 bytes) ≡ g) × (drop (size_in bytes) (drop 4 bytes) ≡ r)
 parts_of bytes g r e = frame_parts (ltb (length bytes) 4) (not (is_frame_size (size_in bytes))) (ltb (length (drop 4 bytes)) (size_in bytes)) (int_in bytes) (take (size_in bytes) (drop 4 bytes)) (drop (size_in bytes) (drop 4 bytes)) g r e
 
--- fewer bytes stand behind a frame
+-- fewer bytes stand after a frame
 pub fewer_behind : (bytes packet rest : List ℕ) → first_frame bytes ≡ frame packet rest → length rest < length bytes
 fewer_behind bytes packet rest e =
     let (short, bad, inside, front, behind) = parts_of bytes packet rest e in
     omega (arith, ltb-false _ _ short, sym (ap length behind), length-drop (size_in bytes) (drop 4 bytes), length-drop 4 bytes)
 
--- a frame in front stays one, whatever follows
+-- a frame at the start stays one, whatever follows
 pub frame_stays : (bytes more packet rest : List ℕ) → first_frame bytes ≡ frame packet rest → first_frame (bytes ++ more) ≡ frame packet (rest ++ more)
 frame_stays bytes more packet rest e =
     let size = size_in bytes in
@@ -99,7 +99,7 @@ joins (suc n) a b few = joins_by a b (λ rest less. joins n rest b (omega (arith
 pub unpacked_joined : (a b : List ℕ) → unpacked (a ++ b) ≡ joined_to (unpacked a) b
 unpacked_joined a b = joins (length a) a b (omega arith)
 
--- ---- they are all whole frames at the front, and no others are
+-- ---- they are all whole frames at the start, and no others are
 
 not_false : (b : Bool) → not b ≡ false → b ≡ true
 not_false true e = refl
@@ -113,7 +113,7 @@ frame_sized bytes packet rest e =
     let len : length packet ≡ size = ap length (sym front) ∙ omega (arith, ltb-false _ _ inside, length-take size (drop 4 bytes)) in
     ap is_frame_size len ∙ not_false (is_frame_size size) bad
 
--- what stands behind a frame is bytes
+-- what follows a frame is bytes
 behind_fits : (bytes packet rest : List ℕ) → IsBytes bytes → first_frame bytes ≡ frame packet rest → IsBytes rest
 behind_fits bytes packet rest fits e =
     let (short, bad, inside, front, behind) = parts_of bytes packet rest e in

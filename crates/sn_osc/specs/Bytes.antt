@@ -37,7 +37,7 @@ tag_of (int n) = 105
 tag_of (string s) = 115
 tag_of (blob b) = 98
 
--- a comma, and the tags behind it
+-- a comma, and the tags after it
 abbrev pub tags_bytes : List ℕ → List ℕ
 tags_bytes tags = string_bytes (44 ∷ tags)
 
@@ -98,7 +98,7 @@ is_message m = begins_with 47 m.address && has_no_null m.address && is_body m.bo
 abbrev pub counts_as : ℕ → ℕ → ℕ
 counts_as around tag = if tag == 1 then around else tag
 
--- An enclosed tag may be earlier than the enclosing bundle's only where one of the two is 1.
+-- An enclosed tag may be earlier than the enclosing bundle's only if one of the two is 1.
 abbrev pub is_early : ℕ → ℕ → Bool
 is_early around tag = not (tag == 1) && not (around == 1) && nat_lt tag around
 

@@ -1,4 +1,4 @@
--- The first fault of a packet's bytes: whole data that the grammar allows, and then a datum that is at fault. Bytes that are spoken of
+-- The first fault of a packet's bytes: whole data that the grammar allows, and then a datum that is at fault. The bytes
 -- here begin at a place of the packet.
 use Rattle.std.specs.Prelude.{◌≡◌, ◌≢◌, ◌≤◌, ◌<◌, ◌+◌, ◌-◌, ◌%◌, ◌⊎◌, ℕ, zero, suc, ℤ, pos, negsuc, List, [], ◌∷◌, ◌++◌, length, drop, map, replicate, not, IsTrue}
 use Rattle.std.specs.List.{list_all}
@@ -22,7 +22,8 @@ pub record BadPadding (at room : ℕ) (bytes : List ℕ) (place : ℕ) : Type 0 
   pub inside : nulls < room
   pub there : place ≡ at + nulls
 
--- no null byte before the end of the message; or bytes that are not null, a null byte, and padding of which a byte is not null
+-- no null byte before the end of the message; or bytes that are not null, a null byte, and padding of which a byte is
+-- not null
 abbrev pub StringFault : ℕ → List ℕ → PacketKind → ℕ → Type 0
 StringFault at bytes Unended place = IsTrue (has_no_null bytes) × (place ≡ at)
 StringFault at bytes Padding place = (text : List ℕ) × (rest : List ℕ) × IsTrue (has_no_null text) × (bytes ≡ text ++ 0 ∷ rest) × BadPadding (at + length text + 1) (3 - length text % 4) rest place
@@ -44,7 +45,7 @@ abbrev pub ArgumentFault : ℕ → ℕ → List ℕ → PacketKind → ℕ → T
 ArgumentFault at tag [] kind place = (kind ≡ ShortArgs) × (place ≡ at)
 ArgumentFault at tag (b ∷ bytes) kind place = ((tag ≡ 115) × StringFault at (b ∷ bytes) kind place) ⊎ ((tag ≡ 98) × BlobFault at (b ∷ bytes) kind place)
 
--- the argument of the first tag that is left, or bytes behind the last argument
+-- the argument of the first tag that is left, or bytes after the last argument
 abbrev pub NextArgumentFault : ℕ → List ℕ → List ℕ → PacketKind → ℕ → Type 0
 NextArgumentFault at [] bytes kind place = (0 < length bytes) × (kind ≡ LongArgs) × (place ≡ at)
 NextArgumentFault at (tag ∷ tags) bytes kind place = ArgumentFault at tag bytes kind place
@@ -60,7 +61,7 @@ pub record ArgumentsFault (at : ℕ) (tags bytes : List ℕ) (kind : PacketKind)
   pub tagged : tags ≡ map tag_of before ++ left
   pub why : NextArgumentFault (at + length front) left rest kind place
 
--- The string behind the address: it has no null byte before the end, it begins with no comma, or its padding is bad.
+-- The string after the address: it has no null byte before the end, it begins with no comma, or its padding is bad.
 abbrev pub TagsFault : ℕ → List ℕ → PacketKind → ℕ → Type 0
 TagsFault at bytes NoTags place = IsTrue (not (has_no_null bytes)) × IsTrue (not (begins_with 44 bytes)) × (place ≡ at)
 TagsFault at bytes Padding place = IsTrue (begins_with 44 bytes) × StringFault at bytes Padding place
@@ -93,11 +94,13 @@ MessageFault at bytes kind place = StringFault at bytes kind place ⊎ BehindAdd
 
 -- ---- packets
 
--- below 4, no multiple of 4, or more than the bytes left after it, as each negative size is when it is read without its sign
+-- below 4, no multiple of 4, or more than the bytes left after it, as each negative size is when it is read without its
+-- sign
 abbrev pub IsBadSize : List ℕ → Type 0
 IsBadSize bytes = (size_in bytes < 4) ⊎ ((size_in bytes % 4 ≢ 0) ⊎ (length (drop 4 bytes) < size_in bytes))
 
--- a size that no element may have, or an element with a size that it may have, whose packet is at fault in the way that is given
+-- a size that no element may have, or an element with a size that it may have, whose packet is at fault in the way that
+-- is given
 abbrev pub NextElementFault : (ℕ → List ℕ → PacketKind → ℕ → Type 0) → ℕ → List ℕ → PacketKind → ℕ → Type 0
 NextElementFault Inner at bytes kind place = (4 ≤ length bytes)
     × ((IsBadSize bytes × (kind ≡ ElementSize) × (place ≡ at)) ⊎ ((packet : List ℕ) × (rest : List ℕ) × (4 ≤ length packet) × (length packet % 4 ≡ 0) × (bytes ≡ to_be_bytes w32 (length packet) ++ packet ++ rest) × Inner (at + 4) packet kind place))
@@ -111,13 +114,14 @@ pub record ElementsFault (deep around : ℕ) (Inner : ℕ → List ℕ → Packe
   pub parts : bytes ≡ front ++ rest
   pub why : NextElementFault Inner (at + length front) rest kind place
 
--- The packet begins with neither a slash nor `#`, is a message at fault, or begins with `#` and has no head of a bundle.
+-- The packet begins with neither a slash nor `#`, is a message at fault, or begins with `#` and has no head of a
+-- bundle.
 abbrev pub StartFault : ℕ → List ℕ → PacketKind → ℕ → Type 0
 StartFault at bytes kind place = (IsTrue (not (begins_with 47 bytes)) × IsTrue (not (begins_with 35 bytes)) × (kind ≡ Start) × (place ≡ at))
     ⊎ ((IsTrue (begins_with 47 bytes) × MessageFault at bytes kind place) ⊎ (IsTrue (begins_with 35 bytes) × IsTrue (not (is_headed bytes)) × (kind ≡ Head) × (place ≡ at)))
 
--- A packet that stands in a bundle that counts as around, and in which bundles may nest so deep: its start is at fault; or it is a bundle
--- that stands too deep, has an earlier tag than it may, or has elements of which one is at fault.
+-- A packet that stands in a bundle that counts as around, and in which bundles may nest so deep: its start is at fault;
+-- or it is a bundle. The bundle stands too deep, has an earlier tag than it may, or has an element that is at fault.
 abbrev pub FaultWithin : ℕ → ℕ → ℕ → List ℕ → PacketKind → ℕ → Type 0
 FaultWithin zero around at bytes kind place = StartFault at bytes kind place ⊎ (IsTrue (is_headed bytes) × (kind ≡ TooDeep) × (place ≡ at))
 FaultWithin (suc deep) around at bytes kind place =

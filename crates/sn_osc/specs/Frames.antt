@@ -33,15 +33,15 @@ first_frame bytes =
     if nat_lt (length (drop 4 bytes)) (size_in bytes) then cut else
     frame (take (size_in bytes) (drop 4 bytes)) (drop (size_in bytes) (drop 4 bytes))
 
--- what stands first where no whole frame does
+-- what stands first if no whole frame does
 abbrev pub instead : NoFrame → FirstFrame
 instead noframe.Cut = cut
 instead (noframe.BadSize size) = bad_size size
 
 -- ---- the first fault of a stream
 
--- Why no packet stands at the front of the bytes, which begin at a place of the stream: the first that applies of a cut size, a bad
--- size, a cut packet and a fault of the packet.
+-- Why no packet stands at the start of the bytes, which begin at a place of the stream: the first that applies of a cut
+-- size, a bad size, a cut packet and a fault of the packet.
 abbrev pub FrameFault : ℕ → List ℕ → ℕ → StreamFault → Type 0
 FrameFault at bytes place FrameCut = (place ≡ at) × (0 < length bytes) × (first_frame bytes ≡ cut)
 FrameFault at bytes place FrameSize = (size : ℤ) × (place ≡ at) × (first_frame bytes ≡ bad_size size)

@@ -28,8 +28,8 @@ abbrev pub SpellsArguments : List Argument → List ℕ → Type 0
 SpellsArguments [] bytes = bytes ≡ []
 SpellsArguments (x ∷ xs) bytes = (front : List ℕ) × (rest : List ℕ) × SpellsArgument x front × SpellsArguments xs rest × (bytes ≡ front ++ rest)
 
--- Behind the address stands nothing, or a comma with the arguments' tags and the arguments, or a comma with tags of which one is
--- neither `i` nor `s` nor `b`, and bytes that are not read.
+-- After the address comes one of three things: nothing; a comma with the arguments' tags, and the arguments; or a comma
+-- with tags of which one is neither `i` nor `s` nor `b`, and bytes that are not read.
 abbrev pub SpellsBody : BodyShape → List ℕ → Type 0
 SpellsBody bare bytes = bytes ≡ []
 SpellsBody (arguments xs) bytes = (tags : List ℕ) × (rest : List ℕ) × SpellsString (44 ∷ map tag_of xs) tags × SpellsArguments xs rest × (bytes ≡ tags ++ rest)
@@ -40,7 +40,8 @@ abbrev pub SpellsMessage : MessageShape → List ℕ → Type 0
 SpellsMessage m bytes = (address : List ℕ) × (rest : List ℕ) × IsTrue (begins_with 47 m.address) × SpellsString m.address address × SpellsBody m.body rest × (bytes ≡ address ++ rest)
 
 abbrev mutual
-  -- A message, or a head, a time tag and elements. The packet stands in a bundle that counts as around, and bundles may nest so deep in it.
+  -- A message, or a head, a time tag and elements. The packet stands in a bundle that counts as around, and bundles may
+  -- nest so deep in it.
   pub SpellsWithin : ℕ → ℕ → Shape → List ℕ → Type 0
   SpellsWithin deep around (message m) bytes = SpellsMessage m bytes
   SpellsWithin zero around (bundle tag inner) bytes = ⊥

@@ -1,5 +1,5 @@
--- Reading a packet from left to right, up to the first fault. A place is that of a byte in the whole packet; end is the place
--- behind the last byte of what is read.
+-- Reading a packet from left to right, up to the first fault. A place is that of a byte in the whole packet; end is the
+-- place after the last byte of what is read.
 use Rattle.std.specs.Prelude.{◌≡◌, ◌+◌, ◌-◌, ◌%◌, ℕ, zero, suc, ℤ, List, [], ◌∷◌, length, take, drop, Result, Ok, Err, Bool, not, nat_lt, nat_le, ◌==◌, ◌&&◌, ◌||◌, if◌then◌else◌}
 use Rattle.std.specs.List.{position_or_len, list_all, starts_with}
 use Rattle.std.specs.Int.{w32, w64, from_be_bytes, cast_signed}
@@ -45,7 +45,7 @@ text_len bytes = position_or_len (λ b. b == 0) bytes
 abbrev pub string_len : ℕ → ℕ
 string_len n = n + (4 - n % 4)
 
--- how many null bytes stand at the front
+-- how many null bytes stand at the start
 abbrev pub null_len : List ℕ → ℕ
 null_len bytes = position_or_len (λ b. not (b == 0)) bytes
 
@@ -53,14 +53,14 @@ null_len bytes = position_or_len (λ b. not (b == 0)) bytes
 abbrev pub is_ended : List ℕ → Bool
 is_ended bytes = nat_le (string_len (text_len bytes)) (length bytes)
 
--- so many bytes, and the padding behind them, of which all is null
+-- so many bytes, and the padding after them, of which all is null
 abbrev pub padded_at : ℕ → ℕ → ℕ → List ℕ → Result (List ℕ × List ℕ) PacketFault
 padded_at end n whole bytes =
     let padding = drop n (take whole bytes) in
     if nat_lt (null_len padding) (length padding) then fault Padding (end - length bytes + (n + null_len padding)) else
     Ok (take n bytes, drop whole bytes)
 
--- a string, and the bytes behind it
+-- a string, and the bytes after it
 unfoldable pub string_at : ℕ → List ℕ → Result (List ℕ × List ℕ) PacketFault
 string_at end bytes = if is_ended bytes then padded_at end (text_len bytes) (string_len (text_len bytes)) bytes else fault Unended (end - length bytes)
 
@@ -89,7 +89,7 @@ arguments_at end (tag ∷ tags) bytes = do
   others ← arguments_at end tags first.1
   Ok (first.0 ∷ others.0, others.1)
 
--- the tags behind a comma
+-- the tags after a comma
 unfoldable pub tags_at : ℕ → List ℕ → Result (List ℕ × List ℕ) PacketFault
 tags_at end bytes = if is_ended bytes && not (begins_with 44 bytes) then fault NoTags (end - length bytes) else (do
   tagged ← string_at end bytes
@@ -116,7 +116,7 @@ message_in end bytes = do
 
 -- ---- packets
 
--- the first element's packet, and the bytes behind it
+-- the first element's packet, and the bytes after it
 unfoldable pub element_at : ℕ → List ℕ → Result (List ℕ × List ℕ) PacketFault
 element_at end bytes =
     let size = size_in bytes in
@@ -124,7 +124,7 @@ element_at end bytes =
     if nat_lt (length bytes) 4 || nat_lt size 4 || not (size % 4 == 0) || nat_lt (length rest) size then fault ElementSize (end - length bytes) else
     Ok (take size rest, drop size rest)
 
--- all of the bytes, in at most so many elements, each read from its bytes and the place behind them
+-- all of the bytes, in at most so many elements, each read from its bytes and the place after them
 unfoldable pub elements_in : (ℕ → List ℕ → Result Shape PacketFault) → ℕ → ℕ → List ℕ → Result (List Shape) PacketFault
 elements_in read end n [] = Ok []
 elements_in read end zero (b ∷ bytes) = Ok []
@@ -134,7 +134,7 @@ elements_in read end (suc n) (b ∷ bytes) = do
   others ← elements_in read end n parts.1
   Ok (first ∷ others)
 
--- the time tag behind the head
+-- the time tag after the head
 abbrev pub tag_in : List ℕ → ℕ
 tag_in bytes = from_be_bytes w64 (take 8 (drop 8 bytes))
 
@@ -151,7 +151,7 @@ bundle_in read around end bytes =
 abbrev pub is_headed : List ℕ → Bool
 is_headed bytes = nat_le 16 (length bytes) && starts_with (λ a b. a == b) bytes bundle_head
 
--- a message, or what is read where the head of a bundle stands
+-- a message, or what is read if the head of a bundle stands there
 unfoldable pub packet_or : Result Shape PacketFault → ℕ → List ℕ → Result Shape PacketFault
 packet_or enclosing end bytes =
     if begins_with 47 bytes then (do
@@ -177,7 +177,7 @@ abbrev pub BadHas : Undecoded → (PacketFault → Type 0) → Type 0
 BadHas undecoded.NoMemory P = Unit {0}
 BadHas (undecoded.Bad f) P = P f
 
--- where the bytes are refused, P holds of the fault
+-- if the bytes are refused, P holds of the fault
 abbrev pub IfBad : {X : Type 0} → Result X Undecoded → (PacketFault → Type 0) → Type 0
 IfBad (Ok x) P = Unit {0}
 IfBad (Err e) P = BadHas e P

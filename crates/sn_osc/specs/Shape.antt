@@ -12,7 +12,7 @@ pub data Argument : Type 0 where
   string : List ℕ → Argument
   blob : List ℕ → Argument
 
--- what follows a message's address: nothing, arguments, or tags of which some are foreign, with the bytes behind them
+-- what follows a message's address: nothing, arguments, or tags of which some are foreign, with the bytes after them
 pub data BodyShape : Type 0 where
   bare : BodyShape
   arguments : List Argument → BodyShape

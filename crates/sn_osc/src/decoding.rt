@@ -1,4 +1,4 @@
-//! Packets read from all of their bytes. `end` is the place behind the packet's last byte.
+//! Packets read from all of their bytes. `end` is the place after the packet's last byte.
 ghost use Rattle.std.specs.Prelude.{◌≡◌, ◌≤◌, ◌<◌, ◌+◌, length, map, IfOk, IsTrue, Ok, Err};
 ghost use Rattle.sn_ports.specs.Limits.{most_packet};
 ghost use Rattle.sn_osc.specs.Shape.{Shape, message, bundle, shape, shapes};
@@ -14,10 +14,10 @@ use crate::reading::{bad, begins_with, message, place, size};
 use sn_ports::limits::{MOST_BUNDLES, MOST_PACKET};
 use std::alloc::Global;
 
-/// The tag that means at once.
+/// The tag that means "at once".
 pub const AT_ONCE: u64 = 1;
 
-/// The bytes of the first element's packet, and those behind it.
+/// The bytes of the first element's packet, and those after it.
 #[tactic(auto, unfolding(crate::specs::Reading::element_at))]
 fn element(end: u32, bytes: &[u8]) -> Result<(&[u8], &[u8]), Undecoded>
     requires { length bytes.now ≤ end }
@@ -72,7 +72,7 @@ pub fn counts_as(around: u64, tag: u64) -> u64
     if tag == AT_ONCE { around } else { tag }
 }
 
-/// Whether an enclosed tag is earlier than that of the bundle around it, where neither means at once.
+/// Whether an enclosed tag is earlier than that of the bundle around it, if neither means "at once".
 pub fn is_early(around: u64, tag: u64) -> bool
     ensures { result ≡ is_early around tag }
 {
@@ -108,7 +108,7 @@ fn elements(
     Ok(elements)
 }
 
-/// A bundle in one that counts as `around`, whose elements may nest so deep.
+/// A bundle in one that counts as `around`, whose elements may nest `deep` levels.
 #[cycle(decoding)]
 #[tactic(auto, unfolding(crate::specs::Reading::bundle_in))]
 fn bundle(
@@ -130,7 +130,7 @@ fn bundle(
     Ok(bundle_packet(tag, elements))
 }
 
-/// A packet in a bundle that counts as `around`, in which bundles may nest so deep.
+/// A packet in a bundle that counts as `around`, in which bundles may nest `deep` levels.
 #[cycle(decoding)]
 fn packet(
     alloc: Global,
@@ -157,7 +157,7 @@ fn packet(
     bundle(alloc, deep - 1, around, end, bytes)
 }
 
-/// What is read of the bytes, from left to right.
+/// What is read from the bytes, from left to right.
 #[tactic(auto, unfolding(crate::specs::Reading::read))]
 fn read(alloc: Global, bytes: &[u8]) -> Result<Packet, Undecoded>
     ensures { Gives shape result (read bytes.now) }
@@ -172,9 +172,9 @@ fn read(alloc: Global, bytes: &[u8]) -> Result<Packet, Undecoded>
 ///
 /// Bundles nest no deeper than they may, and decoding goes no deeper, whatever the bytes say.
 pub fn decode(alloc: Global, bytes: &[u8]) -> Result<Packet, Undecoded>
-    // The answer is what reading from left to right gives, or want of memory.
+    // The answer is what reading from left to right gives, or `NoMemory`.
     ensures reads { Gives shape result (read bytes.now) }
-    // A packet comes only where the bytes spell it, and a fault only where it is the first.
+    // A packet comes only if the bytes spell it, and a fault only if it is the first.
     ensures found { IfOk result (λ p. (length bytes.now ≤ most_packet) × Spells (shape p) bytes.now) }
     ensures bad { IfBad result (λ f. FirstFault bytes.now f.kind f.place) }
     // What is spelled is found, and what is at fault is refused, unless memory runs out.

@@ -11,7 +11,7 @@ use crate::packet::{Arg, Body, Bundle, Message, Packet};
 use sn_ports::{NoMemory, Text};
 use std::alloc::Global;
 
-/// So many null bytes, at most 4.
+/// `count` null bytes, at most 4.
 fn put_nulls(out: &mut Text, count: usize)
     requires few { count ≤ 4 }
     requires room { count ≤ out.old.spare }
@@ -136,7 +136,8 @@ fn put_message(out: &mut Text, message: &Message)
     put_body(out, &message.body);
 }
 
-/// Appends the frame of a message: its int32 size, and its spelling. Gives the frame's length. An `Err` changes no byte.
+/// Appends the frame of a message: its int32 size, and its spelling. Returns the frame's length. An `Err` changes no
+/// byte.
 pub fn append_frame(out: &mut Text, message: &Message) -> Result<u32, NoMemory>
     requires { length (message_bytes (message_of message.now)) < 2 ^ 31 }
     ensures frame { OnOk result (out.new.bytes ≡ out.old.bytes ++ frame_bytes (message_bytes (message_of message.now))) }

@@ -45,14 +45,14 @@ pub enum NoFrame {
     BadSize(i32),
 }
 
-/// Whether a packet in a stream may have so many bytes.
+/// Whether a packet in a stream may have `size` bytes.
 fn is_frame_size(size: u32) -> bool
     ensures { result ≡ is_frame_size size }
 {
     size >= 4 && size <= MOST_SIZE && size % 4 == 0
 }
 
-/// The packet's bytes of the first frame, and those behind the frame; or why there is none.
+/// The packet's bytes of the first frame, and the bytes after the frame; or why there is none.
 pub fn first_frame(bytes: &[u8]) -> Result<(&[u8], &[u8]), NoFrame>
     ensures found { IfOk result (λ x. first_frame bytes.now ≡ frame x.0.now x.1.now) }
     ensures stands { IfOk result (λ x. IsTrue (is_frame_size (length x.0.now)) × (bytes.now ≡ frame_bytes x.0.now ++ x.1.now)) }

@@ -14,7 +14,7 @@ use std::marker::Model;
 #[derive(Drop)]
 pub struct Framer {
     alloc: Global,
-    /// The bytes that are kept, behind some that were given.
+    /// The bytes that are kept, after some that were given.
     bytes: Vec<u8>,
     /// How many of the bytes were given.
     given: usize,
@@ -32,7 +32,7 @@ impl Model for Framer {
     ghost invariant = { λ f. (f.given ≤ length f.bytes.items) × (length f.bytes.items < f.given + 2 ^ 32) × (length f.bytes.items ≤ f.given + f.fed) };
 }
 
-/// Takes so many bytes from the front.
+/// Drops `count` bytes from the start.
 fn remove_front(bytes: &mut Vec<u8>, count: usize)
     requires { count ≤ vec_len bytes.old }
     ensures { bytes.new.items ≡ drop count bytes.old.items }
@@ -42,7 +42,7 @@ fn remove_front(bytes: &mut Vec<u8>, count: usize)
     bytes.truncate(len - count);
 }
 
-/// Puts a frame behind the others, where there is room for it.
+/// Puts a frame after the others. There must be room for it.
 fn put_frame(frames: &mut Vec<Frame>, frame: Frame)
     requires { vec_len frames.old < vec_capacity frames.old }
     ensures { frames.new.items ≡ frames.old.items ++ frame ∷ [] }
@@ -66,7 +66,7 @@ impl Framer {
         }
     }
 
-    /// May move what is kept to the front of the memory. What a contract sees stays as it was.
+    /// May move what is kept to the start of the memory. What contracts see stays as it was.
     fn compact(&mut self)
         ensures { self.new ≡ self.old }
     {
@@ -76,7 +76,7 @@ impl Framer {
         }
     }
 
-    /// Puts a piece of the stream behind what is kept. After `NoMemory` all is as before.
+    /// Appends a piece of the stream to what is kept. After `NoMemory` all is as before.
     pub fn feed(&mut self, piece: &[u8]) -> Result<(), NoMemory>
         requires room { length self.old.kept + length piece.now < 2 ^ 32 }
         requires count { self.old.fed < most_count }
@@ -89,9 +89,9 @@ impl Framer {
         Ok(())
     }
 
-    /// The next whole frame, or `None` where what is kept has no whole frame and no bad size at its front.
+    /// The next whole frame, or `None` if what is kept begins with no whole frame and no bad size.
     ///
-    /// At a bad size this call and each later one answer `Bad`: what is kept stays, and what is fed comes behind it.
+    /// At a bad size this call and each later one answer `Bad`: what is kept stays, and what is fed comes after it.
     /// After `NoMemory` all is as before.
     pub fn next(&mut self) -> Result<Option<Frame>, Unframed>
         ensures { Next self.old self.new result }
@@ -138,7 +138,8 @@ impl Framer {
         }
     }
 
-    /// The next whole frame, if one is kept, and then there is room for it behind the frames taken before. After `NoMemory` all is as before.
+    /// The next whole frame, if one is kept. Then there is room for it after the frames that were taken before. After
+    /// `NoMemory` all is as before.
     fn next_with_room(&mut self, frames: &mut Vec<Frame>) -> Result<Option<Frame>, NoMemory>
         ensures next { NextWhole self.old self.new result }
         ensures frames { frames.new.items ≡ frames.old.items }
@@ -148,7 +149,8 @@ impl Framer {
         self.next_whole()
     }
 
-    /// Takes every whole frame that is kept, behind the frames taken before. After `NoMemory` those that were taken stand there.
+    /// Takes every whole frame that is kept, and puts it after the frames that were taken before. After `NoMemory`
+    /// those that were taken stand there.
     fn take_frames(&mut self, frames: &mut Vec<Frame>) -> Result<(), NoMemory>
         ensures first { (stream : List ℕ) → AreFirst stream frames.old.items self.old → AreFirst stream frames.new.items self.new }
         ensures whole { OnOk result (HasNoFrame self.new.kept) }
@@ -159,9 +161,9 @@ impl Framer {
         Ok(())
     }
 
-    /// Feeds a piece and takes every frame that is then whole, behind the frames taken before: they are the first
-    /// frames of the stream up to here, in order, and the rest is kept. After `NoMemory` they are the first frames too, and the rest is
-    /// kept, with the piece or without it.
+    /// Feeds a piece, takes every frame that is then whole, and puts it after the frames that were taken before. All of
+    /// them are the first frames of the stream up to here, in order, and the rest is kept. After `NoMemory` they are
+    /// the first frames too, and the rest is kept, with the piece or without it.
     pub fn feed_and_take(&mut self, piece: &[u8], frames: &mut Vec<Frame>) -> Result<(), NoMemory>
         requires room { length self.old.kept + length piece.now < 2 ^ 32 }
         requires count { self.old.fed < most_count }
@@ -173,7 +175,7 @@ impl Framer {
     }
 }
 
-/// The frames of a stream that comes in pieces, and the framer that keeps the rest: whatever the pieces are, those are
+/// The frames of a stream that comes in pieces, and the framer that keeps the rest. Whatever the pieces are, these are
 /// the first frames of all of them joined, in order.
 pub fn frames_of(alloc: Global, pieces: &[Text]) -> Result<(Vec<Frame>, Framer), NoMemory>
     requires { length (joined_pieces pieces.now) < 2 ^ 32 }

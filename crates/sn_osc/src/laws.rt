@@ -25,7 +25,7 @@ pub fn one_packet()
     ensures { (x y : Shape) (bytes : List ℕ) → Spells x bytes → Spells y bytes → x ≡ y }
 {}
 
-/// What is encoded is decoded to the same shape, where it is no longer than a packet may be.
+/// What is encoded is decoded to the same shape, if it is no longer than a packet may be.
 pub fn decoded_again()
     ensures { (x : Shape) → IsSpellable x → length (packet_bytes x) ≤ most_packet → read (packet_bytes x) ≡ Ok x }
 {}
@@ -40,12 +40,12 @@ pub fn no_prefix()
     ensures { (a b rest : List ℕ) → length a < 2 ^ 32 → length b < 2 ^ 32 → frame_bytes a ++ rest ≡ frame_bytes b → rest ≡ [] }
 {}
 
-/// A frame at the front of a stream is found, whatever follows it: what is fed later changes no frame that is whole.
+/// A frame at the start of a stream is found, whatever follows it: what is fed later changes no frame that is whole.
 pub fn frame_found()
     ensures { (packet rest : List ℕ) → IsTrue (is_frame_size (length packet)) → first_frame (frame_bytes packet ++ rest) ≡ frame packet rest }
 {}
 
-/// A frame that is found stands at the front of the stream.
+/// A frame that is found stands at the start of the stream.
 pub fn frame_stands()
     ensures { (bytes packet rest : List ℕ) → ((i : ℕ) → slice_index bytes i < 256) → first_frame bytes ≡ frame packet rest → bytes ≡ frame_bytes packet ++ rest }
 {}
@@ -65,19 +65,19 @@ pub fn bad_for_good()
     ensures { (bytes more : List ℕ) (size : ℤ) → first_frame bytes ≡ bad_size size → first_frame (bytes ++ more) ≡ bad_size size }
 {}
 
-/// Reading from left to right meets a fault exactly where it is the first: whole data that the grammar allows stand
-/// before it.
+/// Reading from left to right meets a fault exactly if it is the first: whole data that the grammar allows stand before
+/// it.
 pub fn first_fault()
     ensures { (bytes : List ℕ) (kind : PacketKind) (place : ℕ) → ((i : ℕ) → slice_index bytes i < 256) → (read bytes ≡ fault kind place) ↔ FirstFault bytes kind place }
 {}
 
-/// The whole frames at the front of a stream are the same in whatever pieces it comes.
+/// The whole frames at the start of a stream are the same in whatever pieces it comes.
 pub fn joined_frames()
     ensures { (a b : List ℕ) → unpacked (a ++ b) ≡ joined_to (unpacked a) b }
 {}
 
-/// What is unpacked of bytes is all whole frames at their front: the frames are the first of the bytes, and no whole frame stands behind
-/// them. Nothing else is so.
+/// What is unpacked of bytes is all whole frames at their start: the frames are the first of the bytes, and no whole
+/// frame follows them. Nothing else is unpacked of them.
 pub fn whole_frames()
     ensures all { (bytes : List ℕ) → ((i : ℕ) → slice_index bytes i < 256) → AreWholeFrames bytes (unpacked bytes) }
     ensures only { (bytes : List ℕ) (u : Unpacked) → ((i : ℕ) → slice_index bytes i < 256) → AreWholeFrames bytes u → unpacked bytes ≡ u }
@@ -88,7 +88,7 @@ pub fn one_list_of_packets()
     ensures { (xs ys : List Shape) (stream : List ℕ) → Frames xs stream → Frames ys stream → xs ≡ ys }
 {}
 
-/// A stream has one first fault at most, and none where it is the frames of packets.
+/// A stream has one first fault at most, and none if it is the frames of packets.
 pub fn one_fault_of_a_stream()
     ensures one { (stream : List ℕ) (m n p q : ℕ) (a b : StreamFault) → StreamFaultAt stream m p a → StreamFaultAt stream n q b → (m ≡ n) × (p ≡ q) × (a ≡ b) }
     ensures none { (stream : List ℕ) (xs : List Shape) (n p : ℕ) (a : StreamFault) → Frames xs stream → StreamFaultAt stream n p a → ⊥ }

@@ -79,7 +79,7 @@ fn body_len(body: &Body) -> u64
     }
 }
 
-/// The length of a comma and so many tags, as a string.
+/// The length of a comma and `tags` tags, as a string.
 fn tags_len(tags: usize) -> u64
     ensures { result ≡ min (1 + tags + (4 - (1 + tags) % 4)) (2 ^ 31) }
 {
@@ -95,7 +95,7 @@ fn foreign_tags_len(tags: &[u8]) -> u64
     tags_len(tags.len())
 }
 
-/// How many bytes the message's spelling has, or 2^31 where there are more. Each of them is below 256.
+/// How many bytes the message's spelling has, or 2^31 if there are more. Each of them is below 256.
 pub(crate) fn message_len(message: &Message) -> u64
     ensures len { result ≡ min (length (message_bytes (message_of message.now))) (2 ^ 31) }
     ensures octets { IsTrue (are_octets (message_bytes (message_of message.now))) }
@@ -118,7 +118,7 @@ fn bundle_len(item: &Bundle) -> u64
     len
 }
 
-/// How many bytes the packet's spelling has, or 2^31 where there are more. Each of them is below 256.
+/// How many bytes the packet's spelling has, or 2^31 if there are more. Each of them is below 256.
 #[cycle(lengths)]
 pub fn packet_len(packet: &Packet) -> u64
     ensures len { result ≡ min (length (packet_bytes (shape packet.now))) (2 ^ 31) }

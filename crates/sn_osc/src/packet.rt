@@ -4,7 +4,7 @@ use sn_ports::{NoMemory, Text};
 use std::alloc::Global;
 use std::marker::Model;
 
-/// A packet of Open Sound Control 1.0. Not each value has a spelling: `spellable` tells.
+/// A packet of Open Sound Control 1.0. Not each value has a spelling: `spellable` says which have one.
 #[cycle(packet)]
 #[derive(Debug, Drop)]
 pub enum Packet {
@@ -18,7 +18,7 @@ pub enum Packet {
 #[cycle(packet)]
 #[derive(Debug, Drop)]
 pub struct Bundle {
-    /// 32 bits of seconds, 32 bits of fraction; 1 means at once.
+    /// 32 bits of seconds, 32 bits of fraction; 1 means "at once".
     pub tag: u64,
     /// Its packets, in order.
     pub elements: Elements,
@@ -30,7 +30,7 @@ pub type Elements = Vec<Packet>;
 /// An address and what follows it.
 #[derive(Debug, Drop)]
 pub struct Message {
-    /// What is asked or told, as `/n_set`.
+    /// The command or reply, such as `/n_set`.
     pub address: Address,
     /// What follows the address.
     pub body: Body,
@@ -102,8 +102,8 @@ pub enum Body {
     Bare,
     /// Arguments, each with its tag `i`, `s` or `b`.
     Args(Args),
-    /// Tags behind the comma, and all bytes behind the tags, unread. In a packet that has a
-    /// spelling one of the tags is neither `i` nor `s` nor `b`.
+    /// Tags after the comma, and all bytes after the tags, unread. In a packet that has a spelling one of the tags is
+    /// neither `i` nor `s` nor `b`.
     Foreign { tags: Text, rest: Text },
 }
 

@@ -1,4 +1,4 @@
-//! The data of a message, read from the bytes that are left of it. `end` is the place behind the message's last byte.
+//! The data of a message, read from the bytes that are left of it. `end` is the place after the message's last byte.
 ghost use Rattle.std.specs.Prelude.{◌≡◌, ◌≤◌, ◌<◌, ◌-◌, ◌==◌, not, length, map, drop, position, IfOk, FitsSigned};
 ghost use Rattle.std.specs.Int.{w32};
 ghost use Rattle.std.specs.List.{list_all};
@@ -47,7 +47,7 @@ fn text_len(bytes: &[u8]) -> usize
     first_null(bytes).unwrap_or(bytes.len())
 }
 
-/// How many null bytes stand at the front.
+/// How many null bytes stand at the start.
 fn null_len(bytes: &[u8]) -> usize
     ensures value { result ≡ null_len bytes.now }
     ensures bound { result ≤ length bytes.now }
@@ -55,7 +55,7 @@ fn null_len(bytes: &[u8]) -> usize
     first_other(bytes).unwrap_or(bytes.len())
 }
 
-/// The first `len` bytes, and what stands behind the first `whole`. What lies between is padding.
+/// The first `len` bytes, and what follows the first `whole`. What lies between is padding.
 fn padded(end: u32, len: usize, whole: usize, bytes: &[u8]) -> Result<(&[u8], &[u8]), Undecoded>
     requires inside { length bytes.now ≤ end }
     requires order { len ≤ whole }
@@ -82,7 +82,7 @@ fn is_ended(bytes: &[u8]) -> bool
     is_ended_at(len, bytes)
 }
 
-/// Whether the null bytes behind a string of so many bytes are there.
+/// Whether the null bytes after a string of `len` bytes are there.
 fn is_ended_at(len: usize, bytes: &[u8]) -> bool
     requires value { len ≡ text_len bytes.now }
     requires bound { len ≤ length bytes.now }
@@ -137,7 +137,7 @@ pub fn int(bytes: &[u8]) -> i32
     i32::from_be_bytes([bytes[0], bytes[1], bytes[2], bytes[3]])
 }
 
-/// The argument of a tag, and the bytes behind it.
+/// The argument of a tag, and the bytes after it.
 #[tactic(auto, unfolding(crate::specs::Reading::argument_at))]
 fn argument(alloc: Global, end: u32, tag: u8, bytes: &[u8]) -> Result<(Arg, &[u8]), Undecoded>
     requires { length bytes.now ≤ end }
@@ -158,7 +158,7 @@ fn argument(alloc: Global, end: u32, tag: u8, bytes: &[u8]) -> Result<(Arg, &[u8
     Ok((Arg::Blob(Text::from_slice(alloc, content)?), rest))
 }
 
-/// One argument for each tag, and the bytes behind them.
+/// One argument for each tag, and the bytes after them.
 fn arguments<'a>(
     alloc: Global,
     end: u32,
@@ -192,7 +192,7 @@ fn all_arguments(alloc: Global, end: u32, tags: &[u8], bytes: &[u8]) -> Result<A
     Ok(args)
 }
 
-/// The tags behind the comma, and the bytes behind them.
+/// The tags after the comma, and the bytes after them.
 #[tactic(auto, unfolding(crate::specs::Reading::tags_at))]
 fn tags(end: u32, bytes: &[u8]) -> Result<(&[u8], &[u8]), Undecoded>
     requires { length bytes.now ≤ end }

@@ -67,7 +67,7 @@ fn is_message(message: &Message) -> bool
     begins_with(address, b'/') && has_no_null(address) && is_body(&message.body)
 }
 
-/// A bundle in one that counts as `around`, whose elements may nest so deep.
+/// A bundle in one that counts as `around`, whose elements may nest `deep` levels.
 #[cycle(spellable)]
 fn is_bundle(item: &Bundle, deep: u32, around: u64) -> bool
     ensures { result ≡ is_packet (suc deep) around (bundle item.now.tag (shapes item.now.elements.items)) }
@@ -84,7 +84,7 @@ fn is_bundle(item: &Bundle, deep: u32, around: u64) -> bool
     true
 }
 
-/// A packet in a bundle that counts as `around`, in which bundles may nest so deep.
+/// A packet in a bundle that counts as `around`, in which bundles may nest `deep` levels.
 #[cycle(spellable)]
 fn is_packet(packet: &Packet, deep: u32, around: u64) -> bool
     ensures { result ≡ is_packet deep around (shape packet.now) }

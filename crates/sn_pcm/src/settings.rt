@@ -27,8 +27,7 @@ pub struct Settings {
 impl Settings {
     ghost use Rattle.sn_pcm.specs.Opening.{opening};
 
-    /// The settings where nothing is chosen: 48,000 frames a second, 2 channels, 16 bits, 4 workers
-    /// and 1,048,576 words.
+    /// The settings if nothing is chosen: 48,000 frames a second, 2 channels, 16 bits, 4 workers and 1,048,576 words.
     pub fn new() -> Self
         ensures { result ≡ opening }
     {

@@ -11,23 +11,22 @@ const MOST_WAV: u128 = 4294967295;
 /// The frames of a block.
 const FRAMES: u128 = BLOCK_FRAMES as u128;
 
-/// The bytes of the samples of so many blocks.
+/// The bytes of the samples of `blocks` blocks.
 fn data_bytes(settings: &Settings, blocks: u64) -> u128
     ensures { result ≡ data_len settings.now blocks }
 {
     u128::from(blocks) * FRAMES * u128::from(settings.channels) * u128::from(settings.bits) / 8
 }
 
-/// Whether the sound of so many blocks is longer than a WAV file may be: the RIFF size,
-/// which is 36 more than the bytes of the samples, must be below 2^32.
+/// Whether the sound of `blocks` blocks is longer than a WAV file may be: the RIFF size, which is 36 more than the
+/// bytes of the samples, must be below 2^32.
 pub fn too_long(settings: &Settings, blocks: u64) -> bool
     ensures { IsTrue result ↔ (4294967295 < 36 + data_len settings.now blocks) }
 {
     36 + data_bytes(settings, blocks) > MOST_WAV
 }
 
-/// The header of a WAV file of so many blocks, by RIFF WAVE: the format is PCM, and
-/// every number is little-endian.
+/// The header of a WAV file of `blocks` blocks, by RIFF WAVE: the format is PCM, and every number is little-endian.
 pub fn header(settings: &Settings, blocks: u64) -> [u8; 44]
     requires { 36 + data_len settings.now blocks ≤ 4294967295 }
     ensures { result ≡ header_bytes settings.now (data_len settings.now blocks) }

@@ -61,7 +61,7 @@ module _ (w : Block) (top : subtree (pos 0) w.stage.now.tree.attached ≡ w.stag
   pub touched_where : (i x : ℕ) → i < length js → touches (foot_at js i) x ≡ true → (x < 10368 + stage.pool.region.len) ⊎ ((r.first ≤ x) × (x < r.first + 65 * r.most))
   touched_where = laned.touched_where stage top distinct r.words r.pictures r.first r.most r.lies r.room bounded r.bounded r.few js r.planned
 
-  -- no job writes a word behind the lanes
+  -- no job writes a word after the lanes
   not_written : (i x : ℕ) → i < length js → r.first + 65 * r.most ≤ x → writes (foot_at js i) x ≡ false
   not_written i x lt past = false_from_ne_true (writes (foot_at js i) x) (λ t. ⊎_elim
       (λ (l : x < 10368 + stage.pool.region.len). omega (arith, l, past, r.lies))

@@ -1,4 +1,5 @@
--- A job of a stage's plan runs its synths through their lanes and then adds its own, over a foot that has all their words.
+-- A job of a stage's plan runs its synths through their lanes and then adds its own, over a foot that has all their
+-- words.
 use Rattle.std.proofs.Common.{◌≡◌, ◌≤◌, ◌<◌, ◌⊎◌, inl, inr, ⊎_elim, ℕ, ◌+◌, ◌*◌, ◌==◌, true, ◌&&◌, List, [], ◌∷◌, ◌++◌, map, ℤ, pos, length, refl, ap, sym, subst, ◌∙◌, arith, All, true≢false}
 use Rattle.std.specs.Prelude.{nat_le, nat_lt}
 use Rattle.std.specs.Ordering.{int_eq}

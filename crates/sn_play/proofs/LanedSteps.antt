@@ -146,7 +146,7 @@ module _ (stage : Stage) (b first size : ℕ) (is_lane : ℕ → Bool) (past : (
   wait-append n [] ks a c = c
   wait-append n (m ∷ ms) ks a c = (a.0, wait-append n ms ks a.1 c)
 
-  -- their words are of lanes, but for some that they have no part in
+  -- their words are of lanes, except for some that they have no part in
   are_on : (other : ℕ → Bool) (n : ℕ) (ms : List Moved) → WaitFor n ms → ((k : ℕ) → 1 ≤ times first k ms → (x : ℕ) → covers (lane_place first k) x ≡ true → other x ≡ false) → All (IsOn (λ x. is_lane x && not (other x)) n) ms
   are_on other n [] a h = All-nil (IsOn (λ x. is_lane x && not (other x)) n)
   are_on other n (m ∷ ms) a h =

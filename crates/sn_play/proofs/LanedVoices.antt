@@ -71,7 +71,7 @@ module _ (first size : ℕ) (far : 8320 ≤ first) where
   whole_place e l i n =
       and_from (e.len == 65) (nat_le (e.at + 65) size && nat_lt (e.at + 65) 4294967296) (eq-eqb e.len 65 l) (and_from (nat_le (e.at + 65) size) (nat_lt (e.at + 65) 4294967296) (le-leb (e.at + 65) size i) (lt-ltb (e.at + 65) 4294967296 n))
 
-  -- extents that lie one behind the other
+  -- extents that lie one after the other
   no_meeting : (d e : Extent) → (d.at + d.len ≤ e.at) ⊎ (e.at + e.len ≤ d.at) → meet d e ≡ false
   no_meeting d e apart = false_from_ne_true (meet d e) (λ h.
       let p = and_parts (nat_lt (max d.at e.at) (d.at + d.len)) (nat_lt (max d.at e.at) (e.at + e.len)) h in

@@ -1,4 +1,4 @@
--- What the steps of a stage make of words with lanes is what the walk makes of them, but for the lanes.
+-- What the steps of a stage make of words with lanes is what the walk makes of them, except for the lanes.
 use Rattle.std.proofs.Common.{◌≡◌, ◌≤◌, ◌<◌, ⊎_elim, ℕ, ◌+◌, ◌*◌, Bool, true, false, List, [], ◌∷◌, ◌++◌, ℤ, pos, length, map, Option, get_or, refl, ap, sym, subst, ◌∙◌, arith, append-nil, append_assoc}
 use Rattle.std.specs.Ordering.{int_eq}
 use Rattle.std.specs.Prelude.{nat_le, nat_lt}
@@ -127,7 +127,7 @@ module _ (stage : Stage) (top : subtree (pos 0) stage.tree.attached ≡ stage.tr
         (λ k x c some. lane_is stage top distinct words p first most lies room bounded k x c (moved k some))
         begins
 
-    -- but for lanes the words are the same
+    -- except for lanes the words are the same
     pub laned_is_walk : (x : ℕ) → lane x ≡ false → get_or (walk_steps stage b (steps_of tree) words) x 0 ≡ get_or (lane_steps stage b (steps_of tree) words) x 0
     laned_is_walk x off = ⊎_elim
         (λ (l : x < 8320). let q = locate 128 x l in ends.waits.buses q.0 x q.1.0 q.1.1.0 q.1.1.1)

@@ -19,7 +19,8 @@ outcome_of w j ws = kept_to (foot_at w.plan.now j) (lane_steps w.stage.now w.blo
 pub outcome_by_foot : (w : Block) (j : ℕ) → IsByFoot (foot_at w.plan.now j) (outcome_of w j)
 outcome_by_foot w j = kept_is_by_foot (foot_at w.plan.now j) (lane_steps w.stage.now w.block (job_steps (job_at w.plan.now j)))
 
--- The stage of a block stands for a world with some words, and its jobs are a plan of the stage, with lanes that lie behind the pool.
+-- The stage of a block stands for a world with some words, and its jobs are a plan of the stage, with lanes that lie
+-- after the pool.
 pub record IsReady (w : Block) : Type 0 where
   pub words : List ℕ
   pub pictures : Pictures w.stage.now words

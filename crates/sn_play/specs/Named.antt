@@ -14,7 +14,7 @@ abbrev pub or_group : Option Held → Held
 or_group None = held.Group
 or_group (Some h) = h
 
--- what the attached node of an id holds: as a group, nothing, where there is no such node
+-- what the attached node of an id holds: nothing, as of a group, if there is no such node
 abbrev pub held_at : Stage → ℤ → Held
 held_at stage id = or_group (option_map (λ l. l.payload) (label_of id stage.tree.attached))
 

@@ -22,7 +22,8 @@ use Rattle.sn_play.specs.Blocks.{outcome_of}
 abbrev pub block_at : Block → ℕ → Block
 block_at first k = record first { block = first.block + k }
 
--- what a job makes of words: one of a block what it makes in a round of that block, and a capture a copy of the block's sound
+-- what a job makes of words: one of a block what it makes in a round of that block, and a capture a copy of the block's
+-- sound
 abbrev pub made_in : Span → ℕ → List ℕ → List ℕ
 made_in w = in_span w.outputs.now w.copies w.first.block (λ k. outcome_of (block_at w.first k)) (length w.first.plan.now)
 
@@ -30,8 +31,9 @@ made_in w = in_span w.outputs.now w.copies w.first.block (λ k. outcome_of (bloc
 abbrev pub outcome_in : Span → ℕ → List ℕ → List ℕ
 outcome_in w j ws = kept_to (foot_at w.all.now j) (made_in w j) ws
 
--- The stage of a span stands for a world with some words. The jobs are those of a plan of the stage in so many blocks. The first audio buses are its
--- outputs. Their copies stand behind the words of the buses and of the pool, and the lanes behind the copies.
+-- The stage of a span stands for a world with some words. The jobs are those of a plan of the stage in so many blocks.
+-- The first audio buses are its outputs. Their copies stand after the words of the buses and of the pool, and the lanes
+-- after the copies.
 pub record IsSpanReady (w : Span) : Type 0 where
   pub channels : ℕ
   pub few : channels ≤ most_channels
@@ -49,7 +51,8 @@ pub record IsSpanReady (w : Span) : Type 0 where
   pub behind : bus_words + w.first.stage.now.pool.region.len ≤ w.copies
   pub before : w.copies + block_samples * w.blocks ≤ first
 
--- Words stand for the world after n walks from block b on over other words, and in the copies stands what is heard of the first audio buses after each walk.
+-- Words stand for the world after n walks, from block b on, over other words. The copies hold what is heard of the
+-- first audio buses after each walk.
 pub record ArePlayed (stage : Stage) (b n copies channels : ℕ) (words us : List ℕ) : Type 0 where
   pub world : world_of stage us ≡ walks b n (world_of stage words)
   pub pictures : Pictures stage us

@@ -32,7 +32,8 @@ lane_steps stage b (s ∷ steps) ws = lane_steps stage b steps (lane_step stage 
 abbrev pub job_steps : Job → List Step
 job_steps j = runs_of j.synths j.moves ++ map adds_lane j.lanes
 
--- A node can run with these buses moved onto lanes: it puts signals onto the buses, and touches neither them nor the lanes.
+-- A node can run with these buses moved onto lanes: it puts signals onto the buses, and touches neither them nor the
+-- lanes.
 pub record CanMove (stage : Stage) (b : ℕ) (node : ℤ) (ms : List Moved) (f : Foot) (size : ℕ) : Type 0 where
   pub plain : ms ≡ [] → CanRun stage f (held_at stage node)
   pub moved : CanRun stage (foot_through ms size f) (held_at stage node)

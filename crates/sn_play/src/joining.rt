@@ -22,8 +22,8 @@ fn add_in_copy<P: Port>(port: &mut P, foot: &Foot, block: u64, lanes: &[Moved], 
     local.flush(foot);
 }
 
-/// Adds the lanes of a job to their buses: several with the words of the buses in the scratch, so that a bus is stored once and
-/// not for each lane. Over a port of the job's foot this is the same.
+/// Adds the lanes of a job to their buses. If there are several, the words of the buses stand in the scratch meanwhile,
+/// so a bus is stored once and not for each lane. Over a port of the job's foot this is the same.
 pub fn join_lanes<P: Port>(
     port: &mut P,
     foot: &Foot,

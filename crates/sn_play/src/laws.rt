@@ -33,20 +33,20 @@ pub fn voices_are_the_walk(stage: &Stage)
     stage.tree.root_holds_all();
 }
 
-/// A law: groups change no word, so that the walk over the synths alone is the walk over all.
+/// A law: groups change no word, so the walk over the synths alone is the walk over all.
 pub fn groups_change_nothing()
     ensures { (rate b : ℕ) (buffers : List (Option BufferPlace)) (ls : List (Label Held)) (ws : List ℕ) → walk_words rate b buffers (synths_in ls) ws ≡ walk_words rate b buffers ls ws }
 {}
 
-/// A law: in a stage that stands for a world, buses, buffers and states lie below each word behind the pool.
+/// A law: in a stage that stands for a world, buses, buffers and states lie below each word after the pool.
 pub fn worlds_lie_below(stage: &Stage)
     ensures { (words : List ℕ) (first : ℕ) → Pictures stage.now words → bus_words + stage.now.pool.region.len ≤ first → LieBelow first stage.now.buffers (live_held stage.now.tree.attached) }
 {
     let _ = stage;
 }
 
-/// A law: in a stage that stands for a world, each synth that a job names can run over the job's foot, with the buses moved that
-/// it moves, in each memory in which the foot lies.
+/// A law: let a stage stand for a world. Then each synth that a job names can run over the job's foot, with the buses
+/// moved that it moves, in each memory in which the foot lies.
 pub fn job_feet_suffice(work: &Block<'_>)
     ensures { IsReady work.now → (i size : ℕ) → i < length work.now.plan.now → ((x : ℕ) → touches (foot_at work.now.plan.now i) x ≡ true → x < size)
         → CanMoveAll work.now.stage.now work.now.block (job_at work.now.plan.now i).synths (job_at work.now.plan.now i).moves (foot_at work.now.plan.now i) size }
@@ -55,10 +55,10 @@ pub fn job_feet_suffice(work: &Block<'_>)
     work.stage.tree.ids_are_distinct();
 }
 
-/// A law: the block of a plan of a stage that stands for a world is ready, if the lanes lie behind the pool. In words with room for
-/// the lanes, the feet of its jobs lie in the memory. What its jobs make of the words, one after the other, is a script. If no lane
-/// counts as written in the block, the last words stand for the world after the walk, and no lane counts as written in the next block,
-/// nor does any of those behind the plan's lanes of which none did.
+/// A law: the block of a plan of a stage that stands for a world is ready, if the lanes lie after the pool. In words
+/// with room for the lanes, the feet of its jobs lie in the memory. What its jobs make of the words, one after the
+/// other, is a script. If no lane counts as written in the block, the last words stand for the world after the walk,
+/// and no lane counts as written in the next block. The lanes after the plan's don't either, if they didn't before.
 pub fn block_is_the_walk(work: &Block<'_>)
     ensures ready { (words : List ℕ) (first most : ℕ) → Pictures work.now.stage.now words → bus_words + work.now.stage.now.pool.region.len ≤ first → first + audio_bus_words * most ≤ length words → most ≤ most_lanes → first + lane_words < 4294967296
         → IsPlanned (nodes_with first most work.now.stage.now) work.now.plan.now → work.now.block < 2 ^ 63 → IsReady work.now }
@@ -74,10 +74,10 @@ pub fn block_is_the_walk(work: &Block<'_>)
     sequential_is_a_script(work);
 }
 
-/// A law: in a memory with room for the copies and the lanes, the feet of the jobs of a span that is ready lie in the memory. What its
-/// jobs make of the words, one after the other, is a script. If no lane counts as written in the first block, the last words stand for
-/// the world after the walks of its blocks, its copies hold the sound of each, and no lane counts as written in the block after them,
-/// nor does any of those behind the plan's lanes of which none did.
+/// A law: in a memory with room for the copies and the lanes, the feet of the jobs of a span that is ready lie in the
+/// memory. What its jobs make of the words, one after the other, is a script. If no lane counts as written in the first
+/// block, the last words stand for the world after the walks of its blocks, its copies hold the sound of each, and no
+/// lane counts as written in the block after them. The lanes after the plan's don't either, if they didn't before.
 pub fn span_is_the_walks(work: &Span<'_>)
     ensures feet { (words : List ℕ) (ready : IsSpanReady work.now) → Pictures work.now.first.stage.now words → ready.first + audio_bus_words * ready.most ≤ length words → AreWithin (length words) work.now.all.now }
     ensures script { (words : List ℕ) → IsScript work.now.all.now (length words) (sequential (outcome_in work.now) (length work.now.all.now) words) }

@@ -1,5 +1,5 @@
-//! The jobs of a plan are the walk: what they make of the words, one after the other, is what the
-//! walk over the nodes makes of them, but for the lanes. They are the work of a round.
+//! The jobs of a plan are the walk: what they make of the words, one after the other, is what the walk over the nodes
+//! makes of them, except for the lanes. They are the work of a round.
 #![tactic(auto)]
 
 mod block;

@@ -22,7 +22,7 @@ pub struct Span<'a> {
     pub copies: u32,
 }
 
-/// Where a job stands: in which block, and its number among the jobs of the block, from 0.
+/// The place of a job: its block, and its number among the jobs of the block, from 0.
 #[derive(Clone, Copy)]
 struct JobPlace {
     block: u32,

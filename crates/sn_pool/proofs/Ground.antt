@@ -17,7 +17,7 @@ use Rattle.sn_pool.proofs.Orders.{sorted_same, laid_out_sorted}
 use Rattle.sn_pool.proofs.Runs.{has_more, within}
 use Rattle.sn_pool.proofs.Numbers.{spread_from, runs_number}
 
--- A word is in a run exactly where it is in the region and in no live extent.
+-- A word is in a run exactly if it is in the region and in no live extent.
 abbrev pub AreParts : Extent → List Extent → List Extent → Type 0
 AreParts words live runs = (x : ℕ) → has runs x ≡ (covers words x && not (has live x))
 

@@ -46,7 +46,7 @@ spread_below from to [] s x lt = refl
 spread_below from to (h ∷ hs) s x lt =
     or_from (covers h x) (has hs x) (before h x (omega (arith, s.0))) (spread_below (h.at + h.len + 1) to hs s.3 x (omega (arith, s.0)))
 
--- The words between the two places are in the runs where they are not live.
+-- The words between the two places are in the runs if they are not live.
 abbrev pub AreRest : ℕ → ℕ → List Extent → List Extent → Type 0
 AreRest from to live hs = (x : ℕ) → from ≤ x → x < to → has hs x ≡ not (has live x)
 
@@ -58,7 +58,7 @@ clash from to live hs rest x low high a b = true≢false (sym a ∙ rest x low h
 gap : (from to : ℕ) (live hs : List Extent) → AreRest from to live hs → (x : ℕ) → from ≤ x → x < to → has hs x ≡ false → has live x ≡ false → ⊥
 gap from to live hs rest x low high a b = true≢false (sym (rest x low high ∙ ap not b) ∙ a)
 
--- the word behind a run is in no other
+-- the word after a run is in no other
 behind : (from to : ℕ) (h : Extent) (hs : List Extent) → AreSpread from to (h ∷ hs) → has (h ∷ hs) (h.at + h.len) ≡ false
 behind from to h hs s = or_from (covers h (h.at + h.len)) (has hs (h.at + h.len)) (after h (h.at + h.len) (omega arith)) (spread_below (h.at + h.len + 1) to hs s.3 (h.at + h.len) (omega arith))
 
@@ -68,7 +68,7 @@ one_at_most from to (h ∷ []) s rest = omega arith
 one_at_most from to (h ∷ (k ∷ ks)) s rest =
     absurd (gap from to [] (h ∷ (k ∷ ks)) rest (h.at + h.len) (omega (arith, s.0)) (omega (arith, s.3.0, s.3.1, s.3.2)) (behind from to h (k ∷ ks) s) refl)
 
--- the runs behind the first live extent begin behind it
+-- the runs after the first live extent begin after it
 from_end : (from to : ℕ) (e : Extent) (es : List Extent) (h : Extent) (hs : List Extent) → AreLaidOut from to (e ∷ es) → AreSpread from to (h ∷ hs) → AreRest from to (e ∷ es) (h ∷ hs) → h.at < e.at → AreSpread (e.at + e.len) to hs
 from_end from to e es h [] l s rest less = tt
 from_end from to e es h (k ∷ ks) l s rest less =

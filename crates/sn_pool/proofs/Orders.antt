@@ -132,7 +132,7 @@ module _ (o : Order) where
   removed_times e (x ∷ xs) zero lt is y = ap {B = ℕ} (λ z. (if same_extent y z then 1 else 0) + times y xs) is
   removed_times e (x ∷ xs) (suc i) lt is y = omega (arith, removed_times e xs i (omega arith) is y)
 
-  -- Where those before e end, e stands, if it is there.
+  -- If e is in the list, it stands where those before it end.
   pub found : (e : Extent) (xs : List Extent) (i : ℕ) → AreInOrder o xs → 0 < times e xs → IsPartitionPoint (λ x. before o x e ≡ true) (λ x. before o x e ≡ false) xs i → (i < length xs) × (get_or xs i e ≡ e)
   found e xs i h some point =
       let at = place_of e xs some in

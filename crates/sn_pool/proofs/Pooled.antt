@@ -23,7 +23,7 @@ both_some : {X : Type 0} (o : Option X) (P Q : X → Type 0) → IfSome o P → 
 both_some None P Q p q = tt
 both_some (Some x) P Q p q = (p, q)
 
--- The saved extents are the same where the changes that are noted lead back to the same.
+-- The saved extents are the same if the noted changes lead back to the same ones.
 same_journal : (j : Option OpenJournal) (one other : List Extent) → IfSome j (λ _. one ≡ other) → journal_of j one ≡ journal_of j other
 same_journal None one other h = refl
 same_journal (Some x) one other h = ap (journal_of (Some x)) h

@@ -27,7 +27,7 @@ same_cases a b = ⊎_elim
     (λ (other : same_extent a b ≡ false). inr (λ is. true≢false (sym (subst (λ z. same_extent a z ≡ true) is (same_itself a)) ∙ other)))
     (cases_Bool (same_extent a b))
 
--- A word is in the new ones where it is in e or in the old ones.
+-- A word is in the new ones if it is in e or in the old ones.
 pub has_more : (e : Extent) (old new : List Extent) → IsOneMore e old new → (x : ℕ) → has new x ≡ (covers e x || has old x)
 unfolding times
 has_more e old new more x = same_words new (e ∷ old) (λ y. more y) x
@@ -60,7 +60,7 @@ module _ (e : Extent) (old new : List Extent) (runs : AreRuns old) (more : IsOne
 pub run_is_in : (runs : List Extent) (e : Extent) (n : ℕ) → 0 < times e runs → n ≤ e.len → AreIn runs e.at n
 run_is_in runs e n some le = λ x low high. covered_by e runs x some (covered e x low (omega arith))
 
--- A run that has the first of words that stand behind one another in the runs has each of them.
+-- A run that has the first of words that stand after one another in the runs has each of them.
 goes_on : (runs : List Extent) (p n : ℕ) (e : Extent) → AreRuns runs → AreIn runs p n → 0 < times e runs → e.at ≤ p → p < e.at + e.len → p + n ≤ e.at + e.len
 goes_on runs p n e h each some low high = ⊎_elim
     (λ (less : e.at + e.len < p + n).
@@ -76,7 +76,7 @@ goes_on runs p n e h each some low high = ⊎_elim
     (λ (more : p + n ≤ e.at + e.len). more)
     (cases_lt (e.at + e.len) (p + n))
 
--- Words that stand behind one another in the runs are in one run.
+-- Words that stand after one another in the runs are in one run.
 pub in_one : (runs : List Extent) (p n : ℕ) → AreRuns runs → 1 ≤ n → AreIn runs p n → (e : Extent) × (0 < times e runs) × (e.at ≤ p) × (p + n ≤ e.at + e.len)
 in_one runs p n h one each =
     let (e, some, covers_it) = covering runs p (each p (omega arith) (omega arith)) in
@@ -102,7 +102,7 @@ none_has runs p n h one each none =
     let (e, some, low, high) = in_one runs p n h one each in
     omega (arith, none e some, low)
 
--- Two extents, one behind the other, have the words of both as one.
+-- Two extents, one after the other, have the words of both as one.
 covers_joined : (a n m x : ℕ) → (nat_le a x && nat_lt x (a + (n + m))) ≡ ((nat_le a x && nat_lt x (a + n)) || (nat_le (a + n) x && nat_lt x (a + n + m)))
 covers_joined a n m x = grind (arith, nat_tests)
 

@@ -23,7 +23,7 @@ pub record AreRuns (runs : List Extent) : Type 0 where
 abbrev pub AreIn : List Extent → ℕ → ℕ → Type 0
 AreIn runs p n = (x : ℕ) → p ≤ x → x < p + n → has runs x ≡ true
 
--- The least p for which the n words from p are in the runs, or none where there is no such p.
+-- The least p for which the n words from p are in the runs, or none if there is no such p.
 abbrev pub IsLeastIn : List Extent → ℕ → Option ℕ → Type 0
 IsLeastIn runs n None = (p : ℕ) → AreIn runs p n → ⊥
 IsLeastIn runs n (Some p) = AreIn runs p n × ((q : ℕ) → AreIn runs q n → p ≤ q)
@@ -33,26 +33,26 @@ pub record IsLongestIn (runs : List Extent) (n : ℕ) : Type 0 where
   pub place : (n ≡ 0) ⊎ ((p : ℕ) × AreIn runs p n)
   pub longest : (m p : ℕ) → 1 ≤ m → AreIn runs p m → m ≤ n
 
--- The last run that begins at the place or before it, or none where there is no such run.
+-- The last run that begins at the place or before it, or none if there is no such run.
 abbrev pub IsLastTo : ℕ → List Extent → Option Extent → Type 0
 IsLastTo place runs None = (x : Extent) → 0 < times x runs → place < x.at
 IsLastTo place runs (Some e) = (0 < times e runs) × (e.at ≤ place) × ((x : Extent) → 0 < times x runs → x.at ≤ place → x.at ≤ e.at)
 
--- The run that ends at the place, or none where there is no such run.
+-- The run that ends at the place, or none if there is no such run.
 abbrev pub IsEndingAt : ℕ → List Extent → Option Extent → Type 0
 IsEndingAt place runs None = (x : Extent) → 0 < times x runs → x.at + x.len ≢ place
 IsEndingAt place runs (Some e) = (0 < times e runs) × (e.at + e.len ≡ place)
 
--- The run that begins at the place, or none where there is no such run.
+-- The run that begins at the place, or none if there is no such run.
 abbrev pub IsBeginningAt : ℕ → List Extent → Option Extent → Type 0
 IsBeginningAt place runs None = (x : Extent) → 0 < times x runs → x.at ≢ place
 IsBeginningAt place runs (Some e) = (0 < times e runs) × (e.at ≡ place)
 
--- Each run ends where the extent begins or before it, or begins where it ends or behind it.
+-- Each run ends where the extent begins or before it, or begins where it ends or after it.
 abbrev pub IsBeside : List Extent → Extent → Type 0
 IsBeside runs e = (x : Extent) → 0 < times x runs → (x.at + x.len ≤ e.at) ⊎ (e.at + e.len ≤ x.at)
 
--- Each run ends before the extent, with a word between, or begins where it ends or behind it.
+-- Each run ends before the extent, with a word between, or begins where it ends or after it.
 abbrev pub IsPartedBefore : List Extent → Extent → Type 0
 IsPartedBefore runs e = (x : Extent) → 0 < times x runs → (x.at + x.len < e.at) ⊎ (e.at + e.len ≤ x.at)
 

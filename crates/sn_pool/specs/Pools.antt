@@ -6,7 +6,8 @@ use Rattle.sn_pool.specs.declared.pool.Mark.{Mark}
 use Rattle.sn_pool.specs.declared.pool.Untaken.{Untaken}
 use Rattle.sn_pool.specs.declared.pool.Untaken.TheVariants.{Full, NoMemory}
 
--- An open journal: its mark, the extents that were live when it began, and for how many more calls of `give_back` it has room.
+-- An open journal: its mark, the extents that were live when it began, and for how many more calls of `give_back` it
+-- has room.
 pub record Journal : Type 0 where
   pub mark : Mark
   pub saved : List Extent
@@ -78,7 +79,7 @@ abbrev pub one_given : Option Journal → Option Journal
 one_given None = None
 one_given (Some j) = Some (record j { room = j.room - 1 })
 
--- The answer of `take` where the least place is known: its extent, or Full where there is none.
+-- The answer of `take` if the least place is known: its extent, or Full if there is none.
 abbrev pub GivesPlace : Result Extent Untaken → Option ℕ → Type 0
 GivesPlace (Ok e) place = place ≡ Some e.at
 GivesPlace (Err Full) place = place ≡ None

@@ -5,7 +5,7 @@ use Rattle.sn_pool.specs.declared.sorted.Order.TheVariants.{Place}
 use Rattle.sn_pool.specs.declared.region.Region.TheInside.{Inside}
 use Rattle.sn_pool.specs.Pools.{AreLaidOut}
 
--- A word is in a hole exactly where it is in the region and in no live extent.
+-- A word is in a hole exactly if it is in the region and in no live extent.
 pub record IsRegion (r : Inside) : Type 0 where
   pub fits : r.words.at + r.words.len < 2 ^ 32
   pub order : r.live.order ≡ Place

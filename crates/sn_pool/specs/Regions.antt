@@ -16,7 +16,7 @@ pub record IsLeastPlace (region : Extent) (live : List Extent) (n p : ℕ) : Typ
 abbrev pub HasNoPlace : Extent → List Extent → ℕ → Type 0
 HasNoPlace region live n = (p : ℕ) → IsFree region live n p → ⊥
 
--- The least p for which the n words from p lie in the region and in no live extent, or none where there is no such p.
+-- The least p for which the n words from p lie in the region and in no live extent, or none if there is no such p.
 abbrev pub LeastPlace : Extent → List Extent → ℕ → Option ℕ → Type 0
 LeastPlace region live n None = HasNoPlace region live n
 LeastPlace region live n (Some p) = IsLeastPlace region live n p

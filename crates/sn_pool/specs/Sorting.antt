@@ -10,7 +10,7 @@ abbrev pub before : Order → Extent → Extent → Bool
 before Place a b = nat_lt a.at b.at || (nat_eq a.at b.at && nat_lt a.len b.len)
 before Size a b = nat_lt a.len b.len || (nat_eq a.len b.len && nat_lt a.at b.at)
 
--- None stands behind one that it comes before.
+-- None stands after one that it comes before.
 abbrev pub AreInOrder : Order → List Extent → Type 0
 AreInOrder order es = AllPairs (λ a b. before order b a ≡ false) es
 

@@ -13,7 +13,7 @@ use sn_ports::NoMemory;
 use std::alloc::Global;
 use std::marker::Model;
 
-/// The last run that begins at a place or before it, of runs in the order of their places.
+/// The last run that begins at a place or before it, out of runs in the order of their places.
 fn last_to(runs: &[Extent], place: u32) -> Option<Extent>
     requires { AreInOrder Place runs.now }
     ensures { IsLastTo place runs.now result }
@@ -26,7 +26,7 @@ fn last_to(runs: &[Extent], place: u32) -> Option<Extent>
     }
 }
 
-/// The runs of at least `n` words, of runs in the order of their lengths.
+/// The runs of at least `n` words, out of runs in the order of their lengths.
 fn long_runs(runs: &[Extent], n: u32) -> &[Extent]
     requires { AreInOrder Size runs.now }
     ensures long { (e : Extent) → 0 < times e result.now → n ≤ e.len }
@@ -88,7 +88,7 @@ impl Model for Holes {
 }
 
 impl Holes {
-    /// All words of an extent, as one run where there are any.
+    /// All words of an extent, as one run if there are any.
     pub fn new(alloc: Global, words: Extent) -> Result<Holes, NoMemory>
         requires { words.at + words.len < 2 ^ 32 }
         ensures { IfOk result (λ holes. (x : ℕ) → has holes.runs x ≡ covers words x) }
@@ -202,7 +202,7 @@ impl Holes {
         }
     }
 
-    /// Makes the words of an extent free, none of which is.
+    /// Makes the words of an extent free. None of them may be free before.
     pub fn release(&mut self, extent: Extent)
         requires some { 1 ≤ extent.len }
         requires fits { extent.at + extent.len < 2 ^ 32 }
@@ -238,7 +238,7 @@ impl Holes {
         });
     }
 
-    /// Makes the words of an extent used, each of which is free.
+    /// Makes the words of an extent used. Each of them must be free.
     pub fn fill(&mut self, extent: Extent)
         requires some { 1 ≤ extent.len }
         requires free { AreIn self.old.runs extent.at extent.len }
@@ -252,7 +252,8 @@ impl Holes {
         }
     }
 
-    /// The least place of `n` free words, found in the shorter of two ways: among the runs that are long enough, or by place.
+    /// The least place of `n` free words, found in the shorter of two ways: among the runs that are long enough, or by
+    /// place.
     pub fn least(&self, n: u32) -> Option<u32>
         requires { 1 ≤ n }
         ensures { IsLeastIn self.now.runs n result }
@@ -266,7 +267,7 @@ impl Holes {
         }
     }
 
-    /// The number of words of the longest run, or 0 where there is none.
+    /// The number of words of the longest run, or 0 if there is none.
     pub fn longest(&self) -> u32
         ensures { IsLongestIn self.now.runs result }
     {
@@ -275,7 +276,7 @@ impl Holes {
         if number == 0 { 0 } else { runs[number - 1].len }
     }
 
-    /// Tells what holds of the runs of every value, and does nothing.
+    /// States what holds of the runs of every value. It does nothing.
     pub fn layout(&self)
         ensures runs { AreRuns self.now.runs }
         ensures sorted { AreInOrder Place self.now.runs }

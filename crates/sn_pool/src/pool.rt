@@ -14,7 +14,7 @@ use sn_ports::NoMemory;
 use std::alloc::Global;
 use std::marker::Model;
 
-/// Stands for an open journal. Only `begin` makes one, and `undo` or `commit` takes it.
+/// A token for an open journal. Only `begin` makes one, and `undo` or `commit` takes it.
 #[derive(Debug, Drop)]
 pub struct Mark {
     number: u64,
@@ -82,7 +82,7 @@ fn undo_changes(region: &mut Region, changes: &mut Vec<Change>)
     }
 }
 
-/// Writes a change down, if a journal is open. There is room for it.
+/// Notes a change, if a journal is open. There must be room for it.
 fn note(journal: Option<OpenJournal>, changes: &mut Vec<Change>, change: Change)
     requires { IfSome journal (λ _. length changes.old.items < vec_capacity changes.old) }
     ensures noted { IfSome journal (λ _. changes.new.items ≡ changes.old.items ++ change ∷ []) }
@@ -93,7 +93,7 @@ fn note(journal: Option<OpenJournal>, changes: &mut Vec<Change>, change: Change)
     }
 }
 
-/// Makes room for one more live extent and for its change, beside what the open journal may still need.
+/// Makes room for one more live extent and for its change, besides what the open journal may still need.
 fn make_room(
     region: &mut Region,
     changes: &mut Vec<Change>,
@@ -113,8 +113,8 @@ fn make_room(
 
 /// The allocator of a region of words: it always gives the least place that is free.
 ///
-/// Contracts see its region, the live extents in the order of their places, and the open journal. The live extents lie in
-/// the region, have at least one word each, and no word is in two of them.
+/// Contracts see its region, the live extents in the order of their places, and the open journal. The live extents lie
+/// in the region, have at least one word each, and no word is in two of them.
 #[derive(Drop)]
 pub struct Pool {
     region: Region,
@@ -151,8 +151,8 @@ impl Pool {
         })
     }
 
-    /// Begins a journal with room for `gives` calls of `give_back`, where none is open. After want of memory the pool is as
-    /// it was.
+    /// Begins a journal with room for `gives` calls of `give_back`, if none is open. After `NoMemory` the pool is as it
+    /// was.
     pub fn begin(&mut self, gives: u32) -> Result<Mark, NoMemory>
         requires { self.old.journal ≡ None }
         ensures begun { IfOk result (λ mark. self.new ≡ record self.old { journal = Some (record { mark = mark; saved = self.old.live; room = gives }) }) }
@@ -169,7 +169,7 @@ impl Pool {
         Ok(Mark { number })
     }
 
-    /// Takes `n` words, of which there is at least one, at the least place where they are free. `Full` comes exactly where
+    /// Takes `n` words, of which there is at least one, at the least place where they are free. `Full` comes exactly if
     /// there is no such place. After a refusal the pool is as it was.
     pub fn take(&mut self, n: u32) -> Result<Extent, Untaken>
         requires { 1 ≤ n }
@@ -234,7 +234,7 @@ impl Pool {
         self.region.free()
     }
 
-    /// Tells what holds of the live extents of every pool, and does nothing.
+    /// States what holds of the live extents of every pool. It does nothing.
     pub fn layout(&self)
         ensures inside { (e : Extent) → 0 < times e self.now.live → LiesIn self.now.region e × (1 ≤ e.len) }
         ensures once { (e : Extent) → times e self.now.live ≤ 1 }

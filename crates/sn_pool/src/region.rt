@@ -59,7 +59,7 @@ impl Region {
         })
     }
 
-    /// Makes room for `more` live extents beside those that are there. No room is lost.
+    /// Makes room for `more` live extents besides those that are there. No room is lost.
     pub fn reserve(&mut self, more: usize) -> Result<(), NoMemory>
         requires { more ≤ 2 ^ 63 + 1 }
         ensures words { self.new.words ≡ self.old.words }
@@ -121,7 +121,7 @@ impl Region {
         free_words(self.words, self.live.as_slice())
     }
 
-    /// Tells that the live extents lie in the region, in order and apart, and does nothing.
+    /// States that the live extents lie in the region, in order and apart. It does nothing.
     pub fn layout(&self)
         ensures live { AreLaidOut self.now.words.at (self.now.words.at + self.now.words.len) self.now.live }
         ensures fits { self.now.words.at + self.now.words.len < 2 ^ 32 }

@@ -1,4 +1,4 @@
--- A piece that is gone from the front bit by bit.
+-- A piece of which prefixes are taken, one after another.
 use Rattle.std.proofs.Common.{◌≡◌, ◌<◌, ℕ, ◌-◌, List, ◌++◌, length, take, drop, sym, ap, ◌∙◌, arith, append_assoc, take-append-drop}
 use Rattle.std.proofs.lemmas.List.{length-append, take_rest}
 

@@ -1,4 +1,5 @@
--- The limits of the server, each by its name. `limits.rt` has the same numbers in code, and a law there says that they are the same.
+-- The limits of the server, each by its name. `limits.rt` has the same numbers in code, and a law there says that they
+-- are the same.
 use Rattle.std.specs.Prelude.{ℕ, ◌*◌, ◌^◌}
 
 -- ---- sound

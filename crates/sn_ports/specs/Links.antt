@@ -17,14 +17,14 @@ abbrev pub with_rest : List ℕ → List LinkEvent → List LinkEvent
 with_rest [] others = others
 with_rest (b ∷ rest) others = bytes (b ∷ rest) ∷ others
 
--- bytes are a front of those of the next event, and what is left of it stays the next one
+-- the bytes are a prefix of those of the next event, and what is left of it stays the next one
 pub record IsFront (old new : List LinkEvent) (piece : List ℕ) : Type 0 where
   pub rest : List ℕ
   pub others : List LinkEvent
   pub next : old ≡ bytes (piece ++ rest) ∷ others
   pub left : new ≡ with_rest rest others
 
--- an event, or a front of the bytes of one, comes next
+-- an event, or a prefix of the bytes of one, comes next
 abbrev pub Takes : List LinkEvent → List LinkEvent → LinkEvent → Type 0
 Takes old new (bytes piece) = IsFront old new piece
 Takes old new (ticks n) = old ≡ ticks n ∷ new
@@ -84,7 +84,7 @@ GivesWhatFits old room (fed.Bytes n) = FillRoom old n room
 GivesWhatFits old room (fed.Ticks n) = Unit {0}
 GivesWhatFits old room fed.End = Unit {0}
 
--- the events that are left where so many bytes of the first were given
+-- the events that are left after so many bytes of the first were given
 abbrev pub events_left : ℕ → List Event → List LinkEvent
 events_left given [] = []
 events_left given (event.Bytes text ∷ es) = bytes (drop given text.bytes) ∷ map event_of es
@@ -96,8 +96,8 @@ AreLeft given [] = given ≡ 0
 AreLeft given (event.Bytes text ∷ es) = (given < length text.bytes) × ArePlayable es
 AreLeft given (event.Ticks n ∷ es) = (given ≡ 0) × (0 < n) × (n ≤ most_ticks) × ArePlayable es
 
--- What a contract sees of a link that is played: the events that are left, the bytes that were sent, how many may be sent in all, which
--- calls fail, and how many calls and faults there were.
+-- What a contract sees of a link that is played: the events that are left, the bytes that were sent, how many may be
+-- sent in all, which calls fail, and how many calls and faults there were.
 pub record PlayedEvents : Type 0 where
   pub left : List LinkEvent
   pub sent : List ℕ

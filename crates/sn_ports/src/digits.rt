@@ -5,7 +5,7 @@ use crate::failed::NoMemory;
 use crate::text::Text;
 use std::alloc::Global;
 
-/// The decimal digits of `x`, with `-` in front where it is negative.
+/// The decimal digits of `x`, with `-` before them if it is negative.
 pub fn show(alloc: Global, x: i32) -> Result<Text, NoMemory>
     ensures { IfOk result (λ text. text.bytes ≡ signed_decimal x) }
 {

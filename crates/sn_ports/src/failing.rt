@@ -7,12 +7,12 @@ use crate::calls::Calls;
 use crate::failed::Failed;
 use std::io;
 
-/// Which calls fail, and how many calls and failures there were.
+/// Which calls fail, and how many calls and failures there have been.
 #[derive(Debug, Drop)]
 pub(crate) struct Failing {
     /// The numbers of the calls that fail, from 0.
     pub(crate) fails: Calls,
-    /// How many calls there were, up to 2^32 - 1, which is the number of each later call.
+    /// How many calls there have been, up to 2^32 - 1, which is the number of each later call.
     pub(crate) calls: u32,
     /// How many calls failed.
     pub(crate) faults: u64,
@@ -32,7 +32,7 @@ impl Failing {
         }
     }
 
-    /// Counts a call, and answers whether it is one of those that fail.
+    /// Counts a call, and returns whether it is one of those that fail.
     pub(crate) fn begins(&mut self) -> bool
         ensures fails { IsTrue result ↔ FailsNext self.old.fails self.old.calls }
         ensures calls { self.new.calls ≡ counted 32 self.old.calls }
@@ -57,7 +57,7 @@ impl Failing {
     }
 }
 
-/// What a file answered. Where the file failed, that is counted.
+/// What a file answered. If the file failed, that is counted.
 pub(crate) fn told(answer: io::Result<usize>, faults: &mut u64) -> Result<usize, Failed>
     ensures fails { IsTrue (is_err result) ↔ IsTrue (is_err answer) }
     ensures count { IfOk result (λ n. IfOk answer (λ m. n ≡ m)) }

@@ -10,7 +10,7 @@ use crate::failing::told;
 use crate::traits::{Sink, Source};
 use std::io::{Read, Write};
 
-/// A source over any reader, as a file. It tells what the reader tells, and counts its own failures.
+/// A source over any reader, as a file. It answers what the reader answers, and counts its own failures.
 #[derive(Debug, Drop)]
 pub struct FileSource<R: Read> {
     inner: R,
@@ -43,7 +43,7 @@ impl<R: Read> Source for FileSource<R> {
     }
 }
 
-/// A sink over any writer, as a file. It tells what the writer tells, and counts its own failures.
+/// A sink over any writer, as a file. It answers what the writer answers, and counts its own failures.
 ///
 /// A writer that takes nothing of a piece that isn't empty counts as failed.
 #[derive(Debug, Drop)]

@@ -1,4 +1,5 @@
-//! The outside as the server sees it: where bytes come from, where they go, and what may stand between a job and its worker.
+//! The outside as the server sees it: where bytes come from, where they go, and what may stand between a job and its
+//! worker.
 #![tactic(auto)]
 
 mod calls;

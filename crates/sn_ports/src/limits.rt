@@ -32,13 +32,13 @@ pub const MOST_ELEMENTS: usize = 64;
 /// The lowest rate of the sound, in frames a second.
 pub const LOW_RATE: u32 = 44_100;
 
-/// The rate in the middle.
+/// The middle rate.
 pub const MIDDLE_RATE: u32 = 48_000;
 
 /// The highest rate.
 pub const HIGH_RATE: u32 = 96_000;
 
-/// The least words of the memory for buffers and states.
+/// The fewest words of the memory for buffers and states.
 pub const LEAST_MEMORY: u32 = 65_536;
 
 /// The most words of the memory for buffers and states.

@@ -13,7 +13,7 @@ use crate::text::Text;
 pub enum Event {
     /// A piece of bytes.
     Bytes(Text),
-    /// So many blocks are due.
+    /// This many blocks are due.
     Ticks(u32),
 }
 
@@ -23,9 +23,9 @@ pub type Events = Vec<Event>;
 /// What a link gave.
 #[derive(Clone, Copy, Debug, PartialEq, Eq)]
 pub enum Fed {
-    /// So many bytes, one or more.
+    /// This many bytes, one or more.
     Bytes(usize),
-    /// So many blocks are due, 1 to 1,024.
+    /// This many blocks are due, 1 to 1,024.
     Ticks(u32),
     /// Nothing more comes.
     End,
@@ -33,16 +33,16 @@ pub enum Fed {
 
 /// A connection: what comes over it, in order, and where replies go.
 pub trait Link {
-    /// The events that are left, where it tells them.
+    /// The events that are left, if they are known.
     ghost left: { Self → Option (List LinkEvent) };
 
-    /// The bytes that were sent, where it tells them.
+    /// The bytes that were sent, if they are known.
     ghost sent: { Self → Option (List ℕ) };
 
     /// A count of failures: a call that answers leaves it, and one that fails raises it while it is below 2^64 - 1.
     ghost faults: { Self → ℕ };
 
-    /// Moves a front of the bytes that come next into `into`, or takes the blocks that are due next.
+    /// Moves a prefix of the bytes that come next into `into`, or takes the blocks that are due next.
     fn next(&mut self, into: &mut [u8]) -> Result<Fed, Failed>
         requires room { 0 < length into.old }
         ensures bound { FeedsWithin result into.new }
@@ -51,7 +51,7 @@ pub trait Link {
         ensures cause { HasCause (faults self.old) (faults self.new) result }
         ensures unfailed { OnOk result (faults self.new ≡ faults self.old) };
 
-    /// Sends a front of the piece, of at least one byte where there is one.
+    /// Sends a prefix of the piece, of at least one byte if there is one.
     fn send(&mut self, piece: &[u8]) -> Result<usize, Failed>
         ensures bound { WritesSome result piece.now }
         ensures bytes { WriteAppends (sent self.old) (sent self.new) result piece.now }

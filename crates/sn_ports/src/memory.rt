@@ -63,7 +63,7 @@ impl Source for MemorySource {
         ensures bound { ReadsAtMost result into.new }
         ensures bytes { ReadConsumes (Some self.old.left) (Some self.new.left) result into.new }
         ensures cause { HasCause self.old.faults self.new.faults result }
-        // It fails exactly where the number of the call is one of those that fail.
+        // It fails exactly if the number of the call is one of those that fail.
         ensures fails { IsTrue (is_err result) ↔ FailsNext self.old.fails self.old.calls }
         ensures count { IfOk result (λ n. n ≡ min (min (length self.old.left) self.old.piece) (length into.new)) }
         ensures piece { self.new.piece ≡ self.old.piece }
@@ -85,8 +85,8 @@ impl Source for MemorySource {
 
 /// A sink into memory.
 ///
-/// It takes at most `piece` bytes a call, and `capacity` bytes in all. The calls whose numbers, from 0,
-/// stand in `fails` fail, and so does each call once no capacity is left.
+/// It takes at most `piece` bytes a call, and `capacity` bytes in all. The calls whose numbers, from 0, stand in
+/// `fails` fail, and so does each call after the capacity is used up.
 #[derive(Debug, Drop)]
 pub struct MemorySink {
     bytes: Text,
@@ -143,7 +143,7 @@ impl Sink for MemorySink {
         ensures bound { WritesSome result piece.now }
         ensures bytes { WriteAppends (Some self.old.taken) (Some self.new.taken) result piece.now }
         ensures cause { HasCause self.old.faults self.new.faults result }
-        // It fails exactly where the number of the call is one of those that fail, or no capacity is left.
+        // It fails exactly if the number of the call is one of those that fail, or no capacity is left.
         ensures fails { IsTrue (is_err result) ↔ (FailsNext self.old.fails self.old.calls ⊎ (self.old.capacity ≡ length self.old.taken)) }
         ensures count { IfOk result (λ n. n ≡ min (min (length piece.now) self.old.piece) (self.old.capacity - length self.old.taken)) }
         ensures capacity { self.new.capacity ≡ self.old.capacity }

@@ -15,8 +15,8 @@ use std::marker::Model;
 
 /// A link that plays events from memory, and keeps what is sent.
 ///
-/// At most `capacity` bytes are sent in all. The calls whose numbers, from 0, stand in `fails` fail, and so does each send that the
-/// capacity can't hold. `next` and `send` are numbered together.
+/// At most `capacity` bytes are sent in all. The calls whose numbers, from 0, stand in `fails` fail, and so does each
+/// send that the capacity can't hold. `next` and `send` are numbered together.
 #[derive(Debug, Drop)]
 pub struct PlayedLink {
     events: Events,
@@ -40,7 +40,7 @@ impl Model for PlayedLink {
     ghost invariant = { λ l. (l.at ≤ length l.events.items) × AreLeft l.given (drop l.at l.events.items) × (length l.sent.bytes ≤ l.capacity) × (l.capacity ≤ length l.sent.bytes + l.sent.spare) };
 }
 
-/// Moves as many of the bytes as there is room for, and answers how many.
+/// Moves as many of the bytes as there is room for, and returns how many.
 fn give(bytes: &[u8], into: &mut [u8]) -> usize
     ensures count { result ≡ min (length bytes.now) (length into.new) }
     ensures bytes { take result into.new ≡ take result bytes.now }
@@ -97,7 +97,7 @@ impl Link for PlayedLink {
         ensures given { IfOk result (GivesWhatFits self.old.left (length into.new)) }
         ensures sent { Keeps (Some self.old.sent) (Some self.new.sent) }
         ensures cause { HasCause self.old.faults self.new.faults result }
-        // It fails exactly where the number of the call is one of those that fail.
+        // It fails exactly if the number of the call is one of those that fail.
         ensures fails { IsTrue (is_err result) ↔ FailsNext self.old.fails self.old.calls }
         ensures capacity { self.new.capacity ≡ self.old.capacity }
         ensures listed { self.new.fails ≡ self.old.fails }
@@ -134,7 +134,7 @@ impl Link for PlayedLink {
         ensures bytes { WriteAppends (Some self.old.sent) (Some self.new.sent) result piece.now }
         ensures events { KeepsEvents (Some self.old.left) (Some self.new.left) }
         ensures cause { HasCause self.old.faults self.new.faults result }
-        // It fails exactly where the number of the call is one of those that fail, or the capacity can't hold the piece.
+        // It fails exactly if the number of the call is one of those that fail, or the capacity can't hold the piece.
         ensures fails { IsTrue (is_err result) ↔ (FailsNext self.old.fails self.old.calls ⊎ (self.old.capacity < length self.old.sent + length piece.now)) }
         ensures whole { IfOk result (λ n. n ≡ length piece.now) }
         ensures capacity { self.new.capacity ≡ self.old.capacity }

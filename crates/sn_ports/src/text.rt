@@ -67,7 +67,7 @@ impl Text {
         self.items.len()
     }
 
-    /// Puts the piece at the end. After `NoMemory` the bytes are as before, and there is as much room.
+    /// Appends the piece. After `NoMemory` the bytes are as before, and there is as much room.
     pub fn append(&mut self, piece: &[u8]) -> Result<(), NoMemory>
         ensures ok { OnOk result (self.new.bytes ≡ self.old.bytes ++ piece.now) }
         ensures err { OnErr result (self.new.bytes ≡ self.old.bytes) }
@@ -88,7 +88,7 @@ impl Text {
         Ok(())
     }
 
-    /// Puts the piece at the end, where there is room.
+    /// Appends the piece. There must be room for it.
     pub fn append_within(&mut self, piece: &[u8])
         requires { length piece.now ≤ self.old.spare }
         ensures bytes { self.new.bytes ≡ self.old.bytes ++ piece.now }

@@ -56,7 +56,7 @@ first-here test x xs h = rw h
 pub without_first-here : {X : Type 0} (test : X → Bool) (x : X) (xs : List X) → test x ≡ true → without_first test (x ∷ xs) ≡ xs
 without_first-here test x xs h = rw h
 
--- where the first is not due, none is
+-- if the first is not due, none is
 pub none_due : (q : WaitingList) (now : ℕ) (w : Waiting) (ws : List Waiting) → AllByRecursion (ActsBefore w) ws → now < due_of q w
     → AllByRecursion (λ v. now < due_of q v) (w ∷ ws)
 none_due q now w ws after later =
@@ -76,7 +76,7 @@ greatest-last q (v ∷ vs) w order =
       All-last P [] y h = h.0
       All-last P (x ∷ xs) y h = All-last P xs y h.1
 
--- where the greatest due number is not after now, all are due
+-- if the greatest due number is not after now, all are due
 pub all_due : (q : WaitingList) (now : ℕ) (ws : List Waiting) → unwrap_or (greatest (map (due_of q) ws)) 0 ≤ now → AllByRecursion (λ v. is_due q now v ≡ true) ws
 all_due q now [] h = tt
 all_due q now (w ∷ ws) h = (le-leb (due_of q w) now (omega (arith, h)), all_due q now ws (omega (arith, h)))

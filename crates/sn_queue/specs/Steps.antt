@@ -5,7 +5,7 @@ use Rattle.sn_osc.specs.Shape.{MessageShape}
 use Rattle.sn_queue.specs.Time.{due, key_of}
 use Rattle.sn_queue.specs.Waiting.{Waiting, WaitingList}
 
--- behind the entries whose key is not greater
+-- after the entries whose key is not greater
 abbrev pub insert : Waiting → List Waiting → List Waiting
 insert w [] = w ∷ []
 insert w (v ∷ vs) = if nat_le v.key w.key then v ∷ insert w vs else w ∷ v ∷ vs
@@ -30,8 +30,8 @@ abbrev pub without_first : {X : Type 0} → (X → Bool) → List X → List X
 without_first test [] = []
 without_first test (x ∷ xs) = if test x then xs else x ∷ without_first test xs
 
--- The first due entry of the list. The list stands in the order of keys and, where these are equal, of numbers, so each other due entry
--- has a greater key, or the same key and a greater number.
+-- The first due entry of the list. The list stands in the order of keys and, if these are equal, of numbers. So each
+-- other due entry has a greater key, or the same key and a greater number.
 abbrev pub first_due : WaitingList → ℕ → Option Waiting
 first_due q now = first (is_due q now) q.waiting
 

@@ -1,4 +1,5 @@
--- Time tags and blocks. A tag counts in units of 2 ^ -32 seconds, a block has 64 frames, and block 0 begins at the base.
+-- Time tags and blocks. A tag counts in units of 2 ^ -32 seconds, a block has 64 frames, and block 0 begins at the
+-- base.
 use Rattle.std.specs.Prelude.{◌≡◌, ◌≤◌, ◌<◌, ◌^◌, ◌+◌, ◌-◌, ◌*◌, ◌/◌, ◌⊎◌, ◌==◌, ℕ, max, nat_le, if◌then◌else◌}
 use Rattle.std.specs.Int.{div_ceil}
 

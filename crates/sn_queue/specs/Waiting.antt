@@ -27,7 +27,7 @@ ActsBefore a b = (a.key < b.key) ⊎ ((a.key ≡ b.key) × (a.number < b.number)
 abbrev pub DiffersFrom : Waiting → Waiting → Type 0
 DiffersFrom a b = a.number ≢ b.number
 
--- each is so related to every later one
+-- each is related to every later one in this way
 abbrev pub AllPairwise : {X : Type 0} → (X → X → Type 0) → List X → Type 0
 AllPairwise R [] = Unit {0}
 AllPairwise R (x ∷ xs) = AllByRecursion (R x) xs × AllPairwise R xs

@@ -33,7 +33,7 @@ impl Clock {
         }
     }
 
-    /// The tag of a boundary, rounded up. It is computed only where the boundary isn't the last one.
+    /// The tag of a boundary, rounded up. It is computed only if the boundary isn't the last one.
     fn at(&mut self, boundary: u64) -> u128
         requires { boundary < most_count }
         ensures value { result ≡ at boundary self.old.base self.old.rate }

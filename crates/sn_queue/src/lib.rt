@@ -1,5 +1,5 @@
-//! Entries that wait for their time. A queue means the plain list of its entries, in the order in which they act;
-//! it keeps an ordered map, so that putting and taking an entry costs the logarithm of the entries that wait.
+//! Entries that wait for their time. A queue means the plain list of its entries, in the order in which they act. It
+//! keeps an ordered map, so putting and taking an entry costs time in the logarithm of the entries that wait.
 #![tactic(auto)]
 
 mod clock;

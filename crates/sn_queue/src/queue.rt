@@ -77,11 +77,11 @@ impl Queue {
         }
     }
 
-    /// Puts messages that arrive at `boundary`. They act by their tag, or at `boundary` where that is later; a tag of 1
+    /// Puts messages that arrive at `boundary`. They act by their tag, or at `boundary` if that is later; a tag of 1
     /// counts as the time of `boundary`.
     ///
-    /// `QueueFull` comes exactly where as many entries wait as may. A queue that refuses stays as it was, and drops
-    /// the messages.
+    /// `QueueFull` comes exactly if as many entries wait as may. A queue that refuses stays as it was, and drops the
+    /// messages.
     pub fn put(
         &mut self,
         tag: u64,
@@ -119,7 +119,7 @@ impl Queue {
         }
     }
 
-    /// Takes the first entry that is due at boundary `now` or before. `None` comes exactly where none is, and then the
+    /// Takes the first entry that is due at boundary `now` or before. `None` comes exactly if none is, and then the
     /// queue is as it was.
     pub fn take_due(&mut self, now: u64) -> Option<Entry>
         ensures taken { option_map waiting_of result ≡ first_due self.old now }
@@ -134,7 +134,7 @@ impl Queue {
         Some(Entry::of(rank, batch))
     }
 
-    /// The greatest due number of the entries that wait. `None` comes exactly where none waits.
+    /// The greatest due number of the entries that wait. `None` comes exactly if none waits.
     pub fn last(&self) -> Option<u64>
         ensures value { result ≡ last_due self.now }
         ensures none { (result ≡ None) ↔ (self.now.waiting ≡ []) }
@@ -143,7 +143,7 @@ impl Queue {
         Some(due(rank.key, self.clock.base, self.clock.rate))
     }
 
-    /// Drops the last entry, where it is due after `now`, and tells so.
+    /// Drops the last entry if it is due after `now`, and returns whether it did.
     fn drop_last_after(&mut self, now: u64) -> bool
         ensures same { clear_after self.new now ≡ clear_after self.old now }
         ensures shorter { IsTrue result → length self.new.waiting < length self.old.waiting }
@@ -155,7 +155,7 @@ impl Queue {
         }
     }
 
-    /// Drops the entries that are due after boundary `now`, and answers how many they were.
+    /// Drops the entries that are due after boundary `now`, and returns how many they were.
     pub fn clear_after(&mut self, now: u64) -> u64
         ensures left { self.new ≡ clear_after self.old now }
         ensures dropped { result ≡ count_after self.old now }

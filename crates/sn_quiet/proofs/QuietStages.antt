@@ -45,6 +45,6 @@ and_true : (b : Bool) → (b && true) ≡ b
 and_true true = refl
 and_true false = refl
 
--- where no node is left, it was found out
+-- if no node is left, it was found out
 pub still_quiet : (quiet all : Bool) (left : List (Label Held)) → left ≡ [] → (quiet && list_all quiet_label left) ≡ all → quiet ≡ all
 still_quiet quiet all left empty so_far = sym (and_true quiet) ∙ (ap (λ (ls : List (Label Held)). quiet && list_all quiet_label ls) (sym empty) ∙ so_far)

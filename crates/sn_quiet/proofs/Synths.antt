@@ -52,12 +52,12 @@ unit_unseen _ inputs action is now n blocks r = absurd cc
 
 -- ---- done words among the state words
 
--- whether a word is the done word of a unit, where the first unit's words begin at a place
+-- whether a word is the done word of a unit, if the first unit's words begin at a place
 abbrev pub is_done : ℕ → List UnitLine → ℕ → ℕ → Bool
 is_done rate [] place x = false
 is_done rate (u ∷ us) place x = (is_some (done_action u.kind u.inputs) && x == place) || is_done rate us (place + unit_words rate u) x
 
--- words that are the same but for done words, and the same once they are settled
+-- words that are the same except for done words, and the same after they are settled
 pub record Alike (done : ℕ → Bool) (us ws : List ℕ) : Type 0 where
   pub long : length us ≡ length ws
   pub same : (x : ℕ) → done x ≡ false → get_or us x 0 ≡ get_or ws x 0

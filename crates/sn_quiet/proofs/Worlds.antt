@@ -201,7 +201,7 @@ walk_unseen b w =
     let made : Nodes Content → Resources → World = λ nodes r. record w { nodes = nodes; audio_buses = r.buses.audio; control_buses = r.buses.control; buffers = r.buffers } in
     ap (λ (ns : Nodes Content). made ns left.resources) a.nodes ∙ ap (made (settled_nodes w.rate right.nodes)) a.resources
 
--- so many blocks that are settled once are as many that are settled each
+-- blocks that are settled once come to the same as blocks that are each settled
 pub walks_settle : (b n : ℕ) (w : World) → settled_world (walks b (suc n) w) ≡ walks_settled b (suc n) w
 unfolding walks walks_settled
 walks_settle b zero w = refl

@@ -10,7 +10,7 @@ use Rattle.sn_world.specs.declared.stage.Held.TheVariants as held
 use Rattle.sn_world.specs.Nodes.{Content, group, synth}
 use Rattle.sn_world.specs.Settling.{frees, pauses}
 
--- a unit that ends so pauses or frees its synth
+-- a unit that ends with this action pauses or frees its synth
 abbrev pub acts : Option ℤ → Bool
 acts None = false
 acts (Some action) = pauses action || frees action

@@ -4,7 +4,7 @@ use Rattle.sn_world.specs.Settling.{settled_nodes}
 use Rattle.sn_world.specs.Walk.{walk}
 use Rattle.sn_world.specs.World.{World}
 
--- a world whose last block was settled, where nothing is told and no unit acts at its end
+-- a world whose last block was settled, if nothing is told and no unit acts at its end
 abbrev pub settled_world : World → World
 settled_world w = record w { nodes = settled_nodes w.rate w.nodes }
 

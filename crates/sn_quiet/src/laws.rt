@@ -1,4 +1,4 @@
-//! Laws of blocks that are settled each, or once, after the last.
+//! Laws of blocks that are each settled, or settled once, after the last.
 ghost use Rattle.std.specs.Prelude.{◌≡◌, ◌+◌, true, ℕ};
 ghost use Rattle.sn_world.specs.Settling.{settled, with_nodes_settled};
 ghost use Rattle.sn_world.specs.Walk.{walk};
@@ -6,15 +6,15 @@ ghost use Rattle.sn_world.specs.World.{World, Turn};
 ghost use Rattle.sn_quiet.specs.Quiet.{are_quiet};
 ghost use Rattle.sn_quiet.specs.Walks.{settled_world, walks, walks_settled};
 
-/// A law: a walk does not see whether the block before was settled. So some blocks that are settled once, after the last,
-/// leave the world that as many blocks leave that are settled each.
+/// A law: a walk does not see whether the block before was settled. So blocks that are settled once, after the last,
+/// leave the same world as blocks that are each settled.
 pub fn settling_is_unseen()
     ensures walk { (b : ℕ) (w : World) → settled_world (walk b (settled_world w)) ≡ settled_world (walk b w) }
     ensures walks { (b n : ℕ) (w : World) → settled_world (walks b (n + 1) w) ≡ walks_settled b (n + 1) w }
 {}
 
-/// A law: if no synth that runs sends triggers or acts when a unit ends, a settling tells nothing, and settles the done words
-/// alone.
+/// A law: if no synth that runs sends triggers or acts when a unit ends, a settling tells nothing, and settles the done
+/// words alone.
 pub fn quiet_blocks_settle()
     ensures { (b : ℕ) (t : Turn) → are_quiet t.world.nodes ≡ true → settled b t ≡ with_nodes_settled t }
 {}

@@ -16,7 +16,7 @@ none_else_after (Err NoMemory) a b c d e f one other = none_failed a b c d e f o
 none_else_after (Err SoundFault) a b c d e f one other = other ∙ one.1
 none_else_after (Err ReplyFault) a b c d e f one other = other ∙ one.0
 
--- what is said where a step stopped is said of the answer that hands this on
+-- what is said of a step that stopped is said of the answer that hands this on
 pub none_else_err : (r : Result (Unit {0}) Stop) (e : Stop) (a b c d : ℕ) → IsErrAnd r (λ k. k ≡ e) → NoneElseFailed (Err e) a b c d → NoneElseFailed r a b c d
 none_else_err (Ok x) e a b c d is said = absurd is
 none_else_err (Err k) e a b c d is said = subst (λ (x : Stop). NoneElseFailed (Err x) a b c d) (sym is) said

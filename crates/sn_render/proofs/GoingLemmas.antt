@@ -62,7 +62,7 @@ end_cut first total sound_old sound_mid sound_new replies_old replies_mid replie
 pub head_cut : (head sound replies : List ℕ) (sound_old sound_new replies_old : Option (List ℕ)) → TakesFront sound_old sound_new head → TakeFronts sound_old sound_new replies_old replies_old (head ++ sound) replies
 head_cut head sound replies sound_old sound_new replies_old t = record { sound = within sound_old sound_new head (head ++ sound) (begins_more head sound) t; replies = takes_none replies_old replies }
 
--- behind it
+-- after it
 pub headed_cut : (head sound replies : List ℕ) (sound_old sound_mid sound_new replies_old replies_new : Option (List ℕ)) → Appends sound_old sound_mid head → TakeFronts sound_mid sound_new replies_old replies_new sound replies
     → TakeFronts sound_old sound_new replies_old replies_new (head ++ sound) replies
 headed_cut head sound replies sound_old sound_mid sound_new replies_old replies_new taken t = record { sound = taken_behind sound_old sound_mid sound_new head sound taken t.sound; replies = t.replies }

@@ -10,7 +10,7 @@ use Rattle.sn_render.specs.Rows.{IsRow, IsRowCut, IsRowWritten}
 use Rattle.sn_render.proofs.StepLemmas.{as_many_behind, blocks_step, end_step, grows}
 use Rattle.sn_render.proofs.WritingLemmas.{fronts_within, written_both, written_fronts, written_step}
 
--- ---- blocks in turn, from the front and from the end
+-- ---- blocks in turn, from the first and from the last
 
 last_block : (n : ℕ) (r : Running) → after_blocks n (after_block r) ≡ after_block (after_blocks n r)
 last_block zero r = refl

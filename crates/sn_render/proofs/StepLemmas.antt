@@ -1,4 +1,4 @@
--- The steps of an engine only add to its bytes: what it holds stays in front, and is not looked at.
+-- The steps of an engine only add to its bytes: what it holds stays before what they add, and is not looked at.
 use Rattle.std.proofs.Common.{◌≡◌, ℕ, zero, suc, List, [], ◌∷◌, ◌++◌, length, refl, sym, ap, ◌∙◌, append_assoc, append-nil, arith}
 use Rattle.sn_ports.specs.Transfer.{Before}
 use Rattle.sn_pcm.specs.Pcm.{pcm}
@@ -26,7 +26,7 @@ both_steps f g one other = record {
 abbrev pub holding : List ℕ → List (List ℕ) → Running → Running
 holding sound replies r = record r { sound = sound; replies = replies }
 
--- what is told comes behind what was
+-- what is told comes after what was
 pub tells : (rs : List ReplyShape) (said : List ℕ) (out : List (List ℕ)) → with_frames 0 rs (before_first said out) ≡ before_first said (with_frames 0 rs out)
 tells rs said [] = none_sent 0 rs ∙ ap (before_first said) (sym (none_sent 0 rs))
 tells rs said (t ∷ ts) =
@@ -97,7 +97,7 @@ pub record AddsTo (old new held : Running) : Type 0 where
   pub said : to_first new.replies ≡ to_first old.replies ++ to_first held.replies
   pub alone : length new.replies ≡ 1
 
--- a step adds to the bytes what it gives where none are left
+-- a step adds to the bytes what it gives if none are left
 pub added : (f : Running → Running) → IsStep f → (p e : Running) → length p.replies ≡ 1 → e ≡ drained p → AddsTo p (f p) (f e)
 added f step p e alone is =
     let all : f p ≡ behind p.sound (to_first p.replies) (f e) =
@@ -118,7 +118,7 @@ begins_more a b = (b, refl)
 pub begins_under : (a b c : List ℕ) → Before b c → Before (a ++ b) (a ++ c)
 begins_under a b c h = (h.0, ap (λ (l : List ℕ). a ++ l) h.1 ∙ sym (append_assoc a b h.0))
 
--- the second engine has the bytes of the first, and perhaps more behind them
+-- the second engine has the bytes of the first, and perhaps more after them
 pub record Grows (p q : Running) : Type 0 where
   pub sound : Before p.sound q.sound
   pub replies : Before (to_first p.replies) (to_first q.replies)

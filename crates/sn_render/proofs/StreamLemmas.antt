@@ -28,7 +28,7 @@ only_bad view bytes (Err (no_packets.Bad f)) found bad number place fault s =
     let same = one_stream_fault bad.before s.before 0 bad.front bad.rest s.front s.rest f.place place f.fault fault bad.frames s.frames (sym bad.parts ∙ s.parts) bad.why s.why in
     (sym bad.count ∙ same.0 ∙ s.count, same.1, same.2)
 
--- the fault behind some frames
+-- the fault after some frames
 pub fault_behind : (X Y : Type 0) (bytes front rest : List ℕ) (xs : List Shape) (number at : ℕ) (e : NoPackets) → Frames xs front → bytes ≡ front ++ rest → length xs ≡ number → at ≡ 0 + length front → IfBad {X = X} (Err e) (λ f. f.packet ≡ number)
     → IfBad {X = X} (Err e) (λ f. FrameFault at rest f.place f.fault) → IfBad {X = Y} (Err e) (λ f. StreamFaultAt bytes f.packet f.place f.fault)
 fault_behind X Y bytes front rest xs number at no_packets.NoMemory frames parts count is numbered why = tt

@@ -22,22 +22,22 @@ pub on_any_err : {T E P : Type 0} (r : Result T E) → P → OnErr r P
 on_any_err (Ok x) p = tt
 on_any_err (Err e) p = p
 
--- ---- fronts
+-- ---- prefixes
 
 pub takes_none : (old : Option (List ℕ)) (whole : List ℕ) → TakesFront old old whole
 takes_none old whole = ([], Appends-nil old, begins_more [] whole)
 
--- what was written is a front of what was to be written
+-- what was written is a prefix of what was to be written
 written_taken : (before after : List ℕ) (old new : Option (List ℕ)) → IsWritten before after old new → TakesFront old new before
 written_taken before after old new w = (w.piece, w.taken, (after, w.parts))
 
--- a front of bytes that begin others
+-- a prefix of bytes that begin others
 pub within : (old new : Option (List ℕ)) (part whole : List ℕ) → Before part whole → TakesFront old new part → TakesFront old new whole
 within old new part whole begins t =
     let (front, taken, is) = t in
     (front, taken, begins_trans front part whole is begins)
 
--- a front that was taken behind other bytes
+-- a prefix that was taken after other bytes
 pub taken_behind : (old mid new : Option (List ℕ)) (out whole : List ℕ) → Appends old mid out → TakesFront mid new whole → TakesFront old new (out ++ whole)
 taken_behind old mid new out whole before t =
     let (front, taken, is) = t in
@@ -92,7 +92,7 @@ written_step f step sound_old sound_new replies_old replies_new p r w = record {
   replies = w.replies;
 }
 
--- the bytes of an engine are those that were written, and behind them those that it holds
+-- the bytes of an engine are those that were written, and after them those that it holds
 sounds : (sound_old sound_new replies_old replies_new : Option (List ℕ)) (p r : Running) → (w : HasWritten sound_old sound_new replies_old replies_new p r) → w.sound_out ++ r.sound ≡ p.sound
 sounds sound_old sound_new replies_old replies_new p r w = sym (ap (λ (q : Running). q.sound) w.parts)
 
@@ -107,7 +107,7 @@ written_all sound_old sound_mid sound_new replies_old replies_mid replies_new p 
   replies = subst (Appends replies_old replies_new) (replies_are sound_old sound_mid replies_old replies_mid p r w alone) (Appends-trans replies_old replies_mid replies_new w.replies_out (to_first r.replies) w.replies t.replies);
 }
 
--- fronts of what is still held are written
+-- prefixes of what is still held are written
 pub written_fronts : (sound_old sound_mid sound_new replies_old replies_mid replies_new : Option (List ℕ)) (p r : Running) → HasWritten sound_old sound_mid replies_old replies_mid p r → length r.replies ≡ 1
     → TakeFronts sound_mid sound_new replies_mid replies_new r.sound (to_first r.replies) → TakeFronts sound_old sound_new replies_old replies_new p.sound (to_first p.replies)
 written_fronts sound_old sound_mid sound_new replies_old replies_mid replies_new p r w alone t = record {

@@ -1,4 +1,4 @@
--- Counts of failures that stay as they were.
+-- Counts of failures that are unchanged.
 use Rattle.std.specs.Prelude.{◌≡◌, ℕ, Result, Ok, Err}
 use Rattle.sn_render.specs.declared.rendering.Stop.{Stop}
 use Rattle.sn_render.specs.declared.rendering.Stop.TheVariants.{NoMemory, SoundFault, ReplyFault}
@@ -16,7 +16,7 @@ UnlessFailed (Err unread.NoMemory) P = P
 UnlessFailed (Err unread.TooLong) P = P
 UnlessFailed (Err unread.Failed) P = Unit {0}
 
--- Where a sink failed the other's count is as it was, and at every other answer both are.
+-- If a sink failed, the other's count is unchanged. At every other answer both are.
 abbrev pub NoneElseFailed : Result Unit Stop → ℕ → ℕ → ℕ → ℕ → Type 0
 NoneElseFailed (Ok x) sound_old sound_new replies_old replies_new = NothingFailed sound_old sound_new replies_old replies_new
 NoneElseFailed (Err NoMemory) sound_old sound_new replies_old replies_new = NothingFailed sound_old sound_new replies_old replies_new

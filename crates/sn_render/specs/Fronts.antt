@@ -3,11 +3,11 @@ use Rattle.std.specs.Prelude.{ℕ, List, Option}
 use Rattle.std.specs.Io.KnownBytes.{Appends}
 use Rattle.sn_ports.specs.Transfer.{Before}
 
--- a front of some bytes was taken
+-- a prefix of some bytes was taken
 abbrev pub TakesFront : Option (List ℕ) → Option (List ℕ) → List ℕ → Type 0
 TakesFront old new whole = (front : List ℕ) × Appends old new front × Before front whole
 
--- each of two sinks took a front of its bytes
+-- each of two sinks took a prefix of its bytes
 pub record TakeFronts (sound_old sound_new replies_old replies_new : Option (List ℕ)) (whole_sound whole_replies : List ℕ) : Type 0 where
   pub sound : TakesFront sound_old sound_new whole_sound
   pub replies : TakesFront replies_old replies_new whole_replies

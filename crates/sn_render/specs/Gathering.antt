@@ -15,22 +15,24 @@ HasRefusal bytes (BadStream packet place fault) = (length bytes ≤ most_stream)
 HasRefusal bytes NoMemory = ⊥
 HasRefusal bytes ReadFault = ⊥
 
--- A refusal of one of these two kinds is the stream's, where the source tells its bytes. `LongStream` has its number told or not.
+-- A refusal of one of these two kinds is the stream's, if the source tells its bytes. `LongStream` has its number told
+-- or not.
 abbrev pub IsRefusalOf : Option (List ℕ) → Ungathered → Type 0
 IsRefusalOf stream (LongStream n) = (n ≡ most_stream + 1) × IfSome stream (λ bytes. most_stream < length bytes)
 IsRefusalOf stream (BadStream packet place fault) = IfSome stream (λ bytes. HasRefusal bytes (BadStream packet place fault))
 IsRefusalOf stream NoMemory = Unit {0}
 IsRefusalOf stream ReadFault = Unit {0}
 
--- What is taken of a stream that gives no packets: all of one at fault; of one that is too long as many bytes as show it; of one on
--- which the source failed a front of fewer; and where memory ran out nothing, or all of a stream that isn't too long.
+-- What is taken of a stream that gives no packets. Of one at fault it is all. Of one that is too long it is as many
+-- bytes as show it. Of one on which the source failed it is a prefix of fewer bytes. If memory ran out it is nothing,
+-- or all of a stream that isn't too long.
 abbrev pub TakesRefused : Ungathered → Option (List ℕ) → Option (List ℕ) → Type 0
 TakesRefused (BadStream packet place fault) old new = IsAtEnd new
 TakesRefused (LongStream n) old new = Takes n old new
 TakesRefused ReadFault old new = (front : List ℕ) × Consumes old new front × (length front ≤ most_stream)
 TakesRefused NoMemory old new = Keeps old new ⊎ (IsAtEnd new × IfSome old (λ bytes. length bytes ≤ most_stream))
 
--- the answer is these packets, or want of memory
+-- the answer is these packets, or `NoMemory`
 abbrev pub GathersOnly : {X : Type 0} → (X → List Shape) → Result X Ungathered → List Shape → Type 0
 GathersOnly view (Ok x) packets = view x ≡ packets
 GathersOnly view (Err NoMemory) packets = Unit {0}

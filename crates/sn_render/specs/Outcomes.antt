@@ -15,7 +15,8 @@ use Rattle.sn_render.specs.Play.{last_of, sound_of, replies_of}
 abbrev pub IsTooLong : Settings → ℕ → Type 0
 IsTooLong s blocks = 4294967295 < 36 + data_len s blocks
 
--- The answer that the bytes of a stream have: it is too long, or has a first fault, or its sound is too long, or it is played.
+-- The answer that the bytes of a stream have: it is too long, or has a first fault, or its sound is too long, or it is
+-- played.
 abbrev pub HasAnswer : Settings → List ℕ → Outcome → Type 0
 HasAnswer s bytes (LongStream n) = (n ≡ most_stream + 1) × (most_stream < length bytes)
 HasAnswer s bytes (BadStream packet place fault) = (length bytes ≤ most_stream) × StreamFaultAt bytes packet place fault
@@ -27,7 +28,8 @@ HasAnswer s bytes ReadFault = ⊥
 HasAnswer s bytes SoundFault = ⊥
 HasAnswer s bytes ReplyFault = ⊥
 
--- An outcome of one of these four kinds is the stream's answer, where the source tells its bytes. `LongStream` has its number told or not.
+-- An outcome of one of these four kinds is the stream's answer, if the source tells its bytes. `LongStream` has its
+-- number told or not.
 abbrev pub IsAnswer : Settings → Option (List ℕ) → Outcome → Type 0
 IsAnswer s stream (LongStream n) = (n ≡ most_stream + 1) × IfSome stream (λ bytes. most_stream < length bytes)
 IsAnswer s stream (BadStream packet place fault) = IfSome stream (λ bytes. HasAnswer s bytes (BadStream packet place fault))
@@ -39,12 +41,13 @@ IsAnswer s stream ReadFault = Unit {0}
 IsAnswer s stream SoundFault = IfSome stream (λ bytes. (n : ℕ) × HasAnswer s bytes (Done n))
 IsAnswer s stream ReplyFault = IfSome stream (λ bytes. (n : ℕ) × HasAnswer s bytes (Done n))
 
--- The stream is the frames of some packets, which give so many blocks, and each sink took what they give. Each is said where it is told.
+-- The stream is the frames of some packets, which give so many blocks, and each sink took what they give. Each is said
+-- if it is told.
 abbrev pub Played : Settings → Option (List ℕ) → ℕ → Option (List ℕ) → Option (List ℕ) → Option (List ℕ) → Option (List ℕ) → Type 0
 Played s stream blocks sound_old sound_new replies_old replies_new = IfSome stream (λ bytes. (packets : List Shape) × Frames packets bytes
     × (blocks ≡ last_of s packets) × Appends sound_old sound_new (sound_of s packets) × Appends replies_old replies_new (replies_of s packets))
 
--- packets whose frames are the bytes of a stream, where they are told, and these are not too many
+-- packets whose frames are the bytes of a stream, if they are told, and these are not too many
 pub record ArePacketsOf (stream : Option (List ℕ)) (packets : List Shape) : Type 0 where
   pub bytes : List ℕ
   pub told : IfSome stream (λ xs. bytes ≡ xs)
@@ -63,7 +66,7 @@ IsUnplayed (LongSound n) = ⊥
 IsUnplayed SoundFault = ⊥
 IsUnplayed ReplyFault = ⊥
 
--- A stream of packets whose sound isn't too long, and a front of what they give in each sink.
+-- A stream of packets whose sound isn't too long, and a prefix of what they give in each sink.
 pub record PlayedPart (s : Settings) (stream sound_old sound_new replies_old replies_new : Option (List ℕ)) : Type 0 where
   pub packets : List Shape
   pub given : ArePacketsOf stream packets
@@ -71,8 +74,9 @@ pub record PlayedPart (s : Settings) (stream sound_old sound_new replies_old rep
   pub sound : TakesFront sound_old sound_new (sound_of s packets)
   pub replies : TakesFront replies_old replies_new (replies_of s packets)
 
--- What the sinks took at each answer but `Done`: nothing where the stream, its length or the words are refused, or the source failed; a front of
--- what the packets give where a sink failed; and where memory ran out nothing, or such a front.
+-- What the sinks took at each answer but `Done`. If the stream, its length or the words are refused, or the source
+-- failed, it is nothing. If a sink failed, it is a prefix of what the packets give. If memory ran out, it is nothing,
+-- or such a prefix.
 abbrev pub Writes : Settings → Option (List ℕ) → Outcome → Option (List ℕ) → Option (List ℕ) → Option (List ℕ) → Option (List ℕ) → Type 0
 Writes s stream (Done n) sound_old sound_new replies_old replies_new = Unit {0}
 Writes s stream (LongStream n) sound_old sound_new replies_old replies_new = Keeps sound_old sound_new × Keeps replies_old replies_new
@@ -88,8 +92,9 @@ Writes s stream NoMemory sound_old sound_new replies_old replies_new = (Keeps so
 abbrev pub Takes : ℕ → Option (List ℕ) → Option (List ℕ) → Type 0
 Takes n old new = (front : List ℕ) × Consumes old new front × (length front ≡ n)
 
--- What is taken of the stream: all of it; of one that is too long as many bytes as show it; of one on which the source failed a front of fewer;
--- nothing where the words are refused; and where memory ran out nothing, or all of a stream that isn't too long.
+-- What is taken of the stream. It is all of it, except in four cases. Of one that is too long it is as many bytes as
+-- show it. Of one on which the source failed it is a prefix of fewer bytes. If the words are refused it is nothing. If
+-- memory ran out it is nothing, or all of a stream that isn't too long.
 abbrev pub TakesStream : Outcome → Option (List ℕ) → Option (List ℕ) → Type 0
 TakesStream (Done n) old new = IsAtEnd new
 TakesStream (BadStream packet place fault) old new = IsAtEnd new

@@ -1,4 +1,4 @@
--- What a stream of packets gives: the engine's own steps, one after another, where nothing is written in between.
+-- What a stream of packets gives: the engine's own steps, one after another, if nothing is written in between.
 use Rattle.std.specs.Prelude.{ℕ, zero, suc, List, [], ◌∷◌, None, slice_index_or, unwrap_or}
 use Rattle.sn_osc.specs.Shape.{Shape}
 use Rattle.sn_pcm.specs.declared.settings.Settings.{Settings}
@@ -13,7 +13,8 @@ abbrev pub arrive : List Shape → Running → Running
 arrive [] r = r
 arrive (x ∷ xs) r = arrive xs (with_offered 0 (entries_of x) r)
 
--- an engine of one client at which all packets arrived at boundary 0; block 0 begins at time 0, and any number of entries may wait
+-- an engine of one client at which all packets arrived at boundary 0; block 0 begins at time 0, and any number of
+-- entries may wait
 abbrev pub begun : Settings → List Shape → Running
 begun s packets = arrive packets (opened s 0 None 1)
 

@@ -58,14 +58,14 @@ pub record PlayedPackets (s : Settings) (packets : List Shape) (blocks : ℕ) (s
   pub sound : Appends sound_old sound_new (sound_of s packets)
   pub replies : Appends replies_old replies_new (replies_of s packets)
 
--- each sink took a front of it
+-- each sink took a prefix of it
 pub record PlayedFront (s : Settings) (packets : List Shape) (sound_old sound_new replies_old replies_new : Option (List ℕ)) : Type 0 where
   pub short : IsTooLong s (last_of s packets) → ⊥
   pub sound : TakesFront sound_old sound_new (sound_of s packets)
   pub replies : TakesFront replies_old replies_new (replies_of s packets)
 
--- What the sinks took at each outcome but `Done`: nothing where the sound is too long; a front of what the packets give where a sink failed; and
--- where memory ran out nothing, or such a front.
+-- What the sinks took at each outcome but `Done`. If the sound is too long, it is nothing. If a sink failed, it is a
+-- prefix of what the packets give. If memory ran out, it is nothing, or such a prefix.
 abbrev pub WritesPackets : Settings → List Shape → Outcome → Option (List ℕ) → Option (List ℕ) → Option (List ℕ) → Option (List ℕ) → Type 0
 WritesPackets s packets (Done n) sound_old sound_new replies_old replies_new = Unit {0}
 WritesPackets s packets (LongSound n) sound_old sound_new replies_old replies_new = Keeps sound_old sound_new × Keeps replies_old replies_new

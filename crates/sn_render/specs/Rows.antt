@@ -12,14 +12,14 @@ pub record IsRow (most : ℕ) (old new : Running) : Type 0 where
   pub few : blocks ≤ most
   pub played : new ≡ after_blocks blocks old
 
--- and some front of the bytes was written
+-- and some prefix of the bytes was written
 pub record IsRowWritten (most : ℕ) (sound_old sound_new replies_old replies_new : Option (List ℕ)) (old new : Running) : Type 0 where
   pub blocks : ℕ
   pub some : 1 ≤ blocks
   pub few : blocks ≤ most
   pub written : HasWritten sound_old sound_new replies_old replies_new (after_blocks blocks old) new
 
--- of the bytes of at most so many blocks fronts were written
+-- of the bytes of at most so many blocks prefixes were written
 pub record IsRowCut (most : ℕ) (sound_old sound_new replies_old replies_new : Option (List ℕ)) (old : Running) : Type 0 where
   pub blocks : ℕ
   pub few : blocks ≤ most

@@ -17,13 +17,13 @@ IfBad (Ok x) P = Unit {0}
 IfBad (Err no_packets.NoMemory) P = Unit {0}
 IfBad (Err (no_packets.Bad f)) P = P f
 
--- the answer is these packets, or want of memory
+-- the answer is these packets, or `NoMemory`
 abbrev pub IsFound : {X : Type 0} → (X → List Shape) → Result X NoPackets → List Shape → Type 0
 IsFound view (Ok x) xs = view x ≡ xs
 IsFound view (Err no_packets.NoMemory) xs = Unit {0}
 IsFound view (Err (no_packets.Bad f)) xs = ⊥
 
--- the answer is this fault, or want of memory
+-- the answer is this fault, or `NoMemory`
 abbrev pub IsRefused : {X : Type 0} → Result X NoPackets → ℕ → ℕ → StreamFault → Type 0
 IsRefused (Ok x) number place fault = ⊥
 IsRefused (Err no_packets.NoMemory) number place fault = Unit {0}

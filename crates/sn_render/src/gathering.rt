@@ -29,7 +29,8 @@ pub enum Ungathered {
     LongStream {
         bytes: u64,
     },
-    /// The stream is no list of framed packets. The packet's number counts from 0, and so does the place, in bytes of the stream.
+    /// The stream is no list of framed packets. The packet's number counts from 0, and so does the place, in bytes of
+    /// the stream.
     BadStream {
         packet: u32,
         place: u64,
@@ -69,20 +70,20 @@ fn gathered<S: Source>(alloc: Global, source: &mut S) -> Result<Packets, Ungathe
 ///
 /// # Errors
 ///
-/// `LongStream` comes exactly where 16,777,217 bytes were taken, `BadStream` exactly where the stream has a first fault, and
-/// `ReadFault` only where the source's count of faults rose.
+/// `LongStream` comes exactly if 16,777,217 bytes were taken, `BadStream` exactly if the stream has a first fault, and
+/// `ReadFault` only if the source's count of faults rose.
 pub fn gather<S: Source>(alloc: Global, source: &mut S) -> Result<Packets, Ungathered>
-    // The packets are those of the stream, where the source tells its bytes. Each has a spelling.
+    // The packets are those of the stream, if the source tells its bytes. Each has a spelling.
     ensures packets { IfOk result (λ v. ArePacketsOf (S.left source.old) (map shape v.items)) }
     ensures framed { IfOk result (λ v. AreFramed (map shape v.items)) }
-    // Every refusal but want of memory has its cause.
+    // Every refusal apart from `NoMemory` has its cause.
     ensures refused { IfErr result (λ e. IsRefusalOf (S.left source.old) e) }
     ensures read { result ≡ Err Ungathered.ReadFault → Rose (S.faults source.old) (S.faults source.new) }
     ensures unfailed { (result ≡ Err Ungathered.ReadFault) ⊎ (S.faults source.new ≡ S.faults source.old) }
     // What was read of the stream: all of it, or at a refusal what that says.
     ensures end { OnOk result (IsAtEnd (S.left source.new)) }
     ensures taken { IfErr result (λ e. TakesRefused e (S.left source.old) (S.left source.new)) }
-    // Where no count rises, the answer is the one that the stream has, or want of memory.
+    // If no count rises, the answer is the one that the stream has, or `NoMemory`.
     ensures only_packets { (bytes : List ℕ) (packets : List Shape) → S.left source.old ≡ Some bytes → length bytes ≤ most_stream → Frames packets bytes
         → (Rose (S.faults source.old) (S.faults source.new) → ⊥) → GathersOnly (λ v. map shape v.items) result packets }
     ensures only_refused { (bytes : List ℕ) (e : Ungathered) → S.left source.old ≡ Some bytes → HasRefusal bytes e

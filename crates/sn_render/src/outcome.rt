@@ -16,7 +16,8 @@ pub enum Outcome {
     BadWords {
         index: u32,
     },
-    /// The stream is no list of framed packets. The packet's number counts from 0, and so does the place, in bytes of the stream.
+    /// The stream is no list of framed packets. The packet's number counts from 0, and so does the place, in bytes of
+    /// the stream.
     BadStream {
         packet: u32,
         place: u64,

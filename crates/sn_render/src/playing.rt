@@ -128,8 +128,8 @@ fn played<H: Threads + Sync, O: Sink, R: Sink, G: Gate>(
 
 /// Plays packets as one stream: checks the length, and then writes the sound and the replies that they give.
 ///
-/// Before rendering begins neither sink has taken a byte. Where a sink fails, or memory runs out in the midst, each sink took a front of the
-/// bytes that the packets give.
+/// Before rendering begins neither sink has taken a byte. If a sink fails, or memory runs out before the end, each sink
+/// took a prefix of the bytes that the packets give.
 pub fn play<H: Threads + Sync, O: Sink, R: Sink, G: Gate>(
     rt: &H,
     alloc: Global,
@@ -140,20 +140,20 @@ pub fn play<H: Threads + Sync, O: Sink, R: Sink, G: Gate>(
     gate: &G,
 ) -> Outcome
     requires playable { ArePlayable (map shape packets.items) }
-    // What was done is the sequential walk of the packets, where the sinks tell their bytes.
+    // What was done is the sequential walk of the packets, if the sinks tell their bytes.
     ensures done { (n : ℕ) → result ≡ Outcome.Done n → PlayedPackets settings.now (map shape packets.items) n
         (O.taken sound.old) (O.taken sound.new) (R.taken replies.old) (R.taken replies.new) }
-    // Every other outcome but want of memory has its cause.
+    // Every other outcome apart from `NoMemory` has its cause.
     ensures end { IsEnd settings.now (map shape packets.items) result }
     ensures sound { result ≡ Outcome.SoundFault → Rose (O.faults sound.old) (O.faults sound.new) }
     ensures reply { result ≡ Outcome.ReplyFault → Rose (R.faults replies.old) (R.faults replies.new) }
-    // Where no count rises, the outcome is the one that the packets have, or want of memory.
+    // If no count rises, the outcome is the one that the packets have, or `NoMemory`.
     ensures complete { (outcome : Outcome) → HasEnd settings.now (map shape packets.items) outcome
         → (Rose (O.faults sound.old) (O.faults sound.new) → ⊥) → (Rose (R.faults replies.old) (R.faults replies.new) → ⊥) → (result ≡ outcome) ⊎ (result ≡ Outcome.NoMemory) }
-    // Neither sink failed but where its fault is the outcome.
+    // Neither sink failed, unless its fault is the outcome.
     ensures sound_unfailed { (result ≡ Outcome.SoundFault) ⊎ (O.faults sound.new ≡ O.faults sound.old) }
     ensures replies_unfailed { (result ≡ Outcome.ReplyFault) ⊎ (R.faults replies.new ≡ R.faults replies.old) }
-    // What each sink took at every other outcome: nothing, or a front of what the packets give.
+    // What each sink took at every other outcome: nothing, or a prefix of what the packets give.
     ensures written { WritesPackets settings.now (map shape packets.items) result (O.taken sound.old) (O.taken sound.new) (R.taken replies.old) (R.taken replies.new) }
 {
     played(rt, alloc, settings, packets, sound, replies, gate)

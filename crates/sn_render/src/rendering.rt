@@ -46,7 +46,7 @@ impl From<NoMemory> for Stop {
     }
 }
 
-/// Writes the sound that was gathered, where it has `least` bytes.
+/// Writes the sound that was gathered, if it has at least `least` bytes.
 fn write_sound<O: Sink>(engine: &mut Engine, least: usize, sink: &mut O) -> Result<(), Stop>
     ensures written { OnOk result (IsWritten engine.old.running.sound engine.new.running.sound (O.taken sink.old) (O.taken sink.new)) }
     ensures front { OnErr result (TakesFront (O.taken sink.old) (O.taken sink.new) engine.old.running.sound) }
@@ -66,7 +66,7 @@ fn write_sound<O: Sink>(engine: &mut Engine, least: usize, sink: &mut O) -> Resu
     }
 }
 
-/// Writes the replies that were gathered, where they have `least` bytes.
+/// Writes the replies that were gathered, if they have at least `least` bytes.
 fn write_replies<R: Sink>(engine: &mut Engine, least: usize, sink: &mut R) -> Result<(), Stop>
     requires alone { length engine.old.running.replies ≡ 1 }
     ensures written { OnOk result (IsWritten (to_first engine.old.running.replies) (to_first engine.new.running.replies) (R.taken sink.old) (R.taken sink.new)) }

@@ -68,8 +68,8 @@ pub fn zeroed(alloc: Global, len: usize) -> Result<Vec<u8>, AllocError>
     vec![in alloc; 0; len]
 }
 
-/// Reads as many bytes as the piece has room for, or fewer at the end of the source, and puts them at the end of those
-/// that were read. It answers whether there were as many.
+/// Reads as many bytes as the piece has room for, or fewer at the end of the source, and appends them to those that
+/// were read. Returns whether there were as many.
 fn read_piece<S: Source>(source: &mut S, piece: &mut [u8], bytes: &mut Text) -> Result<bool, Failed>
     requires room { length piece.old ≤ bytes.old.spare }
     ensures read { IfOk result (λ is_full. IsPiece (S.left source.old) (S.left source.new) bytes.old.bytes bytes.new.bytes (length piece.old) is_full) }
@@ -118,7 +118,7 @@ pub fn read_stream<S: Source>(alloc: Global, source: &mut S) -> Result<Vec<u8>, 
     Err(Unread::TooLong)
 }
 
-/// What is wrong where no whole frame stands.
+/// What is wrong if no whole frame stands there.
 fn fault_of(none: NoFrame) -> StreamFault
     ensures { (bytes : List ℕ) (at : ℕ) → 0 < length bytes → first_frame bytes ≡ instead none → FrameFault at bytes at result }
 {
@@ -128,7 +128,7 @@ fn fault_of(none: NoFrame) -> StreamFault
     }
 }
 
-/// The first packet, and the bytes behind its frame. The bytes begin at the place `at` of the stream.
+/// The first packet, and the bytes after its frame. The bytes begin at the place `at` of the stream.
 fn first_packet(
     alloc: Global,
     number: u32,
@@ -178,7 +178,7 @@ fn decode_frames(alloc: Global, bytes: &[u8]) -> Result<Elements, NoPackets>
     Ok(packets)
 }
 
-/// The packets of a stream, or its first fault. Each is the answer exactly where it is there, but for want of memory.
+/// The packets of a stream, or its first fault. Each is the answer exactly if it is there, apart from `NoMemory`.
 pub fn decode_stream(alloc: Global, bytes: &[u8]) -> Result<Elements, NoPackets>
     requires { length bytes.now ≤ most_stream }
     ensures found { IfOk result (λ v. Frames (map shape v.items) bytes.now) }

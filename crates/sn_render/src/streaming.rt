@@ -74,10 +74,11 @@ fn run_stream<H: Threads + Sync, S: Source, O: Sink, R: Sink, G: Gate>(
     play(rt, alloc, settings, packets, sound, replies, gate)
 }
 
-/// Reads a stream to its end, decodes every packet, checks the length, and then writes the sound and the replies that it gives.
+/// Reads a stream to its end, decodes every packet, checks the length, and then writes the sound and the replies that
+/// it gives.
 ///
-/// The first refusal in this order is the answer. Before rendering begins neither sink has taken a byte. Where a sink fails, or memory runs out
-/// in the midst, each sink took a front of the bytes that the whole run gives.
+/// The first refusal in this order is the answer. Before rendering begins neither sink has taken a byte. If a sink
+/// fails, or memory runs out before the end, each sink took a prefix of the bytes that the whole run gives.
 pub fn render<H: Threads + Sync, S: Source, O: Sink, R: Sink, G: Gate>(
     rt: &H,
     alloc: Global,
@@ -87,24 +88,24 @@ pub fn render<H: Threads + Sync, S: Source, O: Sink, R: Sink, G: Gate>(
     replies: &mut R,
     gate: &G,
 ) -> Outcome
-    // What was done is the sequential walk of the stream, where the objects tell their bytes.
+    // What was done is the sequential walk of the stream, if the objects tell their bytes.
     ensures done { (n : ℕ) → result ≡ Outcome.Done n → Played settings.now (S.left source.old) n
         (O.taken sound.old) (O.taken sound.new) (R.taken replies.old) (R.taken replies.new) }
     // What was read of the stream, at each answer.
     ensures taken { TakesStream result (S.left source.old) (S.left source.new) }
-    // Every other answer but want of memory has its cause.
+    // Every other answer apart from `NoMemory` has its cause.
     ensures answer { IsAnswer settings.now (S.left source.old) result }
     ensures read { result ≡ Outcome.ReadFault → Rose (S.faults source.old) (S.faults source.new) }
     ensures sound { result ≡ Outcome.SoundFault → Rose (O.faults sound.old) (O.faults sound.new) }
     ensures reply { result ≡ Outcome.ReplyFault → Rose (R.faults replies.old) (R.faults replies.new) }
-    // None of the three failed but where its fault is the answer.
+    // None of the three failed, unless its fault is the answer.
     ensures source_unfailed { (result ≡ Outcome.ReadFault) ⊎ (S.faults source.new ≡ S.faults source.old) }
     ensures sound_unfailed { (result ≡ Outcome.SoundFault) ⊎ (O.faults sound.new ≡ O.faults sound.old) }
     ensures replies_unfailed { (result ≡ Outcome.ReplyFault) ⊎ (R.faults replies.new ≡ R.faults replies.old) }
-    // Where no count rises, the answer is the one that the stream has, or want of memory.
+    // If no count rises, the answer is the one that the stream has, or `NoMemory`.
     ensures complete { (bytes : List ℕ) (answer : Outcome) → S.left source.old ≡ Some bytes → HasAnswer settings.now bytes answer → (Rose (S.faults source.old) (S.faults source.new) → ⊥)
         → (Rose (O.faults sound.old) (O.faults sound.new) → ⊥) → (Rose (R.faults replies.old) (R.faults replies.new) → ⊥) → (result ≡ answer) ⊎ (result ≡ Outcome.NoMemory) }
-    // What each sink took at every other answer: nothing, or a front of what the stream gives.
+    // What each sink took at every other answer: nothing, or a prefix of what the stream gives.
     ensures written { Writes settings.now (S.left source.old) result (O.taken sound.old) (O.taken sound.new) (R.taken replies.old) (R.taken replies.new) }
 {
     run_stream(rt, alloc, settings, source, sound, replies, gate)

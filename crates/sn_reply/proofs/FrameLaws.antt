@@ -4,7 +4,7 @@ use Rattle.sn_ports.specs.Transfer.{Before}
 use Rattle.sn_reply.specs.Replies.{ReplyShape}
 use Rattle.sn_reply.specs.Frames.{frame_to, frames_to, with_frame, with_frames, EachBegins}
 
--- the client in front gets the frames that go to it
+-- the first client gets the frames that go to it
 pub first_sent : (client : ℕ) (rs : List ReplyShape) (t : List ℕ) (ts : List (List ℕ)) → with_frames client rs (t ∷ ts) ≡ (t ++ frames_to client rs) ∷ with_frames (client + 1) rs ts
 first_sent client [] t ts = ap (λ (s : List ℕ). s ∷ ts) (sym (append-nil t))
 first_sent client (r ∷ rs) t ts =
@@ -19,7 +19,7 @@ as_many client (r ∷ rs) ts = as_many client rs (with_frame client r ts) ∙ on
     one client r [] = refl
     one client r (t ∷ ts) = ap suc (one (client + 1) r ts)
 
--- where there are no clients, nothing is sent
+-- if there are no clients, nothing is sent
 pub none_sent : (client : ℕ) (rs : List ReplyShape) → with_frames client rs [] ≡ []
 none_sent client [] = refl
 none_sent client (r ∷ rs) = none_sent client rs
@@ -44,7 +44,7 @@ each_begins_trans (t ∷ ts) [] vs p q = absurd p
 each_begins_trans (t ∷ ts) (u ∷ us) [] p q = absurd q
 each_begins_trans (t ∷ ts) (u ∷ us) (v ∷ vs) p q = (begins_trans t u v p.0 q.0, each_begins_trans ts us vs p.1 q.1)
 
--- the frame of a reply comes behind what each client had
+-- the frame of a reply comes after what each client had
 pub frame_behind : (client : ℕ) (r : ReplyShape) (ts : List (List ℕ)) → EachBegins ts (with_frame client r ts)
 frame_behind client r [] = tt
 frame_behind client r (t ∷ ts) = ((frame_to client r, refl), frame_behind (client + 1) r ts)

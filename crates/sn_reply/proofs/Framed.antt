@@ -127,7 +127,7 @@ last_of (r ∷ s ∷ rs) (x ∷ marks) mark is =
       mark_is = l.mark_is;
     }
 
--- what is left where the last frame is cut off
+-- what is left after the last frame is cut off
 pub record WithoutLast (bytes : List ℕ) (marks : List Mark) (mark : Mark) (rs : List ReplyShape) : Type 0 where
   pub fits : mark.len ≤ length bytes
   pub kept : Hold (take (length bytes - mark.len) bytes) marks (take (length rs - 1) rs)
@@ -163,7 +163,7 @@ none_cut bytes all marks rs h none is =
 
 -- ---- one after the other
 
--- the reply with this number, and the bytes behind its frame
+-- the reply with this number, and the bytes after its frame
 pub record NextReply (rs : List ReplyShape) (i : ℕ) (mark : Mark) (bytes : List ℕ) : Type 0 where
   pub reply : ReplyShape
   pub others : drop i rs ≡ reply ∷ drop (i + 1) rs

@@ -1,4 +1,4 @@
--- Pieces that are put one behind the other.
+-- Pieces that are put one after the other.
 use Rattle.std.proofs.Common.{of_z, to_z, ◌≡◌, ℕ, ℤ, List, [], ◌++◌, ap, sym, ◌∙◌, append_assoc}
 use Rattle.std.specs.Prelude.{FitsSigned}
 use Rattle.std.specs.Int.{w32}

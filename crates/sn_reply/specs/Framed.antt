@@ -1,4 +1,4 @@
--- Replies as they are kept: their frames one behind the other, and a mark for each.
+-- Replies as they are kept: their frames one after the other, and a mark for each.
 use Rattle.std.specs.Prelude.{◌≡◌, ℕ, List, [], ◌∷◌, ◌++◌, length, map, take, drop, Result, Ok, Err}
 use Rattle.sn_osc.specs.declared.fault.PacketFault.{PacketFault}
 use Rattle.sn_osc.specs.Shape.{MessageShape, bare}
@@ -12,11 +12,11 @@ use Rattle.sn_reply.specs.Sending.{AllSendable}
 abbrev pub frame_of : ReplyShape → List ℕ
 frame_of r = frame_bytes (message_bytes r.message)
 
--- whom a reply goes to, and how long its frame is
+-- to whom a reply goes, and how long its frame is
 abbrev pub mark_of : ReplyShape → Mark
 mark_of r = record { to = r.to; len = length (frame_of r) }
 
--- the frames of replies, one behind the other
+-- the frames of replies, one after the other
 abbrev pub joined : List ReplyShape → List ℕ
 joined [] = []
 joined (r ∷ rs) = frame_of r ++ joined rs
@@ -26,11 +26,11 @@ abbrev pub or_blank : Result MessageShape PacketFault → MessageShape
 or_blank (Ok m) = m
 or_blank (Err e) = record { address = []; body = bare }
 
--- the message that a frame holds behind its size
+-- the message that a frame holds after its size
 abbrev pub message_framed : List ℕ → MessageShape
 message_framed frame = or_blank (message_in 0 (drop 4 frame))
 
--- the replies whose frames are so long, one behind the other
+-- the replies whose frames are so long, one after the other
 abbrev pub replies_in : List ℕ → List Mark → List ReplyShape
 replies_in bytes [] = []
 replies_in bytes (m ∷ ms) = record { to = m.to; message = message_framed (take m.len bytes) } ∷ replies_in (drop m.len bytes) ms

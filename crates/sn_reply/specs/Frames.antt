@@ -31,12 +31,12 @@ abbrev pub with_frames : ℕ → List ReplyShape → List (List ℕ) → List (L
 with_frames client [] out = out
 with_frames client (r ∷ rs) out = with_frames client rs (with_frame client r out)
 
--- what is to be sent to each client has room for so many bytes more
+-- what is to be sent to each client has room for so many more bytes
 abbrev pub EachHasRoom : ℕ → List Octets → Type 0
 EachHasRoom n [] = Unit {0}
 EachHasRoom n (t ∷ ts) = (n ≤ t.spare) × EachHasRoom n ts
 
--- Each client has what it had, and perhaps more behind it.
+-- Each client has what it had, and perhaps more after it.
 abbrev pub EachBegins : List (List ℕ) → List (List ℕ) → Type 0
 EachBegins [] [] = Unit {0}
 EachBegins [] (bytes ∷ others) = ⊥

@@ -2,7 +2,7 @@
 use Rattle.sn_osc.specs.Shape.{MessageShape}
 use Rattle.sn_reply.specs.declared.replies.To.{To}
 
--- a message, and whom it goes to
+-- a message, and to whom it goes
 pub record ReplyShape : Type 0 where
   pub to : To
   pub message : MessageShape

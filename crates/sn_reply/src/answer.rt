@@ -81,7 +81,7 @@ impl Answer {
         })
     }
 
-    /// The message with these arguments, where their bytes are few enough.
+    /// The message with these arguments, if their bytes are few enough.
     pub fn into_long_message(self, address: &[u8]) -> Result<Message, NoMemory>
         requires address { IsAddress address.now }
         requires few { length (arguments_bytes self) + length self + 256 < 2 ^ 31 }

@@ -37,7 +37,7 @@ fn put_int(value: i32, out: &mut Text)
     out.append_within(&value.to_be_bytes());
 }
 
-/// Appends the arguments of a trigger, behind what stands before them in its frame.
+/// Appends the arguments of a trigger to what stands before them in its frame.
 fn put_trigger(head: &[u8], node: i32, id: i32, value: i32, out: &mut Text)
     requires room { length head.now + 12 ≤ out.old.spare }
     ensures bytes { out.new.bytes ≡ out.old.bytes ++ (head.now ++ arguments_bytes (trigger_arguments node id value)) }
@@ -49,7 +49,7 @@ fn put_trigger(head: &[u8], node: i32, id: i32, value: i32, out: &mut Text)
     put_int(value, out);
 }
 
-/// Appends the ids of a synth and of its neighbours, behind what stands before them in its frame.
+/// Appends the ids of a synth and of its neighbours to what stands before them in its frame.
 fn put_neighbours(head: &[u8], neighbours: &Neighbours, out: &mut Text)
     requires room { length head.now + 20 ≤ out.old.spare }
     ensures bytes { out.new.bytes ≡ out.old.bytes ++ (head.now ++ arguments_bytes (neighbours_arguments neighbours.now)) }

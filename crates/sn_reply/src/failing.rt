@@ -51,7 +51,7 @@ fn definition_line(alloc: Global, line: u32) -> Result<Text, NoMemory>
 /// The message `/fail` with the address of a refused command and the words of the reason.
 pub fn fail(alloc: Global, address: &Address, reason: Reason) -> Result<Message, NoMemory>
     ensures message { IfOk result (λ message. message_of message ≡ fail_message address.now.bytes reason) }
-    // It can be sent where the address has no null byte and is not too long.
+    // It can be sent if the address has no null byte and is not too long.
     ensures sendable { IsTrue (has_no_null address.now.bytes) → length address.now.bytes < 2 ^ 30
         → IfOk result (λ message. IsSendable (message_of message)) }
 {

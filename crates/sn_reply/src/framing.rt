@@ -19,7 +19,7 @@ fn goes_to(client: u32, to: To) -> bool
     }
 }
 
-/// Appends a reply's frame to what a client is sent, where it goes to that client. Room for so many more bytes stays.
+/// Appends a reply's frame to what a client is sent, if it goes to that client. Room for `room` more bytes stays.
 fn put_own(out: &mut Text, room: u32, client: u32, to: To, frame: &[u8]) -> Result<(), NoMemory>
     requires few { room + length frame.now < 2 ^ 32 }
     ensures frame { (r : ReplyShape) → r.to ≡ to → frame_bytes (message_bytes r.message) ≡ frame.now → OnOk result (out.new.bytes ≡ out.old.bytes ++ frame_to client r) }
@@ -35,7 +35,8 @@ fn put_own(out: &mut Text, room: u32, client: u32, to: To, frame: &[u8]) -> Resu
     Ok(())
 }
 
-/// Appends a reply's frame to what each client that it goes to is sent, from a client on. Room for so many more bytes stays.
+/// Appends a reply's frame to what each client that it goes to is sent, from a client on. Room for `room` more bytes
+/// stays.
 fn put_frame(out: &mut [Text], room: u32, client: u32, to: To, frame: &[u8]) -> Result<(), NoMemory>
     requires few { room + length frame.now < 2 ^ 32 }
     requires clients { client + length out.old < 2 ^ 32 }
@@ -52,8 +53,9 @@ fn put_frame(out: &mut [Text], room: u32, client: u32, to: To, frame: &[u8]) -> 
     put_frame(rest, room, client + 1, to, frame)
 }
 
-/// Appends the frames of replies to what each client that they go to is sent, in order. Where each had room for so many bytes more, it
-/// still has. After `NoMemory` nothing that a client was to be sent is lost, and what stands behind it is a front of these frames.
+/// Appends the frames of replies to what each client that they go to is sent, in order. If each had room for `room`
+/// more bytes, it still has. After `NoMemory` nothing that a client was to be sent is lost, and what follows it is a
+/// prefix of these frames.
 pub fn send(out: &mut [Text], room: u32, replies: Replies) -> Result<(), NoMemory>
     requires room { room < 2 ^ 30 }
     requires clients { length out.old < 2 ^ 32 }

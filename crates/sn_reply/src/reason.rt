@@ -13,7 +13,7 @@ pub enum Reason {
     IdInUse,
     /// No add action has the number.
     AddAction,
-    /// The node is a synth where a group is asked for.
+    /// The node is a synth, but a group is asked for.
     NotGroup,
     /// The root can't be moved, replaced or freed.
     Root,
@@ -23,7 +23,7 @@ pub enum Reason {
     NoSuchDefinition,
     /// No control bus has the number.
     Bus,
-    /// The number is none of 0 to 1,023, or no buffer has it where one is asked for.
+    /// The number is none of 0 to 1,023, or no buffer has it although one is asked for.
     Buffer,
     /// A sample's index lies outside the buffer.
     SampleIndex,
@@ -39,8 +39,8 @@ pub enum Reason {
     QueueFull,
     /// The bytes spell no packet.
     BadPacket,
-    /// The node is a group where a synth is asked for.
+    /// The node is a group, but a synth is asked for.
     NotSynth,
-    /// A file is named where no file is read, or one whose samples can't be taken.
+    /// A file is named where no file is read, or its samples can't be taken.
     File,
 }

@@ -18,7 +18,7 @@ pub enum To {
     All,
 }
 
-/// A frame among others: whom it goes to, and its length in bytes.
+/// A frame among others: to whom it goes, and its length in bytes.
 #[derive(Clone, Copy, Debug)]
 pub(crate) struct Mark {
     pub(crate) to: To,
@@ -73,14 +73,14 @@ impl Replies {
         self.marks.len()
     }
 
-    /// The frames of the replies, one behind the other.
+    /// The frames of the replies, one after the other.
     pub(crate) fn frames(&self) -> &[u8]
         ensures { result.now ≡ joined self.now }
     {
         self.frames.as_slice()
     }
 
-    /// Whom each reply goes to, and how long its frame is.
+    /// To whom each reply goes, and how long its frame is.
     pub(crate) fn marks(&self) -> &[Mark]
         ensures marks { result.now ≡ map mark_of self.now }
         ensures sendable { AllSendable self.now }
@@ -88,7 +88,7 @@ impl Replies {
         &self.marks
     }
 
-    /// Puts a reply at the end. An `Err` changes nothing.
+    /// Appends a reply. An `Err` changes nothing.
     pub fn push(&mut self, to: To, message: Message) -> Result<(), NoMemory>
         requires { IsSendable (message_of message) }
         ensures ok { OnOk result (self.new ≡ self.old ++ (record { to = to; message = message_of message }) ∷ []) }

@@ -193,7 +193,7 @@ joined_has [] j a l h = absurd (omega arith)
 joined_has (x ∷ xs) zero a l h = listed_left x.synths (joined_synths xs) a h
 joined_has (x ∷ xs) (suc j) a l h = listed_right x.synths (joined_synths xs) a (joined_has xs j a (omega arith) h)
 
--- where no synth is played twice, the job that plays it is its home
+-- if no synth is played twice, the job that plays it is its home
 pub home_is : (jobs : List Job) (j : ℕ) (a : ℤ) → AreOnce (joined_synths jobs) → j < length jobs → is_listed (job_at jobs j).synths a ≡ true → home jobs a ≡ j
 home_is [] j a one l h = absurd (omega arith)
 home_is (x ∷ xs) zero a one l h = cond-true (is_listed x.synths a) 0 (1 + home xs a) h
@@ -283,7 +283,7 @@ in_cases x xs y (zero, l, e) first rest = first e
 in_cases x xs y (suc k, l, e) first rest = rest (k, omega arith, e)
 
 module _ (jobs : List Job) where
-  -- what comes later in a chain is ordered behind
+  -- what comes later in a chain is ordered after what comes before
   later : (i j : ℕ) (chain : List ℕ) (k : ℕ) → Ordered jobs i j → goes_on jobs (Some j) chain ≡ true → Contains chain k → Ordered jobs i k
   later i j [] k o g c = absurd (nothing_in k c)
   later i j (x ∷ chain) k o g c =

@@ -90,7 +90,7 @@ all_most levels (suc n) j l =
 
 -- ---- the least levels
 
--- where there is no job the level is 0, as the cost is
+-- if there is no job, the level is 0, as the cost is
 pub level_is : (units : ℤ → ℕ) (jobs : List Job) (levels : List ℕ) → AreLeast units jobs (length jobs) levels → (j : ℕ) → level_at levels j ≡ cost_after units jobs levels j
 level_is units jobs levels least j =
     ⊎_elim

@@ -201,7 +201,7 @@ tells_same u v (trees.node label below after) same tells = (
 abbrev units_by : Option (Label Held) → ℕ
 units_by o = units_or_none (option_map (λ l. l.payload) o)
 
--- where ids are distinct, the one that finds a node by its id does
+-- if ids are distinct, the function that finds a node by its id tells its units
 pub tells_by_id : (t : Nodes Held) → Distinct t → Tells (units_at t) t
 tells_by_id trees.none one = tt
 tells_by_id (trees.node label below after) one = (
@@ -241,7 +241,7 @@ module _ (units : ℤ → ℕ) (buffers : List (Option BufferPlace)) (clashing :
   abbrev AllTold : List Bool → Nodes Held → Type 0
   AllTold above t = (taken : ℕ) → IsTold (told above taken t) (laid above taken (heard_of t))
 
-  -- nodes behind others
+  -- nodes after others
   abbrev then_told : List Bool → Weighed → Nodes Held → Weighed
   then_told above w after = record { weights = w.weights ++ (told above w.taken after).weights; taken = (told above w.taken after).taken }
 

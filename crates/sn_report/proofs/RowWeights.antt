@@ -112,7 +112,7 @@ module _ (units : ℤ → ℕ) (js : List Job) (levels : List ℕ) (least : AreL
   abbrev pub Through : List ℕ → List ℕ → Weight → Type 0
   Through e chain w = (front : List ℕ) × Comes js levels e front × (played js chain ≡ played js front ++ w.chain)
 
-  -- one more job behind what comes before it
+  -- one more job after what comes before it
   behind : (n : ℕ) (e : List ℕ) (vs : List Voice) (lanes : List Moved) (chain : List ℕ) (w : Weight) → job_at js n ≡ job_of vs lanes e → Through (n ∷ []) chain w → (front : List ℕ) × Comes js levels e front × (played js chain ≡ (played js front ++ ids_of vs) ++ w.chain)
   behind n e vs lanes chain w s t =
       let (front, c, is) = comes_one js levels n t.0 t.1 in (
@@ -159,7 +159,7 @@ module _ (units : ℤ → ℕ) (js : List Job) (levels : List ℕ) (least : AreL
   path_rises {i} {j} (step c) = omega (arith, greatest_most levels (predecessors js j) i c, level_is units js levels least j)
   path_rises {i} {j} (next {k = k} p c) = omega (arith, path_rises p, greatest_most levels (predecessors js j) k c, level_is units js levels least j)
 
--- of all jobs the last one is the first in the trace, where it is the greatest
+-- of all jobs the last one is the first in the trace, if it is the greatest
 found_top : (levels : List ℕ) (n : ℕ) → ((j : ℕ) → j < n → level_at levels j ≤ level_at levels n) → first_greatest levels (below (n + 1)) ≡ Some n
 found_top levels n h = ap (first_greatest levels) (below_next (n + 1) (omega arith)) ∙ top (n + 1 - 1) (omega arith)
   where

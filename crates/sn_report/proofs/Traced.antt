@@ -1,4 +1,4 @@
--- A chain that is traced from its end on.
+-- A chain that is traced from its end.
 use Rattle.std.proofs.Common.{◌≡◌, ℕ, ◌<◌, ◌≤◌, List, [], ◌∷◌, ◌++◌, reverse, Some, None, sym, ap, ◌∙◌, subst, append_assoc}
 use Rattle.std.proofs.lemmas.List.{reverse-append}
 use Rattle.sn_round.specs.declared.jobs.Job.{Job}

@@ -27,14 +27,15 @@ abbrev pub AreOnce : List ℤ → Type 0
 AreOnce [] = Unit {0}
 AreOnce (a ∷ ids) = (is_listed ids a ≡ false) × AreOnce ids
 
--- The chain names each synth once, it has the cost, it is in line, and no list in line that names each synth once costs more.
+-- The chain names each synth once, it has the cost, it is in line, and no list in line that names each synth once costs
+-- more.
 pub record IsLongest (units : ℤ → ℕ) (jobs : List Job) (w : Weight) : Type 0 where
   pub once : AreOnce w.chain
   pub cost_is : w.cost ≡ cost_of units w.chain
   pub line : AreInLine jobs w.chain
   pub most : (ids : List ℤ) → AreOnce ids → AreInLine jobs ids → cost_of units ids ≤ w.cost
 
--- jobs are the plan of a stage, with lanes from some word on
+-- jobs are the plan of a stage, with lanes from some word
 abbrev pub IsPlanIn : Stage → List Job → Type 0
 IsPlanIn stage jobs = (first : ℕ) × (jobs ≡ plan_of (nodes_with first most_lanes stage))
 

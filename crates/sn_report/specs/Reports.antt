@@ -22,7 +22,8 @@ use Rattle.sn_report.specs.Weights.{Weight, in_order, weighed}
 
 -- ---- what is told of a node
 
--- nothing of a group; of a synth how many units it has, and which resources it reads, writes and mixes as far as they are there
+-- Nothing of a group. Of a synth, how many units it has, and which resources it reads, writes and mixes, as far as they
+-- are there.
 pub data Sight : Type 0 where
   nothing : Sight
   some : ℕ → (Role → Resource → Bool) → Sight

@@ -18,8 +18,8 @@ abbrev pub first_greatest : List ℕ → List ℕ → Option ℕ
 first_greatest levels [] = None
 first_greatest levels (j ∷ js) = Some (better levels j (first_greatest levels js))
 
--- Of these jobs the first with the greatest level ends the chain, of its predecessors the first with the greatest level comes before
--- it, and so on.
+-- Of these jobs, the first with the greatest level ends the chain. Of its predecessors, the first with the greatest
+-- level comes before it, and so on.
 pub data Comes (jobs : List Job) (levels : List ℕ) : List ℕ → List ℕ → Type 0 where
   none : Comes jobs levels [] []
   after : {js chain : List ℕ} {j : ℕ} → first_greatest levels js ≡ Some j → Comes jobs levels (predecessors jobs j) chain → Comes jobs levels js (chain ++ j ∷ [])

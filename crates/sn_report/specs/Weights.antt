@@ -32,19 +32,19 @@ abbrev pub heaviest : List Weight → Weight
 heaviest [] = nothing
 heaviest (w ∷ ws) = heavier w (heaviest ws)
 
--- that of a group whose members run beside each other or in order; a group without a running synth has none
+-- The weight of a group whose members run beside each other or in order. A group without a running synth has none.
 abbrev pub group_weight : Bool → List Weight → List Weight
 group_weight split [] = []
 group_weight split (w ∷ ws) = (if split then heaviest (w ∷ ws) else in_order (w ∷ ws)) ∷ []
 
 -- ---- nodes in the order of the walk
 
--- the weights of nodes, and how many lanes are taken behind them
+-- the weights of nodes, and how many lanes are taken after them
 pub record Weighed : Type 0 where
   pub weights : List Weight
   pub taken : ℕ
 
--- A parallel group is split unless it is one of these, whose members clash, or there are not so many lanes.
+-- A parallel group is split unless it is one of these, whose members clash, or there are too few lanes.
 abbrev pub is_split : List ℤ → ℤ → ℕ → Bool
 is_split clashing id end = not (is_listed clashing id) && nat_le end most_lanes
 
@@ -62,9 +62,9 @@ module _ {P : Type 0} (units : P → ℕ) (mixes : P → ℕ → Bool) (clashing
   node_weighed kinds.Group label split taken plain apart = group_weighed false plain apart
   node_weighed kinds.Parallel label split taken plain apart = group_weighed split plain apart
 
-  -- Nodes beside each other, of which a paused one is left out with all below it. Flags tell which buses split groups above share, and a
-  -- number how many lanes are taken. A parallel group takes one for each pair of a synth below it and a bus that its members share and
-  -- this synth mixes.
+  -- Nodes beside each other, of which a paused one is left out with all below it. Flags tell which buses split groups
+  -- above share, and a number tells how many lanes are taken. A parallel group takes one lane for each pair of a synth
+  -- below it and a bus that its members share and this synth mixes.
   abbrev pub weighed : List Bool → ℕ → Nodes P → Weighed
   weighed above taken none = record { weights = []; taken = taken }
   weighed above taken (node label below after) =

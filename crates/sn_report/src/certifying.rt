@@ -12,12 +12,12 @@ use sn_round::{Jobs, Plan};
 use sn_world::Stage;
 use std::alloc::Global;
 
-/// The longest chain of a plan, and levels that show that no chain costs more. Of chains that cost the same it is the one that ends
-/// last, and that comes by the first of the predecessors.
+/// The longest chain of a plan, and levels that show that no chain costs more. Of chains that cost the same, it is the
+/// one that ends last, and that comes by the first of the predecessors.
 ///
 /// # Errors
 ///
-/// Memory runs out; a sum of 2^64 units or more is taken for that, since so many lie in no memory.
+/// Memory runs out. A sum of 2^64 units or more counts as this too, since no memory holds so many.
 pub fn longest(alloc: Global, plan: &Plan, stage: &Stage) -> Result<Certificate, NoMemory>
     ensures traced { IfOk result (λ c. IsTraced (units_in stage.now) plan.now c.chain c.levels.items) }
     ensures certified { IfOk result (λ c. certifies (units_in stage.now) plan.now c.chain c.levels.items ≡ true) }

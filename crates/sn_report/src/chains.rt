@@ -47,8 +47,8 @@ fn below(alloc: Global, jobs: u32) -> Result<Vec<u32>, NoMemory>
     Ok(all)
 }
 
-/// A chain from its end on: of some jobs the first with the greatest level, of its predecessors the first with the greatest level,
-/// and so on.
+/// A chain from its end. Of some jobs, the first with the greatest level ends it. Of its predecessors, the first with
+/// the greatest level comes before it, and so on.
 fn traced_back(
     alloc: Global,
     plan: &Plan,

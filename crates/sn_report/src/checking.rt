@@ -16,7 +16,7 @@ fn has(jobs: &[u32], job: u32) -> bool
     jobs.iter().any(|x| *x == job)
 }
 
-/// Whether a job may stand in a chain behind this one, or as the first one.
+/// Whether a job may stand in a chain after this one, or as the first one.
 fn may_follow(plan: &Plan, before: Option<u32>, job: u32) -> bool
     ensures { result ≡ may_follow plan.now before job }
 {
@@ -75,7 +75,7 @@ fn are_levels(plan: &Plan, stage: &Stage, levels: &[u64]) -> bool
     levels.len() == plan.jobs() as usize && have_levels(plan, stage, levels)
 }
 
-/// Whether a chain costs so much.
+/// Whether a chain costs this much.
 fn costs(plan: &Plan, stage: &Stage, chain: &[u32], cost: u64) -> bool
     ensures { result ≡ (chain_cost (units_in stage.now) plan.now chain.now == cost) }
 {
@@ -85,8 +85,8 @@ fn costs(plan: &Plan, stage: &Stage, chain: &[u32], cost: u64) -> bool
     }
 }
 
-/// Whether the chain is a chain, the levels are those of the jobs, and the chain costs as much as the greatest of them. Then no
-/// chain of the plan costs more.
+/// Whether the chain is a chain, the levels are those of the jobs, and the chain costs as much as the greatest of them.
+/// Then no chain of the plan costs more.
 pub fn check(plan: &Plan, stage: &Stage, certificate: &Certificate) -> bool
     ensures { result ≡ certifies (units_in stage.now) plan.now certificate.now.chain certificate.now.levels.items }
 {

@@ -40,8 +40,8 @@ pub fn greatest_below(levels: &[u64], jobs: u32) -> u64
     greatest
 }
 
-/// The level of the next job, given those of the jobs before it. Sums of 2^64 and more are taken for want of memory: so many units
-/// lie in none.
+/// The level of the next job, given those of the jobs before it. Sums of 2^64 and more count as out of memory, since no
+/// memory holds so many units.
 fn next_level(plan: &Plan, stage: &Stage, levels: &[u64], job: u32) -> Result<u64, NoMemory>
     requires { job < length plan.now }
     ensures { IfOk result (λ level. level ≡ cost_after (units_in stage.now) plan.now levels.now job) }

@@ -125,7 +125,7 @@ fn put_mixes(alloc: Global, out: &mut Text, buffers: &Buffers, uses: &[Use]) -> 
     put_resources(out, &used)
 }
 
-/// The line of a synth that uses so much.
+/// The line of a synth with these uses.
 fn put_synth(
     alloc: Global,
     out: &mut Text,

@@ -17,7 +17,7 @@ use sn_round::{Ids, Plan};
 use sn_world::Stage;
 use std::alloc::Global;
 
-/// Puts the synths of a job at the end, if the plan has it.
+/// Appends the synths of a job, if the plan has it.
 fn put_synths(plan: &Plan, job: u32, ids: &mut Ids) -> Result<(), NoMemory>
     ensures { OnOk result (ids.new ≡ ids.old ++ (job_at plan.now job).synths) }
 {
@@ -44,7 +44,8 @@ fn longest_synths(alloc: Global, plan: &Plan, stage: &Stage) -> Result<Ids, NoMe
     ensures chain { IfOk result (λ ids. ids ≡ (stage_weight stage.now).chain) }
     ensures longest { OnOk result (IsLongest (units_in stage.now) plan.now (stage_weight stage.now)) }
 {
-    // Hints for the proof alone: no two nodes have the same id, the root holds all, and the predecessors of a job stand before it.
+    // Hints for the proof alone: no two nodes have the same id, the root holds all, and the predecessors of a job stand
+    // before it.
     stage.tree.ids_are_distinct();
     stage.tree.root_holds_all();
     plan.is_well_formed();
@@ -52,11 +53,12 @@ fn longest_synths(alloc: Global, plan: &Plan, stage: &Stage) -> Result<Ids, NoMe
     played(alloc, plan, certificate.chain.as_slice())
 }
 
-/// The report of a stage, given its plan: how many synths and units run, what each of the synths uses, and the longest chain.
+/// The report of a stage, given its plan: how many synths and units run, what each of the synths uses, and the longest
+/// chain.
 ///
 /// # Errors
 ///
-/// Memory runs out; a sum of 2^64 units or more is taken for that, since so many lie in no memory.
+/// Memory runs out. A sum of 2^64 units or more counts as this too, since no memory holds so many.
 pub fn report(alloc: Global, plan: &Plan, stage: &Stage) -> Result<Text, NoMemory>
     requires { IsPlanIn stage.now plan.now }
     ensures text { IfOk result (λ text. text.bytes ≡ report_in stage.now) }
@@ -75,8 +77,9 @@ pub fn report(alloc: Global, plan: &Plan, stage: &Stage) -> Result<Text, NoMemor
     Ok(text)
 }
 
-/// The report of a stage that stands for a world. A parallel group is told as split, so that its members may run beside each other,
-/// unless two of them clash, or the lanes that are left are too few. Where the lanes begin is the same for the report.
+/// The report of a stage that stands for a world. A parallel group is told as split, so that its members may run beside
+/// each other, unless two of them clash, or the lanes that are left are too few. Where the lanes begin is the same for
+/// the report.
 ///
 /// # Errors
 ///

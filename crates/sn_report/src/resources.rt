@@ -48,7 +48,7 @@ fn is_used(buffers: &Buffers, uses: &[Use], role: Role, resource: Resource) -> b
     resource.is_there(buffers) && uses_in(uses, role, resource)
 }
 
-/// Puts a resource at the end, if it is used so.
+/// Appends a resource, if it is there and used in this way.
 fn push_used(
     used: &mut Vec<Resource>,
     buffers: &Buffers,
@@ -64,7 +64,7 @@ fn push_used(
     Ok(())
 }
 
-/// Puts those of a bank's first resources at the end that are used so.
+/// Appends those of a bank's first resources that are there and used in this way.
 fn push_bank(
     used: &mut Vec<Resource>,
     buffers: &Buffers,
@@ -81,7 +81,8 @@ fn push_bank(
     Ok(())
 }
 
-/// The resources that are there and are used so: audio buses, control buses, and buffers, each by their numbers.
+/// The resources that are there and are used in this way: audio buses, control buses, and buffers, each by their
+/// numbers.
 pub fn used_resources(
     alloc: Global,
     buffers: &Buffers,

@@ -15,7 +15,7 @@ pub fn put_natural(out: &mut Text, number: u64) -> Result<(), NoMemory>
     out.append(buffer.format(number).as_bytes())
 }
 
-/// A number, with `-` in front if it is negative.
+/// A number, after `-` if it is negative.
 pub fn put_int(out: &mut Text, number: i32) -> Result<(), NoMemory>
     ensures { OnOk result (out.new.bytes ≡ out.old.bytes ++ signed_decimal number) }
 {

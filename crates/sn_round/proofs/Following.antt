@@ -31,7 +31,7 @@ alone_has : (b : Bool) (k j : ℕ) → b ≡ true → j ≡ k → Contains (alon
 alone_has true k j h same = (0, omega arith, sym same)
 alone_has false k j h same = absurd cc
 
--- j is the number of a job, where the first has the number k, of which i is a predecessor
+-- j is the number of a job of which i is a predecessor, and the first job has the number k
 abbrev Follows : ℕ → List Job → ℕ → ℕ → Type 0
 Follows k jobs i j = (m : ℕ) × (m < length jobs) × (j ≡ k + m) × (is_in i (predecessors jobs m) ≡ true)
 

@@ -14,7 +14,7 @@ past_end (x ∷ xs) (suc j) l = past_end xs j (omega arith)
 pub nothing_in : (i : ℕ) → Contains {X = ℕ} [] i → ⊥
 nothing_in i (k, l, e) = omega arith
 
--- a predecessor stands before its job, also where there is no such job
+-- a predecessor stands before its job, even if there is no such job
 pub lower : (jobs : List Job) → AreJobs jobs → (i j : ℕ) → Contains (predecessors jobs j) i → i < j
 lower jobs are i j c =
     ⊎_elim

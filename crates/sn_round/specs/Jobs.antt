@@ -6,7 +6,7 @@ use Rattle.sn_mem.specs.Words.{Clash, touches}
 use Rattle.sn_mem.specs.Blocks.{table}
 use Rattle.sn_round.specs.declared.jobs.Job.{Job}
 
--- what touches nothing, and what a round has where it has no job
+-- a foot that touches nothing, and what stands for a job that a round doesn't have
 abbrev pub no_foot : Foot
 no_foot = record { reads = []; writes = [] }
 

@@ -11,7 +11,8 @@ list_at script i = slice_index_or script i []
 abbrev pub word_at : List (List ℕ) → ℕ → ℕ → ℕ
 word_at script i x = slice_index (list_at script i) x
 
--- A script of n jobs is n + 1 lists of words of one length, each of which is as the one before outside what that job writes.
+-- A script of n jobs is n + 1 lists of words of one length, each of which is as the one before outside what that job
+-- writes.
 pub record IsScript (jobs : List Job) (size : ℕ) (script : List (List ℕ)) : Type 0 where
   pub whole : length script ≡ length jobs + 1
   pub wide : (i : ℕ) → i ≤ length jobs → length (list_at script i) ≡ size

@@ -31,7 +31,7 @@ impl Ids {
         }
     }
 
-    /// Puts an id at the end. An `Err` changes nothing.
+    /// Appends an id. An `Err` changes nothing.
     pub fn push(&mut self, id: i32) -> Result<(), NoMemory>
         ensures ok { OnOk result (self.new ≡ self.old ++ id ∷ []) }
         ensures err { OnErr result (self.new ≡ self.old) }
@@ -40,7 +40,7 @@ impl Ids {
         Ok(())
     }
 
-    /// Puts ids at the end. An `Err` changes nothing.
+    /// Appends ids. An `Err` changes nothing.
     pub fn extend(&mut self, ids: &[i32]) -> Result<(), NoMemory>
         ensures ok { OnOk result (self.new ≡ self.old ++ ids.now) }
         ensures err { OnErr result (self.new ≡ self.old) }
@@ -90,7 +90,7 @@ impl Jobs {
         }
     }
 
-    /// Puts a job at the end. An `Err` changes nothing.
+    /// Appends a job. An `Err` changes nothing.
     pub fn push(&mut self, job: u32) -> Result<(), NoMemory>
         ensures ok { OnOk result (self.new ≡ self.old ++ job ∷ []) }
         ensures err { OnErr result (self.new ≡ self.old) }
@@ -99,7 +99,7 @@ impl Jobs {
         Ok(())
     }
 
-    /// Puts jobs at the end. An `Err` changes nothing.
+    /// Appends jobs. An `Err` changes nothing.
     pub fn extend(&mut self, jobs: &[u32]) -> Result<(), NoMemory>
         ensures ok { OnOk result (self.new ≡ self.old ++ jobs.now) }
         ensures err { OnErr result (self.new ≡ self.old) }
@@ -125,8 +125,8 @@ impl Jobs {
     }
 }
 
-/// A job of a round: the synths that it renders in order, each with some of its buses moved onto lanes; the lanes that it
-/// adds to their buses behind them; the words that it may touch; and the jobs that end before it begins.
+/// A job of a round: the synths that it renders in order, each with some of its buses moved onto lanes; the lanes that
+/// it adds to their buses after them; the words that it may touch; and the jobs that end before it begins.
 ///
 /// A joint is a job that has no synths.
 #[derive(Drop)]

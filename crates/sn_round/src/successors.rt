@@ -19,7 +19,7 @@ fn empty_lists(alloc: Global, count: usize) -> Result<Vec<Jobs>, NoMemory>
     Ok(lists)
 }
 
-/// Puts a job at the end of one of the lists.
+/// Appends a job to one of the lists.
 fn put_at(lists: &mut Vec<Jobs>, at: u32, job: u32) -> Result<(), NoMemory>
     requires { at < length lists.old.items }
     ensures { OnOk result (lists.new.items ≡ slice_set lists.old.items at (slice_index_or lists.old.items at [] ++ job ∷ [])) }
@@ -29,7 +29,7 @@ fn put_at(lists: &mut Vec<Jobs>, at: u32, job: u32) -> Result<(), NoMemory>
     Ok(())
 }
 
-/// Puts a job at the end of the lists of its predecessors.
+/// Appends a job to the lists of its predecessors.
 fn put_in_each(lists: &mut Vec<Jobs>, before: &[u32], job: u32) -> Result<(), NoMemory>
     requires { All (λ p. p < length lists.old.items) before.now }
     ensures { OnOk result (lists.new.items ≡ put_in_each job before.now lists.old.items) }

@@ -52,7 +52,7 @@ last_piece (b ∷ rest) h =
 
 -- ---- the end of a text
 
--- the score's row, where no bundle is open
+-- the score's row, if no bundle is open
 record Ended (rest : List ℕ) (s : Reached) (xs : List Shape) : Type 0 where
   none_left : rest ≡ []
   none_open : s.outer ≡ []
@@ -268,7 +268,7 @@ end_none s n rest h = by_tests (length rest == 0) (length s.outer == 0) h
     by_tests true false h = refl
     by_tests false b h = refl
 
--- behind the lines that are whole stands the fault
+-- after the lines that are whole stands the fault
 fault_here : (text : List ℕ) (k : ℕ) (f : ScoreFault text k) (over : Over at_start 1 f.earlier) → lines_at at_start 1 (pieces text) ≡ lines_at over.to k (pieces f.rest) → NextFault f.earlier f.rest → lines_at at_start 1 (pieces text) ≡ Err k
 unfolding read
 fault_here text k f over here (inl (l, later, one, parts, none)) =

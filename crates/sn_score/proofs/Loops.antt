@@ -97,7 +97,7 @@ at_line : (s : Reached) (lines : List (List ℕ)) (i n : ℕ) → i < length lin
 unfolding lines_at
 at_line s lines i n lt = at_drop_more (λ (ls : List (List ℕ)). lines_at s n ls) lines i [] lt
 
--- what stands behind the last line feed
+-- what follows the last line feed
 pub last_line : (s : Reached) (lines : List (List ℕ)) (i n : ℕ) (total : Read) → i + 1 ≡ length lines → lines_at s n (drop i lines) ≡ total → total ≡ at_end s n (get_or lines i [])
 last_line s lines i n total is so_far =
     let over : (length (drop (i + 1) lines) == 0) ≡ true = eq-eqb _ _ (omega (arith, is, length-drop (i + 1) lines)) in

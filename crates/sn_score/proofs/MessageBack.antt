@@ -94,7 +94,7 @@ as_many (x ∷ xs) = ap suc (as_many xs)
 
 -- ---- the body
 
--- Behind an address stands a space and then a byte that is neither `(` nor `?`.
+-- After an address comes a space and then a byte that is neither `(` nor `?`.
 other_body : (w : List ℕ) (words : List (List ℕ)) (x : BodyShape) → begins_with 40 (w ++ fields words) ≡ false → begins_with 63 (w ++ fields words) ≡ false → 0 < length w
     → arguments (arguments_at (length (32 ∷ w ++ fields words)) (32 ∷ w ++ fields words)) ≡ x → body_at (32 ∷ w ++ fields words) ≡ x
 unfolding body_at

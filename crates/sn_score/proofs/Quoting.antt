@@ -101,7 +101,7 @@ bytes_again (suc n) (b ∷ bytes) rest h le =
     ap (bytes_at (suc n)) (append_assoc (quoted_byte b) (flat_map quoted_byte bytes) (34 ∷ rest))
     ∙ then_others n b bytes (quoted_byte b ++ more) more rest (byte.goes_on more) (byte.read more) (bytes_again n bytes rest both.1 (omega (arith, le)))
 
--- behind the first `"`
+-- after the first `"`
 pub quoted_again : (bytes rest : List ℕ) → are_octets bytes ≡ true → unquoted (drop 1 (quoted bytes ++ rest)) ≡ (bytes, rest)
 quoted_again bytes rest h =
     let inside = flat_map quoted_byte bytes in

@@ -194,7 +194,7 @@ mutual
 
 -- ---- whole scores
 
--- the score's packets, where none is open
+-- the score's packets, if none is open
 record Whole (s : Reached) (text : List ℕ) (xs : List Shape) : Type 0 where
   room : ℕ
   passes : Passes s text (reach s.row (s.row.elements ++ xs) [] room)

@@ -16,7 +16,7 @@ use Rattle.sn_score.proofs.Packets.{all_push, fits_from, IsElement, Elements, ar
 
 -- ---- the state of reading
 
--- The elements may stand where they stand; in the row's bundles may nest so deep. The outermost row is the score.
+-- The elements may stand where they stand, and bundles may nest so deep in the row. The outermost row is the score.
 abbrev pub Stands : ℕ → Row → List Row → Type 0
 Stands deep row [] = (deep ≡ 8) × (row.around ≡ 1) × AllFit row.elements
 Stands deep row (next ∷ outer) = (row.tag < 2 ^ 64) × (not (is_early next.around row.tag) ≡ true) × (row.around ≡ counts_as next.around row.tag) × Elements deep row.around row.elements × Stands (suc deep) next outer

@@ -39,7 +39,7 @@ abbrev pub Reads : {X : Type 0} → (X → List Shape) → Result X Unscored →
 Reads view (Ok x) read = read ≡ Ok (view x)
 Reads view (Err e) read = UnscoredAs e read
 
--- what one line more gives, where it has this number
+-- what one more line gives, if it has this number
 abbrev pub NextAs : ℕ → Unscored → Option Reached → Type 0
 NextAs number unscored.NoMemory read = Unit {0}
 NextAs number (unscored.Bad line) read = (line ≡ number) × (read ≡ None)

@@ -23,7 +23,8 @@ lines_text lines = flat_map line lines
 abbrev pub Begin : List (List ℕ) → Type 0
 Begin lines = (more : List ℕ) × IsScore (lines_text lines ++ more)
 
--- With one whole line more they begin none; or no whole line follows them, and the text ends inside a line or inside a bundle.
+-- With one more whole line they begin none; or no whole line follows them, and the text ends inside a line or inside a
+-- bundle.
 abbrev pub NextFault : List (List ℕ) → List ℕ → Type 0
 NextFault earlier rest =
     ((next : List ℕ) × (later : List ℕ) × IsLine next × (rest ≡ line next ++ later) × (Begin (earlier ++ next ∷ []) → ⊥))

@@ -1,5 +1,5 @@
--- What the fields of a line say, if they are written as they should be. Of other bytes it gives anything, so what is read counts only where
--- the line is the one that is written of it.
+-- What the fields of a line say, if they are written as they should be. Of other bytes it may give anything, so what is
+-- read counts only if the line is the one that is written for it.
 use Rattle.std.specs.Prelude.{ℕ, zero, suc, ℤ, ◌+◌, ◌-◌, ◌*◌, ◌%◌, min, List, [], ◌∷◌, length, take, drop, slice_index, codes, Bool, not, nat_lt, ◌==◌, ◌||◌, if◌then◌else◌}
 use Rattle.std.specs.List.{position_or_len}
 use Rattle.std.specs.Str.{bytes_eq}
@@ -55,7 +55,7 @@ unfoldable pub bytes_at : ℕ → List ℕ → List ℕ × List ℕ
 bytes_at zero bytes = ([], drop 1 bytes)
 bytes_at (suc n) bytes = if is_closed bytes then ([], drop 1 bytes) else ((byte_at bytes).0 ∷ (bytes_at n (byte_at bytes).1).0, (bytes_at n (byte_at bytes).1).1)
 
--- a quoted text behind its first `"`, and what follows its end
+-- a quoted text after its first `"`, and what follows its end
 abbrev pub unquoted : List ℕ → List ℕ × List ℕ
 unquoted bytes = bytes_at (length bytes) bytes
 

@@ -10,7 +10,8 @@ argument_word (int n) = signed_decimal n
 argument_word (string s) = quoted s
 argument_word (blob b) = blob_word b
 
--- The fields of a message: none, `()` where it has no arguments, its arguments, or `?` with the quoted tags and the bytes that are not read.
+-- The fields of a message: none, `()` if it has no arguments, its arguments, or `?` with the quoted tags and the bytes
+-- that are not read.
 abbrev pub body_words : BodyShape → List (List ℕ)
 body_words bare = []
 body_words (arguments []) = codes "()" ∷ []

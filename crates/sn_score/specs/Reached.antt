@@ -8,14 +8,15 @@ use Rattle.sn_osc.specs.Bytes.{are_octets, begins_with, message_bytes, is_messag
 use Rattle.sn_score.specs.Lines.{message_line, bundle_line}
 use Rattle.sn_score.specs.Fields.{message_at, tag_at}
 
--- packets one after the other: those of the score, or the elements of a bundle, with its tag and the tag that it counts as
+-- packets one after the other: those of the score, or the elements of a bundle, with its tag and the tag that it counts
+-- as
 pub record Row : Type 0 where
   pub tag : ℕ
   pub around : ℕ
   pub elements : List Shape
 
--- How far reading has come: the innermost bundle that is open, or the score; those around it, the nearest first; and by how many bytes the
--- open packet may still grow.
+-- How far reading has come: the innermost bundle that is open, or the score; those around it, the nearest first; and by
+-- how many bytes the open packet may still grow.
 pub record Reached : Type 0 where
   pub row : Row
   pub outer : List Row
@@ -35,7 +36,7 @@ put x row = record { tag = row.tag; around = row.around; elements = row.elements
 abbrev pub room_of : Reached → ℕ
 room_of s = if length s.outer == 0 then most_packet else s.room
 
--- An element stands behind the 4 bytes of its size.
+-- An element stands after the 4 bytes of its size.
 abbrev pub need_of : Reached → ℕ → ℕ
 need_of s bytes = if length s.outer == 0 then bytes else 4 + bytes
 
@@ -43,11 +44,11 @@ need_of s bytes = if length s.outer == 0 then bytes else 4 + bytes
 abbrev pub has_room : Reached → ℕ → Bool
 has_room s bytes = nat_le (need_of s bytes) (room_of s)
 
--- the room that is left behind it
+-- the room that is left after it
 abbrev pub room_after : Reached → ℕ → ℕ
 room_after s bytes = room_of s - need_of s bytes
 
--- a packet of so many bytes more, where it has room
+-- one more packet, of so many bytes, if there is room for it
 abbrev pub with_packet : Reached → Shape → ℕ → Option Reached
 with_packet s x bytes = if has_room s bytes then Some (record { row = put x s.row; outer = s.outer; room = room_after s bytes }) else None
 
@@ -55,7 +56,7 @@ with_packet s x bytes = if has_room s bytes then Some (record { row = put x s.ro
 abbrev pub inside : Row → ℕ → Row
 inside row tag = record { tag = tag; around = counts_as row.around tag; elements = [] }
 
--- one bundle more is open
+-- one more bundle is open
 abbrev pub opened : Reached → ℕ → Reached
 opened s tag = record { row = inside s.row tag; outer = s.row ∷ s.outer; room = room_after s 16 }
 
@@ -87,7 +88,7 @@ has_place s tag = nat_lt (length s.outer) most_bundles && not (is_early s.row.ar
 unfoldable pub after_opening : Reached → List ℕ → Option Reached
 after_opening s line = if bytes_eq (bundle_line (tag_at line)) line && has_place s (tag_at line) then Some (opened s (tag_at line)) else None
 
--- how far reading comes with one line more; none where it is at fault
+-- how far reading comes with one more line; none if it is at fault
 unfoldable pub after_line : Reached → List ℕ → Option Reached
 after_line s line =
     if bytes_eq line (codes "]") then closed s.row s.outer s.room else
@@ -96,7 +97,7 @@ after_line s line =
 abbrev pub Read : Type 0
 Read = Result (List Shape) ℕ
 
--- the packets, where no bundle is open
+-- the packets, if no bundle is open
 abbrev pub packets_of : Reached → Option (List Shape)
 packets_of s = if length s.outer == 0 then Some s.row.elements else None
 
@@ -104,7 +105,7 @@ abbrev pub or_at : Option (List Shape) → ℕ → Read
 or_at None number = Err number
 or_at (Some packets) number = Ok packets
 
--- What stands behind the last line feed is no line. It is empty, and no bundle is open.
+-- What follows the last line feed is no line. It is empty, and no bundle is open.
 unfoldable pub at_end : Reached → ℕ → List ℕ → Read
 at_end s number rest = if length rest == 0 then or_at (packets_of s) number else Err number
 

@@ -27,7 +27,7 @@ quoted bytes = 34 ∷ flat_map quoted_byte bytes ++ 34 ∷ []
 abbrev pub is_plain_byte : ℕ → Bool
 is_plain_byte b = nat_le 33 b && nat_le b 126 && not (b == 34 || b == 92)
 
--- as it is where all its bytes are plain, and else quoted
+-- as it is if all its bytes are plain, and else quoted
 abbrev pub address_word : List ℕ → List ℕ
 address_word address = if list_all is_plain_byte address then address else quoted address
 

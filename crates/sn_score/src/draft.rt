@@ -20,7 +20,7 @@ use std::alloc::Global;
 /// How deep bundles may nest.
 const DEEPEST: usize = MOST_BUNDLES as usize;
 
-/// Most lines have at most so many bytes.
+/// Most lines have at most this many bytes.
 const LINE_BYTES: u32 = 64;
 
 /// Packets one after the other: those of the score, or the elements of a bundle that is open.
@@ -149,7 +149,7 @@ impl Draft {
         MOST_PACKET
     }
 
-    /// How much room a packet of so many bytes needs: an element stands behind the 4 bytes of its size.
+    /// How much room a packet of `bytes` bytes needs: an element stands after the 4 bytes of its size.
     fn need(&self, bytes: usize) -> usize
         requires { bytes < 2 ^ 31 }
         ensures { result ≡ need_of (reached self.now) bytes }
@@ -160,7 +160,7 @@ impl Draft {
         bytes
     }
 
-    /// Whether a packet of so many bytes has room.
+    /// Whether there is room for a packet of `bytes` bytes.
     fn has_room(&self, bytes: usize) -> bool
         requires { bytes < 2 ^ 31 }
         ensures { result ≡ has_room (reached self.now) bytes }
@@ -168,7 +168,7 @@ impl Draft {
         self.need(bytes) <= self.room()
     }
 
-    /// A packet of so many bytes more, where it has room.
+    /// One more packet, of `bytes` bytes, if there is room for it.
     fn with_packet(self, packet: Packet, bytes: usize) -> Result<Self, Refused>
         requires { bytes < 2 ^ 31 }
         ensures { Gives result (with_packet (reached self) (shape packet) bytes) }
@@ -185,7 +185,7 @@ impl Draft {
         })
     }
 
-    /// The line of a message more.
+    /// One more line, of a message.
     #[tactic(auto, unfolding(crate::specs::Reached::after_message_line))]
     fn with_message(self, alloc: Global, line: &[u8]) -> Result<Self, Refused>
         ensures { Gives result (after_message (reached self) line.now) }
@@ -220,7 +220,7 @@ impl Draft {
         Ok(Draft { level, outer, room })
     }
 
-    /// The first line of a bundle more.
+    /// One more line, the first of a bundle.
     #[tactic(auto, unfolding(crate::specs::Reached::after_opening))]
     fn with_opening(self, alloc: Global, line: &[u8]) -> Result<Self, Refused>
         ensures { Gives result (after_opening (reached self) line.now) }
@@ -267,7 +267,7 @@ impl Draft {
         self.with_message(alloc, line)
     }
 
-    /// The packets, where no bundle is open.
+    /// The packets, if no bundle is open.
     pub fn into_packets(self) -> Option<Elements>
         ensures { option_map (λ v. map shape v.items) result ≡ packets_of (reached self) }
     {

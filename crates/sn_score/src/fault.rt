@@ -5,7 +5,7 @@ ghost use Rattle.sn_score.specs.declared.fault.Unscored.TheVariants as unscored;
 use sn_ports::NoMemory;
 use std::alloc::AllocError;
 
-/// Why no packets were read of a text.
+/// Why no packets were read from a text.
 #[derive(Clone, Copy, Debug, PartialEq, Eq)]
 pub enum Unscored {
     /// Memory ran out.

@@ -1,5 +1,5 @@
-//! Fields of a score, read. Of what is not written as it should be they give anything: who reads a
-//! line compares it with the line that is written of what was read.
+//! Fields of a score, read. If something isn't written as it should be, they may give anything. The reader of a line
+//! therefore compares it with the line that is written for what was read.
 ghost use Rattle.std.specs.Prelude.{◌≡◌, ◌≤◌, ◌<◌, ◌+◌, ◌*◌, ◌%◌, min, length, take, drop, map, slice_index, position, ◌==◌, IfOk, FitsSigned};
 ghost use Rattle.std.specs.Int.{w32};
 ghost use Rattle.sn_osc.specs.Shape.{argument_of, body_of, message_of};
@@ -28,7 +28,7 @@ fn hex_value(high: u8, low: u8) -> u8
     nibble(high) * 16 + nibble(low)
 }
 
-/// The byte at a place, or 0 where there is none.
+/// The byte at a place, or 0 if there is none.
 fn byte(bytes: &[u8], place: usize) -> u8
     ensures { result ≡ slice_index bytes.now place }
 {
@@ -79,7 +79,7 @@ fn unhex(alloc: Global, digits: &[u8]) -> Result<Text, NoMemory>
     Ok(bytes)
 }
 
-/// One digit more of a number of 32 bits.
+/// One more digit of a number of 32 bits.
 fn with_digit(number: u32, digit: u8) -> u32
     ensures { result ≡ min (number * 10 + digit % 16) 4294967295 }
 {
@@ -146,7 +146,7 @@ fn quoted_byte(bytes: &[u8]) -> (u8, &[u8])
     (hex_value(byte(bytes, 2), byte(bytes, 3)), skip(bytes, 4))
 }
 
-/// A quoted text behind its first `"`, and what follows its end.
+/// A quoted text after its first `"`, and what follows its end.
 fn unquoted(alloc: Global, bytes: &[u8]) -> Result<(Text, &[u8]), NoMemory>
     ensures text { IfOk result (λ x. x.0.bytes ≡ (unquoted bytes.now).0) }
     ensures rest { IfOk result (λ x. x.1.now ≡ (unquoted bytes.now).1) }
@@ -201,7 +201,7 @@ fn arguments(alloc: Global, bytes: &[u8]) -> Result<Args, NoMemory>
     Ok(Args::from_vec(items))
 }
 
-/// Quoted tags behind their first `"`, and a blob.
+/// Quoted tags after their first `"`, and a blob.
 fn foreign(alloc: Global, bytes: &[u8]) -> Result<Body, NoMemory>
     ensures { IfOk result (λ b. body_of b ≡ foreign_at bytes.now) }
 {

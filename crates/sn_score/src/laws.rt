@@ -17,17 +17,17 @@ pub fn one_list()
     ensures { (text : List ℕ) (xs ys : List Shape) → Score text xs → Score text ys → xs ≡ ys }
 {}
 
-/// Reading gives packets exactly where the text is theirs.
+/// Reading gives packets exactly if the text is theirs.
 pub fn read_again()
     ensures { (text : List ℕ) (packets : List Shape) → (read text ≡ Ok packets) ↔ Score text packets }
 {}
 
-/// Reading gives a fault exactly where it is the first.
+/// Reading gives a fault exactly if it is the first.
 pub fn first_fault()
     ensures { (text : List ℕ) (number : ℕ) → (read text ≡ Err number) ↔ ScoreFault text number }
 {}
 
-/// A text has one first fault at most, and none where it is a score.
+/// A text has one first fault at most, and none if it is a score.
 pub fn one_fault()
     ensures one { (text : List ℕ) (m n : ℕ) → ScoreFault text m → ScoreFault text n → m ≡ n }
     ensures none { (text : List ℕ) (packets : List Shape) (n : ℕ) → Score text packets → ScoreFault text n → ⊥ }

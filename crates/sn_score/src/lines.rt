@@ -29,7 +29,7 @@ fn put_each(out: &mut Text, arguments: &[Arg]) -> Result<(), NoMemory>
     Ok(())
 }
 
-/// The arguments, or `()` where there are none.
+/// The arguments, or `()` if there are none.
 fn put_arguments(out: &mut Text, arguments: &[Arg]) -> Result<(), NoMemory>
     ensures { OnOk result (out.new.bytes ≡ out.old.bytes ++ fields (body_words (Rattle.sn_osc.specs.Shape.arguments (map argument_of arguments.now)))) }
 {

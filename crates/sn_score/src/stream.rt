@@ -19,7 +19,7 @@ fn spelling(alloc: Global, packet: &Packet) -> Result<Text, NoMemory>
     encode(alloc, packet)
 }
 
-/// Puts the frame of a packet at the end: its size as 4 bytes, and the packet.
+/// Appends the frame of a packet: its size as 4 bytes, and the packet.
 fn put_frame(alloc: Global, out: &mut Text, packet: &Packet) -> Result<(), NoMemory>
     requires { Fits (shape packet.now) }
     ensures { OnOk result (out.new.bytes ≡ out.old.bytes ++ frame_bytes (packet_bytes (shape packet.now))) }

@@ -22,7 +22,7 @@ fn pieces(alloc: Global, text: &[u8]) -> Result<Vec<&[u8]>, AllocError>
     text.split(|byte| *byte == b'\n').collect(alloc)
 }
 
-/// One line more, which has this number.
+/// One more line, which has this number.
 fn next_line(alloc: Global, draft: Draft, number: u32, line: &[u8]) -> Result<Draft, Unscored>
     ensures { NextGives number result (after_line (reached draft) line.now) }
 {
@@ -33,7 +33,7 @@ fn next_line(alloc: Global, draft: Draft, number: u32, line: &[u8]) -> Result<Dr
     }
 }
 
-/// What stands behind the last line feed, as if it were the line of this number.
+/// What follows the last line feed, as if it were the line of this number.
 #[tactic(auto, unfolding(crate::specs::Reached::at_end))]
 fn end(draft: Draft, number: u32, rest: &[u8]) -> Result<Packets, Unscored>
     ensures { Reads (λ v. map shape v.items) result (at_end (reached draft) number rest.now) }
@@ -47,7 +47,7 @@ fn end(draft: Draft, number: u32, rest: &[u8]) -> Result<Packets, Unscored>
     }
 }
 
-/// All lines, and what stands behind the last line feed.
+/// All lines, and what follows the last line feed.
 fn read_lines(alloc: Global, lines: &[&[u8]]) -> Result<Packets, Unscored>
     requires { length lines.now ≤ 2 ^ 31 }
     ensures { Reads (λ v. map shape v.items) result (lines_at at_start 1 (texts lines.now)) }
@@ -78,10 +78,10 @@ fn read(alloc: Global, text: &[u8]) -> Result<Packets, Unscored>
 ///
 /// # Errors
 ///
-/// `Bad` comes exactly where the text is no score.
+/// `Bad` comes exactly if the text is no score.
 pub fn read_score(alloc: Global, text: &[u8]) -> Result<Packets, Unscored>
     requires { length text.now < 2 ^ 31 }
-    // Packets come only where the text is theirs, and a fault only where it is the first.
+    // Packets come only if the text is theirs, and a fault only if it is the first.
     ensures found { IfOk result (λ v. Score text.now (map shape v.items)) }
     ensures bad { (number : ℕ) → result ≡ Err (unscored.Bad number) → ScoreFault text.now number }
     // What is written is read, and what is at fault is refused, unless memory runs out.

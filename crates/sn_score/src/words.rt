@@ -86,7 +86,7 @@ fn is_plain(bytes: &[u8]) -> bool
     bytes.iter().all(|byte| is_plain_byte(*byte))
 }
 
-/// An address, quoted only where it has to be.
+/// An address, quoted only if it has to be.
 pub(crate) fn put_address(out: &mut Text, address: &[u8]) -> Result<(), NoMemory>
     ensures { OnOk result (out.new.bytes ≡ out.old.bytes ++ address_word address.now) }
 {
@@ -104,7 +104,7 @@ pub(crate) fn put_natural(out: &mut Text, number: u32) -> Result<(), NoMemory>
     out.append(buffer.format(number).as_bytes())
 }
 
-/// A number, with `-` in front if it is negative.
+/// A number, with `-` before it if it is negative.
 pub(crate) fn put_int(out: &mut Text, number: i32) -> Result<(), NoMemory>
     ensures { OnOk result (out.new.bytes ≡ out.old.bytes ++ signed_decimal number) }
 {

@@ -143,7 +143,7 @@ none_at_close LinkFault left_old left_new none = tt
 none_at_close SoundFault left_old left_new none = tt
 none_at_close (Worn n blocks) left_old left_new none = tt
 
--- nothing is left where nothing more came, of what events were taken of before
+-- if nothing more came, nothing is left of what the events were taken from
 pub close_on : (how : Ended) (left_old left_mid left_new : Option (List LinkEvent)) (es : List LinkEvent) → Known left_old left_mid (λ old new. TakesEach old es new) → AtClose how left_mid left_new → AtClose how left_old left_new
 close_on Closed left_old left_mid left_new es taken none = known_both left_old left_mid left_new (λ old new. TakesEach old es new) (λ old new. new ≡ []) (λ old new. new ≡ []) (λ a b c p q. q) taken none
 close_on (Cut kept) left_old left_mid left_new es taken none = known_both left_old left_mid left_new (λ old new. TakesEach old es new) (λ old new. new ≡ []) (λ old new. new ≡ []) (λ a b c p q. q) taken none

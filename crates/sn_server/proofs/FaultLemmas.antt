@@ -24,7 +24,7 @@ pub either_of : (r : Result (Unit {0}) Ended) (end : Ended) (P : Type 0) → IfE
 either_of (Ok x) end P only p = inr p
 either_of (Err how) end P only p = inl (ap failed only)
 
--- what is said where a step ended is said of the answer that hands this on
+-- what is said if a step ended is said of the answer that hands this on
 pub either_err : (r : Result (Unit {0}) Ended) (how end : Ended) (P : Type 0) → IsErrAnd r (λ k. k ≡ how) → (failed how ≡ failed end) ⊎ P → (r ≡ failed end) ⊎ P
 either_err (Ok x) how end P is said = absurd is
 either_err (Err k) how end P is (inl e) = inl (ap failed is ∙ e)

@@ -46,7 +46,7 @@ block_left a b e = elim (leb_tells 4611686018427387904 b) [
     at false true e h = absurd cc
     at false false e h = absurd cc
 
--- ---- two pieces, one behind the other
+-- ---- two pieces, one after the other
 
 abbrev kept_of : Unpacked → ℕ → Running → Live
 kept_of u fed r = record { play = with_packets u.packets r; framing = record { kept = u.rest; fed = fed } }

@@ -45,7 +45,7 @@ live_on sound_old sound_mid sound_new sent_old sent_mid sent_new v w e0 held e1 
 between_all : (old new : Option (List ℕ)) (bytes most : List ℕ) → Appends old new bytes → Before bytes most → TakesBetween old new bytes most
 between_all old new bytes most taken front = (bytes, taken, begins_refl bytes, front)
 
--- behind what was taken comes a front of more
+-- after what was taken comes a prefix of more
 between_more : (old mid new : Option (List ℕ)) (bytes more most : List ℕ) → Appends old mid bytes → TakesFront mid new more → Before (bytes ++ more) most → TakesBetween old new bytes most
 between_more old mid new bytes more most taken part front =
     let (piece, appended, begins) = part in
@@ -71,7 +71,7 @@ cut_later sound_old sound_new sent_old sent_new v w c g h = record {
   sent = between_later sent_old sent_new (to_first v.play.replies) (to_first w.play.replies) (to_first (at_end c).play.replies) g.replies h.sent;
 }
 
--- a step was taken, and a front of what it gives was written and sent
+-- a step was taken, and a prefix of what it gives was written and sent
 cut_in : (sound_old sound_mid sound_new sent_old sent_mid sent_new : Option (List ℕ)) (v : Live) (e : Running) (f : Framing) (next held : Running) (c : Course) → IsLive sound_old sound_mid sent_old sent_mid v e f
     → AddsTo v.play next held → TakesFront sound_mid sound_new held.sound → TakesFront sent_mid sent_new (to_first held.replies) → Grows next (at_end c).play → IsCut sound_old sound_new sent_old sent_new v c
 cut_in sound_old sound_mid sound_new sent_old sent_mid sent_new v e f next held c live adds heard told g =
@@ -83,7 +83,7 @@ cut_in sound_old sound_mid sound_new sent_old sent_mid sent_new v e f next held 
 
 -- ---- frames
 
--- the connection where what stands behind the last whole frame is kept
+-- the connection, if what follows the last whole frame is kept
 abbrev pub after_piece : List ℕ → Live → Live
 after_piece piece v = record {
   play = with_packets (unpacked (v.framing.kept ++ piece)).packets v.play;
@@ -112,7 +112,7 @@ received v piece sound_old sound_new sent_old sent_mid sent_new e0 e1 e2 f0 f1 f
     live_on sound_old sound_new sound_new sent_old sent_mid sent_new v (after_piece piece v) e0 e1 e2 f0 f2 live (owed v piece sound_old sound_new sent_old sent_mid e0 e1 f0 f1 live fed offered)
     (empty ∙ (λ i. record e1 { sound = silent i; replies = [] ∷ [] })) (subst (Appends sound_new sound_new) (sym silent) (Appends-nil sound_new)) sent (kept ∙ ap (λ (f : Framing). record f { kept = (unpacked f.kept).rest }) piece_fed)
 
--- a front of what was answered was sent
+-- a prefix of what was answered was sent
 pub received_cut : (v : Live) (piece : List ℕ) (sound_old sound_new sent_old sent_mid sent_new : Option (List ℕ)) (e0 e1 : Running) (f0 f1 : Framing) → IsLive sound_old sound_new sent_old sent_mid v e0 f0
     → f1 ≡ fed_with piece f0 → e1 ≡ with_packets (unpacked f1.kept).packets e0 → TakesFront sent_mid sent_new (to_first e1.replies) → IsCut sound_old sound_new sent_old sent_new v (receive piece v)
 received_cut v piece sound_old sound_new sent_old sent_mid sent_new e0 e1 f0 f1 live fed offered part =
@@ -179,7 +179,7 @@ blocks_put : (n : ℕ) (r : Running) → (after_blocks n r).waiting.puts ≡ r.w
 blocks_put zero r = refl
 blocks_put (suc n) r = blocks_put n (after_block r)
 
--- where the server goes on at the first boundary, and at those after it
+-- if the server goes on at the first boundary, and at those after it
 pub goes_through : (n : ℕ) (r : Running) → flow_at r ≡ flows.On → ((k : ℕ) → 1 ≤ k → k < n → flow_at (after_blocks k r) ≡ flows.On) → GoesThrough n r
 goes_through n r first later zero l = first
 goes_through n r first later (suc k) l = later (suc k) (omega arith) l
@@ -188,7 +188,7 @@ goes_through n r first later (suc k) l = later (suc k) (omega arith) l
 as_held : (n : ℕ) (sound_old sound_new sent_old sent_new : Option (List ℕ)) (v : Live) (e : Running) (f : Framing) → IsLive sound_old sound_new sent_old sent_new v e f → GoesThrough n e → GoesThrough n v.play
 as_held n sound_old sound_new sent_old sent_new v e f live goes k l = ap (λ (r : Running). flow_at r) (added (after_blocks k) (blocks_step k) v.play e live.alone live.engine).rest ∙ goes k l
 
--- so many ticks are left of a course behind a connection
+-- so many ticks are left of a course after a connection
 pub record IsTicking (sound_old sound_new sent_old sent_new : Option (List ℕ)) (v : Live) (c : Course) (left : ℕ) (e : Running) (f : Framing) : Type 0 where
   pub live : Live
   pub course : tick left live ≡ c
@@ -256,7 +256,7 @@ by_end_so NoMemory P R Q S f g h = g h
 by_end_so LinkFault P R Q S f g h = g h
 by_end_so SoundFault P R Q S f g h = g h
 
--- a fact about the ends that the events give, where it is worn out
+-- a fact about the ends that the events give, if it is worn out
 pub worn_out : (how : Ended) (bytes blocks : ℕ) (P Q : Type 0) → how ≡ Worn bytes blocks → P → ByEnd how P Q
 worn_out how bytes blocks P Q is p = subst (λ (k : Ended). ByEnd k P Q) (sym is) p
 

@@ -43,7 +43,7 @@ ended_stays : (es : List LinkEvent) (o : Over) → after_events es (ended o) ≡
 ended_stays [] o = refl
 ended_stays (e ∷ es) o = ended_stays es o
 
--- an end that the events taken give is that of all events, where none is left unless it ended before
+-- an end that the taken events give is that of all events, if none is left unless it ended before
 abbrev pub IsClosing : Ended → Type 0
 IsClosing e = (e ≡ Closed) ⊎ ((n : ℕ) × (e ≡ Cut n))
 

@@ -48,7 +48,7 @@ abbrev pub with_packets : List (List ℕ) → Running → Running
 with_packets [] r = r
 with_packets (packet ∷ packets) r = with_packets packets (with_packet (read packet) r)
 
--- what stands behind the last whole frame is kept, where it is not a bad size
+-- what follows the last whole frame is kept, if it isn't a bad size
 abbrev pub keep : FirstFrame → Live → Course
 keep cut v = going v
 keep (frame packet rest) v = going v
@@ -96,7 +96,7 @@ abbrev pub event : LinkEvent → Live → Course
 event (bytes piece) v = receive piece v
 event (ticks n) v = tick n v
 
--- after an event, where it has not ended
+-- after an event, if it has not ended
 abbrev pub after_event : LinkEvent → Course → Course
 after_event e (ended o) = ended o
 after_event e (going v) = unless_worn v (event e v)

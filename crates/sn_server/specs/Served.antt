@@ -12,7 +12,7 @@ use Rattle.sn_server.specs.PlayEvents.{Course, going, ended, is_worn, after_even
 abbrev pub TakesBetween : Option (List ℕ) → Option (List ℕ) → List ℕ → List ℕ → Type 0
 TakesBetween old new least most = (taken : List ℕ) × Appends old new taken × Before least taken × Before taken most
 
--- events, or fronts of their bytes, are taken one after another
+-- events, or prefixes of their bytes, are taken one after another
 abbrev pub TakesEach : List LinkEvent → List LinkEvent → List LinkEvent → Type 0
 TakesEach old [] new = new ≡ old
 TakesEach old (e ∷ es) new = (between : List LinkEvent) × Takes old between e × TakesEach between es new
@@ -23,7 +23,7 @@ WhileOpen [] c = Unit {0}
 WhileOpen (e ∷ es) (ended o) = ⊥
 WhileOpen (e ∷ es) (going v) = (is_worn v ≡ false) × WhileOpen es (after_event e (going v))
 
--- a fact about the ends that the events give, and another about faults and want of memory
+-- a fact about the ends that the events give, and another about faults and `NoMemory`
 abbrev pub ByEnd : Ended → Type 0 → Type 0 → Type 0
 ByEnd Quit P Q = P
 ByEnd Closed P Q = P
@@ -34,8 +34,8 @@ ByEnd NoMemory P Q = Q
 ByEnd LinkFault P Q = Q
 ByEnd SoundFault P Q = Q
 
--- The events that were taken give this end, and none was taken after it; the sink took the sound that they give, and what they answer was
--- sent. Each is said where it is told.
+-- The events that were taken give this end, and none was taken after it; the sink took the sound that they give, and
+-- what they answer was sent. Each of this is said if it is known.
 pub record IsServed (s : Settings) (base : ℕ) (left_old left_new : Option (List LinkEvent)) (sound_old sound_new sent_old sent_new : Option (List ℕ)) (how : Ended) : Type 0 where
   pub events : List LinkEvent
   pub taken : Known left_old left_new (λ old new. TakesEach old events new)
@@ -44,8 +44,9 @@ pub record IsServed (s : Settings) (base : ℕ) (left_old left_new : Option (Lis
   pub sound : Appends sound_old sound_new (play_events s base events).sound
   pub sent : Appends sent_old sent_new (play_events s base events).sent
 
--- A fault or want of memory cut the connection short. All events that were taken but at most the last were answered whole: what was written
--- and sent begins with what the whole ones give, and what all of them give begins with it. Each is said where it is told.
+-- A fault or `NoMemory` cut the connection short. All events that were taken, except at most the last, were answered
+-- whole: what was written and sent begins with what the whole ones give, and what all of them give begins with it. Each
+-- of this is said if it is known.
 pub record IsCutShort (s : Settings) (base : ℕ) (left_old left_new : Option (List LinkEvent)) (sound_old sound_new sent_old sent_new : Option (List ℕ)) : Type 0 where
   pub whole : List LinkEvent
   pub last : List LinkEvent
@@ -55,12 +56,12 @@ pub record IsCutShort (s : Settings) (base : ℕ) (left_old left_new : Option (L
   pub sound : TakesBetween sound_old sound_new (play_events s base whole).sound (play_events s base (whole ++ last)).sound
   pub sent : TakesBetween sent_old sent_new (play_events s base whole).sent (play_events s base (whole ++ last)).sent
 
--- At an end that events give, those that were taken give it. A fault and want of memory cut it short.
+-- At an end that events give, those that were taken give it. A fault and `NoMemory` cut it short.
 abbrev pub GivesEnd : Settings → ℕ → Option (List LinkEvent) → Option (List LinkEvent) → Option (List ℕ) → Option (List ℕ) → Option (List ℕ) → Option (List ℕ) → Ended → Type 0
 GivesEnd s base left_old left_new sound_old sound_new sent_old sent_new how =
     ByEnd how (IsServed s base left_old left_new sound_old sound_new sent_old sent_new how) (IsCutShort s base left_old left_new sound_old sound_new sent_old sent_new)
 
--- where nothing more comes, no event is left
+-- if nothing more comes, no event is left
 abbrev pub AtClose : Ended → Option (List LinkEvent) → Option (List LinkEvent) → Type 0
 AtClose Closed left_old left_new = Known left_old left_new (λ old new. new ≡ [])
 AtClose (Cut kept) left_old left_new = Known left_old left_new (λ old new. new ≡ [])

@@ -30,7 +30,7 @@ IsBad first LinkFault = ⊥
 IsBad first SoundFault = ⊥
 IsBad first (Worn n blocks) = ⊥
 
--- what stands behind the last whole frame: the front of a frame, or a bad size
+-- what follows the last whole frame: a prefix of a frame, or a bad size
 abbrev pub Stops : FirstFrame → Option Ended → Type 0
 Stops first None = first ≡ cut
 Stops first (Some how) = IsBad first how
@@ -57,7 +57,7 @@ IsTickEnd NoMemory = ⊤
 IsTickEnd LinkFault = ⊤
 IsTickEnd SoundFault = ⊤
 
--- An engine of one client and a framer hold what a connection does, but for its bytes, which were written and sent.
+-- An engine of one client and a framer hold what a connection does, except for its bytes, which were written and sent.
 pub record IsLive (sound_old sound_new sent_old sent_new : Option (List ℕ)) (v : Live) (e : Running) (f : Framing) : Type 0 where
   pub alone : length v.play.replies ≡ 1
   pub engine : e ≡ record v.play { sound = []; replies = [] ∷ [] }
@@ -78,13 +78,13 @@ pub record GoesOn (sound_old sound_new sent_old sent_new : Option (List ℕ)) (c
   pub course : c ≡ going live
   pub stands : IsLive sound_old sound_new sent_old sent_new live e f
 
--- A course behind a connection was cut short. What was written and sent begins with what the connection gave, and what the course gives begins
--- with it.
+-- The course after a connection was cut short. What was written and sent begins with what the connection gave, and what
+-- the course gives begins with it.
 pub record IsCut (sound_old sound_new sent_old sent_new : Option (List ℕ)) (v : Live) (c : Course) : Type 0 where
   pub sound : TakesBetween sound_old sound_new v.play.sound (at_end c).play.sound
   pub sent : TakesBetween sent_old sent_new (to_first v.play.replies) (to_first (at_end c).play.replies)
 
--- where a connection has come by a step, and what the step answers
+-- what a step did with a connection, and what the step answers
 abbrev pub Follows : Option (List ℕ) → Option (List ℕ) → Option (List ℕ) → Option (List ℕ) → Live → Course → Running → Framing → Result Unit Ended → Type 0
 Follows sound_old sound_new sent_old sent_new v c e f (Ok x) = GoesOn sound_old sound_new sent_old sent_new c e f
 Follows sound_old sound_new sent_old sent_new v c e f (Err how) = ByEnd how (HasEnded sound_old sound_new sent_old sent_new c how) (IsCut sound_old sound_new sent_old sent_new v c)
@@ -126,11 +126,12 @@ pub record HasQuit (sound_old sound_new sent_old sent_new : Option (List ℕ)) (
   pub sound : Keeps sound_old sound_new
   pub replies : Appends sent_old sent_new (to_first (at_boundary old).replies)
 
--- an engine is that after at most so many boundaries with their blocks, or that after a boundary at which `/quit` was accepted
+-- an engine is that after at most so many boundaries with their blocks, or that after a boundary at which `/quit` was
+-- accepted
 abbrev pub IsAhead : ℕ → Running → Running → Type 0
 IsAhead most old r = ((n : ℕ) × (n ≤ most) × GoesThrough n old × (r ≡ after_blocks n old)) ⊎ ((flow_at old ≡ flows.Quit) × (r ≡ at_boundary old))
 
--- A front of what it holds was written and sent.
+-- A prefix of what it holds was written and sent.
 pub record IsTickPart (most : ℕ) (sound_old sound_new sent_old sent_new : Option (List ℕ)) (old : Running) : Type 0 where
   pub held : Running
   pub ahead : IsAhead most old held

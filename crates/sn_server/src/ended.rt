@@ -13,7 +13,7 @@ pub enum Ended {
     NoMemory,
     /// Nothing more came, and no unfinished frame was kept.
     Closed,
-    /// Nothing more came, and so many bytes of an unfinished frame were kept.
+    /// Nothing more came, and `kept` bytes of an unfinished frame were kept.
     Cut { kept: u32 },
     /// A frame has a size that no packet has: below 4, above 65,536 or no multiple of 4.
     BadFrame { size: i32 },

@@ -39,7 +39,7 @@ fn take_packet(alloc: Global, engine: &mut Engine, bytes: &[u8]) -> Result<(), N
     }
 }
 
-/// Takes every whole frame that is kept. Gives the end at the bad size that stands behind them, if one does.
+/// Takes every whole frame that is kept. Returns the end at the bad size that follows them, if there is one.
 fn take_packets(
     alloc: Global,
     engine: &mut Engine,
@@ -63,7 +63,7 @@ fn take_packets(
     }
 }
 
-/// Sends the replies that are still to be sent. After a fault a front of them was sent.
+/// Sends the replies that are still to be sent. After a fault a prefix of them was sent.
 pub fn send_replies<L: Link>(engine: &mut Engine, link: &mut L) -> Result<(), Ended>
     requires alone { length engine.old.running.replies ≡ 1 }
     ensures sent { OnOk result (Appends (L.sent link.old) (L.sent link.new) (to_first engine.old.running.replies)) }

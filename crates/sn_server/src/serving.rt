@@ -23,7 +23,7 @@ use std::thread::Threads;
 /// How many bytes are asked for at once: as many as the longest packet has.
 const PIECE: usize = MOST_PACKET;
 
-/// How a connection ends over which nothing more comes.
+/// How a connection ends if nothing more comes over it.
 fn closing(framer: &Framer) -> Ended
     ensures { result ≡ closing framer.now.kept }
 {
@@ -148,9 +148,10 @@ fn serve_events<H: Threads + Sync, L: Link, O: Sink, G: Gate>(
 
 /// Serves one connection until it ends, with block 0 at the time tag `base`.
 ///
-/// Where it ends without a fault and memory is there, all that its events give was written and sent. Where a fault or want of
-/// memory cuts it short, each event that was taken but the last was answered whole, and a front of what the last one gives was
-/// written and sent. A link may fail at any call: so what an event gives is written and sent before the next one is asked for.
+/// If it ends without a fault and memory doesn't run out, all that its events give was written and sent. If a fault
+/// cuts it short, or memory runs out, then each event that was taken, except the last, was answered whole, and a prefix
+/// of what the last one gives was written and sent. A link may fail at any call. So what an event gives is written and
+/// sent before the next one is asked for.
 pub fn serve_one<H: Threads + Sync, L: Link, O: Sink, G: Gate>(
     rt: &H,
     alloc: Global,
@@ -160,18 +161,18 @@ pub fn serve_one<H: Threads + Sync, L: Link, O: Sink, G: Gate>(
     sound: &mut O,
     gate: &G,
 ) -> Ended
-    // What was taken gives this end, and what it gives was written; or the connection was cut short in its last event. Each is said where the
-    // objects tell it.
+    // What was taken gives this end, and what it gives was written; or the connection was cut short in its last event.
+    // Each of this is said if it is known of the objects.
     ensures served { GivesEnd settings.now base (L.left link.old) (L.left link.new) (O.taken sound.old) (O.taken sound.new) (L.sent link.old) (L.sent link.new) result }
-    // No event is left where nothing more comes.
+    // No event is left if nothing more comes.
     ensures close { AtClose result (L.left link.old) (L.left link.new) }
     // A fault has its cause.
     ensures link { result ≡ Ended.LinkFault → Rose (L.faults link.old) (L.faults link.new) }
     ensures sound { result ≡ Ended.SoundFault → Rose (O.faults sound.old) (O.faults sound.new) }
-    // Neither failed but where its fault is the answer.
+    // Neither failed, unless its fault is the answer.
     ensures link_unfailed { (result ≡ Ended.LinkFault) ⊎ (L.faults link.new ≡ L.faults link.old) }
     ensures sound_unfailed { (result ≡ Ended.SoundFault) ⊎ (O.faults sound.new ≡ O.faults sound.old) }
-    // Where no count rises, the answer is the end that all events give, or want of memory.
+    // If no count rises, the answer is the end that all events give, or `NoMemory`.
     ensures complete { (events : List LinkEvent) → L.left link.old ≡ Some events → bytes_in events < most_count → (Rose (L.faults link.old) (L.faults link.new) → ⊥)
         → (Rose (O.faults sound.old) (O.faults sound.new) → ⊥) → (result ≡ (play_events settings.now base events).ending) ⊎ (result ≡ Ended.NoMemory) }
 {

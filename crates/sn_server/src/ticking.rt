@@ -21,7 +21,7 @@ use sn_ports::{Gate, Link, Sink};
 use std::alloc::Global;
 use std::thread::Threads;
 
-/// Writes the sound that is still to be written. After a fault a front of it was written.
+/// Writes the sound that is still to be written. After a fault a prefix of it was written.
 fn write_sound<O: Sink>(engine: &mut Engine, sound: &mut O) -> Result<(), Ended>
     ensures written { OnOk result (Appends (O.taken sound.old) (O.taken sound.new) engine.old.running.sound) }
     ensures front { TakesFront (O.taken sound.old) (O.taken sound.new) engine.old.running.sound }
@@ -51,8 +51,8 @@ fn play_row<H: Threads + Sync, G: Gate>(rt: &H, engine: &mut Engine, most: u32, 
     engine.settle();
 }
 
-/// A boundary and, unless `/quit` was accepted at it, the blocks that may follow it in a row, so many at most. What comes of them
-/// is written.
+/// A boundary and, unless `/quit` was accepted at it, the blocks that may follow it in a row, at most `most`. What
+/// comes of them is written.
 fn tick<H: Threads + Sync, L: Link, O: Sink, G: Gate>(
     rt: &H,
     alloc: Global,
@@ -92,7 +92,7 @@ fn tick<H: Threads + Sync, L: Link, O: Sink, G: Gate>(
     }
 }
 
-/// Refuses to go on where as many bytes came, or as many blocks were done, as may.
+/// Refuses to go on if as many bytes came, or as many blocks were done, as may.
 pub fn check_worn(engine: &Engine, framer: &Framer) -> Result<(), Ended>
     ensures ok { OnOk result (HasLeft engine.now.running framer.now) }
     ensures worn { IfErr result (IsWornOut engine.now.running framer.now) }
@@ -105,7 +105,8 @@ pub fn check_worn(engine: &Engine, framer: &Framer) -> Result<(), Ended>
     Ok(())
 }
 
-/// So many boundaries, each with its block unless `/quit` was accepted at it; blocks that may come in a row are rendered so.
+/// `count` boundaries, each with its block unless `/quit` was accepted at it. Blocks that may come in a row are
+/// rendered in a row.
 pub fn ticks<H: Threads + Sync, L: Link, O: Sink, G: Gate>(
     rt: &H,
     alloc: Global,

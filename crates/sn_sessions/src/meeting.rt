@@ -44,7 +44,7 @@ struct Meeting<'a> {
 }
 
 impl Meeting<'_> {
-    /// The first read begins, and waits for the other one. Answers whether that came.
+    /// The first read begins, and waits for the other one. Returns whether that came.
     fn meets(&self) -> bool {
         self.begun.fetch_add(1, Ordering::SeqCst);
         for _ in 0..MOST_TURNS {
@@ -124,7 +124,7 @@ pub(crate) fn readers_meet<H: AllocGlobal + Threads + Wait + Sync>(
     Ok(clients.iter().all(|client| client.end == ClientEnd::Closed))
 }
 
-/// A sink that tells whether it has taken a byte.
+/// A sink that notes whether it has taken a byte.
 #[derive(Drop)]
 struct Ear<'a> {
     heard: &'a AtomicU64,
@@ -161,7 +161,7 @@ impl Sink for Nowhere {
     }
 }
 
-/// A pulse that gives one block after another until something was heard, so many at most.
+/// A pulse that gives one block after another until something was heard, up to a limit.
 #[derive(Drop)]
 struct Patience<'a> {
     heard: &'a AtomicU64,

@@ -140,7 +140,7 @@ pub(crate) fn full_turns<H: AllocGlobal + Threads + Wait + Sync>(rt: &H) -> Resu
     Ok(told.session.how == How::TurnsFull && told.session.turns.len() == 1)
 }
 
-/// `/quit` is accepted at the boundary behind the 0 of the pulse.
+/// `/quit` is accepted at the boundary after the 0 of the pulse.
 pub(crate) fn quits<H: AllocGlobal + Threads + Wait + Sync>(rt: &H) -> Result<bool, NoMemory> {
     let told = serve_two(rt, &QUIT, MANY, false, WELL)?;
     Ok(

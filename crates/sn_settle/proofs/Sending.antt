@@ -1,4 +1,4 @@
--- What is sent to a client where events are told one after the other.
+-- What is sent to a client if events are told one after the other.
 use Rattle.std.proofs.Common.{◌≡◌, ◌≢◌, ◌≤◌, ◌<◌, ◌+◌, ◌*◌, ◌==◌, ℕ, zero, suc, Bool, true, false, List, [], ◌∷◌, ◌++◌, length, get_or, refl, ap, sym, subst, ◌∙◌, arith, length-append, append_assoc}
 use Rattle.std.specs.Prelude.{if◌then◌else◌}
 use Rattle.std.proofs.lemmas.Bool.{eqb-true, eq-eqb}
@@ -25,7 +25,7 @@ notices_of-append flags (e ∷ es) fs = ap (λ rs. notices 0 flags (notice_messa
 
 -- ---- one event
 
--- its frame, where a flag is on
+-- its frame, if a flag is on
 abbrev pub frame_if : Notice → Bool → List ℕ
 frame_if event on = if on then frame_bytes (message_bytes (notice_message event)) else []
 

@@ -55,7 +55,7 @@ low_walk : (rate : ℕ) (region : Extent) (places : List (Option BufferPlace)) (
 low_walk rate region places [] ws x each low = refl
 low_walk rate region places (l ∷ ls) ws x each low = low_walk rate region places ls (settled_held rate l.payload ws) x each.1 low ∙ low_held rate region l.payload ws x each.0.0 low
 
--- ---- no node has a word behind the region
+-- ---- no node has a word after the region
 
 own_inside : (rate : ℕ) (region : Extent) (h : Held) (x : ℕ) → IsHeld rate region h → region.at + region.len ≤ x → overlaps x (held_extents h) ≡ 0
 own_inside rate region held.Group x is high = refl
@@ -122,7 +122,7 @@ module _ (stage : Stage) (b : ℕ) (ws : List ℕ) (p : Pictures stage ws) where
   pub ended : endings_in stage.rate (world_of stage ws).nodes ≡ endings
   ended = endings_are stage.rate stage.pool.region stage.tree.attached ws p.synths
 
-  -- where nothing ended
+  -- if nothing ended
   pub none_acted : (outs : List Octets) → endings ≡ [] → IsActed 0 (all_acted endings) stage stage outs outs
   none_acted outs nil = no_act 0 (all_acted endings) stage outs (λ us replies. ap (λ (es : List Ending). all_acted es (turn_of stage us replies)) nil)
 

@@ -15,8 +15,8 @@ use Rattle.sn_settle.specs.Telling.{AreTold}
 abbrev pub IsBelowRoot : Ending → Type 0
 IsBelowRoot e = int_eq e.node (pos 0) ≡ false
 
--- The stage stands for what an act makes of the world, whatever the words are, and clients were told what the act tells: so many events
--- at most.
+-- The stage stands for what an act makes of the world, whatever the words are, and clients were told what the act
+-- tells: so many events at most.
 pub record IsActed (most : ℕ) (act : Turn → Turn) (old new : Stage) (a b : List Octets) : Type 0 where
   pub events : List Notice
   pub few : length events ≤ most

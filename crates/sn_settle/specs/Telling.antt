@@ -26,7 +26,7 @@ pub record AreTold (flags : List Bool) (events : List Notice) (old new : List Oc
   pub sent : AreSent (notices_of flags events) old new
   pub room : (client : ℕ) → client < length old → (out_of old client).spare ≤ (out_of new client).spare + 48 * length events
 
--- endings were noted behind those that were there
+-- endings were noted after those that were there
 pub record AreNoted (endings : List Ending) (old new : Noted) : Type 0 where
   pub items : new.items ≡ old.items ++ endings
   pub room : old.spare ≤ new.spare + length endings

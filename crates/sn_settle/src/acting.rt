@@ -16,7 +16,7 @@ use sn_reply::{Neighbours, Notice};
 use sn_tree::{NodeView, Tree};
 use sn_world::{Ending, Held, Stage, end_freed, frees, pauses};
 
-/// Where a synth stands.
+/// The place of a synth: its parent and its neighbours.
 fn neighbours_of(ending: &Ending, view: &NodeView) -> Neighbours
     ensures { result ≡ neighbours_of ending.now.node view.now }
 {
@@ -53,7 +53,7 @@ fn take_out(tree: &mut Tree<Held>, ending: &Ending)
     }
 }
 
-/// Pauses a synth that stands so, where it runs, and tells of it.
+/// Pauses a synth with this view, if it runs, and tells of it.
 fn pause(stage: &mut Stage, ending: &Ending, view: &NodeView, outs: &mut [Text])
     requires there { view_of ending.now.node stage.old.tree.attached ≡ Some view.now }
     requires pictures { (words : List ℕ) × Pictures stage.old words }
@@ -72,7 +72,7 @@ fn pause(stage: &mut Stage, ending: &Ending, view: &NodeView, outs: &mut [Text])
     );
 }
 
-/// Frees a synth that stands so, and tells of it.
+/// Frees a synth with this view, and tells of it.
 fn free(stage: &mut Stage, ending: &Ending, view: &NodeView, outs: &mut [Text])
     requires there { view_of ending.now.node stage.old.tree.attached ≡ Some view.now }
     requires other { IsBelowRoot ending.now }
@@ -90,7 +90,7 @@ fn free(stage: &mut Stage, ending: &Ending, view: &NodeView, outs: &mut [Text])
     );
 }
 
-/// Does what a unit's end asks for with a synth that stands so.
+/// Does what a unit's end asks for, with a synth with this view.
 fn act_here(stage: &mut Stage, ending: &Ending, view: &NodeView, outs: &mut [Text])
     requires there { view_of ending.now.node stage.old.tree.attached ≡ Some view.now }
     requires other { IsBelowRoot ending.now }
@@ -109,7 +109,7 @@ fn act_here(stage: &mut Stage, ending: &Ending, view: &NodeView, outs: &mut [Tex
     free(stage, ending, view, outs);
 }
 
-/// How the synth stands, where it is still there.
+/// The view of the synth, if it is still there.
 fn view_of(tree: &Tree<Held>, ending: &Ending) -> Option<NodeView>
     ensures { result ≡ view_of ending.now.node tree.now.attached }
 {

@@ -21,8 +21,8 @@ pub struct EventfulSynth {
     pub state: Extent,
 }
 
-/// The synths of a stage that run and of which triggers or ends may come, in the order of the walk. They stay the same while the
-/// nodes and their run flags do.
+/// The synths of a stage that run and of which triggers or ends may come, in the order of the walk. They stay the same
+/// while the nodes and their run flags do.
 #[derive(Drop)]
 pub struct Eventful {
     synths: Vec<EventfulSynth>,
@@ -30,7 +30,7 @@ pub struct Eventful {
     room: u32,
 }
 
-/// Puts the synth of a node behind the others, if triggers or ends may come of it.
+/// Appends the synth of a node, if triggers or ends may come of it.
 fn put(synths: &mut Vec<EventfulSynth>, node: &i32, held: &Held) -> Result<(), NoMemory>
     ensures { OnOk result (map synth_at synths.new.items ≡ map synth_at synths.old.items ++ eventful_held node.now held.now) }
 {

@@ -196,7 +196,8 @@ fn look_at_synths<P: Port>(
     }
 }
 
-/// Tells the triggers of all synths that ran in a block, and notes the ends of their units. Only the eventful ones are looked at.
+/// Tells the triggers of all synths that ran in a block, and notes the ends of their units. Only the eventful ones are
+/// looked at.
 pub fn look_at_all<P: Port>(
     port: &mut P,
     stage: &Stage,

@@ -18,12 +18,14 @@ use sn_mem::Port;
 use sn_ports::Text;
 use sn_world::{Endings, Stage};
 
-/// Settles a block that was just walked: first its triggers are told. Then the units that ended in it pause or free their synths, which
-/// is told too. What is told is put behind the bytes that wait for each client, by their numbers. Of the synths only the eventful ones
-/// are looked at, which are given. Answers `false` only where the stage stays as it is, and always where no unit ended.
+/// Settles a block that was just walked: first its triggers are told. Then the units that ended in it pause or free
+/// their synths, which is told too. What is told is put after the bytes that wait for each client, by their numbers. Of
+/// the synths only the eventful ones are looked at, which are given. Returns `false` only if the stage stays as it is,
+/// and always if no unit ended.
 ///
-/// It takes no memory: each client's bytes have room for 48 bytes for each unit of a running synth that sends triggers or ends, and
-/// `endings` has room for as many. What `endings` holds then are the ends of this block, and no room of it is lost.
+/// It takes no memory: each client's bytes have room for 48 bytes for each unit of a running synth that sends triggers
+/// or ends, and `endings` has room for as many. What `endings` holds then are the ends of this block, and no room of it
+/// is lost.
 pub fn settle<P: Port>(
     stage: &mut Stage,
     eventful: &Eventful,

@@ -9,7 +9,7 @@ use sn_ports::Text;
 use sn_reply::{Notice, event_frame};
 use sn_world::Flags;
 
-/// Tells one client of an event, where its flag is on.
+/// Tells one client of an event, if its flag is on.
 fn tell_client(on: bool, event: &Notice, out: &mut Text)
     requires room { 48 ≤ out.old.spare }
     ensures frame { out.new.bytes ≡ out.old.bytes ++ (if on then frame_bytes (message_bytes (notice_message event.now)) else []) }
@@ -20,7 +20,8 @@ fn tell_client(on: bool, event: &Notice, out: &mut Text)
     }
 }
 
-/// Tells each client whose flag is on of an event. The clients' bytes stand by their numbers, with room for 48 more each.
+/// Tells each client whose flag is on of an event. The clients' bytes stand by their numbers, with room for 48 more
+/// each.
 pub fn tell(flags: &Flags, event: &Notice, outs: &mut [Text])
     requires clients { length outs.old ≤ most_clients }
     requires room { HaveRoom 48 outs.old }

@@ -13,7 +13,7 @@ use sn_def::{Def, Unit};
 use sn_mem::Port;
 use sn_world::Stage;
 
-/// Makes a done word 1 of a unit 2.
+/// Sets a unit's done word to 2 if it is 1.
 fn settle_unit<P: Port>(port: &mut P, unit: &Unit, at: u32)
     requires writes { (rate : ℕ) × MayWrite (P.foot port.old) at (unit_words rate unit.now) }
     ensures words { P.words port.new ≡ settled_at unit.now at (P.words port.old) }
@@ -27,7 +27,7 @@ fn settle_unit<P: Port>(port: &mut P, unit: &Unit, at: u32)
     }
 }
 
-/// Makes each done word 1 of a synth's units 2.
+/// Sets each done word of a synth's units to 2 if it is 1.
 fn settle_units<P: Port>(port: &mut P, rate: u32, def: &Def, units: &[Unit], at: u32)
     requires same { units.now ≡ def.now.units }
     requires writes { MayWrite (P.foot port.old) at (units_words rate units.now) }
@@ -67,7 +67,7 @@ fn settle_synths<P: Port>(port: &mut P, stage: &Stage, synths: &[EventfulSynth])
     }
 }
 
-/// Makes each done word 1 of all synths that ran 2.
+/// Sets each done word of all synths that ran to 2 if it is 1.
 pub fn settle_words<P: Port>(port: &mut P, stage: &Stage, eventful: &Eventful)
     requires pictures { Pictures stage.now (P.words port.old) }
     requires eventful { IsEventfulOf stage.now eventful.now }

@@ -99,7 +99,7 @@ told_bundle None tag room after inner new x y is made from = tt
 told_bundle (Some fs) tag room after inner new x y is made from =
     ap (λ (s : Shape). (s, after)) made ∙ ap (λ (e : Shapes × ℕ). (bundle tag e.0, e.1)) from ∙ sym (ap (expanded fs room) is)
 
--- an element behind others
+-- an element after others
 abbrev pub then_one : Shapes → Shape → Shapes
 then_one none y = more y none
 then_one (more x xs) y = more x (then_one xs y)

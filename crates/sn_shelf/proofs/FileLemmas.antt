@@ -7,7 +7,7 @@ use Rattle.sn_ports.specs.Transfer.{Before}
 use Rattle.sn_shelf.specs.Files.{File, GivesFrom, Reads, ReadsNamed, IsReadOf, IsReadNamed, AnswersPiece, within_limit, bytes_named}
 use Rattle.sn_shelf.specs.declared.files.Piece.TheVariants.{More, End, NoFile}
 
--- a piece more
+-- one more piece
 pub piece_more : (whole old into : List ℕ) (n : ℕ) → GivesFrom whole (length old) n into → Before old whole → Before (old ++ take n into) whole
 piece_more whole old into n g b =
     let rest = b.0 in

@@ -27,7 +27,7 @@ tested one other chunk name four other_four is = λ i. bytes_eq one ((ap (λ (n 
 
 -- ---- chunks
 
--- the first chunk is whole where something stands behind it
+-- the first chunk is whole if something stands after it
 chunk_whole : (chunks : List ℕ) → 8 ≤ length chunks → 0 < length (behind chunks) → IsChunk (take 4 chunks) (content_of chunks) (behind chunks) chunks
 chunk_whole chunks long some =
     let size = size_of chunks in

@@ -52,7 +52,7 @@ all_of_last P (y ∷ ys) x all one = (all.0, all_of_last P ys x all.1 one)
 pub within_most : (x : Shape) (some most : ℕ) → IsSpelledWithin x some → some ≤ most → IsSpelledWithin x most
 within_most x some most s less = (s.0, s.1, omega (arith, s.2, less))
 
--- a packet more with a spelling
+-- one more packet with a spelling
 pub more_spelled : (done : List Packet) (new : Packet) (most : ℕ) → AllSpelledWithin most (map shape done) → IsSpelledWithin (shape new) most → AllSpelledWithin most (map shape (done ++ new ∷ []))
 more_spelled done new most all one =
     subst (λ (xs : List Shape). AllSpelledWithin most xs) (sym (shapes-last done new)) (all_of_last (λ x. IsSpelledWithin x most) (map shape done) (shape new) all one)

@@ -21,7 +21,7 @@ pub record Request : Type 0 where
   pub frames : ℤ
   pub completion : Option (List ℕ)
 
--- the integer in front, or 0 where none stands there, and what follows
+-- the first argument if it is an integer, else 0; and what follows
 abbrev pub optional_int : List Argument → ℤ × List Argument
 optional_int [] = (pos 0, [])
 optional_int (int n ∷ xs) = (n, xs)
@@ -72,7 +72,7 @@ natural (negsuc n) = None
 abbrev pub frames_of : Wave → ℕ
 frames_of w = length w.samples / w.channels
 
--- how many of the frames that are left: as many as wanted, or all where no number is wanted or there are fewer
+-- how many of the frames that are left: as many as wanted, or all if no number is wanted or there are fewer
 abbrev pub frames_taken : ℕ → ℕ → ℕ
 frames_taken left wanted = if (wanted == 0) || nat_lt left wanted then left else wanted
 

@@ -19,13 +19,14 @@ abbrev pub bytes_named : List ℕ → List File → Option (List ℕ)
 bytes_named name [] = None
 bytes_named name (f ∷ fs) = if bytes_eq f.name name then Some f.bytes else bytes_named name fs
 
--- So many bytes, from a place on, were put in front. Where there is room, they are none only where no byte stands at the place.
+-- So many bytes, from a place on, were put at the start. If there is room, they are none only if no byte stands at the
+-- place.
 pub record GivesFrom (bytes : List ℕ) (at n : ℕ) (into : List ℕ) : Type 0 where
   pub front : take n into ≡ take n (drop at bytes)
   pub few : n ≤ length (drop at bytes)
   pub some : 0 < length into → 0 < length (drop at bytes) → 0 < n
 
--- What a read answers where there are such bytes, or no such file. It may fail in either case.
+-- What a read answers if there are such bytes, or no such file. It may fail in either case.
 abbrev pub Reads : Option (List ℕ) → ℕ → Result ℕ Unshelved → List ℕ → Type 0
 Reads (Some bytes) at (Ok n) into = GivesFrom bytes at n into
 Reads (Some bytes) at (Err Missing) into = ⊥
@@ -33,7 +34,7 @@ Reads (Some bytes) at (Err Failed) into = ⊤
 Reads None at (Ok n) into = ⊥
 Reads None at (Err e) into = ⊤
 
--- what a read of a name answers, where the files are told
+-- what a read of a name answers, if the files are known
 abbrev pub ReadsNamed : Option (List File) → List ℕ → ℕ → Result ℕ Unshelved → List ℕ → Type 0
 ReadsNamed files name at r into = IfSome files (λ fs. Reads (bytes_named name fs) at r into)
 
@@ -64,7 +65,7 @@ abbrev pub within_limit : Option (List ℕ) → Option (List ℕ)
 within_limit None = None
 within_limit (Some bytes) = if nat_le (length bytes) most_file then Some bytes else None
 
--- what has been read of a file begins it, and nothing has where there is none
+-- what has been read of a file begins it, and nothing is read if there is none
 abbrev pub IsReadOf : List ℕ → Option (List ℕ) → Type 0
 IsReadOf bytes None = bytes ≡ []
 IsReadOf bytes (Some whole) = Before bytes whole
@@ -72,7 +73,7 @@ IsReadOf bytes (Some whole) = Before bytes whole
 abbrev pub IsReadNamed : Option (List File) → List ℕ → List ℕ → Type 0
 IsReadNamed files name bytes = IfSome files (λ fs. IsReadOf bytes (bytes_named name fs))
 
--- What reading on answers: what was read is still the front of the file, or is all of it, or there is no such file.
+-- What reading on answers: what was read is still a prefix of the file, or is all of it, or there is no such file.
 abbrev pub AnswersPiece : Option (List ℕ) → Result Piece Unexpanded → List ℕ → List ℕ → Type 0
 AnswersPiece file (Ok More) old new = IsReadOf old file → IsReadOf new file
 AnswersPiece file (Ok End) old new = IsReadOf old file → file ≡ Some new

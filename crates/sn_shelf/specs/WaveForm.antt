@@ -1,10 +1,11 @@
--- A WAV file as it is written: what stands behind what.
+-- A WAV file as it is written: what stands after what.
 use Rattle.std.specs.Prelude.{◌≡◌, ◌≤◌, ◌%◌, ℕ, zero, suc, Bool, true, false, ◌||◌, List, ◌++◌, length, take, Some, bytes_eq, codes}
 use Rattle.std.specs.Int.{w32, from_le_bytes}
 use Rattle.sn_ports.specs.Limits.{most_file}
 use Rattle.sn_shelf.specs.Waves.{Wave, format_name, data_name, is_format, wave_of}
 
--- A chunk stands before a rest: a name of 4 bytes, 4 bytes with the size, little-endian, so many bytes, and one byte more where the size is odd.
+-- A chunk stands before a rest: a name of 4 bytes, 4 bytes with the size, little-endian, so many bytes, and one more
+-- byte if the size is odd.
 pub record IsChunk (name content rest chunks : List ℕ) : Type 0 where
   pub size : List ℕ
   pub padding : List ℕ
@@ -25,8 +26,9 @@ is_data name = bytes_eq data_name name
 abbrev pub is_format_or_data : List ℕ → Bool
 is_format_or_data name = bytes_eq format_name name || bytes_eq data_name name
 
--- At most 33,554,432 bytes: `RIFF`, 4 bytes, `WAVE`; chunks that are passed over; the chunk of the format; chunks that are passed over; and a chunk of
--- data, of which the whole frames that are there are heard. What stands behind these isn't judged.
+-- At most 33,554,432 bytes: `RIFF`, 4 bytes, `WAVE`; chunks that are passed over; the chunk of the format; chunks that
+-- are passed over; and a chunk of data, of which the whole frames that are there are heard. What follows these isn't
+-- judged.
 pub record IsWave (bytes : List ℕ) (w : Wave) : Type 0 where
   pub few : length bytes ≤ most_file
   pub head : List ℕ

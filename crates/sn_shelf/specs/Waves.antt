@@ -4,7 +4,8 @@ use Rattle.std.specs.List.{starts_with}
 use Rattle.std.specs.Int.{w16, w32, from_le_bytes, cast_signed}
 use Rattle.sn_ports.specs.Limits.{most_file, most_channels}
 
--- What is heard: how many channels there are, and the samples of one frame after the other, each frame's in the order of the channels.
+-- What is heard: how many channels there are, and the samples of one frame after the other, each frame's in the order
+-- of the channels.
 pub record Wave : Type 0 where
   pub channels : ℕ
   pub samples : List ℤ
@@ -16,7 +17,7 @@ number_16 at bytes = from_le_bytes w16 (take 2 (drop at bytes))
 abbrev pub number_32 : ℕ → List ℕ → ℕ
 number_32 at bytes = from_le_bytes w32 (take 4 (drop at bytes))
 
--- ---- chunks: a name of 4 bytes, a size of 4, so many bytes, and one byte more where the size is odd
+-- ---- chunks: a name of 4 bytes, a size of 4, so many bytes, and one more byte if the size is odd
 
 abbrev pub is_named : List ℕ → List ℕ → Bool
 is_named name chunk = starts_with (λ a b. a == b) chunk name
@@ -28,7 +29,7 @@ size_of chunk = number_32 4 chunk
 abbrev pub content_of : List ℕ → List ℕ
 content_of chunk = take (size_of chunk) (drop 8 chunk)
 
--- the chunks behind the first
+-- the chunks after the first
 abbrev pub behind : List ℕ → List ℕ
 behind chunk = drop (size_of chunk + size_of chunk % 2) (drop 8 chunk)
 
@@ -79,7 +80,7 @@ sample_16 bytes = cast_signed w16 (from_le_bytes w16 bytes) *ℤ pos 512
 abbrev pub sample_24 : List ℕ → ℤ
 sample_24 bytes = signed_24 (from_le_bytes w32 bytes) *ℤ pos 2
 
--- the sample in front, of 2 bytes or of 3
+-- the first sample, of 2 bytes or of 3
 abbrev pub sample_of : ℕ → List ℕ → ℤ
 sample_of width bytes = if width == 2 then sample_16 (take 2 bytes) else sample_24 (take 3 bytes)
 
@@ -109,17 +110,18 @@ data_name = codes "data"
 abbrev pub is_headed : List ℕ → Bool
 is_headed bytes = nat_le (length bytes) most_file && nat_le 12 (length bytes) && is_named (codes "RIFF") bytes && is_named (codes "WAVE") (drop 8 bytes)
 
--- the first chunk of data behind a format
+-- the first chunk of data after a format
 abbrev pub data_behind : List ℕ → Option (List ℕ)
 data_behind chunk = first_of data_name data_name (behind chunk)
 
--- what a format chunk says of the data behind it
+-- what a format chunk says of the data after it
 abbrev pub wave_from : List ℕ → Option Wave
 wave_from chunk =
     if is_named data_name chunk || not (is_format (content_of chunk)) then None else
     option_and_then (λ found. wave_of (content_of chunk) (content_of found)) (data_behind chunk)
 
--- What is heard of the bytes of a WAV file. The first chunk of the format comes before the first of data; other chunks are passed over.
+-- What is heard of the bytes of a WAV file. The first chunk of the format comes before the first of data; other chunks
+-- are passed over.
 unfoldable pub wave_in : List ℕ → Option Wave
 wave_in bytes =
     if not (is_headed bytes) then None else

@@ -61,7 +61,7 @@ fn with_samples(
     Ok(Args::from_vec(args))
 }
 
-/// A message, with the samples in place of the name of their file where it asks for them and there is room.
+/// A message, with the samples in place of the name of their file, if it asks for them and there is room.
 #[tactic(auto, using(crate::proofs::ExpandedLemmas::told_unasked, crate::proofs::ExpandedLemmas::told_unfit, crate::proofs::GrowthLemmas::stays))]
 fn fill_message<H: Shelf>(
     alloc: Global,
@@ -155,12 +155,13 @@ fn fill<H: Shelf>(
     }
 }
 
-/// A packet in which each `/b_allocRead` with the path of a file carries the file's samples, where the file has some that this
-/// server plays and there is room for them. The room then grows less by as many. A message that is in a blob stays as it is.
+/// A packet in which each `/b_allocRead` with the path of a file carries the file's samples, if the file has some that
+/// this server plays and there is room for them. The room then grows less by as many. A message that is in a blob stays
+/// as it is.
 ///
 /// # Errors
 ///
-/// `Failed` comes only where the shelf's count of faults rose. The room is then at most what it was.
+/// `Failed` comes only if the shelf's count of faults rose. The room is then at most what it was.
 pub fn expand<H: Shelf>(
     alloc: Global,
     shelf: &mut H,
@@ -168,11 +169,12 @@ pub fn expand<H: Shelf>(
     room: &mut u32,
 ) -> Result<Packet, Unexpanded>
     requires { room.old ≤ most_samples }
-    // What comes of the packet, where the shelf tells its files.
+    // What comes of the packet, if the shelf's files are known.
     ensures told { IfSome (H.files shelf.old) (λ fs. IfOk result (λ p. (shape p, room.new) ≡ expanded fs room.old (shape packet))) }
-    // Told or not, a packet that asks for no file stays as it is, and so does the room.
+    // Known or not, a packet that asks for no file stays as it is, and so does the room.
     ensures unasked { IfOk result (λ p. asks (shape packet) ≡ false → (p ≡ packet) × (room.new ≡ room.old)) }
-    // A packet that came in a stream has a spelling again, longer by no more than the samples that came in and its own length.
+    // A packet that came in a stream has a spelling again, longer by no more than the samples that came in and its own
+    // length.
     ensures spelled { (bytes : List ℕ) → Spells (shape packet) bytes → length bytes ≤ most_packet
         → IfOk result (λ p. IsSpelledWithin (shape p) (2 * length bytes + 4 * (room.old - room.new))) }
     ensures room { room.new ≤ room.old }
@@ -188,7 +190,8 @@ pub fn expand<H: Shelf>(
     fill(alloc, shelf, packet, room)
 }
 
-/// The packets of a stream, each with the samples in place of the names of their files. At most 16,777,216 samples come in.
+/// The packets of a stream, each with the samples in place of the names of their files. At most 16,777,216 samples come
+/// in.
 #[tactic(auto, using(crate::proofs::StreamLemmas::none_told))]
 pub fn expand_all<H: Shelf>(
     alloc: Global,
@@ -196,9 +199,10 @@ pub fn expand_all<H: Shelf>(
     packets: Elements,
 ) -> Result<Elements, Unexpanded>
     requires { AllSpelledWithin most_packet (map shape packets.items) }
-    // What comes of the packets, where the shelf tells its files.
+    // What comes of the packets, if the shelf's files are known.
     ensures told { IfSome (H.files shelf.old) (λ fs. IfOk result (λ v. map shape v.items ≡ expanded_packets fs (map shape packets.items))) }
-    // Told or not, they are as many, each that asks for no file stays as it is, and each has a spelling of at most 2^27 bytes.
+    // Known or not, they are as many. Each that asks for no file stays as it is, and each has a spelling of at most
+    // 2^27 bytes.
     ensures unasked { IfOk result (λ v. AllKeepUnasked (map shape packets.items) (map shape v.items)) }
     ensures spelled { IfOk result (λ v. AllSpelledWithin (2 ^ 27) (map shape v.items)) }
     ensures count { IfOk result (λ v. length v.items ≡ length packets.items) }

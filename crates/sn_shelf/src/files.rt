@@ -24,7 +24,7 @@ enum Piece {
     NoFile,
 }
 
-/// So many bytes to write over.
+/// `len` bytes to write over.
 fn zeroed(alloc: Global, len: usize) -> Result<Vec<u8>, AllocError>
     ensures { IfOk result (λ v. length v.items ≡ len) }
 {
@@ -62,7 +62,8 @@ fn read_piece<H: Shelf>(
     }
 }
 
-/// The bytes of the file with this name, where there is one of at most 33,554,432 bytes. A longer one is not read to its end.
+/// The bytes of the file with this name, if there is one of at most 33,554,432 bytes. A longer one is not read to its
+/// end.
 #[tactic(auto, using(crate::proofs::FileLemmas::read_whole, crate::proofs::FileLemmas::read_nothing, crate::proofs::FileLemmas::read_some, crate::proofs::FileLemmas::read_too_much, crate::proofs::FileLemmas::none_read))]
 pub fn read_file<H: Shelf>(
     alloc: Global,

@@ -10,8 +10,8 @@ use std::{fs, io};
 
 /// A shelf over the files below the folder in which the program runs.
 ///
-/// A name is a path in UTF-8, with `/` between its parts. It is missing where it is absolute or has a part `..`, and where what
-/// it names is no regular file. Links are followed, also out of the folder. No content is told.
+/// A name is a path in UTF-8, with `/` between its parts. It is missing if it is absolute or has a part `..`, or if it
+/// names no regular file. Links are followed, even out of the folder. Contracts don't know the content.
 #[derive(Drop)]
 pub struct FolderShelf<'a, H: Files> {
     rt: &'a H,
@@ -27,7 +27,7 @@ impl<'a, H: Files> FolderShelf<'a, H> {
     }
 }
 
-/// Whether the name stays inside the folder, but for links.
+/// Whether the name stays inside the folder, apart from links.
 fn is_inside(name: &str) -> bool {
     !name.starts_with('/') && name.split('/').all(|part| part != "..")
 }
@@ -58,7 +58,7 @@ fn read_at<H: Files>(rt: &H, path: &str, at: u32, into: &mut [u8]) -> io::Result
     file.read(into)
 }
 
-/// What a file below the folder gives, or nothing where there is none.
+/// What a file below the folder gives, or nothing if there is none.
 fn read_inside<H: Files>(rt: &H, name: &[u8], at: u32, into: &mut [u8]) -> io::Result<Option<usize>>
     ensures { IfOk result (λ o. IfSome o (λ n. n ≤ length into.new)) }
 {

@@ -1,4 +1,4 @@
-//! What a WAV file is, said once more: as it is written.
+//! What a WAV file is, by how it is written.
 ghost use Rattle.std.specs.Prelude.{◌≡◌, ℕ, List, Some};
 ghost use Rattle.sn_shelf.specs.Waves.{Wave, wave_in};
 ghost use Rattle.sn_shelf.specs.WaveForm.{IsWave};

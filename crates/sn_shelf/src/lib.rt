@@ -1,4 +1,5 @@
-//! Sound files that commands name: a shelf of files, what a WAV file is, and `/b_allocRead` with the samples in place of the name.
+//! Sound files that commands name: a shelf of files, what a WAV file is, and `/b_allocRead` with the samples in place
+//! of the name.
 #![tactic(auto)]
 
 mod asking;

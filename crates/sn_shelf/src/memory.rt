@@ -25,7 +25,7 @@ pub type Files = Vec<ShelfFile>;
 pub struct MemoryShelf {
     files: Files,
     fails: Calls,
-    /// How many calls there were, up to 2^32 - 1, which is the number of each later call.
+    /// How many calls there have been, up to 2^32 - 1, which is the number of each later call.
     calls: u32,
     faults: u64,
 }
@@ -51,7 +51,7 @@ fn bytes_named<'a>(files: &'a [ShelfFile], name: &[u8]) -> Option<&'a [u8]>
     None
 }
 
-/// Moves as many of the bytes as there is room for, and answers how many.
+/// Moves as many of the bytes as there is room for, and returns how many.
 fn give(bytes: &[u8], into: &mut [u8]) -> usize
     ensures count { result ≡ min (length bytes.now) (length into.new) }
     ensures bytes { take result into.new ≡ take result bytes.now }
@@ -102,7 +102,7 @@ impl Shelf for MemoryShelf {
         ensures later { self.old.faults ≤ self.new.faults }
         ensures failed { result ≡ Err Unshelved.Failed → Rose self.old.faults self.new.faults }
         ensures unfailed { (result ≡ Err Unshelved.Failed) ⊎ (self.new.faults ≡ self.old.faults) }
-        // It fails exactly where the number of the call is one of those that fail.
+        // It fails exactly if the number of the call is one of those that fail.
         ensures fails { (result ≡ Err Unshelved.Failed) ↔ FailsNext self.old.fails self.old.calls }
         ensures calls { self.new.calls ≡ counted 32 self.old.calls }
         ensures listed { self.new.fails ≡ self.old.fails }

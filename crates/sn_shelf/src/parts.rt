@@ -23,7 +23,7 @@ fn natural(n: &i32) -> Option<u32>
     Some(n.unsigned_abs())
 }
 
-/// How many of the frames that are left: as many as wanted, or all where 0 is wanted or there are fewer.
+/// How many of the frames that are left: as many as wanted, or all if 0 is wanted or there are fewer.
 fn frames_taken(left: u32, wanted: u32) -> u32
     ensures value { result ≡ frames_taken left wanted }
     ensures few { result ≤ left }
@@ -34,7 +34,7 @@ fn frames_taken(left: u32, wanted: u32) -> u32
     wanted
 }
 
-/// How many bytes so many frames of a recording have.
+/// How many bytes `frames` frames of a recording have.
 #[tactic(auto, using(crate::proofs::PartLemmas::frame_bytes_few, crate::proofs::PartLemmas::bytes_few, crate::proofs::PartLemmas::bytes_there))]
 fn bytes_of(recording: &Recording<'_>, frames: u32) -> usize
     requires whole { IsWhole recording.now }
@@ -52,7 +52,7 @@ fn from_byte(bytes: &[u8], at: usize) -> &[u8]
     bytes.get(at..).unwrap_or(&[])
 }
 
-/// So many frames of a recording, from one on.
+/// `frames` frames of a recording, from frame `start` on.
 #[tactic(auto, using(crate::proofs::PartLemmas::cut_heard, crate::proofs::PartLemmas::cut_whole))]
 fn cut<'a>(whole: &Recording<'a>, start: u32, frames: u32) -> Recording<'a>
     requires whole { IsWhole whole.now }
@@ -71,7 +71,7 @@ fn cut<'a>(whole: &Recording<'a>, start: u32, frames: u32) -> Recording<'a>
     }
 }
 
-/// So many frames from one on, where the recording has that one and there is room for their samples.
+/// The wanted frames from `start` on, if the recording has that one and there is room for their samples.
 #[tactic(auto, using(crate::proofs::PartLemmas::starts_late, crate::proofs::PartLemmas::no_space, crate::proofs::PartLemmas::has_space, crate::proofs::PartLemmas::some_taken))]
 fn part_within<'a>(
     room: u32,
@@ -126,7 +126,7 @@ fn sample_24(bytes: &[u8]) -> i32
     (value - 16777216) * 2
 }
 
-/// The sample in front, of 2 bytes or of 3.
+/// The first sample, of 2 bytes or of 3.
 fn sample_of(width: usize, bytes: &[u8]) -> i32
     requires width { (width ≡ 2) ⊎ (width ≡ 3) }
     requires there { width ≤ length bytes.now }
@@ -138,7 +138,7 @@ fn sample_of(width: usize, bytes: &[u8]) -> i32
     sample_24(&bytes[..3])
 }
 
-/// Puts so many samples at the end, each as a big-endian integer.
+/// Appends `count` samples, each as a big-endian integer.
 fn put_samples(out: &mut Text, count: u32, width: usize, bytes: &[u8]) -> Result<(), NoMemory>
     requires width { (width ≡ 2) ⊎ (width ≡ 3) }
     requires there { count * width ≤ length bytes.now }

@@ -23,14 +23,14 @@ pub struct Request<'a> {
     pub completion: Option<&'a Text>,
 }
 
-/// An integer in front of others, or 0, and what follows.
+/// The first argument if it is an integer, else 0; and what follows.
 #[derive(Clone, Copy)]
 struct Leading<'a> {
     value: i32,
     rest: &'a [Arg],
 }
 
-/// The integer in front, or 0 where none stands there, and what follows.
+/// The first argument if it is an integer, else 0; and what follows.
 fn optional_int(args: &[Arg]) -> Leading<'_>
     ensures { int_and_rest result ≡ optional_int (map argument_of args.now) }
 {
@@ -91,7 +91,7 @@ fn requested_by(body: &Body) -> Option<Request<'_>>
     }
 }
 
-/// What a message asks for, where it is `/b_allocRead` with a path.
+/// What a message asks for, if it is `/b_allocRead` with a path.
 pub fn request_of(message: &Message) -> Option<Request<'_>>
     ensures { Finds asked result (request_of (message_of message.now)) }
 {

@@ -15,15 +15,16 @@ pub enum Unshelved {
     Failed,
 }
 
-/// Where files are read by their names.
+/// Files, which are read by their names.
 pub trait Shelf {
-    /// The files on it, where it tells them.
+    /// The files on it, if they are known.
     ghost files: { Self → Option (List File) };
 
     /// A count of failures: only a call that fails raises it, while it is below 2^64 - 1.
     ghost faults: { Self → ℕ };
 
-    /// Moves bytes of the file with this name, from byte `at` on, into `into`. `Ok(0)` with room says that none stand there.
+    /// Moves bytes of the file with this name, from byte `at` on, into `into`. `Ok(0)` with room means that none stand
+    /// there.
     fn read(&mut self, name: &Text, at: u32, into: &mut [u8]) -> Result<usize, Unshelved>
         ensures bound { ReadsAtMost result into.new }
         ensures bytes { ReadsNamed (files self.old) name.now.bytes at result into.new }

@@ -9,7 +9,7 @@ use sn_ports::limits::{MOST_CHANNELS, MOST_FILE};
 /// The format of whole numbers.
 const PCM: u16 = 1;
 
-/// The format that says further on which one it is.
+/// The format that is named further on.
 const EXTENDED: u16 = 65534;
 
 /// The name of the chunk that says how the samples are written.
@@ -81,7 +81,7 @@ fn content_of(chunk: &[u8]) -> &[u8]
     content.get(..size_of(chunk)).unwrap_or(content)
 }
 
-/// The chunks behind the first.
+/// The chunks after the first.
 fn behind(chunk: &[u8]) -> &[u8]
     requires { 8 ≤ length chunk.now }
     ensures value { result.now ≡ behind chunk.now }
@@ -135,7 +135,7 @@ fn is_format(format: &[u8]) -> bool
     format.len() >= 16 && is_pcm(format) && is_playable(format)
 }
 
-/// How samples are written, where the bytes say that in a way that this server plays.
+/// How samples are written, if the bytes say that in a way that this server plays.
 #[tactic(auto, using(crate::proofs::WaveLemmas::said, crate::proofs::WaveLemmas::playable))]
 fn format_in(bytes: &[u8]) -> Option<Format>
     ensures found { IfSome result (λ f. IsSaid f bytes.now) }
@@ -172,7 +172,7 @@ fn whole_frames(format: Format, sounding: &[u8]) -> Option<Recording<'_>>
     })
 }
 
-/// What a format chunk says of the data behind it.
+/// What a format chunk says of the data after it.
 #[tactic(auto, using(crate::proofs::WaveLemmas::data_first, crate::proofs::WaveLemmas::no_format, crate::proofs::WaveLemmas::no_data, crate::proofs::WaveLemmas::finds_data))]
 fn recording_from(chunk: &[u8]) -> Option<Recording<'_>>
     requires long { 8 ≤ length chunk.now }
@@ -188,7 +188,7 @@ fn recording_from(chunk: &[u8]) -> Option<Recording<'_>>
     whole_frames(format, content_of(found))
 }
 
-/// The chunks behind the head.
+/// The chunks after the head.
 fn chunks_of(bytes: &[u8]) -> &[u8]
     requires { 12 ≤ length bytes.now }
     ensures value { result.now ≡ drop 12 bytes.now }
@@ -208,7 +208,7 @@ fn is_headed(bytes: &[u8]) -> bool
         && is_named(b"WAVE", &bytes[8..])
 }
 
-/// What is heard of the bytes of a WAV file. Where they are none that this server plays, it is nothing.
+/// What is heard of the bytes of a WAV file. If they are none that this server plays, it is nothing.
 #[tactic(auto, using(crate::proofs::WaveLemmas::no_head))]
 pub fn recording_in(bytes: &[u8]) -> Option<Recording<'_>>
     ensures value { Finds heard result (wave_in bytes.now) }

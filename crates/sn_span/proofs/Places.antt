@@ -58,7 +58,7 @@ table_on {A} f g s (suc m) h =
     ∙ (ap (λ (xs : List A). xs ++ g m ∷ []) (table_on f g s m (λ i l. h i (omega (arith, l))))
     ∙ append_assoc (table f s) (table g m) (g m ∷ [])))
 
--- one more behind others
+-- one more after others
 pub table_behind : {A : Type 0} (f : ℕ → A) (k : ℕ) (old xs ys : List A) (y : A) → xs ≡ old ++ table f k → y ≡ f k → ys ≡ xs ++ y ∷ [] → ys ≡ old ++ table f (k + 1)
 table_behind {A} f k old xs ys y e h put =
     put

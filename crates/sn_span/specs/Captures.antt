@@ -13,7 +13,7 @@ use Rattle.sn_mem.specs.Buses.{AudioBus}
 abbrev pub bus_at : List ℕ → Extent → AudioBus
 bus_at words e = record { written = slice_index words e.at; samples = samples_at words (e.at + 1) }
 
--- what stands where there is no extent
+-- what stands for an extent that is not there
 abbrev pub no_extent : Extent
 no_extent = record { at = 0; len = 0 }
 
@@ -43,7 +43,8 @@ captured outputs at b words = put words at (heard_words b words outputs)
 abbrev pub IsBeside : Extent → ℕ → ℕ → Type 0
 IsBeside e at n = (e.at + e.len ≤ at) ⊎ (at + n ≤ e.at)
 
--- a foot has what a capture touches: it may read audio buses, and write the words from a place on, which are none of theirs
+-- a foot has what a capture touches: it may read audio buses, and write the words from a place on, which are none of
+-- theirs
 pub record CanCapture (foot : Foot) (outputs : List Extent) (at : ℕ) : Type 0 where
   pub buses : All (λ e. e.len ≡ audio_bus_words) outputs
   pub reads : All (λ e. MayRead foot e.at audio_bus_words) outputs

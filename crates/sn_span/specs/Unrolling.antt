@@ -8,7 +8,7 @@ use Rattle.sn_mem.specs.Words.{covers, has, touches}
 use Rattle.sn_round.specs.declared.jobs.Job.{Job}
 use Rattle.sn_round.specs.Jobs.{foot_at, job_at, lanes_at, predecessors, successors}
 
--- the number of the first job of block k, where a block has n jobs and its capture
+-- the number of the first job of block k, if a block has n jobs and its capture
 abbrev pub start : ℕ → ℕ → ℕ
 start n k = k * (n + 1)
 
@@ -21,7 +21,8 @@ unfoldable pub entry : ℕ → ℕ → List ℕ
 entry n zero = []
 entry n (suc k) = (start n k + n) ∷ []
 
--- the predecessors in block k of what has these in the plan: the same jobs of this block, or the entry of the block if there are none
+-- the predecessors in block k of what has these in the plan: the same jobs of this block, or the entry of the block if
+-- there are none
 unfoldable pub predecessors_in : ℕ → ℕ → List ℕ → List ℕ
 predecessors_in n k [] = entry n k
 predecessors_in n k (p ∷ ps) = map (λ q. start n k + q) (p ∷ ps)

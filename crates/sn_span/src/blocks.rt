@@ -29,7 +29,7 @@ fn entry(alloc: Global, count: u32, block: u32) -> Result<Jobs, NoMemory>
     Ok(jobs)
 }
 
-/// The jobs, each so many further.
+/// The jobs, each number raised by `by`.
 fn shifted(alloc: Global, by: u32, jobs: &[u32]) -> Result<Jobs, NoMemory>
     requires { All (λ p. by + p < 4294967296) jobs.now }
     ensures { IfOk result (λ moved. moved ≡ map (λ p. by + p) jobs.now) }
@@ -41,7 +41,7 @@ fn shifted(alloc: Global, by: u32, jobs: &[u32]) -> Result<Jobs, NoMemory>
     Ok(moved)
 }
 
-/// The predecessors in a block of what has these in the plan.
+/// The predecessors, in a block, of a job that has these in the plan.
 #[tactic(auto, unfolding(crate::specs::Unrolling::predecessors_in))]
 fn predecessors_in(alloc: Global, count: u32, block: u32, before: &Jobs) -> Result<Jobs, NoMemory>
     requires room { start count block + count + 1 < 4294967296 }
@@ -153,7 +153,7 @@ fn put_block(
     Ok(())
 }
 
-/// The jobs of so many blocks.
+/// The jobs of `blocks` blocks.
 fn jobs_of_blocks(
     alloc: Global,
     plan: &Plan,
@@ -174,16 +174,17 @@ fn jobs_of_blocks(
     Plan::new(alloc, jobs)
 }
 
-/// The plan of `blocks` blocks in one round: in each block the jobs of `plan`, and then a job that captures its outputs.
+/// The plan of `blocks` blocks in one round: in each block the jobs of `plan`, and then a job that captures its
+/// outputs.
 ///
 /// If `plan` has n jobs, job i of block k has the number `k * (n + 1) + i`, and the capture of block k comes after its
 /// jobs, as number `k * (n + 1) + n`. It may read the extents `outputs`, and write the words of a copy from
 /// `copies.at + COPY_WORDS * k` on. It follows all jobs of its block, and all later ones follow it.
 ///
-/// The plan is free of races if `plan` is. Let the jobs of a block make of the words what they make in a round of
-/// `plan`, let each capture copy the sound of its block (`captured`), and let nothing else touch the copies. Then the
-/// words after a round of this plan are, but for the copies, those after the rounds of `plan`, and the copy of each
-/// block holds the samples that are heard of the outputs after its round.
+/// The plan is free of races if `plan` is. Assume three things: the jobs of a block make of the words what they make in
+/// a round of `plan`, each capture copies the sound of its block (`captured`), and nothing else touches the copies.
+/// Then the words after a round of this plan are those after the rounds of `plan`, except in the copies. The copy of
+/// each block holds the samples that are heard of the outputs after its round.
 pub fn unroll(
     alloc: Global,
     plan: &Plan,

@@ -54,8 +54,9 @@ fn capture_bus<P: Port>(port: &mut P, bus: &Extent, at: u32, block: u64)
     }
 }
 
-/// Copies the sound of audio buses in a block: of each, one after the other, a word for each of its samples, which are 0 if
-/// the bus was not written in the block. The first of them stands at a place, and none of them is a word of the buses.
+/// Copies the sound of audio buses in a block: of each, one after the other, a word for each of its samples, which are
+/// 0 if the bus was not written in the block. The first of them stands at a place, and none of them is a word of the
+/// buses.
 pub fn capture<P: Port>(port: &mut P, outputs: &[Extent], at: u32, block: u64)
     requires can { CanCapture (P.foot port.old) outputs.now at }
     requires block { block < 2 ^ 63 }

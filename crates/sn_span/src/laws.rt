@@ -7,7 +7,7 @@ ghost use Rattle.sn_round.specs.declared.jobs.Job.{Job};
 ghost use Rattle.sn_round.specs.Jobs.{AreJobs, AreWithin, IsRaceFree, Ordered, job_at, successors};
 ghost use Rattle.sn_span.specs.Unrolling.{by_block, capture_of, entries, job_in, last_jobs, start, unrolled};
 
-/// A law: a plan in so many blocks has the jobs and a capture for each block, it is a list of jobs, and it is free of
+/// A law: a plan in so many blocks has the jobs and a capture for each block. It is a list of jobs, and it is free of
 /// races if the plan is.
 pub fn unrolled_is_race_free()
     ensures count { (jobs : List Job) (outputs : List Extent) (at blocks : ℕ) → length (unrolled jobs outputs at blocks) ≡ start (length jobs) blocks }
@@ -15,7 +15,7 @@ pub fn unrolled_is_race_free()
     ensures race_free { (jobs : List Job) (outputs : List Extent) (at blocks : ℕ) → AreJobs jobs → IsRaceFree jobs → IsRaceFree (unrolled jobs outputs at blocks) }
 {}
 
-/// A law: job i of block k is that of the plan, with its foot and with its predecessors in the block, and the capture of
+/// A law: job i of block k is that of the plan, with its foot and with its predecessors in the block. The capture of
 /// block k comes after the block's jobs.
 pub fn unrolled_goes_by_blocks()
     ensures jobs { (jobs : List Job) (outputs : List Extent) (at blocks k i : ℕ) → k < blocks → i < length jobs
@@ -24,8 +24,8 @@ pub fn unrolled_goes_by_blocks()
         → job_at (unrolled jobs outputs at blocks) (start (length jobs) k + length jobs) ≡ capture_of jobs outputs at k }
 {}
 
-/// A law: what goes by blocks is, at the number of job i of block k, that of job i and block k, and at the number of the
-/// capture of block k that of the capture.
+/// A law: what goes by blocks is that of job i and block k at the number of this job, and that of the capture at the
+/// number of the capture of block k.
 pub fn numbers_tell_blocks()
     ensures job { (job : ℕ → ℕ → List ℕ → List ℕ) (capture : ℕ → List ℕ → List ℕ) (n k i : ℕ) → i < n → by_block job capture n (start n k + i) ≡ job k i }
     ensures capture { (job : ℕ → ℕ → List ℕ → List ℕ) (capture : ℕ → List ℕ → List ℕ) (n k : ℕ) → by_block job capture n (start n k + n) ≡ capture k }
@@ -40,8 +40,8 @@ pub fn captures_are_barriers()
         → Ordered (unrolled jobs outputs at blocks) (start (length jobs) k + length jobs) (start (length jobs) h + i) }
 {}
 
-/// A law: the successors of a job of a block are those of the plan, in its block, or the capture if there are none. Those of
-/// a capture are the jobs of the next block that have no predecessors, or its capture if the plan has no jobs.
+/// A law: the successors of a job of a block are those of the plan, in its block, or the capture if there are none.
+/// Those of a capture are the jobs of the next block that have no predecessors, or its capture if the plan has no jobs.
 pub fn successors_go_by_blocks()
     ensures jobs { (jobs : List Job) (outputs : List Extent) (at blocks k i : ℕ) → AreJobs jobs → k < blocks → i < length jobs
         → successors (unrolled jobs outputs at blocks) (start (length jobs) k + i) ≡ map (λ q. start (length jobs) k + q) (successors jobs i) ++ (if length (successors jobs i) == 0 then (start (length jobs) k + length jobs) ∷ [] else []) }

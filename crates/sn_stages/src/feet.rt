@@ -112,7 +112,7 @@ fn synth(
     }))
 }
 
-/// The words of a node, or nothing if there is no such node or a state ends behind the words.
+/// The words of a node, or nothing if there is no such node or a state ends after the words.
 fn foot(
     alloc: Global,
     buffers: Buffers,

@@ -49,7 +49,7 @@ fn put_synth(
     Ok(put(tree, 10_000 + number as i32, NodeKind::Synth, group, held))
 }
 
-/// So many synths of a definition in a parallel group.
+/// `count` synths of a definition in a parallel group.
 fn members(alloc: Global, text: &[u8], count: u32) -> Result<Option<Tree<Held>>, NoMemory>
     requires few { count ≤ most_nodes }
 {
@@ -99,8 +99,8 @@ fn jobs_of(alloc: Global, tree: Option<Tree<Held>>) -> Result<Option<u32>, NoMem
     }
 }
 
-/// Each reader is a job, and one more joins them. The writers mix eight buses, so that 512 of them have lanes, and one more
-/// than these are one job.
+/// Each reader is a job, and one more joins them. The writers mix eight buses, so 512 of them have lanes. With one more
+/// they are one job.
 #[test]
 fn a_group_may_have_as_many_members_as_there_are_nodes(rt: HostRuntime) -> Result<(), Fail> {
     let readers = members(rt.alloc(), READER, 4094)?;
@@ -112,8 +112,8 @@ fn a_group_may_have_as_many_members_as_there_are_nodes(rt: HostRuntime) -> Resul
     Ok(())
 }
 
-/// Each group has a synth and the next group. The readers are jobs, and but for the last group one more joins them. The
-/// writers mix eight buses, so that the last 512 have lanes, and the others are jobs one after the other.
+/// Each group has a synth and the next group. The readers are jobs, and except for the last group one more joins them.
+/// The writers mix eight buses. So the last 512 have lanes, and the others are jobs one after the other.
 #[test]
 fn groups_may_be_nested_as_deep_as_there_are_nodes(rt: HostRuntime) -> Result<(), Fail> {
     let empty = nested(rt.alloc(), READER, 4095, 0)?;

@@ -89,7 +89,7 @@ module _ (rate b : ℕ) (node : ℤ) (places : List (Option BufferPlace)) (value
       ap (λ (kind : Kind). (unit_after kind now u.outputs places h.words h.at (unit_words rate u) ins).0) is
       ∙ ap (λ (r : List ℕ × List (List ℤ)). r.0) (out_after now u.outputs places h.words h.at (unit_words rate u) ins)
 
-  -- The units before and behind one leave the bus. It puts a signal onto it, and so does the synth.
+  -- The units before and after one leave the bus. It puts a signal onto it, and so does the synth.
   pub signal_is : (first last : List UnitLine) (u : UnitLine) (i : ℕ) (g : Going) → u.kind ≡ kinds.Outar → All (MayOutput f places values) first → All (MayOutput f places values) last
       → MayWrite f g.at (units_words rate first) → MayWrite f (g.at + units_words rate first + unit_words rate u) (units_words rate last)
       → (let ins : List (List ℤ) = input_blocks values (after_units rate b node places values first g).wires u.inputs in

@@ -1,4 +1,4 @@
--- Where all words of the buses may be written, a synth may play.
+-- If all words of the buses may be written, a synth may play.
 use Rattle.std.proofs.Common.{◌≡◌, ℕ, zero, suc, ◌+◌, List, [], ◌∷◌, pos, ◌+ℤ◌, Option, Some, None, get_or, arith, All}
 use Rattle.std.proofs.lemmas.Bool.{or_left}
 use Rattle.std.proofs.lemmas.List.Elements.{All-head, All-tail}

@@ -80,13 +80,13 @@ outputs_are c w n u now places ws at len inputs fits many =
 
 -- ---- the units to come
 
--- they fit behind so many wires, and their state words begin at a place
+-- they fit after so many wires, and their state words begin at a place
 pub record Ahead (rate controls wires place end : ℕ) (us : List UnitLine) : Type 0 where
   pub fit : UnitsFit controls wires us
   pub room : wires + outputs_of us ≤ 512
   pub size : place + units_words rate us ≡ end
 
--- the next of them, and those behind it
+-- the next of them, and those after it
 pub record Next (rate controls wires place end : ℕ) (u : UnitLine) (us : List UnitLine) : Type 0 where
   pub fits : UnitFits controls wires u
   pub room : wires + u.outputs ≤ 512

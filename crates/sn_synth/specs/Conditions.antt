@@ -26,7 +26,7 @@ use Rattle.sn_io.specs.Conditions.{MayReadAudio, MayReadControl, MayWriteAudio, 
 use Rattle.sn_synth.specs.UnitBlocks.{is_played}
 use Rattle.sn_synth.specs.Synths.{input_blocks}
 
--- what is read where no such control is
+-- what is read if there is no such control
 abbrev pub no_control : SynthControl
 no_control = record { value = pos 0; bus = None }
 
@@ -93,7 +93,8 @@ IsKnown controls wires (Wire k) = k < wires
 abbrev pub AreKnown : ℕ → ℕ → List Input → Type 0
 AreKnown controls wires inputs = All (IsKnown controls wires) inputs
 
--- a unit of a kind with so many outputs, at a rate, on the blocks of its inputs, with its state in so many words from a place on
+-- a unit of a kind with so many outputs, at a rate, on the blocks of its inputs, with its state in so many words from a
+-- place on
 pub record CanRun (kind : Kind) (rate : ℕ) (f : Foot) (places : List (Option BufferPlace)) (n at len : ℕ) (inputs : List (List ℤ)) : Type 0 where
   pub played : is_played kind ≡ true
   pub enough : length (row_of kind).inputs ≤ length inputs

@@ -65,6 +65,7 @@ play_units rate b node values us p = fold (play_unit rate b node values) p us
 abbrev pub before_units : Resources → List ℕ → Playing
 before_units resources state = record { resources = resources; state = state; wires = []; place = 0; number = 0 }
 
--- At a rate, in block b, the synth with a node's id: each control that follows a control bus is read from it once, and then the units run in order.
+-- At a rate, in block b, the synth with a node's id: each control that follows a control bus is read from it once, and
+-- then the units run in order.
 abbrev pub synth_block : ℕ → ℕ → ℤ → Definition → List SynthControl → Resources → List ℕ → Playing
 synth_block rate b node d controls resources state = play_units rate b node (control_values resources.buses.control controls) d.units (before_units resources state)

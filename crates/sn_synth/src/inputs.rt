@@ -19,7 +19,7 @@ fn push_input(input: Input, values: &Values, wires: &Blocks, blocks: &mut Blocks
     }
 }
 
-/// Puts the blocks of a unit's inputs, in their order, in the place of what `blocks` held.
+/// Replaces what `blocks` held by the blocks of a unit's inputs, in their order.
 pub(crate) fn gather(inputs: &[Input], values: &Values, wires: &Blocks, blocks: &mut Blocks)
     requires known { AreKnown (length values.now) (length wires.now) inputs.now }
     requires few { length inputs.now ≤ most_wires }

@@ -17,12 +17,12 @@ use sn_mem::{Buffers, Extent, Port, Scratch};
 
 /// Runs a synth's units in order for the block `now.block`, at `now.rate` frames a second.
 ///
-/// A control that follows a control bus is read from it once, before the first unit. The state of
-/// the units lies in the words of `state`, which has `def.state_words(now.rate)` words, none of
-/// them a bus's or a buffer's. It refuses nothing and takes no memory.
+/// A control that follows a control bus is read from it once, before the first unit. The state of the units lies in the
+/// words of `state`, which has `def.state_words(now.rate)` words, none of them a bus's or a buffer's. It refuses
+/// nothing and takes no memory.
 ///
-/// `words` says what it does over the memory words, as the walk of a block is said; the clauses behind it say it of buses, buffers and
-/// state.
+/// `words` says what it does over the memory words, in the terms of the walk of a block. The clauses after it say it of
+/// buses, buffers and state.
 pub fn run_synth<P: Port>(
     port: &mut P,
     def: &Def,

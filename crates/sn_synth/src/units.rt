@@ -42,7 +42,7 @@ fn is_generator(kind: Kind) -> bool
     matches!(family_of(kind), Family::Generator)
 }
 
-/// What the unit of a number is told.
+/// What the unit of a number is given.
 fn numbered(now: &Now, number: u32) -> Now
     ensures { result ≡ now_of now.now.rate now.now.block now.now.node number }
 {

@@ -1,4 +1,4 @@
--- Two views that differ in the picture alone.
+-- Two views that differ only in the picture.
 use Rattle.std.proofs.Common.{◌≡◌, ℕ, List, [], Some, ap, ◌∙◌}
 use Rattle.sn_machine.specs.declared.views.View.{View}
 use Rattle.sn_machine.specs.Fits.{IsBusy, job_of, picture_of}

@@ -222,7 +222,7 @@ pub release_allows_at : (m n kw kj slots id : ℕ) (me : Me ℕ View) (p q : ℕ
 release_allows_at m n kw kj slots id me p q rest a b c owes = subst (λ (x : ℕ × ℕ × List (ℕ × ℕ)). Allows (TableHolds x.0 x.1) slots id (me.0, x.2) (m + q) (λ x. (x + (2 ^ 64 - 1)) % 2 ^ 64) (paid (step slots (m + q) 1 0 none) (me.0, x.2)))
     (λ k. (sym a k, sym b k, sym c k)) (release_allows m n slots id me.0 p q rest owes)
 
--- where nothing changes but a view
+-- if nothing changes but a view
 unchanged : (m n : ℕ) (s : St) (x id : ℕ) (w : View) → length s.words ≡ m + n → RoundHolds (record { memory = take m s.words; counts = drop m s.words; views = set s.views id w })
     → TableHolds m n (record { words = set s.words x (get_or s.words x 0); homes = s.homes; views = set s.views id w })
 unchanged m n s x id w wide h = subst (λ (ws : List ℕ). TableHolds m n (record { words = ws; homes = s.homes; views = set s.views id w })) (sym (set-get_or s.words x 0)) (record { wide = wide; round = h })

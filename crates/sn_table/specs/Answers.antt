@@ -1,4 +1,4 @@
--- Whose seat it is, and what the calls answer.
+-- Whose seat it is, and what the calls return.
 use Rattle.std.specs.Prelude.{◌≡◌, ◌≢◌, ℕ, ◌<◌, List, ◌∷◌}
 use Rattle.sn_machine.specs.declared.views.View.{View}
 use Rattle.std.specs.Prelude.{[]}
@@ -32,7 +32,7 @@ abbrev pub Claimed : View → ℕ → Claim → View → Type 0
 Claimed v job Got w = w ≡ got_view v job
 Claimed v job (Busy word) w = (word ≢ 0) × (w ≡ read_view v job word)
 
--- the place of a seat but for its picture
+-- the place of a seat except for its picture
 abbrev pub rest_of : WorkerSeat → Place ℕ View
 rest_of seat = record seat.place { me = (pictured (view seat) (job_of (view seat)) [], seat.place.me.1) }
 

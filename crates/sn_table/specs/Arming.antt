@@ -5,7 +5,7 @@ use Rattle.sn_machine.specs.declared.views.View.{View}
 use Rattle.sn_machine.specs.declared.views.Phase.TheVariants.{Idle}
 use Rattle.sn_machine.specs.States.{memory_in, counts_in}
 
--- each job's number of predecessors in its place, and the words past those of the jobs as they were
+-- each job's number of predecessors in its place, and the words past those of the jobs unchanged
 abbrev pub armed : List Job → List ℕ → List ℕ
 armed [] counts = counts
 armed (job ∷ jobs) [] = []

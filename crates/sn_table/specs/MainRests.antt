@@ -1,4 +1,4 @@
--- Main's place but for the memory words and the count of the stores.
+-- Main's place except for the memory words and the count of the stores.
 use Rattle.std.specs.Prelude.{ℕ, []}
 use Rattle.atomic_table.specs.declared.shared.Seat.{Seat as Place}
 use Rattle.sn_machine.specs.declared.views.View.{View}

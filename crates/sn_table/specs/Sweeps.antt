@@ -5,7 +5,7 @@ use Rattle.sn_machine.specs.declared.views.View.{View}
 use Rattle.sn_round.specs.Jobs.{foot_at}
 use Rattle.sn_round.specs.Scripts.{list_at}
 
--- the same but for readings and debts
+-- the same except for readings and debts
 pub record Steady (v w : View) : Type 0 where
   pub live : w.worker.live ≡ v.worker.live
   pub sweeps : w.worker.sweeps ≡ v.worker.sweeps

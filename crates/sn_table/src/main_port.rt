@@ -19,7 +19,7 @@ pub struct MainPort<'a> {
 pub struct MainRest {
     /// The reference to the seat.
     pub seat: u64,
-    /// Main's place, but for the memory words and the count of the stores.
+    /// Main's place, except for the memory words and the count of the stores.
     pub place: TableSeat,
 }
 

@@ -102,7 +102,7 @@ impl Shared {
         self.table.shared.load::<Rests>(&mut main.place, 0);
     }
 
-    /// Takes in a worker's seat that runs nothing and owes nothing.
+    /// Joins a worker's seat that runs nothing and owes nothing.
     pub fn join(&self, main: &mut MainSeat, worker: WorkerSeat)
         requires main { IsMainOf self.now main.old }
         requires worker { IsSeatOf self.now worker }

@@ -19,7 +19,7 @@ pub struct SeatPort<'a> {
 pub struct SeatRest {
     /// The reference to the seat.
     pub seat: u64,
-    /// The seat's place, but for its picture.
+    /// The seat's place, except for its picture.
     pub place: TableSeat,
 }
 

@@ -45,7 +45,7 @@ pub struct WorkerSeat {
     ghost owes: { OwesAs place.me.0 job paid owing },
 }
 
-/// What a release answers.
+/// What a release returns.
 pub enum Release {
     /// The word of this successor is 0 now.
     Ready(u32),
@@ -55,7 +55,7 @@ pub enum Release {
     NoMore,
 }
 
-/// What a claim answers.
+/// What a claim returns.
 pub enum Claim {
     /// The word was 0, and the seat runs the job.
     Got,

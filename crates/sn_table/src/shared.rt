@@ -58,7 +58,7 @@ impl Shared {
             .store::<Stores>(&mut seat.place, at as usize, value);
     }
 
-    /// Makes the word of a job CLAIMED if it is 0, and answers what it was.
+    /// Sets the word of a job to CLAIMED if it is 0, and returns what it was.
     fn take(&self, place: &mut TableSeat, job: u32) -> u64
         requires place { IsPlaceOf self.now place.old }
         requires few { job < self.now.jobs }
@@ -121,7 +121,7 @@ impl Shared {
         self.table.shared.store::<Ends>(place, at, ENDED);
     }
 
-    /// Takes 1 off the word that the first debt of the place names, and answers what is left.
+    /// Takes 1 off the word that the first debt of the place names, and returns what is left.
     fn pay(&self, place: &mut TableSeat, next: u32) -> u64
         requires place { IsPlaceOf self.now place.old }
         requires few { next < self.now.jobs }
@@ -145,7 +145,7 @@ impl Shared {
         seat.owing = true;
     }
 
-    /// Pays the next debt. `Ready` comes exactly where 0 is left, and `NoMore` exactly where nothing is owed.
+    /// Pays the next debt. `Ready` comes exactly if 0 is left, and `NoMore` exactly if nothing is owed.
     pub fn release(&self, seat: &mut WorkerSeat, plan: &Plan) -> Release
         requires seat { IsSeatOf self.now seat.old }
         requires plan { plan.now ≡ (view seat.old).worker.jobs }
@@ -181,8 +181,8 @@ impl Shared {
         self.table.shared.load::<Looks>(place, at)
     }
 
-    /// Reads the word of a job of the round. On the sweep's seat a job whose word is ENDED is one that the seat knows to
-    /// have ended.
+    /// Reads the word of a job of the round. On the sweep's seat a job whose word is ENDED is one that the seat knows
+    /// to have ended.
     pub fn look(&self, seat: &mut WorkerSeat, job: u32) -> u64
         requires seat { IsSeatOf self.now seat.old }
         requires live { (view seat.old).worker.live ≡ true }

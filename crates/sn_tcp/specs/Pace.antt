@@ -26,6 +26,6 @@ blocks_of fed.End = 0
 abbrev pub NextGives : {E : Type 0} → ℕ → ℕ → Result Fed E → Type 0
 NextGives old new r = MatchResult r (λ f. new ≡ old + blocks_of f) (λ _. new ≡ old)
 
--- the same where it may be that nothing is given
+-- the same, if perhaps nothing is given
 abbrev pub MayGive : {E : Type 0} → ℕ → ℕ → Result (Option Fed) E → Type 0
 MayGive old new r = MatchResult r (λ given. MatchOption given (new ≡ old) (λ f. new ≡ old + blocks_of f)) (λ _. new ≡ old)

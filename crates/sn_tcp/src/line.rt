@@ -17,7 +17,7 @@ use std::net::OpenStream;
 use std::os::fd::AsRawFd;
 use std::time::{Clock, Duration};
 
-/// A peer that takes nothing for so many seconds is a failure.
+/// A peer that takes nothing for this many seconds is a failure.
 const PATIENCE: u64 = 10;
 
 /// A socket, and a clock by whose time its blocks are due.
@@ -27,11 +27,11 @@ pub(crate) struct Line<S, C> {
     clock: C,
     start: Duration,
     pace: Pace,
-    /// Blocks were given last, so that the socket has its turn.
+    /// Blocks were given last, so it is the socket's turn.
     listens: bool,
 }
 
-/// Whether the system tells of something: bytes, the end of the connection, or that it was reset.
+/// Whether the system reports something: bytes, the end of the connection, or that it was reset.
 fn is_ready(told: i16) -> bool
     ensures { result ≡ not (int_eq told (pos 0)) }
 {
@@ -59,7 +59,7 @@ impl<S: Read + Write + OpenStream + AsRawFd + Drop, C: Clock + Drop> Line<S, C> 
         })
     }
 
-    /// Nanoseconds since the start, as the clock tells them.
+    /// Nanoseconds since the start, by the clock.
     fn nanos(&self) -> io::Result<u128>
         ensures { IfOk result (λ nanos. nanos < 2 ^ 94) }
     {
@@ -67,7 +67,7 @@ impl<S: Read + Write + OpenStream + AsRawFd + Drop, C: Clock + Drop> Line<S, C> 
         Ok(now.saturating_sub(self.start).as_nanos())
     }
 
-    /// Asks the system what comes within so many nanoseconds.
+    /// Asks the system what comes within `nanos` nanoseconds.
     fn polled(&self, nanos: u64) -> io::Result<i16> {
         let mut asked = [pollfd {
             fd: self.socket.as_raw_fd(),
@@ -84,7 +84,7 @@ impl<S: Read + Write + OpenStream + AsRawFd + Drop, C: Clock + Drop> Line<S, C> 
         }
     }
 
-    /// Reads the socket where the system tells of something: bytes, the end, or else nothing.
+    /// Reads the socket if the system reports something: bytes, the end, or else nothing.
     fn hear(&mut self, told: i16, into: &mut [u8]) -> io::Result<Option<Fed>>
         requires room { 0 < length into.old }
         ensures reads { IfOk result (λ fed. is_some fed ≡ not (int_eq told (pos 0))) }
@@ -103,7 +103,7 @@ impl<S: Read + Write + OpenStream + AsRawFd + Drop, C: Clock + Drop> Line<S, C> 
         }
     }
 
-    /// Listens for so many nanoseconds: bytes, the end, or nothing.
+    /// Listens for `nanos` nanoseconds: bytes, the end, or nothing.
     fn listen(&mut self, nanos: u64, into: &mut [u8]) -> io::Result<Option<Fed>>
         requires room { 0 < length into.old }
         ensures bound { IfOk result (λ fed. IfSome fed (IsFed into.new)) }
@@ -115,7 +115,7 @@ impl<S: Read + Write + OpenStream + AsRawFd + Drop, C: Clock + Drop> Line<S, C> 
         self.hear(told, into)
     }
 
-    /// Listens without a wait, where the socket has its turn.
+    /// Listens without a wait, if it is the socket's turn.
     fn listen_in_turn(&mut self, into: &mut [u8]) -> io::Result<Option<Fed>>
         requires room { 0 < length into.old }
         ensures bound { IfOk result (λ fed. IfSome fed (IsFed into.new)) }
@@ -167,7 +167,7 @@ impl<S: Read + Write + OpenStream + AsRawFd + Drop, C: Clock + Drop> Line<S, C> 
         Err(io::Error::other("waited too often"))
     }
 
-    /// Sends a front of the piece. A write that was interrupted is tried again.
+    /// Sends a prefix of the piece. A write that was interrupted is tried again.
     pub(crate) fn send(&mut self, piece: &[u8]) -> io::Result<usize>
         ensures bound { WritesAtMost result piece.now }
         ensures bytes { WriteAppends (S.contents self.old.socket) (S.contents self.new.socket) result piece.now }

@@ -15,13 +15,14 @@ use std::net::OpenStream;
 use std::os::fd::AsRawFd;
 use std::time::Clock;
 
-/// A link over a TCP connection. As a link it tells no content. Where the socket tells its bytes, those that `next` gives are a front of what
-/// the socket had left, and those that `send` counts are what the socket took. Each call that fails is counted.
+/// A link over a TCP connection. As a link its content is not known to contracts. If the socket's bytes are known,
+/// those that `next` gives are a prefix of what the socket had left, and those that `send` counts are what the socket
+/// took. Each call that fails is counted.
 ///
-/// How it works, which the contracts of its `Pace` carry in part: blocks come when the clock says that they are due, block k after
-/// k * 64 / rate seconds. Until the next one is due, it waits for bytes, in whole milliseconds, and gives those that the socket has. After a
-/// pause the blocks that are due come 1,024 at a time, and bytes take turns with them. If the peer takes nothing of a piece for ten seconds,
-/// sending it fails.
+/// How it works, which the contracts of its `Pace` carry in part: blocks come when the clock says that they are due,
+/// block k after k * 64 / rate seconds. Until the next one is due, it waits for bytes, in whole milliseconds, and gives
+/// those that the socket has. After a pause the blocks that are due come 1,024 at a time, and bytes take turns with
+/// them. If the peer takes nothing of a piece for ten seconds, sending it fails.
 #[derive(Drop)]
 pub struct TcpLink<S, C> {
     line: Line<S, C>,

@@ -21,7 +21,7 @@ pub struct Pace {
     pub(crate) ghost rate_is: { 0 < rate },
 }
 
-/// How many blocks are due so long after the start.
+/// How many blocks are due `nanos` nanoseconds after the start.
 fn blocks_due(rate: u32, nanos: u128) -> u128
     requires { nanos < 2 ^ 94 }
     ensures { result ≡ blocks_due rate nanos }
@@ -39,7 +39,8 @@ impl Pace {
         Pace { rate, given: 0 }
     }
 
-    /// Asks for the blocks that are due so long after the start and were not asked for, up to the most at once. Answers how many.
+    /// Asks for the blocks that are due `nanos` nanoseconds after the start and were not asked for, up to the most at
+    /// once. Returns how many.
     pub fn take_due(&mut self, nanos: u128) -> u32
         requires { nanos < 2 ^ 94 }
         ensures count { result ≡ min (blocks_due self.old.rate nanos - self.old.given) most_ticks }
@@ -64,7 +65,7 @@ impl Pace {
     }
 }
 
-/// The milliseconds that hold so many nanoseconds.
+/// The milliseconds that hold `nanos` nanoseconds.
 pub(crate) fn whole_millis(nanos: u64) -> u64
     ensures enough { nanos ≤ result * 1000000 }
     ensures least { result * 1000000 < nanos + 1000000 }

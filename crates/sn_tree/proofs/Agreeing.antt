@@ -27,7 +27,7 @@ module _ {P : Type 0} where
       (or_cases (holds x below) (holds x after) r))
       (or_cases (int_eq label.id x) (holds x below || holds x after) h)
 
-  -- a level where each node is found as in the whole tree
+  -- a level in which each node is found as in the whole tree
   record IsReached (t s : Nodes P) (parent previous : ℤ) : Type 0 where
     once : AllDistinct int_eq (ids s)
     found : (x : ℤ) → holds x s ≡ true → view_from parent previous x s ≡ view_of x t

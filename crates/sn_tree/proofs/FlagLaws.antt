@@ -26,7 +26,7 @@ flag_at p k on item below after z =
     passes (flagged k on) k refl (flag_step k on) p (tree k item below after) z
     ∙ ap (λ b. plug p (if b then tree k (with_flag on item) below after else tree k item (flagged k on below) (flagged k on after))) (same_key k)
 
--- the node holds the same but for the flag
+-- the node holds the same except for the flag
 pub flag_is : (t : Trees Item) (k : ℕ) (on : Bool) (item : Item) → ((j : ℕ) → uses j t ≤ 1) → 1 ≤ uses k t → Some item ≡ value_of k t → with_value k (with_flag on item) t ≡ flagged k on t
 flag_is t k on item once u held =
     let f : Found k t = found k top t u in

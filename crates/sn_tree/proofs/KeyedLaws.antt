@@ -101,7 +101,7 @@ named-names id key (tree k item below after) = omega (arith, named-names id key 
     one_less true false = omega arith
     one_less false b = omega arith
 
--- trees put behind the last one
+-- trees put after the last one
 pub put_behind : (m : ℕ) (new t : Trees Item) (before : Option ℕ) → ((j : ℕ) → uses j t ≤ 1) → 1 ≤ uses m t → last_key before t ≡ Some m → put_after m new t ≡ joined_trees t new
 put_behind m new none before once u e = absurd (omega (arith, u))
 put_behind m new (tree key item below none) before once u e =
@@ -189,7 +189,7 @@ module _ (r : ℕ) (root : Item) (below after : Trees Item) (k : ℕ) (once : (j
   pub left_names : (x : ℤ) → names x left + names x branch ≡ names x all
   left_names x = omega (arith, ap (λ t. names x t) f.is, names-plug x f.path (tree k f.value f.below f.after), names-plug x f.path f.after)
 
-  -- behind the last of the detached nodes
+  -- after the last of the detached nodes
   pub detach_now : (end : ℕ) → last_key None all ≡ Some end → shifted k (PlaceAfter end) all ≡ tree r root (plug f.path f.after) (joined_trees after branch)
   detach_now end e =
       let behind : put_after end branch left ≡ joined_trees left branch = put_behind end branch left None (λ j. omega (arith, once j, left_once j)) (last_used end left None (omega arith) e) e in
@@ -215,7 +215,7 @@ module _ (r : ℕ) (root : Item) (below after : Trees Item) (k : ℕ) (once : (j
     pub attached_branch : subtree id (labels (tree r root below none)) ≡ labels branch
     attached_branch = ap (λ x. subtree id (labels x)) whole_is ∙ id_subtree id way k f.value f.below f.after item_is free_names
 
-    -- it is put behind the last of the detached nodes
+    -- it is put after the last of the detached nodes
     pub detach_sides : (end : ℕ) → last_key None all ≡ Some end → sides (shifted k (PlaceAfter end) all) ≡ detaching id (sides all)
     detach_sides end e =
         let far : labels (joined_trees after branch) ≡ joined (labels after) (subtree id (labels (tree r root below none))) = labels-joined after branch ∙ ap (joined (labels after)) (sym attached_branch) in

@@ -210,7 +210,7 @@ ended_stored (tree r root below (tree k item inner after)) ids h = record {
   room = omega (arith, h.room, count-joined inner after);
 }
 
--- where nothing is detached
+-- if nothing is detached
 pub none_behind : (t : Trees Item) → None ≡ first_key (behind_tree t) → t ≡ with_behind (behind_node (behind_tree t)) t
 none_behind none e = refl
 none_behind (tree r root below none) e = refl

@@ -24,7 +24,7 @@ meets-joined pairs (tree key item below after) t =
     ap (λ b. is_some (key_for item.id pairs) || (meets pairs below || b)) (meets-joined pairs after t)
     ∙ or_joined (is_some (key_for item.id pairs)) (meets pairs below) (meets pairs after) (meets pairs t)
 
--- an id is in the index where it is that of an attached node
+-- an id is in the index if it is that of an attached node
 pub held_stored : (t : Trees Item) (ids : Table) (id : ℤ) → IsStored t ids → is_some (key_for id ids.pairs) ≡ holds id (labels (front t))
 held_stored t ids id h = by_option (key_for id ids.pairs) refl
   where

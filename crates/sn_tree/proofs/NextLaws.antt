@@ -75,7 +75,7 @@ next_is t id key a =
     ∙ (sym (found_here id a.item.id ((ids_of a.below ++ ids_of a.after) ++ ids_of (onward a.path none)) a.same)
     ∙ (sym (past_path id a.path (tree key a.item a.below a.after) a.free) ∙ sym (ap (λ x. next_after id (ids_of x)) a.is)))))
 
--- where no node has the id
+-- if no node has the id
 pub no_next : (id : ℤ) (t : Nodes (Option ℕ)) → holds id t ≡ false → None ≡ next_after id (ids t)
 no_next id t h = sym (ap (next_after id) (sym (append-nil (ids t))) ∙ none_after t [] h)
   where

@@ -165,7 +165,7 @@ pub move_any : (t : Trees Item) (id : ℤ) (action : AddAction) (target : ℤ) (
 move_any none id action target key place once h m n beside some = absurd (omega (arith, m.node))
 move_any (tree r root below after) id action target key place once h m n beside some = move_shifts r root below after once h id action target key place m n beside some
 
--- a target that isn't in the tree of a node stays where that goes out
+-- a target that isn't in the tree of a node stays when that goes out
 pub stays : (t : Trees Item) (id : ℤ) (key : ℕ) (action : AddAction) (target : ℤ) (at_key : ℕ) (place : Place) → ((j : ℕ) → uses j t ≤ 1) → IsSound t → 1 ≤ named id key (front t) → int_eq id (pos 0) ≡ false
     → 1 ≤ named target at_key (front t) → has_key at_key (subtree_of key t) ≡ false → place ≡ placed action at_key → IsMovable t id action target key place
 stays none id key action target at_key place once h u n v out is = absurd (omega (arith, u))

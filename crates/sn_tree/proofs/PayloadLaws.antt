@@ -20,7 +20,7 @@ both : {A B : Type 0} (g : A → B) (c : Bool) (x : B) (x' : A) (y : B) (y' : A)
 both g true x x' y y' p q = p
 both g false x x' y y' p q = q
 
--- the same, where the test is of changed nodes
+-- the same, if the test is of changed nodes
 both_at : {A B : Type 0} (g : A → B) (c c' : Bool) (x : B) (x' : A) (y : B) (y' : A) → c ≡ c' → x ≡ g x' → y ≡ g y' → (if c then x else y) ≡ g (if c' then x' else y')
 both_at g c c' x x' y y' e p q = ap (λ b. if b then x else y) e ∙ both g c' x x' y y' p q
 

@@ -17,7 +17,7 @@ use Rattle.sn_tree.specs.Steps.{HasRoom, inserting, inserted, replacing, replace
 use Rattle.sn_tree.specs.Kept.{IsKept, shown}
 use Rattle.sn_tree.proofs.Following.{insert_gives, detach_gives, detach_keeps, spare}
 
--- ---- the target, once the new node stands before it
+-- ---- the target, after the new node stands before it
 
 or_last : (a b : Bool) → (a || (false || (true || b))) ≡ true
 or_last true b = refl

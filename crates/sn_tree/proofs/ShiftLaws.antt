@@ -1,4 +1,4 @@
--- What keeps the index true where a node moves with all below it, on its side or to the other one.
+-- What keeps the index true when a node moves with all below it, on its side or to the other one.
 use Rattle.std.proofs.Common.{◌≡◌, ◌≢◌, ℕ, ◌+◌, ◌≤◌, ℤ, Bool, true, false, length, Some, None, sym, ap, ◌∙◌, subst, arith}
 use Rattle.std.specs.Prelude.{if◌then◌else◌, nat_lt}
 use Rattle.sn_forest.specs.Trees.{Trees, none, tree, one_at, uses, count, has_key, first_key, subtree, without}
@@ -34,7 +34,7 @@ if_less : (f : Trees Item → ℕ) (m : IsSum f) (b : Bool) (t : Trees Item) →
 if_less f m true t = omega arith
 if_less f m false t = omega (arith, m.nothing)
 
--- where something comes to a side, it isn't on it
+-- what comes to a side isn't on it
 only_comes : (f : Trees Item → ℕ) (m : IsSum f) (from to : Bool) (t : Trees Item) → 1 ≤ f (only to from t) → (f (if from then t else none) ≡ 0) × (f (only from to t) ≡ 0)
 only_comes f m true true t h = absurd (omega (arith, h, m.nothing))
 only_comes f m true false t h = absurd (omega (arith, h, m.nothing))
@@ -185,7 +185,7 @@ module _ (r : ℕ) (root : Item) (below after : Trees Item) (k : ℕ) (place : P
         room = omega (arith, room, same_room, h.room, shift_all (λ (t : Trees Item). count t) count_sum);
       }
 
--- a node and all below it have gone out of the index, where they leave the attached ones
+-- a node and all below it have gone out of the index, if they leave the attached ones
 pub record IsForgotten (t : Trees Item) (ids mid : Table) (k : ℕ) (from to : Bool) : Type 0 where
   pub gone : (id : ℤ) (key : ℕ) → noted id key mid.pairs + named id key (only from to (subtree k t)) ≡ noted id key ids.pairs
   pub fewer : length mid.pairs + count (only from to (subtree k t)) ≡ length ids.pairs
@@ -216,7 +216,7 @@ shifting (tree r root below after) ids k place from to once u n w h from_is to_i
       stored = λ mid new g sound come more room. shift_stored r root below after k place once u m w ids h from to from_is to_is mid g.gone g.fewer g.room sound new come more room;
     }
 
--- the same, where the nodes are seen as others
+-- the same, if the nodes are seen as others
 pub shifting_seen : (t seen : Trees Item) → t ≡ seen → (ids : Table) (k : ℕ) (place : Place) (from to : Bool) → ((j : ℕ) → uses j t ≤ 1) → 1 ≤ uses k seen → first_key seen ≢ Some k → IsPlaceIn (without k seen) place
     → IsStored t ids → from ≡ has_key k (front seen) → to ≡ is_within place seen → Shifting t ids k place from to
 shifting_seen t seen e ids k place from to once u n w h from_is to_is =

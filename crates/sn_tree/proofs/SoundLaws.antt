@@ -1,4 +1,4 @@
--- What stays true of the nodes where some are put in, moved or taken out.
+-- What stays true of the nodes when some are put in, moved or taken out.
 use Rattle.std.proofs.Common.{◌≡◌, ◌≢◌, ℕ, ◌+◌, ◌≤◌, ℤ, pos, Bool, true, false, ◌&&◌, [], length, Some, None, sym, refl, ap, ◌∙◌, subst, ⊎_elim, arith}
 use Rattle.std.specs.Prelude.{if◌then◌else◌, ◌==◌}
 use Rattle.std.specs.Ordering.{int_eq}
@@ -171,7 +171,7 @@ module _ (r : ℕ) (root : Item) (below after : Trees Item) (once : (j : ℕ) �
       λ f m. omega (arith, shift_front r root below after k place once there n w.0 f m, ap (λ b. f (if b then subtree k all else none)) w.1) in
       among_sound k there n place h w (λ id. omega (arith, distinct id, more (names id) (names_sum id)))
 
-  -- an attached node goes behind the detached ones
+  -- an attached node goes after the detached ones
   pub detach_sound : (k end : ℕ) → 1 ≤ uses k below → IsSound all → last_key None all ≡ Some end → IsSound (shifted k (After end) all)
   detach_sound k end u h e =
       let f : Found k below = found k top below u in
@@ -280,7 +280,7 @@ root_stored t ids new key root item is first id kind apart empty finds long room
     one true = omega arith
     one false = omega arith
 
--- the same, where the nodes are seen as others
+-- the same, if the nodes are seen as others
 pub removing_seen : (t seen : Trees Item) → t ≡ seen → (ids : Table) (k : ℕ) (from : Bool) → ((j : ℕ) → uses j t ≤ 1) → 1 ≤ uses k seen → first_key seen ≢ Some k → IsStored t ids → from ≡ has_key k (front seen) → Removing t ids k from
 removing_seen t seen e ids k from once u n h is =
     removing t ids k from once (subst (λ x. 1 ≤ uses k x) (sym e) u) (λ f. n (sym (ap first_key e) ∙ f)) h (is ∙ ap (λ x. has_key k (front x)) (sym e))

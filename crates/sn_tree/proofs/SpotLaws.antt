@@ -34,7 +34,7 @@ path-named-names id key (beside k item below p) = omega (arith, path-named-names
     one_less true false = omega arith
     one_less false b = omega arith
 
--- a target is inside a node where its key is in the tree of the node
+-- a target is inside a node if its key is in the tree of the node
 pub inside_is : (t : Trees Item) (id : ℤ) (key : ℕ) (target : ℤ) (at_key : ℕ) → ((j : ℕ) → uses j (front t) ≤ 1) → names target (front t) ≤ 1 → At t id key → 1 ≤ named target at_key (front t)
     → holds target (subtree id (labels (front t))) ≡ has_key at_key (subtree_of key t)
 inside_is t id key target at_key once distinct a u =
@@ -56,7 +56,7 @@ inside_is t id key target at_key once distinct a u =
     (some_or_none (uses at_key branch))
     ∙ ap (has_key at_key) (sym (subtree_at t id key a)))
 
--- a search by id finds a node where one has the id
+-- a search by id finds a node if one has the id
 pub found_held : (t : Trees Item) (id : ℤ) (o : Option ℕ) → MatchOption o (holds id (labels (front t)) ≡ false) (λ key. 1 ≤ named id key (front t)) → is_some o ≡ holds id (labels (front t))
 found_held t id None h = sym h
 found_held t id (Some key) h = sym (named_held t id key h)

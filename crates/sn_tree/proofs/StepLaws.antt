@@ -26,7 +26,7 @@ step_shows step before now (Some journal) u h =
     let more : IsUndoable (step ∷ journal.steps) now × (restored (step ∷ journal.steps) now ≡ restored journal.steps before) = one_more step journal.steps before now u h.0 in
     ((more.0, subst AreFew (sym more.1) h.1), ap (λ t. let s : Option SavedNodes = Some (record { nodes = sides t; room = journal.room - 1; made = journal.made }) in s) more.1)
 
--- the same where a payload is put in under a key
+-- the same if a payload is put in under a key
 pub new_shows : (step : Undo) (key : ℕ) (before now : Trees Item) (journal : Option Steps) → Undoes step before now → IsReady before journal
     → IsReady now (noted_new step key journal) × (saved_by now (noted_new step key journal) ≡ noted key (saved_by before journal))
 new_shows step key before now None u h = (tt, refl)

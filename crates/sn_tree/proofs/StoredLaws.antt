@@ -63,7 +63,7 @@ rooted r root below after h b a = record {
   apart = same_item (λ (x : Item). x.key) r root below after h ∙ h.apart;
 }
 
--- the last tree stays where a node below the root goes
+-- the last tree stays when a node below the root goes
 pub end_stored : (trees : Trees Item) (k end : ℕ) → ((j : ℕ) → uses j trees ≤ 1) → 1 ≤ uses k (below_root trees) → last_key None trees ≡ Some end → 1 ≤ uses end (without k trees)
 end_stored none k end once u e = absurd (omega (arith, u))
 end_stored (tree r root below after) k end once u e =
@@ -113,7 +113,7 @@ pub attached_is : (trees : Trees Item) (ids : Table) (key : ℕ) (item : Item) �
 attached_is none ids key item once h held = absurd (let c : None ≡ Some item = held in cc)
 attached_is (tree r root below after) ids key item once h held = attached_by r root below after once ids key item h held
 
--- where no node is detached, each is attached
+-- if no node is detached, each is attached
 pub nothing_first : (trees : Trees Item) → None ≡ first_key trees → trees ≡ none
 nothing_first none e = refl
 nothing_first (tree key item below after) e = absurd (none_first key e)

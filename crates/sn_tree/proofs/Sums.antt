@@ -1,4 +1,4 @@
--- What is summed over nodes, each of which counts for itself: where a node goes out, and where one is put in.
+-- What is summed over nodes, each of which counts for itself: when a node goes out, and when one is put in.
 use Rattle.std.proofs.Common.{◌≡◌, ◌≢◌, ℕ, ◌+◌, ◌≤◌, ℤ, true, false, ◌&&◌, Some, sym, refl, ap, ◌∙◌, ⊎_elim, arith}
 use Rattle.std.specs.Prelude.{if◌then◌else◌, ◌==◌}
 use Rattle.std.specs.Ordering.{int_eq}
@@ -114,7 +114,7 @@ module _ (f : Trees Item → ℕ) (m : IsSum f) where
       omega (arith, ap f (g.puts k item below), ap f g.is, sum-plug g.path g.after, sum-plug g.path (tree k item below g.after), m.node k item below g.after, m.node k item below none, m.nothing)
 
   module _ (r : ℕ) (root : Item) (below after : Trees Item) (once : (j : ℕ) → uses j (tree r root below after) ≤ 1) where
-    -- of the root's tree, where a node goes out of it or of the other trees
+    -- of the root's tree, when a node goes out of it or of the other trees
     pub out_front : (k : ℕ) → 1 ≤ uses k (tree r root below after) → r ≢ k
         → f (front (without k (tree r root below after))) + f (if has_key k (tree r root below none) then subtree k (tree r root below after) else none) ≡ f (tree r root below none)
     out_front k u n =
@@ -138,7 +138,7 @@ module _ (f : Trees Item → ℕ) (m : IsSum f) where
         one_at_zero : (a b : ℕ) → a ≢ b → one_at a b ≡ 0
         one_at_zero a b n = ap {B = ℕ} (λ t. if t then 1 else 0) (other_key a b n)
 
-    -- of the root's tree, where a node is put into it or elsewhere
+    -- of the root's tree, when a node is put into it or elsewhere
     pub in_front : (place : Place) (k : ℕ) (item : Item) (inner : Trees Item) → IsPlaceIn (tree r root below after) place
         → f (front (put place (tree k item inner none) (tree r root below after))) ≡ f (tree r root below none) + f (if is_within place (tree r root below after) then tree k item inner none else none)
     in_front place k item inner w =

@@ -61,7 +61,7 @@ reached_by trees id key (beside k item below p) rest is l free e =
 pub reached : (trees : Trees Item) (id : ℤ) (key : ℕ) → IsSeeking trees id (Some key) → Reached trees id key
 reached trees id key s = reached_by trees id key s.path s.rest s.is s.level s.free s.comes
 
--- behind the root
+-- after the root
 record Behind (p : Path Item) : Type 0 where
   pub key : ℕ
   pub root : Item

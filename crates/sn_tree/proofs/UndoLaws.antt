@@ -100,6 +100,6 @@ undo_run t k on item once u held =
     same_value : (a b : Item) → Some a ≡ Some b → a ≡ b
     same_value a b e = cc
 
--- a step more is undone first
+-- one more step is undone first
 pub one_more : (step : Undo) (steps : List Undo) (before now : Trees Item) → Undoes step before now → IsUndoable steps before → IsUndoable (step ∷ steps) now × (restored (step ∷ steps) now ≡ restored steps before)
 one_more step steps before now u h = ((u.can, subst (IsUndoable steps) (sym u.back) h), ap (restored steps) u.back)

@@ -130,7 +130,7 @@ module _ {P : Type 0} (root : P) (slots : List (Option P)) (nodes : Arranged) (s
         untouched (payload_of root slots) f' k w at nodes.detached (λ key s u. h key s (omega (arith, is_filled.keys key))) (omega (arith, is_filled.keys k, at_most_one slots k)),
       )
 
-  -- what a journal keeps is written too, where the node was saved
+  -- what a journal keeps is written too, if the node was saved
   saved_by : (f' : Key → P) (k : Key) → f' k ≡ w → ((key : Key) → same_key key k ≡ false → 1 ≤ filled slots key → f' key ≡ payload_of root slots key)
       → option_map (λ (l : Label Key). l.payload) (label_of id nodes.attached) ≡ Some k → (root' : P) (slots' : List (Option P)) → ((key : Key) → payload_of root' slots' key ≡ f' key)
       → (s : Option SavedNodes) → IsSaved slots s → journal_shown root' slots' nodes s ≡ saved_written id w (journal_shown root slots nodes s)

@@ -106,7 +106,7 @@ abbrev pub fault_of : {A : Type 0} → Result A TreeFault → Option TreeFault
 fault_of (Ok a) = None
 fault_of (Err fault) = Some fault
 
--- the fault of a refused insert; want of memory is none, and comes last
+-- the fault of a refused insert; `NoMemory` is none, and comes last
 abbrev pub insert_fault_of : {A P : Type 0} → Result A (Uninserted P) → Option TreeFault
 insert_fault_of (Ok a) = None
 insert_fault_of (Err (NoMemory payload)) = None

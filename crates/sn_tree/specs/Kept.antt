@@ -72,7 +72,7 @@ abbrev pub mark_of : Key → ℕ
 mark_of None = 0
 mark_of (Some key) = suc key
 
--- the mark of a node by its key, where it is among the saved ones
+-- the mark of a node by its key, if it is among the saved ones
 abbrev pub origin : Arranged → Key → Option ℕ
 origin saved key = if nat_lt 0 (uses key saved.attached + uses key saved.detached) then Some (mark_of key) else None
 

@@ -133,7 +133,7 @@ abbrev pub id_of : Option Item → ℤ
 id_of None = negsuc 0
 id_of (Some item) = item.id
 
--- the id of the node with a key, with -1 where there is no key
+-- the id of the node with a key, with -1 if there is no key
 abbrev pub id_in : Trees Item → Option ℕ → ℤ
 id_in trees None = negsuc 0
 id_in trees (Some key) = id_of (value_of key trees)

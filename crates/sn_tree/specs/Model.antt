@@ -8,7 +8,7 @@ use Rattle.sn_tree.specs.Trees.{Label, Nodes, Sides, none, node, count}
 use Rattle.sn_tree.specs.Order.{take_at, drop_at}
 
 -- which present node is which saved one: a mark for each saved node, and for each present one the mark of the saved
--- node that it is, or none where it was inserted since
+-- node that it is, or none if it was inserted since
 pub record Marks : Type 0 where
   pub saved : Sides ℕ
   pub present : Sides (Option ℕ)
@@ -20,8 +20,8 @@ pub record Journal (P : Type 0) : Type 0 where
   pub room : ℕ
   pub marks : Marks
 
--- a tree: the attached nodes, which are the root and all below it; the detached subtrees in the order of their detaching;
--- and the open journal, if there is one
+-- a tree: the attached nodes, which are the root and all below it; the detached subtrees in the order of their
+-- detaching; and the open journal, if there is one
 pub record NodeTree (P : Type 0) : Type 0 where
   pub attached : Nodes P
   pub detached : Nodes P

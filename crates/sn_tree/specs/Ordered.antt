@@ -23,7 +23,7 @@ pub record Ordered : Type 0 where
 abbrev pub ordered_code : Coded Ordered
 ordered_code = code_by (Arranged × Option SavedNodes) (coded× arranged_code (coded_option saved_code)) (λ o. (o.now, o.saved)) (λ p. record { now = p.0; saved = p.1 }) (λ _. refl)
 
--- what a journal restores where the nodes are these
+-- what a journal restores if the nodes are these
 abbrev pub saved_by : Trees Item → Option Steps → Option SavedNodes
 saved_by trees None = None
 saved_by trees (Some journal) = Some (record { nodes = sides (restored journal.steps trees); room = journal.room; made = journal.made })
@@ -52,7 +52,7 @@ abbrev pub made_by : Option SavedNodes → Option (List ℕ)
 made_by None = None
 made_by (Some saved) = Some saved.made
 
--- the fault of a refusal; want of memory is none, and comes last
+-- the fault of a refusal; `NoMemory` is none, and comes last
 abbrev pub fault_among : Refused → Option TreeFault
 fault_among NoMemory = None
 fault_among (Fault fault) = Some fault

@@ -21,7 +21,7 @@ module _ {P : Type 0} where
   abbrev pub inserting : ℤ → NodeKind → AddAction → ℤ → P → Sides P → Sides P
   inserting id kind action target payload sides = record sides { attached = put action target (leaf id kind payload) sides.attached }
 
-  -- a subtree is put behind those that were detached before
+  -- a subtree is put after those that were detached before
   abbrev pub detaching : ℤ → Sides P → Sides P
   detaching id sides = record { attached = without id sides.attached; detached = joined sides.detached (subtree id sides.attached) }
 
@@ -105,7 +105,7 @@ module _ {P : Type 0} where
   saved_written id payload None = None
   saved_written id payload (Some journal) = Some (rewritten (mark_in (label_of id journal.marks.present.attached)) payload journal)
 
-  -- a value is written to the payload of an attached node, which undoing doesn't take back: where the node was there when
+  -- a value is written to the payload of an attached node, which undoing doesn't take back: if the node was there when
   -- the open journal was opened, it has that payload among the saved ones too
   abbrev pub written : ℤ → NodeTree P → P → NodeTree P
   written id tree payload = record tree { attached = changed id (with_payload payload) tree.attached; journal = saved_written id payload tree.journal }

@@ -27,8 +27,8 @@ pub struct Row<'a> {
     pub item: &'a Item,
 }
 
-/// A walk over a node and all below it, running or not. It is seen as what is left of it, as trees beside each other, of which
-/// the first begins with the node to which it has come. It takes no memory.
+/// A walk over a node and all below it, running or not. It is seen as what is left of it, as trees beside each other,
+/// of which the first begins with the node to which it has come. It takes no memory.
 #[derive(Drop)]
 pub struct Cursor<'a> {
     // All nodes.

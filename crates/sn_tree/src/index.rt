@@ -48,7 +48,7 @@ fn forget_all(ids: &mut Ids, forest: &Forest<Item>, top: usize)
     }
 }
 
-/// Takes the ids of a node and of all below it out of the index, where it leaves the attached ones.
+/// Takes the ids of a node and of all below it out of the index, if it leaves the attached ones.
 pub fn forget_leaving(ids: &mut Ids, forest: &Forest<Item>, top: usize, from: bool, to: bool)
     requires top { 1 ≤ uses top forest.now }
     requires there { (id : ℤ) (key : ℕ) → named id key (only from to (subtree top forest.now)) ≤ noted id key ids.old.pairs }
@@ -78,7 +78,7 @@ fn note(ids: &mut Ids, forest: &Forest<Item>, key: usize)
     }
 }
 
-/// Puts the ids of a node and of all below it into the index, where there is room for them.
+/// Puts the ids of a node and of all below it into the index. There must be room for them.
 fn note_all(ids: &mut Ids, forest: &Forest<Item>, top: usize)
     requires top { 1 ≤ uses top forest.now }
     requires distinct { (id : ℤ) → names id (subtree top forest.now) ≤ 1 }
@@ -97,7 +97,7 @@ fn note_all(ids: &mut Ids, forest: &Forest<Item>, top: usize)
     }
 }
 
-/// Puts the ids of a node and of all below it into the index, where it comes to the attached ones.
+/// Puts the ids of a node and of all below it into the index, if it comes to the attached ones.
 pub fn note_coming(ids: &mut Ids, forest: &Forest<Item>, top: usize, from: bool, to: bool)
     requires top { 1 ≤ uses top forest.now }
     requires distinct { (id : ℤ) → names id (only to from (subtree top forest.now)) ≤ 1 }

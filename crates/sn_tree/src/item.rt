@@ -8,7 +8,7 @@ pub struct Item {
     pub id: i32,
     /// What the node is.
     pub kind: NodeKind,
-    /// The run flag: false where the node itself is paused.
+    /// The run flag: false if the node itself is paused.
     pub running: bool,
     /// Under which key its payload is kept; none for the root, whose payload stands apart.
     pub key: Option<usize>,

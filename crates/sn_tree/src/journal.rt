@@ -7,8 +7,8 @@ use sn_ports::NoMemory;
 use std::alloc::Global;
 use std::marker::Model;
 
-/// How each step since the journal was opened is undone, for how many more there is room, and the keys of the payloads that
-/// were put in since.
+/// How each step since the journal was opened is undone, for how many more there is room, and the keys of the payloads
+/// that were put in since.
 #[derive(Drop)]
 pub struct Journal {
     steps: Vec<Undo>,
@@ -30,7 +30,7 @@ impl Model for Journal {
 }
 
 impl Journal {
-    /// No steps, and room for so many, in the memory of an earlier journal, where there is one.
+    /// No steps, and room for `room`, in the memory of an earlier journal, if there is one.
     pub fn new(alloc: Global, earlier: Option<Journal>, room: u32) -> Result<Journal, NoMemory>
         ensures { IfOk result (λ j. j ≡ record { steps = []; room = room; made = [] }) }
     {
@@ -93,7 +93,7 @@ pub fn follow(journal: &mut Option<Journal>, step: Undo)
     }
 }
 
-/// An open journal follows a step that puts in a payload under a key. It takes room of its own.
+/// An open journal follows a step that puts in a payload under a key. It takes room for itself.
 pub fn follow_new(journal: &mut Option<Journal>, step: Undo, key: usize) -> Result<(), NoMemory>
     ensures ok { OnOk result (journal.new ≡ noted_new step key journal.old) }
     ensures err { OnErr result (journal.new ≡ journal.old) }

@@ -1,4 +1,4 @@
-//! Nodes that come a level up.
+//! Nodes that move up a level.
 ghost use Rattle.std.specs.Prelude.{◌≡◌, Some};
 ghost use Rattle.sn_forest.specs.Trees.{first_key, links_of};
 ghost use Rattle.sn_forest.specs.Walking.{behind_tree};

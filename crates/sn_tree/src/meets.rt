@@ -19,7 +19,7 @@ fn is_noted(ids: &Ids, forest: &Forest<Item>, key: usize) -> bool
     }
 }
 
-/// How many nodes a subtree has, where no id of theirs is in the index.
+/// How many nodes a subtree has, if no id of theirs is in the index.
 pub fn newcomers(ids: &Ids, forest: &Forest<Item>, top: usize) -> Option<usize>
     requires { 1 ≤ uses top forest.now }
     ensures { MatchOption result (meets ids.now.pairs (subtree top forest.now) ≡ true) (λ n. (meets ids.now.pairs (subtree top forest.now) ≡ false) × (n ≡ count (subtree top forest.now))) }

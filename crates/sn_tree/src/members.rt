@@ -16,7 +16,7 @@ pub struct Member<'a, P> {
     pub id: i32,
     /// What the node is.
     pub kind: NodeKind,
-    /// The run flag: false where the node itself is paused.
+    /// The run flag: false if the node itself is paused.
     pub running: bool,
     /// The number of nodes just below it.
     pub children: u32,
@@ -24,8 +24,8 @@ pub struct Member<'a, P> {
     pub payload: &'a P,
 }
 
-/// A node and all nodes below it, running or not, in the order of the walk, seen as the list of the labels of those that
-/// are left, each with the number of nodes just below it. It takes no memory.
+/// A node and all nodes below it, running or not, in the order of the walk. It is seen as the list of the labels of
+/// those that are left, each with the number of nodes just below it. It takes no memory.
 #[derive(Drop)]
 pub struct Members<'a, P> {
     /// The root's payload.

@@ -38,7 +38,7 @@ pub struct Spot {
 pub struct NodeView {
     /// What the node is.
     pub kind: NodeKind,
-    /// The run flag: false where the node itself is paused.
+    /// The run flag: false if the node itself is paused.
     pub running: bool,
     /// The id of its group, or -1 for the root.
     pub parent: i32,
@@ -52,8 +52,8 @@ pub struct NodeView {
     pub tail: i32,
 }
 
-/// Why a change of the tree is refused. Where several hold, the first in this order is answered:
-/// `InUse`, `NoNode`, `IsRoot`, `NotGroup`, `Inside`, `TooMany`.
+/// Why a change of the tree is refused. If several hold, the first in this order is answered: `InUse`, `NoNode`,
+/// `IsRoot`, `NotGroup`, `Inside`, `TooMany`.
 #[derive(Clone, Copy, Debug, PartialEq, Eq)]
 pub enum TreeFault {
     /// The node or the spot's target is not attached. For `attach`: no detached subtree has the

@@ -67,7 +67,7 @@ impl Order {
         })
     }
 
-    /// Opens a journal with room for so many steps.
+    /// Opens a journal with room for `steps` steps.
     pub fn begin(&mut self, steps: u32) -> Result<(), NoMemory>
         requires closed { self.old.saved ≡ None }
         ensures ok { OnOk result (self.new ≡ record { now = self.old.now; saved = Some (record { nodes = self.old.now; room = steps; made = [] }) }) }
@@ -86,8 +86,8 @@ impl Order {
         self.last = journal;
     }
 
-    /// Restores the nodes as they were when the open journal was opened, and gives the keys of the payloads that were put
-    /// in since.
+    /// Restores the nodes as they were when the open journal was opened, and gives the keys of the payloads that were
+    /// put in since.
     pub fn undo(&mut self) -> Option<Vec<usize>>
         ensures nodes { self.new ≡ record { now = restored_by self.old; saved = None } }
         ensures made { option_map (λ keys. reverse keys.items) result ≡ made_by self.old.saved }
@@ -102,7 +102,7 @@ impl Order {
         }
     }
 
-    /// Ends the first detached node, and tells under which key its payload is kept.
+    /// Ends the first detached node, and returns the key under which its payload is kept.
     pub fn free(&mut self) -> Option<Option<usize>>
         requires closed { self.old.saved ≡ None }
         ensures value { result ≡ option_map (λ l. l.payload) (first_label self.old.now.detached) }
@@ -134,7 +134,7 @@ impl Order {
         Some(item.key)
     }
 
-    /// The walk over an attached node and all below it. Where no such node is attached it is at its end.
+    /// The walk over an attached node and all below it. If no such node is attached, it is at its end.
     pub fn cursor(&self, id: i32) -> Cursor<'_>
         ensures nodes { labels result ≡ subtree id self.now.now.attached }
         ensures few { count_trees result ≤ most_nodes }
@@ -163,7 +163,7 @@ impl Order {
         self.store.next_of(id)
     }
 
-    /// Where its memory is from.
+    /// The allocator of its memory.
     pub fn alloc(&self) -> Global {
         self.alloc
     }
@@ -213,8 +213,8 @@ impl Order {
         }
     }
 
-    /// Puts a new node, which runs and whose payload has this key, in the place of another. That one is taken out with all
-    /// below it, and kept aside.
+    /// Puts a new node, which runs and whose payload has this key, in the place of another. That one is taken out with
+    /// all below it, and kept aside.
     pub fn replace(
         &mut self,
         id: i32,
@@ -267,7 +267,7 @@ impl Order {
         Ok(())
     }
 
-    /// Puts the subtree with this top that was detached last in at a spot.
+    /// Puts a detached subtree in at a spot: of those with this top the one that was detached last.
     pub fn attach(&mut self, id: i32, spot: Spot) -> Result<(), TreeFault>
         requires room { HasSpare self.old.saved }
         ensures fault { fault_of result ≡ attach_fault id spot.action spot.target self.old.now.attached self.old.now.detached }

@@ -19,7 +19,7 @@ pub trait ChangePayload<P> {
         ensures { payload.new ≡ changed self.now payload.old };
 }
 
-/// The payload under a key, where none is the root's.
+/// The payload under a key. No key means the root's.
 pub fn payload_at<'a, P>(root: &'a P, payloads: &'a Slab<P>, key: Option<usize>) -> Option<&'a P>
     ensures { option_copied result ≡ payload_at root.now payloads.now.slots key }
 {
@@ -38,7 +38,7 @@ fn change_slot<P, C: ChangePayload<P>>(payloads: &mut Slab<P>, key: usize, chang
     }
 }
 
-/// Changes the payload under a key, where none is the root's.
+/// Changes the payload under a key. No key means the root's.
 fn change_at<P, C: ChangePayload<P>>(
     root: &mut P,
     payloads: &mut Slab<P>,

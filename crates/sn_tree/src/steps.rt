@@ -49,7 +49,7 @@ pub fn run_node(store: &mut Store, journal: &mut Option<Journal>, key: usize, on
     store.set_run(key, on);
 }
 
-/// Puts a new node in, whose payload has this key, and gives the node's own key.
+/// Puts a new node in, whose payload has this key, and returns the node's own key.
 pub fn insert_node(
     store: &mut Store,
     journal: &mut Option<Journal>,

@@ -28,8 +28,8 @@ use sn_ports::NoMemory;
 use std::alloc::Global;
 use std::marker::Model;
 
-/// The nodes of a tree by their keys: the root's tree has the attached ones, and the trees after it are the detached ones.
-/// An index finds the attached ones by their ids.
+/// The nodes of a tree by their keys: the root's tree has the attached ones, and the trees after it are the detached
+/// ones. An index finds the attached ones by their ids.
 #[derive(Drop)]
 pub struct Store {
     forest: Forest<Item>,
@@ -90,7 +90,7 @@ impl Store {
         }
     }
 
-    /// Whether a node is attached. Where none is detached it isn't looked for.
+    /// Whether a node is attached. If none is detached, nothing is looked for.
     pub fn is_attached(&self, key: usize) -> bool
         requires { 1 ≤ uses key self.now }
         ensures { result ≡ has_key key (front self.now) }
@@ -131,7 +131,7 @@ impl Store {
         }
     }
 
-    /// Puts a new node in at a place among the attached ones, and gives its key.
+    /// Puts a new node in at a place among the attached ones, and returns its key.
     pub fn insert(&mut self, place: Place, item: &Item) -> Result<usize, NoMemory>
         requires place { IsAmong self.old place }
         requires absent { names item.now.id (front self.old) ≡ 0 }
@@ -164,7 +164,7 @@ impl Store {
         note_coming(&mut self.ids, &self.forest, key, from, to);
     }
 
-    /// Removes a node that has none below it, and gives what it was.
+    /// Removes a node that has none below it, and returns what it was.
     pub fn remove(&mut self, key: usize) -> Item
         requires node { 1 ≤ uses key self.old }
         requires inner { first_key self.old ≢ Some key }
@@ -194,8 +194,8 @@ impl Store {
         }
     }
 
-    /// Ends the first detached node, and tells under which key its payload is kept. Those just below it stand by themselves
-    /// then. It takes no memory.
+    /// Ends the first detached node, and returns the key under which its payload is kept. Those just below it then
+    /// stand by themselves. It takes no memory.
     pub fn free(&mut self) -> Option<Option<usize>>
         ensures value { result ≡ option_map (λ i. i.key) (first_value (behind_tree self.old)) }
         ensures rest { self.new ≡ with_behind (behind_node (behind_tree self.old)) self.old }
@@ -272,7 +272,7 @@ impl Store {
         last_top(&self.forest, id)
     }
 
-    /// How many nodes a subtree has, where none of their ids is that of an attached node.
+    /// How many nodes a subtree has, if none of their ids is that of an attached node.
     pub fn newcomers(&self, top: usize) -> Option<usize>
         requires { 1 ≤ uses top self.now }
         ensures { MatchOption result (shares (labels (subtree top self.now)) (labels (front self.now)) ≡ true) (λ n. (shares (labels (subtree top self.now)) (labels (front self.now)) ≡ false) × (n ≡ count (subtree top self.now))) }
@@ -280,7 +280,7 @@ impl Store {
         newcomers(&self.ids, &self.forest, top)
     }
 
-    /// The walk over an attached node and all below it. Where no such node is attached it is at its end.
+    /// The walk over an attached node and all below it. If no such node is attached, it is at its end.
     pub fn cursor(&self, id: i32) -> Cursor<'_>
         ensures { labels result ≡ subtree_of id (labels (front self.now)) }
     {

@@ -77,7 +77,7 @@ fn uninserted<P>(refused: Refused, payload: P) -> Uninserted<P>
     }
 }
 
-/// Why a node is not put in where there is no room for its payload: its fault comes before want of memory.
+/// Why a node is not put in if there is no room for its payload: its fault comes before `NoMemory`.
 fn unreserved<P>(fault: Option<TreeFault>, payload: P) -> Uninserted<P>
     ensures fault { fault_in result ≡ fault }
     ensures returned { returned result ≡ payload }
@@ -104,15 +104,15 @@ impl<P: Drop> Tree<P> {
         })
     }
 
-    /// Why a new node can't be put at a spot, or `None` where want of memory alone can refuse it.
+    /// Why a new node can't be put at a spot, or `None` if nothing but `NoMemory` can refuse it.
     pub fn refusal(&self, id: i32, spot: Spot) -> Option<TreeFault>
         ensures { result ≡ insert_fault id spot.action spot.target self.now.attached }
     {
         self.order.refusal(id, spot)
     }
 
-    /// Puts a new node, which runs, at a spot. Any number that no attached node has may be its id, -1 too, which stands for no node in a
-    /// `NodeView`. A refusal changes nothing and hands the payload back.
+    /// Puts a new node, which runs, at a spot. Any number that no attached node has may be its id, -1 too, which stands
+    /// for no node in a `NodeView`. A refusal changes nothing and hands the payload back.
     pub fn insert(
         &mut self,
         id: i32,
@@ -139,15 +139,15 @@ impl<P: Drop> Tree<P> {
         }
     }
 
-    /// Why a new node can't take the place of another, or `None` where want of memory alone can refuse it.
+    /// Why a new node can't take the place of another, or `None` if nothing but `NoMemory` can refuse it.
     pub fn refusal_to_replace(&self, id: i32, target: i32) -> Option<TreeFault>
         ensures { result ≡ replace_fault id target self.now.attached }
     {
         self.order.refusal_to_replace(id, target)
     }
 
-    /// Puts a new node, which runs, in the place of the target. That one is taken out with all below it and kept aside, behind
-    /// what was detached before. A refusal changes nothing and hands the payload back.
+    /// Puts a new node, which runs, in the place of the target. That one is taken out with all below it and kept aside,
+    /// after what was detached before. A refusal changes nothing and hands the payload back.
     pub fn replace(
         &mut self,
         id: i32,
@@ -177,8 +177,8 @@ impl<P: Drop> Tree<P> {
         }
     }
 
-    /// Takes a node and all below it out of the tree, and keeps them aside, behind what was detached before.
-    /// It takes no memory. A refusal changes nothing.
+    /// Takes a node and all below it out of the tree, and keeps them aside, after what was detached before. It takes no
+    /// memory. A refusal changes nothing.
     pub fn detach(&mut self, id: i32) -> Result<(), TreeFault>
         requires room { HasRoom self.old.journal }
         ensures fault { fault_of result ≡ detach_fault id self.old.attached }
@@ -188,8 +188,8 @@ impl<P: Drop> Tree<P> {
         self.order.detach(id)
     }
 
-    /// Puts the detached node with this id that was detached last back in at a spot, with all below it. It takes no memory.
-    /// A refusal changes nothing.
+    /// Puts a detached node back in at a spot, with all below it: of those with this id the one that was detached last.
+    /// It takes no memory. A refusal changes nothing.
     pub fn attach(&mut self, id: i32, spot: Spot) -> Result<(), TreeFault>
         requires room { HasRoom self.old.journal }
         ensures fault { fault_of result ≡ attach_fault id spot.action spot.target self.old.attached self.old.detached }
@@ -219,8 +219,8 @@ impl<P: Drop> Tree<P> {
         self.order.set_run(id, on)
     }
 
-    /// Opens a journal with room for so many calls of `replace`, `detach`, `attach`, `move_to` and `set_run`. After want of memory
-    /// the tree is as it was.
+    /// Opens a journal with room for `steps` calls of `replace`, `detach`, `attach`, `move_to` and `set_run`. After
+    /// `NoMemory` the tree is as it was.
     pub fn begin(&mut self, steps: u32) -> Result<(), NoMemory>
         requires closed { self.old.journal ≡ None }
         ensures ok { OnOk result (IsOpened steps self.old self.new) }
@@ -249,8 +249,8 @@ impl<P: Drop> Tree<P> {
         self.order.commit();
     }
 
-    /// Ends one detached node and gives its payload, in the order of detaching and then of the walk. Those just below it
-    /// stand by themselves then. Where nothing is detached it gives none. It takes no memory.
+    /// Ends one detached node and gives its payload, in the order of detaching and then of the walk. Those just below
+    /// it then stand by themselves. If nothing is detached, it gives none. It takes no memory.
     pub fn free(&mut self) -> Option<P>
         requires closed { self.old.journal ≡ None }
         ensures value { result ≡ option_map (λ l. l.payload) (first_label self.old.detached) }
@@ -288,7 +288,7 @@ impl<P: Drop> Tree<P> {
         }
     }
 
-    /// Changes the payload of an attached node and of each node below it. Where no such node is attached nothing changes.
+    /// Changes the payload of an attached node and of each node below it. If no such node is attached, nothing changes.
     pub fn change_below<C: ChangePayload<P>>(&mut self, id: i32, change: &C)
         requires closed { self.old.journal ≡ None }
         ensures { self.new ≡ changed_below (C.changed change.now) id self.old }
@@ -309,8 +309,8 @@ impl<P: Drop> Tree<P> {
         }
     }
 
-    /// The walk over an attached node and all below it, where those that are paused are left out with what is below them.
-    /// Where no such node is attached it reaches none.
+    /// The walk over an attached node and all below it. Those that are paused are left out, with what is below them. If
+    /// no such node is attached, it reaches none.
     pub fn walk_at(&self, id: i32) -> Walk<'_, P>
         ensures { result ≡ running_labels (subtree id self.now.attached) }
     {
@@ -336,15 +336,15 @@ impl<P: Drop> Tree<P> {
         self.order.node(id)
     }
 
-    /// An attached node and all below it as they stand in the tree, by their ids, in the order of the walk. Where no such
-    /// node is attached there are none.
+    /// An attached node and all below it as they stand in the tree, by their ids, in the order of the walk. If no such
+    /// node is attached, there are none.
     pub fn views(&self, id: i32) -> Result<Vec<(i32, NodeView)>, NoMemory>
         ensures { IfOk result (λ views. views.items ≡ views_below id self.now.attached) }
     {
         self.order.views(id)
     }
 
-    /// An attached node and all nodes below it, running or not, in the order of the walk. Where no such node is attached
+    /// An attached node and all nodes below it, running or not, in the order of the walk. If no such node is attached,
     /// there are none.
     pub fn members(&self, id: i32) -> Members<'_, P>
         ensures { result ≡ members (subtree id self.now.attached) }
@@ -378,7 +378,8 @@ impl<P: Drop> Tree<P> {
         synths_in(self.order.alloc(), rows)
     }
 
-    /// The node after an attached one in the order of the walk: a node comes before those below it, and these before those after it.
+    /// The node after an attached one in the order of the walk: a node comes before those below it, and these before
+    /// those after it.
     pub fn next_in_walk(&self, id: i32) -> Option<i32>
         ensures { result ≡ next_after id (ids self.now.attached) }
     {
@@ -413,7 +414,7 @@ impl<P: Drop> Tree<P> {
         let _ = &self.order;
     }
 
-    /// A law: what `views` lists of a node is what `node` tells of it.
+    /// A law: what `views` lists of a node is what `node` says of it.
     pub fn views_agree(&self, id: i32)
         ensures { All (λ (v : ℤ × NodeView). view_of v.0 self.now.attached ≡ Some v.1) (views_below id self.now.attached) }
     {

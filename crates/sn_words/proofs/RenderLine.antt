@@ -9,7 +9,7 @@ use Rattle.sn_words.specs.Words.{between, bad_word, choices_of, plan_words_of, s
 use Rattle.sn_words.proofs.GoodLine.{is_line, no_bad_word}
 
 module _ (name : List ℕ) (paths : ℕ) (words : List Octets) where
-  -- what the words choose where their first bad word is told
+  -- what the words choose, by the index of their first bad word
   abbrev by_bad : Option ℕ → Result Choices ℕ
   by_bad bad = elim bad as (λ _. Result Choices ℕ) [ Some i ↦ Err i | None ↦ Ok (choices (between paths words)) ]
 

@@ -43,7 +43,7 @@ allows Key.Clients n = is_within 1 most_clients n
 allows Key.Seed n = true
 allows Key.Blocks n = is_within 1 20000 n
 
--- its value where no word gives one
+-- its value if no word gives one
 abbrev pub default_value : Key → ℕ
 default_value Key.Rate = middle_rate
 default_value Key.Channels = 2
@@ -64,7 +64,7 @@ abbrev pub value_at : Key → List ℕ → Option ℕ → Option ℕ
 value_at key word (Some at) = cond (bytes_eq (take at word) (name key)) (allowed key (natural (drop (at + 1) word))) None
 value_at key word None = None
 
--- The value that a word `key=value` gives the key, where the key may have it; 61 is `=`.
+-- The value that a word `key=value` gives the key, if the key may have it; 61 is `=`.
 unfoldable pub value_in : Key → List ℕ → Option ℕ
 value_in key word = value_at key word (position (λ byte. byte == 61) word)
 
@@ -77,11 +77,11 @@ given key (word ∷ words) = option_or (value_in key word.bytes) (given key word
 abbrev pub adds : List Octets → List ℕ → Key → Bool
 adds before word key = is_some (value_in key word) && is_none (given key before)
 
--- A word is good where it gives a value to one of the keys to which the words before it give none.
+-- A word is good if it gives a value to one of the keys to which the words before it give none.
 abbrev pub is_good : List Key → List Octets → List ℕ → Bool
 is_good keys before word = list_any (adds before word) keys
 
--- The index of the first bad word, where the words before are good and further words follow them.
+-- The index of the first bad word, if the words before are good and these words follow them.
 unfoldable pub first_bad : List Key → List Octets → List Octets → Option ℕ
 first_bad keys before [] = None
 first_bad keys before (word ∷ words) = cond (is_good keys before word.bytes) (first_bad keys (before ++ word ∷ []) words) (Some (length before))

@@ -1,4 +1,5 @@
--- Laws about the first bad word, about settings that no word chooses, and about the words of `render`, `plan`, `serve` and `drill`.
+-- Laws about the first bad word, about settings that no word chooses, and about the words of `render`, `plan`, `serve`
+-- and `drill`.
 use Rattle.std.specs.Prelude.{◌≡◌, ◌<◌, ◌≤◌, ◌+◌, ◌↔◌, ℕ, Bool, true, false, List, [], length, get_or, take, codes, Option, Some, MatchOption, Ok}
 use Rattle.sn_fixed.specs.Natural.{natural}
 use Rattle.sn_ports.specs.Octets.{Octets}
@@ -10,7 +11,7 @@ use Rattle.sn_words.specs.Keys.{setting_keys, serve_keys, drill_keys, is_good, f
 use Rattle.sn_words.specs.Serving.{ServeChoices, port_word, serve_words_of}
 use Rattle.sn_words.specs.Words.{begins_with, between, no_word, plan_words_of, settings_of}
 
--- The word with this index is good after the words before it, where these are the keys.
+-- The word with this index is good after the words before it, if these are the keys.
 abbrev pub is_good_at : List Key → List Octets → ℕ → Bool
 is_good_at keys words i = is_good keys (take i words) (get_or words i no_word).bytes
 
@@ -21,7 +22,7 @@ AreGood keys words n = (i : ℕ) → i < n → is_good_at keys words i ≡ true
 abbrev pub IsFirstBad : List Key → List Octets → ℕ → Type 0
 IsFirstBad keys words i = (i < length words) × (is_good_at keys words i ≡ false) × AreGood keys words i
 
--- Each word is good where there is no index; else the index is that of the first bad one.
+-- Each word is good if there is no index; else the index is that of the first bad one.
 abbrev pub Tells : List Key → List Octets → Option ℕ → Type 0
 Tells keys words index = MatchOption index (AreGood keys words (length words)) (IsFirstBad keys words)
 

@@ -5,7 +5,7 @@ ghost use Rattle.sn_words.specs.Converting.{of_three, convert_words_of};
 use crate::lines::{BadWord, begins_with};
 use sn_ports::Word;
 
-/// Into which form packets are brought.
+/// The form into which packets are converted.
 #[derive(Clone, Copy, Debug, PartialEq, Eq)]
 pub enum Conversion {
     /// The packets of a text become a stream.
@@ -14,7 +14,7 @@ pub enum Conversion {
     Dump,
 }
 
-/// This conversion, where there are three words in all.
+/// This conversion, if there are three words in all.
 fn of_three(words: &[Word], conversion: Conversion) -> Result<Conversion, BadWord>
     requires { length words.now < 2 ^ 32 }
     ensures ok { IfOk result (λ c. of_three words.now conversion ≡ Ok c) }
@@ -34,8 +34,8 @@ fn of_three(words: &[Word], conversion: Conversion) -> Result<Conversion, BadWor
 ///
 /// # Errors
 ///
-/// Index 0 where there are no words or the first is neither `score` nor `dump`; the number of words
-/// where there are fewer than three; 3 where there are more.
+/// Index 0 if there are no words or the first is neither `score` nor `dump`; the number of words if there are fewer
+/// than three; 3 if there are more.
 #[tactic(auto, unfolding(crate::specs::Converting::convert_words_of))]
 pub fn convert_words(words: &[Word]) -> Result<Conversion, BadWord>
     requires { length words.now < 2 ^ 32 }

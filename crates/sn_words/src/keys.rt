@@ -103,7 +103,7 @@ impl Key {
         }
     }
 
-    /// The value where no word gives one.
+    /// The value if no word gives one.
     pub(crate) fn default_value(self) -> u32
         ensures value { result ≡ default_value self }
         ensures allowed { IsTrue (allows self result) }
@@ -130,7 +130,7 @@ impl Key {
         }
     }
 
-    /// The value that a word `key=value` gives this key, where the key may have it.
+    /// The value that a word `key=value` gives this key, if the key may have it.
     #[tactic(auto, unfolding(crate::specs::Keys::value_in))]
     pub(crate) fn value_in(self, word: &[u8]) -> Option<u32>
         ensures value { result ≡ value_in self word.now }

@@ -7,7 +7,7 @@ use sn_ports::Word;
 /// The words choose nothing.
 #[derive(Clone, Copy, Debug, PartialEq, Eq)]
 pub struct BadWord {
-    /// The index of the first bad word, from 0; where a word is missing, the number of words.
+    /// The index of the first bad word, from 0; if a word is missing, the number of words.
     pub index: u32,
 }
 

@@ -8,12 +8,13 @@ use crate::paths::settings_between;
 use sn_pcm::Settings;
 use sn_ports::Word;
 
-/// The settings that the words `plan [key=value ..] COMMANDS REPORT` choose. The keys are those of [`settings`](crate::settings).
+/// The settings that the words `plan [key=value ..] COMMANDS REPORT` choose. The keys are those of
+/// [`settings`](crate::settings).
 ///
 /// # Errors
 ///
-/// Index 0 if there are no words or the first is not `plan`; the number of words if there are fewer than
-/// three; else the index of the first bad word.
+/// Index 0 if there are no words or the first is not `plan`; the number of words if there are fewer than three; else
+/// the index of the first bad word.
 #[tactic(auto, unfolding(crate::specs::Words::plan_words_of))]
 pub fn plan_words(words: &[Word]) -> Result<Settings, BadWord>
     requires { length words.now < 2 ^ 32 }

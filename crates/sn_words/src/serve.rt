@@ -19,7 +19,7 @@ use sn_ports::Word;
 pub struct ServeWords {
     /// How to play.
     pub settings: Settings,
-    /// Where to listen: 1 to 65,535.
+    /// The port on which to listen: 1 to 65,535.
     pub port: u16,
     /// How many clients are served at once: 1 to 4.
     pub clients: u32,
@@ -47,12 +47,13 @@ fn port_of(word: &[u8]) -> Option<u16>
 
 /// The settings, the port and the number of clients that the words `serve [key=value ..] PORT SOUND` choose.
 ///
-/// `clients` is 1 to 4 (1 where no word gives it). The other keys are those of [`settings`](crate::settings). A port is 1 to 65535, in decimal digits without a leading zero.
+/// `clients` is 1 to 4 (1 if no word gives it). The other keys are those of [`settings`](crate::settings). A port is 1
+/// to 65535, in decimal digits without a leading zero.
 ///
 /// # Errors
 ///
-/// Index 0 where there are no words or the first is not `serve`; the number of words where there are
-/// fewer than three; else the index of the first bad word.
+/// Index 0 if there are no words or the first is not `serve`; the number of words if there are fewer than three; else
+/// the index of the first bad word.
 #[tactic(auto, unfolding(crate::specs::Serving::serve_words_of))]
 pub fn serve_words(words: &[Word]) -> Result<ServeWords, BadWord>
     requires { length words.now < 2 ^ 32 }

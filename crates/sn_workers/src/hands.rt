@@ -18,7 +18,7 @@ use sn_round::{Plan, Work};
 use sn_table::{Claim, MainSeat, Shared, WorkerSeat, run_one};
 use std::thread::{Threads, for_each_mut};
 
-/// How often a worker goes over the jobs at most.
+/// How often a worker goes over the jobs, at most.
 const TURNS: u32 = 10_000;
 
 /// What a thread has: a seat while a round runs, and what its jobs need.
@@ -37,7 +37,7 @@ fn look<W: Work>(shared: &Shared, seat: &mut WorkerSeat, _work: &W, plan: &Plan,
     shared.look(seat, job)
 }
 
-/// Runs a job, if it can be got.
+/// Runs a job, if it can be claimed.
 fn try_one<W: Work>(
     shared: &Shared,
     seat: &mut WorkerSeat,
@@ -57,7 +57,7 @@ fn try_one<W: Work>(
     }
 }
 
-/// Goes over the jobs once, and runs those that it gets. It answers whether each had ended.
+/// Goes over the jobs once, and runs those that it gets. It returns whether each had ended.
 fn turn<W: Work>(
     shared: &Shared,
     seat: &mut WorkerSeat,
@@ -111,7 +111,7 @@ fn work_hand<W: Work>(shared: &Shared, hand: &mut Hand, work: &W, plan: &Plan)
     hand.seat = Some(seat);
 }
 
-/// Each hand works in a thread of its own, where one can be had.
+/// Each hand works in a thread of its own, if one can be had.
 fn work_all<R: Threads + Sync, W: Work>(
     rt: &R,
     shared: &Shared,
@@ -161,7 +161,7 @@ fn seat_all<W: Work>(
     }
 }
 
-/// Takes the seats of the hands in.
+/// Joins the seats of the hands.
 fn join_all(shared: &Shared, main: &mut MainSeat, hands: &mut [Hand])
     requires main { IsMainOf shared.now main.old }
     requires stands { Stands (main_view main.old) (length hands.old) (length hands.old) (main_view main.old) }

@@ -16,7 +16,7 @@ const ROUNDS: u32 = 100;
 /// How many turns a job is held at most.
 const MOST_TURNS: u32 = 500_000_000;
 
-/// How many it is held where the other job can't come.
+/// How many turns a job is held if the other job can't come.
 const FEW_TURNS: u32 = 1_000;
 
 fn print_sum(

@@ -7,12 +7,12 @@ use sn_machine::{may_touch, may_write};
 use sn_mem::{Foot, Port, Scratch};
 use sn_round::{Plan, Work};
 
-/// The jobs that a job takes the words of: those so many before it, or the first one.
+/// A job mixes in the word of the job this many before it, or of the first one; and so it does for `FAR`.
 pub const NEAR: u32 = 5;
 
 pub const FAR: u32 = 8;
 
-/// What three words give. It depends on which is which.
+/// A mix of three words. It depends on their order.
 pub fn mix(own: u64, near: u64, far: u64) -> u64
     ensures { result ≡ mix own near far }
 {

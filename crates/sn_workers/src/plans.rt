@@ -150,7 +150,7 @@ fn can_share(plan: &Plan) -> bool
     plan.jobs() <= JOBS && is_race_free(plan) && are_within(plan, u64::from(JOBS))
 }
 
-/// Opens the words of a plan, if its jobs can share them, and plays rounds in so many threads.
+/// Opens the words of a plan, if its jobs can share them, and plays rounds in `threads` threads.
 pub fn mixed(
     rt: &(impl Threads + Sync),
     alloc: Global,
@@ -169,7 +169,7 @@ pub fn mixed(
     Ok(Some(sum))
 }
 
-/// The same by a crew of so many workers, behind a gate.
+/// The same by a crew of `workers` workers, with a gate before each job.
 pub fn mixed_by_crew(
     rt: &(impl Threads + Sync),
     alloc: Global,

@@ -38,7 +38,7 @@ places_from region (p ∷ ps) x are more = elim (leb_tells 1 (overlaps x (place_
   | inr q ↦ places_from region ps x are.1 (omega (arith, more, places-parts p ps x, q.1))
 ]
 
--- and so behind those of the buses
+-- and so after those of the buses
 own_place : (region : Extent) (p : Option BufferPlace) → region.at ≡ 10368 → MayBeBuffer region p → MayBePlace p
 own_place region None base is = tt
 own_place region (Some p) base is = record { frames = is.frames; short = is.short; channels = is.channels; few = is.few; size = is.size; behind = omega (arith, base, is.within.0) }
@@ -48,7 +48,7 @@ unfolding AreEach
 are_places region [] base are = All-nil MayBePlace
 are_places region (p ∷ ps) base are = All-cons MayBePlace p ps (own_place region p base are.0) (are_places region ps base are.1)
 
--- they may be written where the region may
+-- they may be written if the region may
 own_written : (f : Foot) (region : Extent) (p : Option BufferPlace) → region.at + region.len < 4294967296 → ((k : ℕ) → region.at ≤ k → k < region.at + region.len → writes f k ≡ true) → MayBeBuffer region p → MayWriteBuffer f p
 own_written f region None bounded may is = tt
 own_written f region (Some p) bounded may is = record {

@@ -73,7 +73,8 @@ buffers-at ws (p ∷ ps) (suc n) = buffers-at ws ps n
 
 -- ---- a stage and its words with another buffer, or none, at a number
 
--- Where there is a buffer, no other and no synth has its words; where there was one, it is not live any more. No other word has changed.
+-- If there is a buffer, no other and no synth has its words. If there was one before, it is not live any more. No other
+-- word has changed.
 pub record IsSet (n : ℕ) (o : Option BufferPlace) (old : Stage) (ws : List ℕ) (new : Stage) (us : List ℕ) : Type 0 where
   pub number : n < 1024
   pub place : MayBeBuffer old.pool.region o

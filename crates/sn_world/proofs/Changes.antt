@@ -30,7 +30,7 @@ pictured_again stage us ws len p = record {
   closed = p.closed;
 }
 
--- the nodes rest on the words behind the buses
+-- the nodes rest on the words after the buses
 pub nodes_kept : (stage : Stage) (us ws : List ℕ) → Pictures stage ws → ((k : ℕ) → 10368 ≤ k → get_or us k 0 ≡ get_or ws k 0) → with_payloads (content_of us) stage.tree.attached ≡ with_payloads (content_of ws) stage.tree.attached
 unfolding AgreesOn
 nodes_kept stage us ws p same = same_nodes stage.tree.attached us ws (λ x more. same x (omega (arith, p.base, held_from stage.rate stage.pool.region stage.tree.attached x p.synths more)))
@@ -40,7 +40,7 @@ pub buffers_kept : (stage : Stage) (us ws : List ℕ) → Pictures stage ws → 
 unfolding AgreesOn
 buffers_kept stage us ws p same = same_buffers stage.buffers us ws (λ x more. same x (omega (arith, p.base, places_from stage.pool.region stage.buffers x p.buffers.each more)))
 
--- where all words but those of the control buses stay, they alone are others
+-- if all words but those of the control buses stay, only the control buses change
 pub control_buses_changed : (stage : Stage) (us ws : List ℕ) (replies : List ReplyShape) → Pictures stage ws → ((k : ℕ) → k < 8320 → get_or us k 0 ≡ get_or ws k 0) → ((k : ℕ) → 10368 ≤ k → get_or us k 0 ≡ get_or ws k 0)
     → turn_of stage us replies ≡ (let t : Turn = turn_of stage ws replies in record t { world = record t.world { control_buses = control_buses us } })
 control_buses_changed stage us ws replies p below above =

@@ -72,7 +72,7 @@ opening_chosen rate memory clients = ((omega (arith, ints), λ other held. let a
 
 -- ---- outcomes
 
--- the turn after a command, where it is accepted
+-- the turn after a command, if it is accepted
 abbrev Keeps : Result Turn Reason → Type 0
 Keeps (Ok t) = AreChosen t.world
 Keeps (Err reason) = Unit {0}

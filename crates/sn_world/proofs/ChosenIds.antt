@@ -85,7 +85,7 @@ below_free (Some next) nodes id h is =
 pub chosen_free : (w : World) (id : ℤ) → AreChosen w → w.next_id ≡ Some id → holds id w.nodes ≡ false
 chosen_free w id h is = below_free w.next_id w.nodes id h.0 is
 
--- where an id is not in use, the reason is another one
+-- if an id is not in use, the reason is another one
 other_reason : (used a b c d e : Bool) → used ≡ false
     → first_of ((used, Reasons.IdInUse) ∷ (a, Reasons.AddAction) ∷ (b, Reasons.NoSuchNode) ∷ (c, Reasons.NotGroup) ∷ (d, Reasons.Root) ∷ (e, Reasons.TooManyNodes) ∷ []) ≡ Some Reasons.IdInUse → ⊥
 other_reason true a b c d e free h = true≢false free

@@ -1,4 +1,4 @@
--- Runs of controls are read of arguments exactly where the arguments are theirs.
+-- Runs of controls are read from arguments exactly if the arguments are theirs.
 use Rattle.std.proofs.Common.{◌≡◌, ◌≤◌, ℕ, zero, suc, ℤ, pos, negsuc, Bool, true, false, List, [], ◌∷◌, ◌++◌, map, take, drop, length, Option, Some, None, refl, ap, sym, subst, ◌∙◌, arith}
 use Rattle.std.specs.Prelude.{◌↔◌, if◌then◌else◌, nat_le}
 use Rattle.std.proofs.lemmas.Bool.{leb-true, le-leb}
@@ -80,7 +80,7 @@ ints_are (int v ∷ xs) vs h = at (ints xs) (λ us is. ints_are xs us is) h
     at None behind h = absurd cc
     at (Some us) behind h = ap (λ (ys : List Argument). int v ∷ ys) (behind us refl) ∙ ap (λ (o : Option (List ℤ)). map int (values_in o)) h
 
--- the values of a run, and what is behind them
+-- the values of a run, and what follows them
 pub record Said (n : ℕ) (xs : List Argument) (vs : List ℤ) : Type 0 where
   pub is : xs ≡ map int vs ++ drop n xs
   pub size : length vs ≡ n
@@ -101,7 +101,7 @@ abbrev run_in : ControlRun × List Argument → Option (ControlRun × List Argum
 run_in p None = p
 run_in p (Some q) = q
 
--- a run was said, and the arguments that are left stand behind it
+-- a run was said, and the arguments that are left stand after it
 abbrev IsSaid : List Argument → ControlRun × List Argument → Type 0
 IsSaid xs p = xs ≡ name_argument p.0.control ∷ int (pos (length p.0.values)) ∷ (map int p.0.values ++ p.1)
 

@@ -102,7 +102,7 @@ module _ {K X Y : Type 0} (name : K → List ℕ) (f : X → Y) where
       ∙ found_after q k v es
       ∙ sym (get-insert nat_list_cmp_total (from_entries (map named_entry es)) (name k) (f v) q ∙ ap (cond (eq_by_cmp by_bytes q (name k)) (Some (f v))) (get-from_entries nat_list_cmp_total (map named_entry es) q)))
 
-  -- ---- where no name is there twice
+  -- ---- if no name is there twice
 
   abbrev above : K → List (K × X) → Type 0
   above k es = AllByRecursion (λ y. by_name k y ≡ Less) (map key_of es)

@@ -44,7 +44,7 @@ room_given (Some j) = omega arith
 
 -- ---- the journal's room
 
--- where the room that is left is known
+-- if the room that is left is known
 pub room_for : (n : ℕ) (j : Option Journal) → n ≤ room_of j → HasRoomFor n j
 room_for n None few = tt
 room_for n (Some journal) few = few

@@ -1,4 +1,4 @@
--- What a node's kind says of what it holds stays where the nodes below it change.
+-- What a node's kind says of what it holds stays when the nodes below it change.
 use Rattle.std.proofs.Common.{◌≡◌, ℤ, true, false, ap, sym, ◌∙◌, true≢false}
 use Rattle.sn_tree.specs.declared.node.NodeKind.{NodeKind}
 use Rattle.sn_tree.specs.declared.node.NodeKind.TheVariants as kinds

@@ -91,12 +91,12 @@ module _ (rate : ℕ) (region : Extent) where
 
 -- ---- a stage and its words after a node was put
 
--- what stays live of a stage where the target is replaced
+-- what stays live of a stage when the target is replaced
 abbrev pub left_live : Bool → ℤ → Stage → List Extent
 left_live b target s = live_held (left_by b target s.tree.attached) ++ live_places s.buffers
 
--- Where the node takes the place of its target, that one is gone with all below it. The node's words were free then, no other word has
--- changed, and its words are live.
+-- If the node takes the place of its target, that one is gone with all below it. The node's words were free then, no
+-- other word has changed, and its words are live.
 pub record IsPut (b : Bool) (id : ℤ) (kind : NodeKind) (action : AddAction) (target : ℤ) (h : Held) (old : Stage) (ws : List ℕ) (new : Stage) (us : List ℕ) : Type 0 where
   pub before : b ≡ true → action ≡ Before
   pub there : holds target old.tree.attached ≡ true

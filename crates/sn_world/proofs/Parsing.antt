@@ -6,7 +6,7 @@ use Rattle.sn_osc.specs.Shape.{Argument, argument_of}
 use Rattle.std.specs.Prelude.{IfSome}
 use Rattle.sn_world.specs.Rows.{another, singles, pairs, triples, some_of}
 
--- what was read, in front of what is left
+-- what was read, before what is left
 abbrev pub after : {R : Type 0} → List R → Option (List R) → Option (List R)
 after found None = None
 after found (Some rs) = Some (found ++ rs)

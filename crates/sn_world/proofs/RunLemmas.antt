@@ -8,7 +8,7 @@ use Rattle.sn_world.specs.declared.repetition.Run.{Run}
 use Rattle.sn_world.specs.Rows.{another, singles}
 use Rattle.sn_world.specs.Runs.{ValuesAt, Tail, number, count_of, place_run, with_value, with_run, tail_of, runs_of, value_runs}
 
--- values in front of a tail that has none
+-- values before a tail that has none
 abbrev pub behind : Option (List ℤ) → Option Tail → Option Tail
 behind None t = None
 behind (Some vs) None = None
@@ -30,7 +30,7 @@ behind-another (Some v) None t = refl
 behind-another (Some v) (Some vs) None = refl
 behind-another (Some v) (Some vs) (Some t) = refl
 
--- so many values, and then the tail behind them
+-- so many values, and then the tail after them
 tail-split : (n : ℕ) (xs : List Argument) → n ≤ length xs → tail_of n xs ≡ behind (singles number (take n xs)) (tail_of 0 (drop n xs))
 tail-split zero xs few = behind-none xs
 tail-split (suc n) [] few = absurd (omega arith)
@@ -51,11 +51,11 @@ joined r None t = refl
 joined r (Some vs) None = refl
 joined r (Some vs) (Some t) = refl
 
--- the first two arguments, and those behind them
+-- the first two arguments, and those after them
 abbrev pub behind_two : List Arg → List Arg
 behind_two args = take (length args - 2) (drop 2 args)
 
--- what a run's head says of the arguments, and what is behind it
+-- what a run's head says of the arguments, and what follows it
 pub head-step : (args : List Arg) (x y : Arg) (o : Option Run) → 2 ≤ length args → x ≡ get_or args 0 x → y ≡ get_or args 1 y → place_run (argument_of x) (argument_of y) ≡ o
     → value_runs (map argument_of args) ≡ option_map runs_of (with_run o (tail_of (count_of o) (map argument_of (behind_two args))))
 head-step [] x y o two is-x is-y read = absurd (omega arith)
@@ -81,7 +81,7 @@ run-step r args few =
 abbrev pub with_values : Run → List ℤ → ValuesAt
 with_values r vs = record { first = r.first; values = vs }
 
--- a run that was read, and what is behind it
+-- a run that was read, and what follows it
 pub run-read : (args here behind : List Arg) (x y : Arg) (r : Run) (vs : Option (List ℤ)) → 2 ≤ length args → x ≡ get_or args 0 x → y ≡ get_or args 1 y → place_run (argument_of x) (argument_of y) ≡ Some r
     → r.count ≤ length (behind_two args) → here ≡ take r.count (behind_two args) → behind ≡ drop r.count (behind_two args) → vs ≡ singles number (map argument_of here)
     → value_runs (map argument_of args) ≡ another (option_map (with_values r) vs) (value_runs (map argument_of behind))

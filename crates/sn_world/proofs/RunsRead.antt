@@ -1,4 +1,4 @@
--- Runs are read of arguments exactly where the arguments are theirs.
+-- Runs are read from arguments exactly if the arguments are theirs.
 use Rattle.std.proofs.Common.{◌≡◌, ℕ, zero, suc, ℤ, pos, negsuc, List, [], ◌∷◌, ◌++◌, map, length, Option, Some, None, refl, ap, sym, subst, ◌∙◌, arith}
 use Rattle.std.specs.Prelude.{◌↔◌}
 use Rattle.std.specs.Option.{option_map}

@@ -1,4 +1,5 @@
--- `/b_set`, `/b_setn` and `/b_fill` change samples one repetition after the other, each judged in what the earlier ones left.
+-- `/b_set`, `/b_setn` and `/b_fill` change samples one repetition after the other, each judged in what the earlier ones
+-- left.
 use Rattle.std.proofs.Common.{◌≡◌, ℕ, zero, suc, ℤ, pos, negsuc, Bool, List, [], ◌∷◌, get_or, set, Option, Some, None, Ok, refl, ap, sym, ◌∙◌}
 use Rattle.std.specs.Prelude.{is_none}
 use Rattle.sn_osc.specs.Shape.{Argument}

@@ -184,7 +184,7 @@ held_unended : (rate : ℕ) (id : ℤ) (h : Held) (ws : List ℕ) → held_endin
 held_unended rate id held.Group ws nil = refl
 held_unended rate id (held.Synth def controls state) ws nil = units_unended rate id (definition_of def.value).units state.at ws nil
 
--- where nothing ended the words stay
+-- if nothing ended, the words stay
 pub walk_unended : (rate : ℕ) (ls : List (Label Held)) (ws : List ℕ) → walk_endings rate ls ws ≡ [] → settled_walk rate ls ws ≡ ws
 walk_unended rate [] ws nil = refl
 walk_unended rate (l ∷ ls) ws nil =

@@ -13,7 +13,7 @@ same_refusal : {R : Type 0} (j k : R → Option Reason) (rs : List R) → ((r : 
 same_refusal j k [] same = refl
 same_refusal j k (r ∷ rs) same = ap (λ o. or_else o (first_refusal j rs)) (same r) ∙ ap (or_else (k r)) (same_refusal j k rs same)
 
--- where no repetition changes what is against another, all may be judged first
+-- if no repetition changes what is against another, all may be judged first
 pub steps-judged_first : {R : Type 0} (judge : World → R → Option Reason) (act : R → Turn → Turn) → ((r r' : R) (t : Turn) → judge (act r t).world r' ≡ judge t.world r') → (rs : List R) (t : Turn)
     → steps judge act rs t ≡ unless (first_refusal (judge t.world) rs) (Ok (act_all act rs t))
 steps-judged_first judge act keeps [] t = refl

@@ -19,7 +19,7 @@ use Rattle.sn_world.specs.Pictures.{Pictures, held_extents, live_held, AreHeld}
 use Rattle.sn_world.specs.World.{Turn, world_of}
 use Rattle.sn_world.proofs.HeldKinds.{kind-below}
 
--- ---- a node is seen where it is there
+-- ---- a node is seen if it is there
 
 seen_from : (parent previous id : ℤ) (t : Nodes Held) → is_some (view_from parent previous id t) ≡ holds id t
 seen_from parent previous id none = refl

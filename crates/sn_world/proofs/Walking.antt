@@ -56,12 +56,13 @@ pub walk_words-append : (rate b : ℕ) (places : List (Option BufferPlace)) (ls 
 walk_words-append rate b places [] ms ws = refl
 walk_words-append rate b places (l ∷ ls) ms ws = walk_words-append rate b places ls ms (held_words rate b l.id places l.payload ws)
 
--- What running nodes do to words, seen from the extents of the nodes and of the buffers: the length stays, and so do all words behind the buses but theirs.
+-- What running nodes do to words, seen from the extents of the nodes and of the buffers: the length stays, and so do
+-- all words after the buses except theirs.
 pub record IsKept (es : List Extent) (ws us : List ℕ) : Type 0 where
   pub length : length us ≡ length ws
   pub others : (x : ℕ) → 10368 ≤ x → overlaps x es ≡ 0 → get_or us x 0 ≡ get_or ws x 0
 
--- the words behind the buses, from which the nodes' own come, and no word is that of two nodes
+-- the words after the buses, from which the nodes' own come, and no word is that of two nodes
 pub record CanWalk (rate : ℕ) (region : Extent) (t : Nodes Held) (ws : List ℕ) : Type 0 where
   pub held : AreHeld rate region t
   pub apart : (x : ℕ) → overlaps x (live_held t) ≤ 1
@@ -133,7 +134,7 @@ second rate b l here below after = third rate b l here.0 (walk_nodes rate b belo
 same_walked : (n n' : Nodes Content) (r : Resources) → n ≡ n' → ◌≡◌ {A = Walked} (record { nodes = n; resources = r }) (record { nodes = n'; resources = r })
 same_walked n n' r p = ap (λ (t : Nodes Content). record { nodes = t; resources = r }) p
 
--- where the parts were walked one after the other
+-- if the parts were walked one after the other
 three : (rate b : ℕ) (places : List (Option BufferPlace)) (l : Label Held) (below after : Nodes Held) (ws w1 w2 w3 : List ℕ)
     → content_after rate b l.id (content_of ws l.payload) (resources_of places ws) ≡ (content_of w1 l.payload, resources_of places w1)
     → with_payloads (content_of ws) below ≡ with_payloads (content_of w1) below

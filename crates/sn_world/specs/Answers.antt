@@ -9,8 +9,8 @@ use Rattle.sn_world.specs.declared.command.Handled.TheVariants.{Done, Completion
 use Rattle.sn_world.specs.Ending.{Next, nothing, quitting, clearing, completing}
 use Rattle.sn_world.specs.World.{Turn}
 
--- Of a message's outcome by the rows of some commands, which is none where it is no such command: done, with the turn after it, or
--- refused for a reason.
+-- What a message came to by the rows of some commands. It is done, with the turn after it, or refused for a reason; it
+-- is nothing if the message is no such command.
 abbrev pub Handles : Result Handled NoMemory → Option (Result Turn Reason) → Turn → Type 0
 Handles (Ok Done) outcome after = outcome ≡ Some (Ok after)
 Handles (Ok (Completion m)) outcome after = outcome ≡ Some (Ok after)
@@ -30,7 +30,7 @@ UnlessDone (Ok (Failed reason)) P = P
 UnlessDone (Ok NotMine) P = P
 UnlessDone (Err e) P = P
 
--- what is done besides where the message was carried out
+-- what is done besides, if the message was carried out
 abbrev pub IsNext : Result Handled NoMemory → Next → Type 0
 IsNext (Ok Done) n = n ≡ nothing
 IsNext (Ok (Completion m)) n = n ≡ completing (message_of m)
@@ -40,7 +40,7 @@ IsNext (Ok (Failed reason)) n = Unit {0}
 IsNext (Ok NotMine) n = Unit {0}
 IsNext (Err e) n = Unit {0}
 
--- what is done besides where a message was handled so, nothing where it was not carried out
+-- what is done besides, if a message was handled so: nothing if it was not carried out
 abbrev pub next_told : Handled → Next
 next_told Done = nothing
 next_told (Completion m) = completing (message_of m)

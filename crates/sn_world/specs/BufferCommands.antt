@@ -30,7 +30,7 @@ abbrev pub asked_with : Option ℤ → Option ℕ → Option ℕ → Option NewB
 asked_with (Some n) (Some frames) (Some channels) = Some (record { number = n; frames = frames; channels = channels })
 asked_with _ _ _ = None
 
--- one channel where none are given
+-- one channel if no number is given
 abbrev pub new_buffer : List Argument → Option NewBuffer
 new_buffer (n ∷ frames ∷ []) = asked_with (number n) (frame_count frames) (Some 1)
 new_buffer (n ∷ frames ∷ channels ∷ []) = asked_with (number n) (frame_count frames) (channel_count channels)
@@ -40,7 +40,7 @@ new_buffer _ = None
 abbrev pub without_buffer : ℤ → World → World
 without_buffer n w = record w { buffers = put_at n None w.buffers }
 
--- The least place of the pool for its samples, where there is one. A buffer with its number is given back first.
+-- The least place of the pool for its samples, if there is one. A buffer with its number is given back first.
 abbrev pub place_for : World → NewBuffer → Option ℕ
 place_for w r = least_place w.region (live_of (without_buffer r.number w)) (r.frames * r.channels)
 
@@ -106,7 +106,7 @@ buffer_number (blob b) = None
 abbrev pub judge_query : World → BufferNumber → Option Reason
 judge_query w r = number_refusal r.number
 
--- the frames, the channels and the rate of a buffer, zeros where none is allocated
+-- the frames, the channels and the rate of a buffer, zeros if none is allocated
 abbrev pub info : ℕ → Option Buffer → List Argument
 info rate None = int (pos 0) ∷ int (pos 0) ∷ int (pos 0) ∷ []
 info rate (Some b) = int (pos b.frames) ∷ int (pos b.channels) ∷ int (pos rate) ∷ []

@@ -28,7 +28,7 @@ abbrev pub set_from : ℕ → List ℤ → List ℤ → List ℤ
 set_from i [] samples = samples
 set_from i (v ∷ vs) samples = set_from (i + 1) vs (slice_set samples i v)
 
--- a buffer, where there is one, with its samples changed
+-- a buffer, if there is one, with its samples changed
 abbrev pub resampled : (List ℤ → List ℤ) → Option Buffer → Option Buffer
 resampled f None = None
 resampled f (Some b) = Some (record b { samples = f b.samples })

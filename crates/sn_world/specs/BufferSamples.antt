@@ -31,7 +31,7 @@ abbrev pub is_sample : ℕ → ℤ → Bool
 is_sample size (pos i) = nat_lt i size
 is_sample size (negsuc i) = false
 
--- A run begins at a sample, also where it is empty, and does not go on past the last one.
+-- A run begins at a sample, even if it is empty, and does not go on past the last one.
 abbrev pub is_run : ℕ → ℤ → ℕ → Bool
 is_run size (pos i) count = nat_lt i size && nat_le (i + count) size
 is_run size (negsuc i) count = false
@@ -57,7 +57,8 @@ abbrev pub change_all : {R : Type 0} → (R → List ℤ → List ℤ) → List 
 change_all change [] samples = samples
 change_all change (r ∷ rs) samples = change_all change rs (change r samples)
 
--- Repetitions leave the number of samples as it is: each is judged by it, and then all change samples, one after the other.
+-- Repetitions leave the number of samples as it is: each is judged by it, and then all change samples, one after the
+-- other.
 abbrev pub changing : {R : Type 0} → (ℕ → R → Option Reason) → (R → List ℤ → List ℤ) → ℤ → List R → Turn → Result Turn Reason
 changing refusal change n all t =
     unless (buffer_refusal n t.world) (unless (first_refusal (refusal (size_of (at_number t.world.buffers n))) all)

@@ -15,7 +15,8 @@ unfoldable pub live_buffers : List (Option Buffer) → List Extent
 live_buffers [] = []
 live_buffers (b ∷ bs) = buffer_extents b ++ live_buffers bs
 
--- a buffer has at least one frame, as many as a reply can say, and 1 to 8 channels, and a word of the region for each sample
+-- a buffer has at least one frame and at most as many as a reply can say, 1 to 8 channels, and a word of the region for
+-- each sample
 pub record IsBuffer (region : Extent) (p : BufferPlace) : Type 0 where
   pub frames : 1 ≤ p.frames
   pub short : p.frames < 2147483648

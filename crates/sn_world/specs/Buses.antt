@@ -16,7 +16,7 @@ abbrev pub is_bus : ℤ → Bool
 is_bus (pos n) = nat_lt n control_bus_count
 is_bus (negsuc n) = false
 
--- The first bus of a run is one, also where the run is empty, and so is the last bus of a run that is not empty.
+-- The first bus of a run is one, even if the run is empty, and so is the last bus of a run that is not empty.
 abbrev pub is_run : ℤ → ℕ → Bool
 is_run (pos n) count = nat_lt n control_bus_count && nat_le (n + count) control_bus_count
 is_run (negsuc n) count = false

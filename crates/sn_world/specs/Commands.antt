@@ -63,7 +63,7 @@ server_row server.Quit = quit_row
 
 -- ---- arguments
 
--- the arguments that a message gives to its command, where they are read
+-- the arguments that a message gives to its command, if they can be read
 abbrev pub ArgumentsOf : BodyShape → Option (List Argument) → Type 0
 ArgumentsOf bare found = found ≡ Some []
 ArgumentsOf (arguments xs) found = found ≡ Some xs
@@ -85,7 +85,8 @@ abbrev pub each_within : (MessageShape → Bool) → Option MessageShape → Boo
 each_within test None = true
 each_within test (Some m) = test m
 
--- Completion messages nest at most so deep in a message: it carries none, or one in which they nest one less deep.
+-- Completion messages nest at most so deep in a message: it carries none, or one in which they nest one level less
+-- deep.
 unfoldable pub depth_within : ℕ → MessageShape → Bool
 depth_within zero m = is_none (completion_of m)
 depth_within (suc deep) m = each_within (depth_within deep) (completion_of m)
@@ -94,7 +95,7 @@ depth_within (suc deep) m = each_within (depth_within deep) (completion_of m)
 abbrev pub deepest : ℕ
 deepest = 8
 
--- what a command may carry: one message, in which they nest one less deep than they may
+-- what a command may carry: one message, in which they nest one level less deep than they may
 abbrev pub acceptable : Option MessageShape → Option MessageShape
 acceptable None = None
 acceptable (Some m) = if depth_within (deepest - 1) m then Some m else None
@@ -118,9 +119,9 @@ handled_as server.ClearSched = answers.ClearSched
 handled_as server.Quit = answers.Quit
 handled_as _ = answers.Done
 
--- ---- what is done besides where a command is accepted
+-- ---- what is done besides, if a command is accepted
 
--- where it is told so, and carries no completion message
+-- what follows from how it was handled, if it carries no completion message
 abbrev pub ending_of : Handled → Next
 ending_of answers.ClearSched = clearing
 ending_of answers.Quit = quitting
@@ -157,7 +158,8 @@ node_row nodes.GetControls = values_row
 node_row (nodes.Move action) = move_row action
 node_row nodes.Order = order_row
 
--- A row takes the arguments, of which an address alone has none. Tags that are not read are refused before anything else is judged.
+-- A row takes the arguments, of which an address alone has none. Tags that are not read are refused before anything
+-- else is judged.
 abbrev pub with_arguments : BodyShape → (List Argument → Turn → Result Turn Reason) → Turn → Result Turn Reason
 with_arguments bare run t = run [] t
 with_arguments (arguments xs) run t = run xs t
@@ -167,7 +169,7 @@ abbrev pub server_outcome : Option ServerCommand → ℕ → BodyShape → Turn 
 server_outcome None from body t = None
 server_outcome (Some command) from body t = Some (with_arguments body (whole_row command from) t)
 
--- what a message from a client does where it is such a command
+-- what a message from a client does, if it is such a command
 abbrev pub run_bus : ℕ → MessageShape → Turn → Option (Result Turn Reason)
 run_bus from m t = server_outcome (server_command_of m.address) from m.body t
 
@@ -175,7 +177,7 @@ abbrev pub node_outcome : Option NodeCommand → ℕ → BodyShape → Turn → 
 node_outcome None from body t = None
 node_outcome (Some command) from body t = Some (with_arguments body (node_row command from) t)
 
--- what a message from a client does where it is a command on nodes
+-- what a message from a client does, if it is a command on nodes
 abbrev pub run_node : ℕ → MessageShape → Turn → Option (Result Turn Reason)
 run_node from m t = node_outcome (node_command_of m.address) from m.body t
 
@@ -197,7 +199,7 @@ answered from address t (Err reason) = replied from (fail_message address reason
 abbrev pub command : ℕ → MessageShape → Turn → Turn
 command from m t = answered from m.address t (or_unknown (either (run_node from m t) (run_bus from m t)))
 
--- What is done besides by a message, of the outcomes of the commands on nodes and of the others: nothing where it is refused.
+-- What a message does besides, by its outcomes as a command on nodes and as another one: nothing if it is refused.
 abbrev pub next_in : Option (Result Turn Reason) → Option (Result Turn Reason) → Next → Next
 next_in (Some r) other n = nothing
 next_in None None n = nothing

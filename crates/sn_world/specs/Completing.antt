@@ -1,4 +1,4 @@
--- Completion messages: what a command carries behind its own arguments.
+-- Completion messages: what a command carries after its own arguments.
 use Rattle.std.specs.Prelude.{ℕ, ◌-◌, List, [], ◌∷◌, length, take, Option, Some, None, Result, Ok, Err}
 use Rattle.sn_osc.specs.Shape.{Argument, int, blob, MessageShape, Shape, message, bundle}
 use Rattle.sn_osc.specs.Reading.{read}
@@ -6,14 +6,14 @@ use Rattle.sn_osc.specs.declared.fault.PacketFault.{PacketFault}
 use Rattle.sn_world.specs.declared.command.ServerCommand.{ServerCommand}
 use Rattle.sn_world.specs.declared.command.ServerCommand.TheVariants as server
 
--- ---- the blob behind the arguments of a command, which their kinds tell
+-- ---- the blob after the arguments of a command, which their kinds tell
 
 abbrev pub behind_frames : List Argument → Option (List ℕ)
 behind_frames (int n ∷ int frames ∷ blob b ∷ []) = Some b
 behind_frames (int n ∷ int frames ∷ int channels ∷ blob b ∷ []) = Some b
 behind_frames _ = None
 
--- behind the samples
+-- after the samples
 abbrev pub behind_samples : List Argument → Option (List ℕ)
 behind_samples (int n ∷ int frames ∷ int channels ∷ blob samples ∷ blob b ∷ []) = Some b
 behind_samples _ = None
@@ -35,11 +35,11 @@ carried server.ZeroBuffer = behind_number
 carried server.Receive = behind_text
 carried _ = λ xs. None
 
--- the arguments in front of it
+-- the arguments before it
 abbrev pub own : List Argument → List Argument
 own xs = take (length xs - 1) xs
 
--- ---- the message that a blob spells, where it spells one
+-- ---- the message that a blob spells, if it spells one
 
 abbrev pub one_message : Result Shape PacketFault → Option MessageShape
 one_message (Ok (message m)) = Some m

@@ -12,7 +12,7 @@ use Rattle.sn_world.specs.Freeing.{freed}
 use Rattle.sn_world.specs.World.{World, Turn}
 use Rattle.sn_world.specs.Rows.{first_of, row, singles, some_of}
 
--- Nodes are freed one after the other. Each is told at the place where it stands when the earlier ones are gone.
+-- Nodes are freed one after the other. Each is told at the place where it stands after the earlier ones are gone.
 abbrev pub freed_each : List ℤ → Turn → Turn
 freed_each [] t = t
 freed_each (id ∷ ids) t = freed_each ids (freed id t)

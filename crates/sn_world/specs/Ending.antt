@@ -16,8 +16,8 @@ abbrev pub clear_row : ℕ → List Argument → Turn → Result Turn Reason
 clear_row from [] t = Ok t
 clear_row from (x ∷ xs) t = Err Arguments
 
--- what is done besides where a command is accepted: the server ends, the entries that are due later are dropped, or the completion
--- message that the command carries acts
+-- what is done besides, if a command is accepted: nothing, or the server ends, or the entries that are due later are
+-- dropped, or the completion message that the command carries acts
 pub data Next : Type 0 where
   nothing : Next
   quitting : Next

@@ -1,4 +1,5 @@
--- Commands that judge all repetitions and then act, as folds: each repetition is judged in what the earlier ones left, and acts.
+-- Commands that judge all repetitions and then act, as folds: each repetition is judged in what the earlier ones left,
+-- and acts.
 use Rattle.std.specs.Prelude.{ℕ, ℤ, List, [], ◌∷◌, Option, Some, None, Result, Err}
 use Rattle.sn_reply.specs.declared.reason.Reason.{Reason}
 use Rattle.sn_reply.specs.declared.reason.Reason.TheVariants as Reasons

@@ -26,7 +26,7 @@ forget_row from xs = row judge_forget act_forget (some_of (singles name_of xs))
 
 -- ---- all names of a message
 
--- each has a definition when the earlier ones were forgotten
+-- each has a definition after the earlier ones were forgotten
 abbrev pub are_known : List (List ℕ) → Definitions → Bool
 are_known [] ds = true
 are_known (name ∷ names) ds = is_some (finite.get ds name) && are_known names (finite.remove ds name)

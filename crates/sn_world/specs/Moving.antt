@@ -34,7 +34,7 @@ judge_move w m = move_refusal m w.nodes
 abbrev pub with_move : NodeMove → World → World
 with_move m w = record w { nodes = put m.action m.target (subtree m.id w.nodes) (without m.id w.nodes) }
 
--- Clients are told of the place after the move, also where the node stays in its place.
+-- Clients are told of the place after the move, even if the node stays in its place.
 abbrev pub act_move : NodeMove → Turn → Turn
 act_move m t = told Moved m.id (record t { world = with_move m t.world })
 

@@ -90,7 +90,7 @@ defaults d = map (λ p. record { value = p.default; bus = None }) d.controls
 
 -- ---- its words
 
--- the least place of the pool for so many words, where there is one; no words stand at the region's begin
+-- the least place of the pool for so many words, if there is one; no words stand at the beginning of the region
 abbrev pub place_for : World → ℕ → Option ℕ
 place_for w n = if nat_eq n 0 then Some w.region.at else least_place w.region (live_of w) n
 
@@ -117,7 +117,7 @@ abbrev pub new_at : NewSynth → Definition → ℤ → Option ℕ → Turn → 
 new_at r d id None t = Err Reasons.PoolFull
 new_at r d id (Some at) t = Ok (told Went id (record (told_replaced r.node t) { world = with_synth r d id at t.world }))
 
--- with the id that it gets, where one is left
+-- with the id that it gets, if one is left
 abbrev pub new_with : NewSynth → Definition → Option ℤ → Turn → Result Turn Reason
 new_with r d None t = Err Reasons.IdInUse
 new_with r d (Some id) t = unless (node_refusal (Some id) r.node.action r.node.target t.world.nodes) (new_at r d id (place_for (made_free r.node t.world) (state_words t.world.rate d)) t)

@@ -1,4 +1,4 @@
--- `/notify`: a client is told of what happens to nodes, or not any more.
+-- `/notify`: a client is told of what happens to nodes, or no longer.
 use Rattle.std.specs.Prelude.{ℕ, ℤ, pos, Bool, not, List, [], ◌∷◌, slice_set, Option, Some, None, Result, Ok, Err, codes}
 use Rattle.std.specs.Ordering.{int_eq}
 use Rattle.sn_osc.specs.Shape.{Argument, int, string, arguments, MessageShape}

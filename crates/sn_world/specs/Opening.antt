@@ -19,8 +19,9 @@ silent_audio = record { written = 0; samples = replicate block_frames (pos 0) }
 abbrev pub silent_control : ControlBus
 silent_control = record { written = 0; value = pos 0 }
 
--- At so many frames a second, with so many words in the pool, and for so many clients: the root group alone, no definitions, silent
--- buses, no buffers, and nobody is notified. The pool's words come behind those of the buses. The id that is chosen first is -2.
+-- At so many frames a second, with so many words in the pool, and for so many clients: the root group alone, no
+-- definitions, silent buses, no buffers, and nobody is notified. The pool's words come after those of the buses. The id
+-- that is chosen first is -2.
 unfoldable pub opening : ℕ → ℕ → ℕ → World
 opening rate memory clients = record {
   nodes = leaf (pos 0) kinds.Group group;
@@ -34,7 +35,7 @@ opening rate memory clients = record {
   region = record { at = bus_words; len = memory };
 }
 
--- a stage that stands for it, where all words are 0
+-- a stage that stands for it, if all words are 0
 pub record IsOpening (rate memory clients : ℕ) (stage : Stage) : Type 0 where
   pub tree : stage.tree ≡ record { attached = leaf (pos 0) kinds.Group held.Group; detached = none; journal = None }
   pub definitions : definitions_of stage.defs ≡ finite.empty

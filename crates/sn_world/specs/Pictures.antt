@@ -30,7 +30,7 @@ abbrev pub live_held : Nodes Held → List Extent
 live_held none = []
 live_held (node label below after) = held_extents label.payload ++ (live_held below ++ live_held after)
 
--- the weights of extents together
+-- the sum of the weights of extents
 unfoldable pub amount : (Extent → ℕ) → List Extent → ℕ
 amount weight [] = 0
 amount weight (e ∷ es) = weight e + amount weight es
@@ -64,8 +64,8 @@ abbrev pub AreHeld : ℕ → Extent → Nodes Held → Type 0
 AreHeld rate region none = Unit {0}
 AreHeld rate region (node label below after) = IsHeld rate region label.payload × (AreHeld rate region below × AreHeld rate region after) × KindAgrees label.kind label.payload below
 
--- The pool gives from the words behind the buses. Each extent with a word is live in it as often as it is that of a synth or a buffer,
--- and no word is that of two of them.
+-- The pool gives from the words after the buses. Each extent with a word is live in it as often as it is that of a
+-- synth or a buffer, and no word is that of two of them.
 pub record Pictures (stage : Stage) (words : List ℕ) : Type 0 where
   pub rate : 0 < stage.rate
   pub rate_fits : stage.rate ≤ high_rate
@@ -89,6 +89,6 @@ pub record WritesWorld (foot : Foot) (region : Extent) : Type 0 where
   pub buses : WritesBuses foot
   pub pool : (k : ℕ) → region.at ≤ k → k < region.at + region.len → writes foot k ≡ true
 
--- each word behind the buses and the pool's region is as before
+-- each word after the buses and the pool's region is as before
 abbrev pub KeepsOutside : Extent → List ℕ → List ℕ → Type 0
 KeepsOutside region old new = (k : ℕ) → bus_words ≤ k → region.at + region.len ≤ k → slice_index new k ≡ slice_index old k

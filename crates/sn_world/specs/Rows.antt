@@ -52,7 +52,7 @@ abbrev pub steps : {R : Type 0} → (World → R → Option Reason) → (R → T
 steps judge act [] t = Ok t
 steps judge act (r ∷ rs) t = unless (judge t.world r) (steps judge act rs (act r t))
 
--- Where the arguments are no repetitions of the command, nothing else is judged.
+-- If the arguments are no repetitions of the command, nothing else is judged.
 abbrev pub row : {R : Type 0} → (World → R → Option Reason) → (R → Turn → Turn) → Option (List R) → Turn → Result Turn Reason
 row judge act None t = Err Reasons.Arguments
 row judge act (Some rs) t = steps judge act rs t

@@ -36,7 +36,7 @@ is_flagged on (Some view) = if on then view.running else not view.running
 abbrev pub with_flag : RunFlag → Turn → Turn
 with_flag r t = record t { world = record t.world { nodes = changed r.id (with_running r.on) t.world.nodes } }
 
--- Clients are told where the flag has changed.
+-- Clients are told if the flag has changed.
 abbrev pub act_run : RunFlag → Turn → Turn
 act_run r t = if is_flagged r.on (view_of r.id t.world.nodes) then t else told (turning r.on) r.id (with_flag r t)
 

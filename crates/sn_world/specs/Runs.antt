@@ -40,7 +40,7 @@ pub record ValuesAt : Type 0 where
   pub first : ℤ
   pub values : List ℤ
 
--- values, and runs behind them
+-- values, and runs after them
 pub record Tail : Type 0 where
   pub values : List ℤ
   pub runs : List ValuesAt
@@ -55,13 +55,13 @@ abbrev pub count_of : Option Run → ℕ
 count_of None = 0
 count_of (Some r) = r.count
 
--- one more value in front
+-- one more value before the others
 abbrev pub with_value : Option ℤ → Option Tail → Option Tail
 with_value None t = None
 with_value (Some v) None = None
 with_value (Some v) (Some t) = Some (record t { values = v ∷ t.values })
 
--- the values in front are those of a run
+-- the values before the runs are those of a run
 abbrev pub with_run : Option Run → Option Tail → Option Tail
 with_run None t = None
 with_run (Some r) None = None

@@ -1,4 +1,5 @@
--- What happens after a block: its triggers are reported, and then the units that ended in it pause or free their synths.
+-- What happens after a block: its triggers are reported, and then the units that ended in it pause or free their
+-- synths.
 use Rattle.std.specs.Prelude.{ℕ, ◌+◌, ◌==◌, ◌&&◌, ℤ, pos, Bool, false, if◌then◌else◌, List, [], ◌∷◌, ◌++◌, flat_map, Option, Some, None, slice_index, slice_set}
 use Rattle.std.specs.Ordering.{int_eq}
 use Rattle.sn_mem.specs.Blocks.{sample_in}
@@ -19,14 +20,15 @@ use Rattle.sn_world.specs.World.{Turn}
 
 -- ---- one unit, whose state words begin at a place among the words of its synth
 
--- A SendTrig unit sent a trigger in block b where its first word is b + 1. Its second and third words are the trigger's id and its value.
+-- A SendTrig unit sent a trigger in block b if its first word is b + 1. Its second and third words are the trigger's id
+-- and its value.
 abbrev pub triggers_at : ℕ → ℤ → UnitLine → ℕ → List ℕ → List Notice
 triggers_at b id u place state =
     if sends u.kind && slice_index state place == b + 1
     then notice.Tr id (sample_in (slice_index state (place + 1))) (sample_in (slice_index state (place + 2))) ∷ []
     else []
 
--- where the done word is 1
+-- if the done word is 1
 abbrev pub ending_of : ℤ → ℕ → Option ℤ → List Ending
 ending_of id done None = []
 ending_of id done (Some action) = if done == 1 then record { node = id; action = action } ∷ [] else []
@@ -35,7 +37,7 @@ abbrev pub after_ending : ℕ → List ℕ → ℕ → Option ℤ → List ℕ
 after_ending place state done None = state
 after_ending place state done (Some action) = if done == 1 then slice_set state place 2 else state
 
--- The first word of a unit that ends is its done word: it is 1 where the unit ended in this block, and becomes 2.
+-- The first word of a unit that ends is its done word: it is 1 if the unit ended in this block, and becomes 2.
 abbrev pub endings_at : ℤ → UnitLine → ℕ → List ℕ → List Ending
 endings_at id u place state = ending_of id (slice_index state place) (done_action u.kind u.inputs)
 
@@ -107,7 +109,7 @@ told_all events t = record t { replies = t.replies ++ notices_of t.world.notify 
 abbrev pub neighbours_of : ℤ → NodeView → Neighbours
 neighbours_of id view = record { id = id; parent = view.parent; previous = view.previous; next = view.next }
 
--- Where it runs it is paused, and clients are told.
+-- If it runs, it is paused, and clients are told.
 abbrev pub paused_at : ℤ → NodeView → Turn → Turn
 paused_at id view t =
     if view.running

@@ -16,7 +16,8 @@ use Rattle.sn_world.specs.Rows.{singles}
 use Rattle.sn_world.specs.NewSynth.{ControlName, control_name, name_argument, control_of}
 use Rattle.sn_world.specs.ControlRuns.{ForNode, asked_of}
 
--- A control, and its value: that of the control bus that it follows, or its own. One that is none of the definition's is ignored.
+-- A control, and its value: that of the control bus that it follows, or its own. A control that the definition doesn't
+-- have is ignored.
 abbrev pub value_arguments : List ControlBus → List Control → ControlName → Option ℕ → List Argument
 value_arguments buses controls c None = []
 value_arguments buses controls c (Some k) = name_argument c ∷ int (control_value buses (slice_index_or controls k no_control)) ∷ []

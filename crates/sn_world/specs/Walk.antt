@@ -18,7 +18,8 @@ pub record Walked : Type 0 where
   pub nodes : Nodes Content
   pub resources : Resources
 
--- A node that is paused changes nothing, and nothing below it runs. Any other runs by itself, and then the nodes below it, in order.
+-- A node that is paused changes nothing, and nothing below it runs. Any other runs by itself, and then the nodes below
+-- it, in order.
 abbrev pub walk_nodes : ℕ → ℕ → Nodes Content → Resources → Walked
 walk_nodes rate b none resources = record { nodes = none; resources = resources }
 walk_nodes rate b (node label below after) resources =

@@ -13,8 +13,8 @@ use Rattle.sn_mem.specs.Buffers.{Buffer, buffers_of}
 use Rattle.sn_world.specs.Buffers.{live_buffers}
 
 -- The tree of nodes, the definitions, the audio buses, the control buses, and what is at each number of a buffer.
--- `notify` tells of each client whether it is told what happens to nodes. `next_id` is the id that is chosen next, if one is left.
--- Nothing changes the last two: the frames a second, and the words from which the pool gives.
+-- `notify` tells of each client whether it is told what happens to nodes. `next_id` is the id that is chosen next, if
+-- one is left. Nothing changes the last two: the frames a second, and the words from which the pool gives.
 pub record World : Type 0 where
   pub nodes : Nodes Content
   pub definitions : Definitions

@@ -20,7 +20,7 @@ pub trait Single: Drop {
 
     ghost from_one: { Argument → Option Self };
 
-    /// What an argument says, where it is of this form.
+    /// What an argument says, if it is of this form.
     fn from_one(first: &Arg) -> Option<Self>
         ensures { result ≡ from_one (argument_of first.now) };
 }
@@ -32,7 +32,7 @@ pub trait Pair: Drop {
 
     ghost from_two: { Argument → Argument → Option Self };
 
-    /// What two arguments say, where they are of this form.
+    /// What two arguments say, if they are of this form.
     fn from_two(first: &Arg, second: &Arg) -> Option<Self>
         ensures { result ≡ from_two (argument_of first.now) (argument_of second.now) };
 }
@@ -44,7 +44,7 @@ pub trait Triple: Drop {
 
     ghost from_three: { Argument → Argument → Argument → Option Self };
 
-    /// What three arguments say, where they are of this form.
+    /// What three arguments say, if they are of this form.
     fn from_three(first: &Arg, second: &Arg, third: &Arg) -> Option<Self>
         ensures { result ≡ from_three (argument_of first.now) (argument_of second.now) (argument_of third.now) };
 }
@@ -183,7 +183,7 @@ pub fn triples<R: Triple>(alloc: Global, arguments: &[Arg]) -> Result<Option<Vec
     }
 }
 
-/// The repetitions, where there is at least one.
+/// The repetitions, if there is at least one.
 pub fn some_of<R: Drop>(found: Option<Vec<R>>) -> Option<Vec<R>>
     ensures { option_map (λ v. v.items) result ≡ some_of (option_map (λ v. v.items) found) }
 {

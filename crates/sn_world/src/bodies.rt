@@ -10,7 +10,7 @@ ghost use Rattle.sn_world.specs.Commands.{ArgumentsOf};
 
 use sn_osc::{Arg, Body, Message};
 
-/// The arguments of a message, where they are read. A message without a tag string gives none.
+/// The arguments of a message, if they can be read. A message without a tag string gives none.
 pub fn arguments_of(message: &Message) -> Option<&[Arg]>
     requires { IsAnswerable (message_of message.now) }
     ensures arguments { ArgumentsOf (body_of message.now.body) (option_map (λ (xs : Bor (List Arg)). map argument_of xs.now) result) }

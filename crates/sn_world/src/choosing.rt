@@ -13,8 +13,8 @@ ghost use Rattle.sn_world.specs.Settling.{settled};
 ghost use Rattle.sn_world.specs.Walk.{walk};
 ghost use Rattle.sn_world.specs.World.{World, Turn};
 
-/// A law: the id that the server chooses next is below the ids of all nodes in the opening world, and it stays so after each command,
-/// after each block and after what happens then.
+/// A law: in the opening world the id that the server chooses next is below the ids of all nodes. It stays so after
+/// each command, after each block, and after what happens then.
 pub fn chosen_ids_stay_below()
     ensures opens { (rate memory clients : ℕ) → AreChosen (opening rate memory clients) }
     ensures commands { (from : ℕ) (m : MessageShape) (t : Turn) → AreChosen t.world → AreChosen (command from m t).world }
@@ -22,8 +22,8 @@ pub fn chosen_ids_stay_below()
     ensures settles { (b : ℕ) (t : Turn) → AreChosen t.world → AreChosen (settled b t).world }
 {}
 
-/// A law: no node has the id that the server chooses next. A new node that asks for one with -1 is refused as having an id in use only
-/// where none is left.
+/// A law: no node has the id that the server chooses next. A new node that asks for one with -1 is refused as having an
+/// id in use only if none is left.
 pub fn chosen_ids_are_free()
     ensures free { (w : World) (id : ℤ) → AreChosen w → w.next_id ≡ Some id → holds id w.nodes ≡ false }
     ensures groups { (w : World) (r : NewGroup) → AreChosen w → r.node.id ≡ negsuc 0 → judge_group w r ≡ Some IdInUse → w.next_id ≡ None }

@@ -109,7 +109,7 @@ pub enum Handled {
     Completion(Message),
     /// `/quit` was carried out: the server ends.
     Quit,
-    /// `/clearSched` was accepted: the entries that are due after this boundary are to be dropped.
+    /// `/clearSched` was accepted: the entries that are due after this boundary must be dropped.
     ClearSched,
     /// The command is refused, and nothing has changed.
     Failed(Reason),

@@ -29,14 +29,14 @@ impl Defs {
         }
     }
 
-    /// The definition of this name, where there is one.
+    /// The definition of this name, if there is one.
     pub fn named(&self, name: &[u8]) -> Option<&Arc<Def, Global>>
         ensures { option_map (λ a. definition_of a.now.value) result ≡ finite.get (definitions_of self.now) name.now }
     {
         self.items.get(name)
     }
 
-    /// Puts a definition in, in the place of one of its name. An `Err` changes nothing.
+    /// Adds a definition, in the place of one of its name. An `Err` changes nothing.
     pub fn insert(&mut self, def: Arc<Def, Global>) -> Result<(), NoMemory>
         ensures ok { OnOk result (definitions_of self.new ≡ finite.insert (definitions_of self.old) def.value.name.bytes (definition_of def.value)) }
         ensures err { OnErr result (definitions_of self.new ≡ definitions_of self.old) }
@@ -54,7 +54,7 @@ impl Defs {
         self.items.len()
     }
 
-    /// Forgets the definition of this name, where there is one.
+    /// Forgets the definition of this name, if there is one.
     pub fn remove(&mut self, name: &[u8])
         ensures { definitions_of self.new ≡ finite.remove (definitions_of self.old) name.now }
     {

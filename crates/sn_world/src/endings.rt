@@ -64,7 +64,7 @@ impl Endings {
         self.items.clear();
     }
 
-    /// Makes room for `more` endings past those that are there. No room is lost, also at an `Err`.
+    /// Makes room for `more` endings past those that are there. No room is lost, even at an `Err`.
     pub fn reserve(&mut self, more: usize) -> Result<(), NoMemory>
         ensures items { self.new.items ≡ self.old.items }
         ensures room { OnOk result (more ≤ self.new.spare) }
@@ -74,7 +74,7 @@ impl Endings {
         Ok(())
     }
 
-    /// Puts an ending at the end, where there is room.
+    /// Appends an ending. There must be room for it.
     pub fn push_within(&mut self, ending: Ending)
         requires { 0 < self.old.spare }
         ensures items { self.new.items ≡ self.old.items ++ ending ∷ [] }

@@ -10,7 +10,7 @@ use crate::stage::Held;
 use sn_pool::Pool;
 use sn_tree::Tree;
 
-/// Gives the words of a node back to the pool, where it has some.
+/// Gives the words of a node back to the pool, if it has some.
 pub fn give_back(pool: &mut Pool, held: &Held)
     requires live { (e : Extent) → 1 ≤ e.len → times e (held_extents held.now) ≤ times e pool.old.live }
     requires room { HasRoomFor (amount (λ e. 1) (held_extents held.now)) pool.old.journal }

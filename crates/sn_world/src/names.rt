@@ -25,7 +25,7 @@ impl Names {
         }
     }
 
-    /// Puts a name in, and says whether it is new. An `Err` changes nothing.
+    /// Adds a name, and returns whether it is new. An `Err` changes nothing.
     pub fn insert(&mut self, name: &[u8]) -> Result<bool, NoMemory>
         ensures new { IfOk result (λ new. new ≡ not (is_some (finite.get (names_in self.old) name.now))) }
         ensures put { OnOk result (names_in self.new ≡ finite.insert (names_in self.old) name.now tt) }

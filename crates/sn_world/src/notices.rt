@@ -58,7 +58,8 @@ fn push_kind(answer: &mut Answer, view: &NodeView) -> Result<(), NoMemory>
     }
 }
 
-/// The message of an event of a node: its id, its parent, the node before it and the node after it, with -1 for none, and what it is.
+/// The message of an event of a node: its id, its parent, the node before it and the node after it, with -1 for none,
+/// and what it is.
 pub fn event_message(
     alloc: Global,
     event: NodeEvent,
@@ -77,7 +78,7 @@ pub fn event_message(
     answer.into_message(address(event))
 }
 
-/// Tells a client of an event of a node, where its flag is on.
+/// Tells a client of an event of a node, if its flag is on.
 #[tactic(auto, using(crate::proofs::Continuing::continues_same, crate::proofs::Continuing::continues_more))]
 fn notify_one(
     alloc: Global,
@@ -99,8 +100,8 @@ fn notify_one(
     Ok(())
 }
 
-/// Tells each client whose flag is on of an event of a node. After want of memory some of them may have been told. No earlier reply is
-/// lost.
+/// Tells each client whose flag is on of an event of a node. After `NoMemory` some of them may have been told. No
+/// earlier reply is lost.
 pub fn notify(
     alloc: Global,
     flags: &Flags,

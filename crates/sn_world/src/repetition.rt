@@ -11,7 +11,7 @@ pub struct BusValue {
     pub value: i32,
 }
 
-/// Places in a row, as buses or samples, from `first` on.
+/// Places in a row, such as buses or samples, from `first` on.
 #[derive(Clone, Copy, Debug, PartialEq, Eq)]
 pub struct Run {
     pub first: i32,

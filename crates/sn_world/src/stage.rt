@@ -18,7 +18,7 @@ use std::sync::Arc;
 pub enum Held {
     /// A group, parallel or not.
     Group,
-    /// A synth, and where the words of its units' states are, none where its definition has none.
+    /// A synth, and where the words of its units' states are. There are none if its definition has none.
     Synth {
         def: Arc<Def, Global>,
         controls: Controls,
@@ -26,28 +26,29 @@ pub enum Held {
     },
 }
 
-/// The nodes, the definitions, the pool from which the words of synths and buffers come, the buffers, and what the server keeps of its clients.
+/// The nodes, the definitions, the pool from which the words of synths and buffers come, the buffers, and what the
+/// server keeps of its clients.
 #[derive(Drop)]
 pub struct Stage {
     /// The nodes.
     pub tree: Tree<Held>,
     /// The definitions that were received.
     pub defs: Defs,
-    /// From which the words of synths and buffers come.
+    /// The pool from which the words of synths and buffers come.
     pub pool: Pool,
     /// Where the buffers are.
     pub buffers: Buffers,
     /// Which clients are notified of what happens to nodes.
     pub notify: Flags,
-    /// The id that is chosen next, from -2 downwards, or `None` once -2147483648 was chosen.
+    /// The id that is chosen next, from -2 downwards, or `None` after -2147483648 was chosen.
     pub next_id: Option<i32>,
     /// Frames a second.
     pub rate: u32,
 }
 
 impl Stage {
-    /// The root group alone, no definitions, no buffers, a pool of `memory` words behind those of the buses, and `clients` clients, none of
-    /// them notified.
+    /// The root group alone, no definitions, no buffers, a pool of `memory` words after those of the buses, and
+    /// `clients` clients, none of them notified.
     pub fn new(alloc: Global, rate: u32, memory: u32, clients: u32) -> Result<Stage, NoMemory>
         requires memory { memory ≤ most_memory }
         requires clients { clients ≤ most_clients }

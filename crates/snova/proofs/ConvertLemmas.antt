@@ -93,7 +93,7 @@ complete c source OutFault answer given is some has read out = absurd (out refl)
 done_answer : (c : Conversion) (bytes : List ℕ) (n : ℕ) (made : List ℕ) → Forms c (Some bytes) n made → HasAnswer c bytes (Done n)
 done_answer c bytes n made f = (subst (λ ys. length ys ≤ 16777216) f.told f.size, (f.packets, made, subst (λ ys. AreForms c ys f.packets made) f.told f.forms, f.count_is))
 
--- the answer where the sink failed
+-- the answer if the sink failed
 pub out_answer : (c : Conversion) (source : Option (List ℕ)) (n : ℕ) (made : List ℕ) → Forms c source n made → IsAnswer c source OutFault
 out_answer c None n made f = tt
 out_answer c (Some bytes) n made f = (n, done_answer c bytes n made f)

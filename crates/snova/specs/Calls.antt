@@ -19,7 +19,8 @@ by_name word =
 abbrev pub alone : List ℕ → Call
 alone word = cond (is_help word) Call.Help (cond (bytes_eq word (codes "--version")) Call.Version (by_name word))
 
--- Help and the version are asked for by one word alone; all else is to serve, to convert, to drill, to plan or to render.
+-- Help and the version are asked for by one word alone; all else is to serve, to convert, to drill, to plan or to
+-- render.
 abbrev pub call_of : List Octets → Call
 call_of [] = Call.Render
 call_of (word ∷ []) = alone word.bytes

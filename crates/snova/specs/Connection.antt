@@ -12,7 +12,7 @@ use Rattle.snova.specs.declared.serving.Served.TheVariants.{BadWords, Ran}
 abbrev pub AreServed : List Octets → Settings → Type 0
 AreServed words s = (port : ℕ) × (clients : ℕ) × (serve_words_of words ≡ Ok (record { settings = numbers s; port = port; clients = clients }))
 
--- A fact about the settings that the words choose, where they choose some.
+-- A fact about the settings that the words choose, if they choose some.
 abbrev pub ForServed : List Octets → Result ServeChoices ℕ → (Settings → Type 0) → Type 0
 ForServed words (Ok c) P = (s : Settings) × AreServed words s × P s
 ForServed words (Err i) P = Unit {0}

@@ -16,22 +16,23 @@ use Rattle.sn_words.specs.Converting.{convert_words_of}
 use Rattle.snova.specs.declared.converting.Converted.{Converted}
 use Rattle.snova.specs.declared.converting.Converted.TheVariants.{Done, NoMemory, BadWords, BadStream, LongStream, ReadFault, OutFault, BadScore}
 
--- The same packets in the form that is given and in the one that is made: a text and its stream, or a stream and its text.
+-- The same packets in the form that is given and in the one that is made: a text and its stream, or a stream and its
+-- text.
 abbrev pub AreForms : Conversion → List ℕ → List Shape → List ℕ → Type 0
 AreForms conversions.Score given packets made = Score given packets × Frames packets made
 AreForms conversions.Dump given packets made = Frames packets given × Score made packets
 
--- The first fault of a stream, where one is given.
+-- The first fault of a stream, if one is given.
 abbrev pub HasBadStream : Conversion → List ℕ → ℕ → ℕ → StreamFault → Type 0
 HasBadStream conversions.Score given packet place fault = ⊥
 HasBadStream conversions.Dump given packet place fault = StreamFaultAt given packet place fault
 
--- The first fault of a text, where one is given.
+-- The first fault of a text, if one is given.
 abbrev pub HasBadScore : Conversion → List ℕ → ℕ → Type 0
 HasBadScore conversions.Score given line = ScoreFault given line
 HasBadScore conversions.Dump given line = ⊥
 
--- The answer that the bytes of a source have: they are too many, have a first fault, or are so many packets.
+-- The answer that the bytes of a source have: they are too many, have a first fault, or are this number of packets.
 abbrev pub HasAnswer : Conversion → List ℕ → Converted → Type 0
 HasAnswer c given (LongStream n) = (n ≡ most_stream + 1) × (most_stream < length given)
 HasAnswer c given (BadStream packet place fault) = (length given ≤ most_stream) × HasBadStream c given packet place fault
@@ -42,7 +43,8 @@ HasAnswer c given (BadWords i) = ⊥
 HasAnswer c given ReadFault = ⊥
 HasAnswer c given OutFault = ⊥
 
--- An answer of one of these four kinds is the one of the bytes, where the source tells them. `LongStream` has its number told or not.
+-- An answer of one of these four kinds is the one of the bytes, if the source tells them. The number of `LongStream`
+-- may be told or not.
 abbrev pub IsAnswer : Conversion → Option (List ℕ) → Converted → Type 0
 IsAnswer c source (LongStream n) = (n ≡ most_stream + 1) × IfSome source (λ given. most_stream < length given)
 IsAnswer c source (BadStream packet place fault) = IfSome source (λ given. HasAnswer c given (BadStream packet place fault))
@@ -53,7 +55,8 @@ IsAnswer c source NoMemory = Unit {0}
 IsAnswer c source ReadFault = Unit {0}
 IsAnswer c source (BadWords i) = ⊥
 
--- So many packets in both forms: the bytes of a source, which are those that it tells and not too many, and what is made of them.
+-- `count` packets in both forms: the bytes of a source, which are those that it tells and not too many, and what is
+-- made of them.
 pub record Forms (c : Conversion) (source : Option (List ℕ)) (count : ℕ) (made : List ℕ) : Type 0 where
   pub given : List ℕ
   pub packets : List Shape
@@ -62,7 +65,7 @@ pub record Forms (c : Conversion) (source : Option (List ℕ)) (count : ℕ) (ma
   pub forms : AreForms c given packets made
   pub count_is : count ≡ length packets
 
--- the sink took the other form of so many packets
+-- the sink took the other form of `count` packets
 abbrev pub Converts : Conversion → Option (List ℕ) → ℕ → Option (List ℕ) → Option (List ℕ) → Type 0
 Converts c source count old new = (made : List ℕ) × Forms c source count made × Appends old new made
 
@@ -77,8 +80,9 @@ IsUnmade (Done n) = ⊥
 IsUnmade (BadWords i) = ⊥
 IsUnmade OutFault = ⊥
 
--- What is taken of the source: all of it; of one that is too long as many bytes as show it; of one that failed a front of fewer; nothing where
--- the words are refused; and where memory ran out nothing, or all of a source that isn't too long.
+-- What is taken of the source. It is all of it if the answer is one of the first four. Of a source that is too long it
+-- is as many bytes as show this, and of one that failed a prefix of no more than a source may have. If the words are
+-- refused, it is nothing. If memory ran out, it is nothing, or all of a source that isn't too long.
 abbrev pub TakesSource : Converted → Option (List ℕ) → Option (List ℕ) → Type 0
 TakesSource (Done n) old new = IsAtEnd new
 TakesSource (BadStream packet place fault) old new = IsAtEnd new
@@ -89,7 +93,7 @@ TakesSource ReadFault old new = (front : List ℕ) × Consumes old new front × 
 TakesSource NoMemory old new = Keeps old new ⊎ (IsAtEnd new × IfSome old (λ bytes. length bytes ≤ most_stream))
 TakesSource (BadWords i) old new = Keeps old new
 
--- What the sink took at each answer but `Done`: a front of the other form where it failed, and else nothing.
+-- What the sink took at each answer but `Done`: a prefix of the other form if it failed, and otherwise nothing.
 abbrev pub Writes : Conversion → Option (List ℕ) → Converted → Option (List ℕ) → Option (List ℕ) → Type 0
 Writes c source (Done n) old new = Unit {0}
 Writes c source OutFault old new = (count : ℕ) × (made : List ℕ) × Forms c source count made × TakesFront old new made
@@ -100,7 +104,7 @@ Writes c source (LongStream n) old new = Keeps old new
 Writes c source ReadFault old new = Keeps old new
 Writes c source (BadScore line) old new = Keeps old new
 
--- A fact about the conversion that the words choose, where they choose one.
+-- A fact about the conversion that the words choose, if they choose one.
 abbrev pub ForConversion : Result Conversion ℕ → (Conversion → Type 0) → Type 0
 ForConversion (Ok c) P = P c
 ForConversion (Err i) P = Unit {0}

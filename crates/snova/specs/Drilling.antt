@@ -21,8 +21,8 @@ packets_of s seed blocks = drill_stream seed blocks s.rate
 abbrev pub line_of : Settings → ℕ → ℕ → List ℕ
 line_of s seed blocks = drill_line blocks (sound_of s (packets_of s seed blocks)) (replies_of s (packets_of s seed blocks))
 
--- What the sink took at each outcome of a drill: its line, after as many blocks as its packets give; a prefix of the line if the sink failed;
--- and nothing if memory ran out.
+-- What the sink took at each outcome of a drill. It is the drill's line, after as many blocks as its packets give. It
+-- is a prefix of the line if the sink failed, and nothing if memory ran out.
 abbrev pub Drills : Settings → ℕ → ℕ → Outcome → Option (List ℕ) → Option (List ℕ) → Type 0
 Drills s seed blocks (Done n) old new = (n ≡ last_of s (packets_of s seed blocks)) × (n ≡ blocks) × Appends old new (line_of s seed blocks)
 Drills s seed blocks SoundFault old new = TakesFront old new (line_of s seed blocks)
@@ -34,7 +34,7 @@ Drills s seed blocks (LongSound n) old new = ⊥
 Drills s seed blocks ReadFault old new = ⊥
 Drills s seed blocks ReplyFault old new = ⊥
 
--- the words choose these settings, this seed and so many blocks
+-- the words choose these settings, this seed and this number of blocks
 abbrev pub AreDrilled : List Octets → Settings → ℕ → ℕ → Type 0
 AreDrilled words s seed blocks = drill_words_of words ≡ Ok (record { settings = numbers s; seed = seed; blocks = blocks })
 

@@ -9,7 +9,7 @@ use Rattle.sn_words.specs.Words.{settings_of}
 abbrev pub AreChosen : List Octets → Settings → Type 0
 AreChosen words s = settings_of words ≡ Ok (numbers s)
 
--- A fact about the settings that the words choose, where they choose some.
+-- A fact about the settings that the words choose, if they choose some.
 abbrev pub ForChosen : List Octets → Result Choices ℕ → (Settings → Type 0) → Type 0
 ForChosen words (Ok c) P = (s : Settings) × AreChosen words s × P s
 ForChosen words (Err i) P = Unit {0}

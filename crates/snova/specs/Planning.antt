@@ -24,7 +24,7 @@ pub record Reports (s : Settings) (packets : List Shape) (blocks : ℕ) (old new
   pub written : Appends old new (report_at_end s packets)
   pub longest : HasLongest (played s packets).world
 
--- What the sink took at each outcome of packets but `Done`: a prefix of the report if it failed, and else nothing.
+-- What the sink took at each outcome of packets but `Done`: a prefix of the report if it failed, and otherwise nothing.
 abbrev pub WritesReport : Settings → List Shape → Outcome → Option (List ℕ) → Option (List ℕ) → Type 0
 WritesReport s packets (Done n) old new = Unit {0}
 WritesReport s packets SoundFault old new = TakesFront old new (report_at_end s packets)
@@ -49,7 +49,7 @@ pub record Reported (s : Settings) (stream : Option (List ℕ)) (blocks : ℕ) (
   pub given : ArePacketsOf stream packets
   pub reports : Reports s packets blocks old new
 
--- What the sink took at each outcome but `Done`: a prefix of the report if it failed, and else nothing.
+-- What the sink took at each outcome but `Done`: a prefix of the report if it failed, and otherwise nothing.
 abbrev pub WritesPlan : Settings → Option (List ℕ) → Outcome → Option (List ℕ) → Option (List ℕ) → Type 0
 WritesPlan s stream (Done n) old new = Unit {0}
 WritesPlan s stream SoundFault old new = ReportedPart s stream old new

@@ -14,8 +14,8 @@ use Rattle.sn_shelf.specs.Expanded.{expanded_packets}
 use Rattle.snova.specs.declared.shelving.ShelfOutcome.{ShelfOutcome}
 use Rattle.snova.specs.declared.shelving.ShelfOutcome.TheVariants.{Ran, ShelfFault}
 
--- The packets of a stream, with the samples that came in from the files of a shelf. Each is said where it is told; told or not, each packet
--- that asks for no file stays as it is.
+-- The packets of a stream, with the samples that came in from the files of a shelf. Each is said if it is told. Told or
+-- not, each packet that asks for no file stays unchanged.
 pub record AreExpanded (stream : Option (List ℕ)) (shelf : Option (List File)) (expanded : List Shape) : Type 0 where
   pub packets : List Shape
   pub given : ArePacketsOf stream packets
@@ -26,8 +26,8 @@ pub record AreExpanded (stream : Option (List ℕ)) (shelf : Option (List File))
 abbrev pub IsPlaying : Settings → Option (List ℕ) → Option (List File) → Outcome → Type 0
 IsPlaying s stream shelf o = (expanded : List Shape) × AreExpanded stream shelf expanded × IsEnd s expanded o
 
--- An outcome that a stream may have with the files of a shelf: it is too long, or has a first fault; or its packets, with the samples that came in, are
--- played, their sound is too long, or a sink failed.
+-- An outcome that a stream may have with the files of a shelf. The stream is too long, or has a first fault; or its
+-- packets, with the samples that came in, are played, their sound is too long, or a sink failed.
 abbrev pub IsRun : Settings → Option (List ℕ) → Option (List File) → Outcome → Type 0
 IsRun s stream shelf (LongStream n) = IsAnswer s stream (LongStream n)
 IsRun s stream shelf (BadStream packet place fault) = IsAnswer s stream (BadStream packet place fault)
@@ -43,7 +43,7 @@ abbrev pub IsShelfRun : Settings → Option (List ℕ) → Option (List File) �
 IsShelfRun s stream shelf (Ran outcome) = IsRun s stream shelf outcome
 IsShelfRun s stream shelf ShelfFault = Unit {0}
 
--- the one that the bytes of a stream have with some files, where nothing fails
+-- the one that the bytes of a stream have with some files, if nothing fails
 abbrev pub HasRun : Settings → List ℕ → List File → Outcome → Type 0
 HasRun s bytes files (LongStream n) = IsRun s (Some bytes) (Some files) (LongStream n)
 HasRun s bytes files (BadStream packet place fault) = IsRun s (Some bytes) (Some files) (BadStream packet place fault)
@@ -60,7 +60,7 @@ abbrev pub PlayedByShelf : Settings → Option (List ℕ) → Option (List File)
 PlayedByShelf s stream shelf blocks sound_old sound_new replies_old replies_new = (expanded : List Shape) × AreExpanded stream shelf expanded
     × PlayedPackets s expanded blocks sound_old sound_new replies_old replies_new
 
--- Each sink took a front of it.
+-- Each sink took a prefix of it.
 abbrev pub FrontByShelf : Settings → Option (List ℕ) → Option (List File) → Option (List ℕ) → Option (List ℕ) → Option (List ℕ) → Option (List ℕ) → Type 0
 FrontByShelf s stream shelf sound_old sound_new replies_old replies_new = (expanded : List Shape) × AreExpanded stream shelf expanded
     × PlayedFront s expanded sound_old sound_new replies_old replies_new
@@ -79,7 +79,7 @@ WritesByShelf s stream shelf (Ran NoMemory) sound_old sound_new replies_old repl
     (Keeps sound_old sound_new × Keeps replies_old replies_new) ⊎ FrontByShelf s stream shelf sound_old sound_new replies_old replies_new
 WritesByShelf s stream shelf ShelfFault sound_old sound_new replies_old replies_new = Keeps sound_old sound_new × Keeps replies_old replies_new
 
--- what is taken of the stream: all of it where the shelf failed
+-- what is taken of the stream: all of it if the shelf failed
 abbrev pub TakesByShelf : ShelfOutcome → Option (List ℕ) → Option (List ℕ) → Type 0
 TakesByShelf (Ran outcome) old new = TakesStream outcome old new
 TakesByShelf ShelfFault old new = IsAtEnd new

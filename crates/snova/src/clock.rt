@@ -17,7 +17,8 @@ pub(crate) struct Reading {
     ghost tag_is: { tag ≡ time_tag (as_nanos since_1970) },
 }
 
-/// So long after 1970 as a time tag: the seconds since 1900 above, and their fraction below. The seconds begin again every 2^32.
+/// The time since 1970 as a time tag: the seconds since 1900 in the upper 32 bits, and their fraction in the lower. The
+/// seconds begin again every 2^32.
 fn time_tag(since_1970: Duration) -> u64
     ensures { result ≡ time_tag (as_nanos since_1970) }
 {

@@ -1,4 +1,4 @@
-//! Packets are brought from one form into the other: from a text to a stream, or from a stream to a text.
+//! Packets are converted from one form to the other: from a text to a stream, or from a stream to a text.
 ghost use Rattle.std.specs.Prelude.{◌≡◌, ◌⊎◌, ◌<◌, ◌^◌, ◌↔◌, ℕ, List, Some, Err, IfOk, IfErr, OnOk, length};
 ghost use Rattle.std.specs.Io.KnownBytes.{IsAtEnd, Keeps};
 ghost use Rattle.sn_ports.specs.Causes.{Rose};
@@ -16,7 +16,7 @@ use std::alloc::Global;
 /// What came of a conversion.
 #[derive(Clone, Copy, Debug, PartialEq, Eq)]
 pub enum Converted {
-    /// The source was read to its end, and so many packets were written in the other form.
+    /// The source was read to its end, and this many packets were written in the other form.
     Done {
         packets: u32,
     },
@@ -26,13 +26,14 @@ pub enum Converted {
     BadWords {
         index: u32,
     },
-    /// The stream is no list of framed packets. The packet's number counts from 0, and so does the place, in bytes of the stream.
+    /// The stream is no list of framed packets. The packet's number counts from 0, and so does the place, in bytes of
+    /// the stream.
     BadStream {
         packet: u32,
         place: u64,
         fault: StreamFault,
     },
-    /// The source has more than 16,777,216 bytes. So many were taken: 16,777,217.
+    /// The source has more than 16,777,216 bytes. 16,777,217 were taken.
     LongStream {
         bytes: u64,
     },
@@ -64,7 +65,7 @@ impl Converted {
     }
 }
 
-/// Packets in the form into which they are brought.
+/// Packets in the form to which they are converted.
 #[derive(Drop)]
 struct Made {
     packets: u32,
@@ -193,8 +194,8 @@ fn convert_all<S: Source, O: Sink>(
 /// Does what the words `score IN OUT` or `dump IN OUT` say: reads the packets of a text and writes their stream, or
 /// reads the packets of a stream and writes their text.
 ///
-/// Where the words, the text or the stream are refused, the source fails, or memory runs out, the sink takes no byte. Where the sink fails, it took
-/// a front of the other form.
+/// If the words, the text or the stream are refused, the source fails, or memory runs out, the sink takes no byte. If
+/// the sink fails, it took a prefix of the other form.
 pub fn convert<S: Source, O: Sink>(
     alloc: Global,
     words: &[Word],
@@ -209,22 +210,22 @@ pub fn convert<S: Source, O: Sink>(
     // What was read of the source, at each answer.
     ensures taken { TakesSource result (S.left source.old) (S.left source.new) }
 
-    // Every other answer but want of memory has its cause.
+    // Every other answer has its cause, except `NoMemory`.
     ensures words { (i : ℕ) → (result ≡ Converted.BadWords i) ↔ (convert_words_of words.now ≡ Err i) }
     ensures read { result ≡ Converted.ReadFault → Rose (S.faults source.old) (S.faults source.new) }
     ensures out { result ≡ Converted.OutFault → Rose (O.faults out.old) (O.faults out.new) }
 
-    // Neither of the two failed but where its fault is the answer.
+    // Each of the two failed only if its fault is the answer.
     ensures source_unfailed { (result ≡ Converted.ReadFault) ⊎ (S.faults source.new ≡ S.faults source.old) }
     ensures out_unfailed { (result ≡ Converted.OutFault) ⊎ (O.faults out.new ≡ O.faults out.old) }
 
-    // Where the words choose a conversion, the answer is one that the source's bytes have by it; and where no count rises, it is the one
-    // that they have, or want of memory.
+    // If the words choose a conversion, the answer is one that the source's bytes have by it. If no count rises either,
+    // it is the one that they have, or memory ran out.
     ensures answer { ByConvertWords words.now (λ c. IsAnswer c (S.left source.old) result) }
     ensures complete { ByConvertWords words.now (λ c. (given : List ℕ) (answer : Converted) → S.left source.old ≡ Some given → HasAnswer c given answer
         → (Rose (S.faults source.old) (S.faults source.new) → ⊥) → (Rose (O.faults out.old) (O.faults out.new) → ⊥) → (result ≡ answer) ⊎ (result ≡ Converted.NoMemory)) }
 
-    // What the sink took at every other answer: nothing, or a front of the other form.
+    // What the sink took at every other answer: nothing, or a prefix of the other form.
     ensures written { ByConvertWords words.now (λ c. Writes c (S.left source.old) result (O.taken out.old) (O.taken out.new)) }
     ensures untouched { (i : ℕ) → result ≡ Converted.BadWords i → Keeps (O.taken out.old) (O.taken out.new) }
 {

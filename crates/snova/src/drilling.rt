@@ -62,10 +62,10 @@ pub fn short_drill()
     ensures { (s : Settings) (seed blocks : ℕ) → 1 ≤ blocks → blocks ≤ 20000 → (last_of s (packets_of s seed blocks) ≡ blocks) × (IsTooLong s blocks → ⊥) }
 {}
 
-/// Does what the words `drill [seed=N] [blocks=M] [key=value ..]` say: plays the packets that the seed chooses into memory, and writes one line
-/// that tells of their sound and their replies.
+/// Does what the words `drill [seed=N] [blocks=M] [key=value ..]` say: plays the packets that the seed chooses into
+/// memory, and writes one line that tells of their sound and their replies.
 ///
-/// If the words are refused, or memory runs out, the sink takes no byte. If it fails it took a prefix of the line.
+/// If the words are refused, or memory runs out, the sink takes no byte. If it fails, it took a prefix of the line.
 pub fn drill<H: Threads + Sync, O: Sink, G: Gate>(
     rt: &H,
     alloc: Global,
@@ -78,7 +78,7 @@ pub fn drill<H: Threads + Sync, O: Sink, G: Gate>(
     // What the sink took, at each outcome of the drill that the words choose. No other outcome comes of it.
     ensures written { ByDrillWords words.now (λ s seed blocks. Drills s seed blocks result (O.taken out.old) (O.taken out.new)) }
 
-    // Every other outcome but want of memory has its cause.
+    // Every other outcome has its cause, except `NoMemory`.
     ensures words { (i : ℕ) → (result ≡ Outcome.BadWords i) ↔ (drill_words_of words.now ≡ Err i) }
     ensures out { result ≡ Outcome.SoundFault → Rose (O.faults out.old) (O.faults out.new) }
 
@@ -88,7 +88,7 @@ pub fn drill<H: Threads + Sync, O: Sink, G: Gate>(
     // If the words choose a drill and no count rises, it is done, or memory ran out.
     ensures complete { ByDrillWords words.now (λ s seed blocks. (Rose (O.faults out.old) (O.faults out.new) → ⊥) → (result ≡ Outcome.Done blocks) ⊎ (result ≡ Outcome.NoMemory)) }
 
-    // If the words are refused the sink took nothing.
+    // If the words are refused, the sink took nothing.
     ensures untouched { (i : ℕ) → result ≡ Outcome.BadWords i → Keeps (O.taken out.old) (O.taken out.new) }
 {
     let chosen = match drill_words(words) {

@@ -12,10 +12,10 @@ use sn_osc::PacketKind;
 use sn_server::{Ended, Outcome, StreamFault};
 use std::fmt;
 
-/// The status where the words are refused.
+/// The status if the words are refused.
 pub(crate) const BAD_WORDS: u8 = 2;
 
-/// The status where a file or a connection can't be opened.
+/// The status if a file or a connection can't be opened.
 const CANNOT_OPEN: u8 = 9;
 
 /// What came of the words.
@@ -37,8 +37,8 @@ pub(crate) enum Exit {
     Drilled(Outcome),
     /// A report was written.
     Planned(Outcome),
-    /// A file could not be opened, no connection be taken at the port, or the clock not be read, or one
-    /// file would be written over another.
+    /// A file could not be opened, no connection could be taken at the port, the clock could not be read, or one file
+    /// would be written over another.
     NotOpened,
 }
 

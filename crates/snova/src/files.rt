@@ -80,8 +80,8 @@ fn render_paths<H: Files + Clock + Eprint + AllocGlobal + Threads + Sync>(
     }
 }
 
-/// Renders the file that the words name, and tells how far it is if somebody watches. If the words are refused no
-/// file is opened.
+/// Renders the file that the words name, and tells how far it is if somebody watches. If the words are refused, no file
+/// is opened.
 pub(crate) fn render_files<H: Files + Clock + Eprint + AllocGlobal + Threads + Sync>(
     rt: &H,
     args: &[String],

@@ -54,7 +54,7 @@ fn convert_paths<H: Files + AllocGlobal>(rt: &H, args: &[String], words: &[Word]
     }
 }
 
-/// Converts the file that the words name. If they are refused no file is opened.
+/// Converts the file that the words name. If they are refused, no file is opened.
 pub(crate) fn convert_files<H: Files + AllocGlobal>(rt: &H, args: &[String], words: &[Word]) -> Exit
     requires { length words.now < 2 ^ 32 }
     ensures { (i : ℕ) → convert_words_of words.now ≡ Err i → result ≡ Exit.Converted (Converted.BadWords i) }

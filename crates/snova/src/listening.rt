@@ -94,7 +94,7 @@ fn serve_chosen<
     Ok(Exit::Session(serve_several(rt, chosen, sound)?))
 }
 
-/// Serves what comes to the port that the words name. If they are refused nothing is opened.
+/// Serves what comes to the port that the words name. If they are refused, nothing is opened.
 pub(crate) fn serve_port<
     H: Files
         + Clock

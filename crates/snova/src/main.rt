@@ -1,6 +1,6 @@
 //! A sound server: reads a file of commands, or serves a connection, and writes its sound and its replies.
-//! It also writes commands as text, makes commands of a text, plays commands that a seed chooses, and reports what may run
-//! beside what.
+//! It also writes commands as text, makes commands of a text, plays commands that a seed chooses, and reports what may
+//! run beside what.
 #![tactic(auto)]
 
 mod clock;

@@ -85,11 +85,11 @@ fn plan_stream<H: Threads + Sync, S: Source, O: Sink, G: Gate>(
 }
 
 /// Does what the words `plan [key=value ..] COMMANDS REPORT` say: reads a command stream, plays it as
-/// [`run`](crate::rendering::run) does, but for its sound and its replies, and writes what may run beside what at the boundary after
-/// the last block.
+/// [`run`](crate::rendering::run) does, but for its sound and its replies, and writes what may run beside what at the
+/// boundary after the last block.
 ///
-/// If the words, the stream or its length are refused, the source fails, or memory runs out, the sink takes no byte. If the sink fails it
-/// took a prefix of the report.
+/// If the words, the stream or its length are refused, the source fails, or memory runs out, the sink takes no byte. If
+/// the sink fails, it took a prefix of the report.
 pub fn plan_run<H: Threads + Sync, S: Source, O: Sink, G: Gate>(
     rt: &H,
     alloc: Global,
@@ -106,17 +106,17 @@ pub fn plan_run<H: Threads + Sync, S: Source, O: Sink, G: Gate>(
     // What was read of the stream, at each outcome.
     ensures taken { TakesStream result (S.left source.old) (S.left source.new) }
 
-    // Every other outcome but want of memory has its cause.
+    // Every other outcome has its cause, except `NoMemory`.
     ensures words { (i : ℕ) → (result ≡ Outcome.BadWords i) ↔ (plan_words_of words.now ≡ Err i) }
     ensures read { result ≡ Outcome.ReadFault → Rose (S.faults source.old) (S.faults source.new) }
     ensures out { result ≡ Outcome.SoundFault → Rose (O.faults out.old) (O.faults out.new) }
 
-    // Neither of the two failed but if its fault is the outcome.
+    // Each of the two failed only if its fault is the outcome.
     ensures source_unfailed { (result ≡ Outcome.ReadFault) ⊎ (S.faults source.new ≡ S.faults source.old) }
     ensures out_unfailed { (result ≡ Outcome.SoundFault) ⊎ (O.faults out.new ≡ O.faults out.old) }
 
-    // If the words choose settings, the outcome is one that the stream has by them; and if no count rises, it is the one that the
-    // stream has, or want of memory.
+    // If the words choose settings, the outcome is one that the stream has by them. If no count rises either, it is the
+    // one that the stream has, or memory ran out.
     ensures answer { ByPlanWords words.now (λ s. IsAnswer s (S.left source.old) result) }
     ensures complete { ByPlanWords words.now (λ s. (bytes : List ℕ) (answer : Outcome) → S.left source.old ≡ Some bytes → HasAnswer s bytes answer
         → (Rose (S.faults source.old) (S.faults source.new) → ⊥) → (Rose (O.faults out.old) (O.faults out.new) → ⊥) → (result ≡ answer) ⊎ (result ≡ Outcome.NoMemory)) }

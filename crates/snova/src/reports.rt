@@ -54,7 +54,7 @@ fn plan_paths<H: Files + AllocGlobal + Threads + Sync>(
     }
 }
 
-/// Writes the report of the file that the words name. If they are refused no file is opened.
+/// Writes the report of the file that the words name. If they are refused, no file is opened.
 pub(crate) fn plan_files<H: Files + AllocGlobal + Threads + Sync>(
     rt: &H,
     args: &[String],

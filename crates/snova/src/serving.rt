@@ -22,7 +22,7 @@ use std::thread::Threads;
 pub enum Served {
     /// The words spell no settings and no port. The first bad word has this index, from 0.
     BadWords { index: u32 },
-    /// A connection was served, and ended so.
+    /// A connection was served, and this is how it ended.
     Ran(Ended),
 }
 
@@ -38,8 +38,8 @@ impl Served {
     }
 }
 
-/// Does what the words `serve [key=value ..] PORT SOUND` say over one connection, with block 0 at the time tag `base`: takes what comes
-/// over it, sends the replies, and writes the sound as PCM without a header.
+/// Does what the words `serve [key=value ..] PORT SOUND` say over one connection, with block 0 at the time tag `base`:
+/// takes what comes over it, sends the replies, and writes the sound as PCM without a header.
 pub fn serve<H: Threads + Sync, L: Link, O: Sink, G: Gate>(
     rt: &H,
     alloc: Global,
@@ -51,27 +51,27 @@ pub fn serve<H: Threads + Sync, L: Link, O: Sink, G: Gate>(
 ) -> Served
     requires { length words.now < 2 ^ 32 }
 
-    // The events that were taken give the end by the settings of the words, and what they give was written; or a fault or want of memory cut
-    // the last one short. Each is said where the objects tell it.
+    // The events that were taken give the end by the settings of the words, and what they give was written. Or the last
+    // one was cut short, by a fault or because memory ran out. Each is said if the objects tell it.
     ensures served { (how : Ended) → result ≡ Served.Ran how → (s : Settings) × AreServed words.now s × GivesEnd s base
         (L.left link.old) (L.left link.new) (O.taken sound.old) (O.taken sound.new) (L.sent link.old) (L.sent link.new) how }
     ensures close { (how : Ended) → result ≡ Served.Ran how → AtClose how (L.left link.old) (L.left link.new) }
 
-    // Every other answer but want of memory has its cause.
+    // Every other answer has its cause, except `NoMemory`.
     ensures words { (i : ℕ) → (result ≡ Served.BadWords i) ↔ (serve_words_of words.now ≡ Err i) }
     ensures link { result ≡ Served.Ran Ended.LinkFault → Rose (L.faults link.old) (L.faults link.new) }
     ensures sound { result ≡ Served.Ran Ended.SoundFault → Rose (O.faults sound.old) (O.faults sound.new) }
 
-    // Neither failed but where its fault is the answer.
+    // Each of the two failed only if its fault is the answer.
     ensures link_unfailed { (result ≡ Served.Ran Ended.LinkFault) ⊎ (L.faults link.new ≡ L.faults link.old) }
     ensures sound_unfailed { (result ≡ Served.Ran Ended.SoundFault) ⊎ (O.faults sound.new ≡ O.faults sound.old) }
 
-    // Where the words choose settings and no count rises, the end is the one that all events give, or want of memory.
+    // If the words choose settings and no count rises, the end is the one that all events give, or memory ran out.
     ensures complete { ByServeWords words.now (λ s. (events : List LinkEvent) → L.left link.old ≡ Some events → bytes_in events < most_count
         → (Rose (L.faults link.old) (L.faults link.new) → ⊥) → (Rose (O.faults sound.old) (O.faults sound.new) → ⊥)
         → (result ≡ Served.Ran (play_events s base events).ending) ⊎ (result ≡ Served.Ran Ended.NoMemory)) }
 
-    // Where the words are refused nothing was taken, sent or written, and nothing failed.
+    // If the words are refused, nothing was taken, sent or written, and nothing failed.
     ensures untouched { (i : ℕ) → result ≡ Served.BadWords i
         → KeepsEvents (L.left link.old) (L.left link.new) × Keeps (L.sent link.old) (L.sent link.new) × Keeps (O.taken sound.old) (O.taken sound.new)
         × NothingFailed (L.faults link.old) (L.faults link.new) (O.faults sound.old) (O.faults sound.new) }

@@ -16,7 +16,7 @@ use std::thread::Threads;
 use std::time::Duration;
 use std::{fs, io, thread};
 
-/// A peer that takes nothing for so many seconds is a failure.
+/// A peer that takes nothing for this many seconds is a failure.
 const PATIENCE: u64 = 10;
 
 /// The most turns of a session: 512 MiB of them, and about a day of turns of one block.
@@ -31,7 +31,7 @@ pub(crate) struct Connections {
 }
 
 impl Connections {
-    /// So many connections, each of which is read.
+    /// `count` connections, each of which is read.
     pub(crate) fn new(streams: Vec<TcpStream>, count: u32) -> Self {
         Connections {
             streams,
@@ -91,8 +91,8 @@ impl<'a, C: Clock> ClockPulse<'a, C> {
         Ok(now.saturating_sub(self.start).as_nanos())
     }
 
-    /// Waits until blocks are due, and takes them. Answers 0 if no connection is read any more, or if the clock
-    /// can't be read.
+    /// Waits until blocks are due, and takes them. Returns 0 if no connection is read any more, or if the clock can't
+    /// be read.
     fn wait_due(&mut self) -> u32
         ensures bound { result ≤ most_ticks }
         ensures zeros { self.new.zeros ≡ self.old.zeros }
@@ -152,7 +152,7 @@ pub(crate) struct Accepted {
     pub(crate) streams: Vec<TcpStream>,
 }
 
-/// Takes so many connections.
+/// Takes `count` connections.
 pub(crate) fn accept_all(alloc: Global, listener: &TcpListener, count: u32) -> io::Result<Accepted>
     ensures clients { IfOk result (λ a. length a.clients.items ≡ count) }
     ensures sinks { IfOk result (λ a. length a.sinks.items ≡ count) }

@@ -17,7 +17,7 @@ use sn_words::settings;
 use std::alloc::Global;
 use std::thread::Threads;
 
-/// The status where the shelf failed.
+/// The status if the shelf failed.
 const SHELF_FAULT: u8 = 14;
 
 /// How a run over a shelf ended.
@@ -80,12 +80,12 @@ fn run_stream<H: Threads + Sync, S: Source, L: Shelf, O: Sink, R: Sink, G: Gate>
     ShelfOutcome::Ran(play(rt, alloc, settings, expanded, sound, replies, gate))
 }
 
-/// Does what the words `render [key=value ..] COMMANDS SOUND REPLIES` say: reads a command stream, takes in the samples of the files that its
-/// commands name, and writes the sound and the replies that it gives.
+/// Does what the words `render [key=value ..] COMMANDS SOUND REPLIES` say: reads a command stream, takes in the samples
+/// of the files that its commands name, and writes the sound and the replies that it gives.
 ///
-/// The shelf is read after the stream was decoded and before the length is judged. Where the words, the stream or its length are refused, or the
-/// source or the shelf fails, neither sink takes a byte. Where a sink fails, or memory runs out in the midst, each sink took a front of the bytes that
-/// the whole run gives.
+/// The shelf is read after the stream was decoded and before the length is judged. If the words, the stream or its
+/// length are refused, or the source or the shelf fails, neither sink takes a byte. If a sink fails, or memory runs out
+/// in the midst, each sink took a prefix of the bytes that the whole run gives.
 pub fn run_shelf<H: Threads + Sync, S: Source, L: Shelf, O: Sink, R: Sink, G: Gate>(
     rt: &H,
     alloc: Global,
@@ -98,35 +98,37 @@ pub fn run_shelf<H: Threads + Sync, S: Source, L: Shelf, O: Sink, R: Sink, G: Ga
 ) -> ShelfOutcome
     requires { length words.now < 2 ^ 32 }
 
-    // What was done is the sequential walk of the stream with the samples that came in, by the settings of the words, where the objects tell.
+    // What was done is the sequential walk of the stream with the samples that came in, by the settings of the words,
+    // if the objects tell it.
     ensures done { (n : ℕ) → result ≡ ShelfOutcome.Ran (Outcome.Done n) → (s : Settings) × AreChosen words.now s × PlayedByShelf s (S.left source.old) (L.files shelf.old) n
         (O.taken sound.old) (O.taken sound.new) (R.taken replies.old) (R.taken replies.new) }
 
     // What was read of the stream, at each answer.
     ensures taken { TakesByShelf result (S.left source.old) (S.left source.new) }
 
-    // Every other answer but want of memory has its cause.
+    // Every other answer has its cause, except `NoMemory`.
     ensures words { (i : ℕ) → (result ≡ ShelfOutcome.Ran (Outcome.BadWords i)) ↔ (settings_of words.now ≡ Err i) }
     ensures read { result ≡ ShelfOutcome.Ran Outcome.ReadFault → Rose (S.faults source.old) (S.faults source.new) }
     ensures shelf { result ≡ ShelfOutcome.ShelfFault → Rose (L.faults shelf.old) (L.faults shelf.new) }
     ensures sound { result ≡ ShelfOutcome.Ran Outcome.SoundFault → Rose (O.faults sound.old) (O.faults sound.new) }
     ensures reply { result ≡ ShelfOutcome.Ran Outcome.ReplyFault → Rose (R.faults replies.old) (R.faults replies.new) }
 
-    // None of the four failed but where its fault is the answer.
+    // Each of the four failed only if its fault is the answer.
     ensures source_unfailed { (result ≡ ShelfOutcome.Ran Outcome.ReadFault) ⊎ (S.faults source.new ≡ S.faults source.old) }
     ensures shelf_unfailed { (result ≡ ShelfOutcome.ShelfFault) ⊎ (L.faults shelf.new ≡ L.faults shelf.old) }
     ensures sound_unfailed { (result ≡ ShelfOutcome.Ran Outcome.SoundFault) ⊎ (O.faults sound.new ≡ O.faults sound.old) }
     ensures replies_unfailed { (result ≡ ShelfOutcome.Ran Outcome.ReplyFault) ⊎ (R.faults replies.new ≡ R.faults replies.old) }
 
-    // Where the words choose settings, the answer is one that the stream has with the files; and where no count rises, it is the one that they
-    // have, or want of memory.
+    // If the words choose settings, the answer is one that the stream has with the files. If no count rises either, it
+    // is the one that they have, or memory ran out.
     ensures answer { ByWords words.now (λ s. IsShelfRun s (S.left source.old) (L.files shelf.old) result) }
     ensures complete { ByWords words.now (λ s. (bytes : List ℕ) (files : List File) (answer : Outcome) → S.left source.old ≡ Some bytes → L.files shelf.old ≡ Some files → HasRun s bytes files answer
         → (Rose (S.faults source.old) (S.faults source.new) → ⊥) → (Rose (L.faults shelf.old) (L.faults shelf.new) → ⊥)
         → (Rose (O.faults sound.old) (O.faults sound.new) → ⊥) → (Rose (R.faults replies.old) (R.faults replies.new) → ⊥)
         → (result ≡ ShelfOutcome.Ran answer) ⊎ (result ≡ ShelfOutcome.Ran Outcome.NoMemory)) }
 
-    // What each sink took at every other answer: nothing, or a front of what the stream gives with the samples that came in.
+    // What each sink took at every other answer: nothing, or a prefix of what the stream gives with the samples that
+    // came in.
     ensures written { ByWords words.now (λ s. WritesByShelf s (S.left source.old) (L.files shelf.old) result (O.taken sound.old) (O.taken sound.new) (R.taken replies.old) (R.taken replies.new)) }
     ensures untouched { (i : ℕ) → result ≡ ShelfOutcome.Ran (Outcome.BadWords i) → Keeps (O.taken sound.old) (O.taken sound.new) × Keeps (R.taken replies.old) (R.taken replies.new) }
 

@@ -81,7 +81,7 @@ fn calls<H: AllocGlobal>(rt: &H, numbers: &[u32]) -> Result<Calls, NoMemory> {
     Ok(Calls::from_vec(Vec::from_slice(rt.alloc(), numbers)?))
 }
 
-/// Runs `/sync 7` by these words. Of each object these calls fail.
+/// Runs `/sync 7` by these words. The calls of each object with these numbers fail.
 fn run_words<H: AllocGlobal + Threads + Sync>(
     rt: &H,
     texts: &[&str],
@@ -109,7 +109,7 @@ fn run_words<H: AllocGlobal + Threads + Sync>(
     })
 }
 
-/// Serves `/quit` and one block by these words. Of each object these calls fail.
+/// Serves `/quit` and one block by these words. The calls of each object with these numbers fail.
 fn serve_words<H: AllocGlobal + Threads + Sync>(
     rt: &H,
     texts: &[&str],
@@ -178,7 +178,7 @@ fn a_port_that_is_refused(rt: HostRuntime) -> Result<(), Fail> {
     Ok(())
 }
 
-/// Blocks are due at once and again, and none once no connection is read.
+/// Blocks are due at once and again, and none when no connection is read any more.
 #[test]
 fn a_clock_says_what_is_due(rt: HostRuntime) -> Result<(), Fail> {
     let connections = Connections::new(Vec::new(rt.alloc()), 1);

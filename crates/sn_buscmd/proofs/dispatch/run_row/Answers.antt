@@ -83,7 +83,7 @@ returns-in-ClearSched-clause-row g c =
     subst (λ (v : ServerCommand). Follows c.run_clear.result (server_row v c.args.from (map argument_of c.args.arguments.now) (turn_of stage words replies)) (turn_of stage words replies))
     (sym c.in-ClearSched.is) (c.run_clear.ensures.row c.args.from stage words replies)
 
--- ---- want of memory
+-- ---- out of memory
 
 pub returns-in-AllocBuffer-clause-kept : goal.returns-in-AllocBuffer-clause-kept
 returns-in-AllocBuffer-clause-kept g c = stage-kept c.run_buffer_alloc.result c.args.stage.now c.run_buffer_alloc.new.stage c.run_buffer_alloc.ensures.unchanged

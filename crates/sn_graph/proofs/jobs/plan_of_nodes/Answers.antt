@@ -11,7 +11,7 @@ use Rattle.sn_graph.proofs.Racing.{race_free}
 use Rattle.sn_graph.proofs.Coming.{is_planned}
 use Rattle.sn_graph.proofs.jobs.plan_of_nodes.Goals as goal
 
--- the jobs that were put where there were none
+-- the jobs that were put if there were none before
 made : (nodes : HeardNodes) (before after : List Job) → before ≡ [] → after ≡ before ++ jobs (length before) [] (row_of [] nodes) → after ≡ plan_of nodes
 made nodes before after e p = p ∙ ap (λ (js : List Job). js ++ jobs (length js) [] (row_of [] nodes)) e
 

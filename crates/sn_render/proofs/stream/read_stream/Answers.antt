@@ -3,7 +3,6 @@ use Rattle.std.proofs.KnownBytes.{Consumes-trans}
 use Rattle.std.proofs.lemmas.List.{length-append}
 use Rattle.sn_render.proofs.stream.read_stream.Goals as goal
 
--- src/stream.rt:75:13
 pub returns-in_default-read_piece-clause-some : goal.returns-in_default-read_piece-clause-some
 returns-in_default-read_piece-clause-some g c = λ _.
     let read = c.loop-bytes.bytes.bytes in
@@ -11,7 +10,6 @@ returns-in_default-read_piece-clause-some g c = λ _.
     let few : length read + length given ≤ 16777216 = search rules in
     (read ++ given, Consumes-trans _ _ _ _ _ c.loop-bytes.invariant.read c.in_default-read_piece.ensures.some.1, omega (arith, few, length-append read given))
 
--- src/stream.rt:78:13
 pub returns-then-not-is_full-clause-size : goal.returns-then-not-is_full-clause-size
 returns-then-not-is_full-clause-size g c =
     let read = c.loop-bytes.bytes.bytes in

@@ -12,7 +12,7 @@ use Rattle.sn_clash.specs.declared.clash.Clash.{Clash}
 use Rattle.sn_machine.specs.declared.views.Rested.{Rested}
 use Rattle.sn_round.specs.declared.jobs.Job.{Job}
 use Rattle.sn_engine.specs.Playing.{Past, no_past}
-use Rattle.sn_engine.specs.Planning.{HasCopies, HasLanes}
+use Rattle.sn_engine.specs.Planning.{CopiesLie, HasLanes}
 use Rattle.sn_engine.specs.Remembered.{Remembered}
 use Rattle.sn_engine.specs.Running.{Running, opened}
 use Rattle.sn_engine.specs.declared.standing.Standing.TheVariants.{Settled}
@@ -75,7 +75,7 @@ opens_past workers words jobs memory crew none zeros all = λ i. a_past (none i)
 
 -- there is room for the copies
 pub opens_copies : (channels memory rate clients copies : ℕ) (stage : Stage) (words : List ℕ) (outputs : List Extent) → IsTrue (is_within 1 8 channels) → IsTrue (is_within 65536 16777216 memory) → IsOpening rate memory clients stage → copies ≡ 10368 + memory
-    → words ≡ replicate (copies + 16384 + 266240) 0 → outputs ≡ table audio_place channels → HasCopies channels stage words outputs copies
+    → words ≡ replicate (copies + 16384 + 266240) 0 → outputs ≡ table audio_place channels → CopiesLie channels stage words outputs copies
 opens_copies channels memory rate clients copies stage words outputs few large o at zeros places =
     let most : 10368 + memory < 4294967296 = memory_fits memory large in
     let roomy = memory_opens memory large in

@@ -15,7 +15,7 @@ use Rattle.sn_graph.specs.Plans.{IsPlanned}
 use Rattle.sn_play.specs.declared.span.Span.{Span}
 use Rattle.sn_play.specs.Spans.{ArePlayed}
 use Rattle.sn_engine.specs.Outputs.{sounds}
-use Rattle.sn_engine.specs.Planning.{HasCopies, HasLanes, IsPlanOf, IsRowReady, IsSpanOf, first_lane, laned_nodes, lanes_for}
+use Rattle.sn_engine.specs.Planning.{CopiesLie, HasLanes, IsPlanOf, IsRowReady, IsSpanOf, first_lane, laned_nodes, lanes_for}
 use Rattle.sn_engine.specs.Playing.{Past, Playing}
 use Rattle.sn_engine.specs.Running.{Running, with_block}
 use Rattle.sn_engine.specs.Spans.{AreRounds, HasRounds, IsQuiet, IsSpan, with_blocks}
@@ -24,7 +24,7 @@ use Rattle.sn_engine.proofs.LaneLemmas.{lanes_few}
 use Rattle.sn_engine.proofs.SpanLaws.{blocks_are, rendered}
 
 -- a span of the plan of a stage that stands for a world is ready, with the lanes after the copies
-pub span_ready : (w : Span) (channels : ℕ) (stage : Stage) (jobs : List Job) (words : List ℕ) → w.first.stage.now ≡ stage → w.first.plan.now ≡ jobs → Pictures stage words → IsPlanOf stage jobs → HasCopies channels stage words w.outputs.now w.copies → HasLanes stage words
+pub span_ready : (w : Span) (channels : ℕ) (stage : Stage) (jobs : List Job) (words : List ℕ) → w.first.stage.now ≡ stage → w.first.plan.now ≡ jobs → Pictures stage words → IsPlanOf stage jobs → CopiesLie channels stage words w.outputs.now w.copies → HasLanes stage words
     → w.all.now ≡ unrolled jobs w.outputs.now w.copies w.blocks → w.blocks ≤ 32 → w.first.block + w.blocks < 2 ^ 63 → IsRowReady w
 span_ready w channels stage jobs words same plan pictures planned copies lanes all few early =
     let len : w.first.stage.now.pool.region.len ≡ stage.pool.region.len = ap (λ (s : Stage). s.pool.region.len) same in record {
@@ -53,7 +53,7 @@ played_from stage other b first n copies channels words us same at played =
     subst (λ (s : Stage). ArePlayed s first n copies channels words us) same (subst (λ k. ArePlayed other k n copies channels words us) at played)
 
 -- the copies still have room if the memory is as wide and the pool is where it was
-pub still_copied : (channels : ℕ) (old new : Stage) (ws us : List ℕ) (outputs : List Extent) (copies : ℕ) → new.pool.region ≡ old.pool.region → length us ≡ length ws → HasCopies channels old ws outputs copies → HasCopies channels new us outputs copies
+pub still_copied : (channels : ℕ) (old new : Stage) (ws us : List ℕ) (outputs : List Extent) (copies : ℕ) → new.pool.region ≡ old.pool.region → length us ≡ length ws → CopiesLie channels old ws outputs copies → CopiesLie channels new us outputs copies
 still_copied channels old new ws us outputs copies same long h = record {
   few = h.few;
   outputs_are = h.outputs_are;

@@ -105,7 +105,7 @@ abbrev pub StillSpanned : Bool → List Job → List Extent → ℕ → List Spa
 StillSpanned hold jobs outputs copies spans = hold ≡ true → AreSpanned jobs outputs copies spans
 
 -- The first audio buses are heard, and the copies of a span of their sound begin after the words of the pool.
-pub record HasCopies (channels : ℕ) (stage : Stage) (words : List ℕ) (outputs : List Extent) (copies : ℕ) : Type 0 where
+pub record CopiesLie (channels : ℕ) (stage : Stage) (words : List ℕ) (outputs : List Extent) (copies : ℕ) : Type 0 where
   pub few : channels ≤ most_channels
   pub outputs_are : outputs ≡ table audio_place channels
   pub at : copies ≡ bus_words + stage.pool.region.len

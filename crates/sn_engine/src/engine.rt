@@ -100,7 +100,7 @@ impl Model for Engine {
     ghost use Rattle.sn_world.specs.SettleWords.{walk_room};
     ghost use Rattle.sn_engine.specs.Keeping.{HasRoom, IsRoom};
     ghost use Rattle.sn_engine.specs.Holding.{StillHold};
-    ghost use Rattle.sn_engine.specs.Planning.{HasCopies, HasLanes, LanesRest, StillPlanned, StillSpanned, HoldsBounded, HoldsRendered};
+    ghost use Rattle.sn_engine.specs.Planning.{CopiesLie, HasLanes, LanesRest, StillPlanned, StillSpanned, HoldsBounded, HoldsRendered};
     ghost use Rattle.sn_ports.specs.Limits.{most_clients};
 
     ghost Value = { Playing };
@@ -116,7 +116,7 @@ impl Model for Engine {
         × IsRoom e.standing e.room (walk_room (running_labels e.stage.tree.attached)) × (e.room < 2 ^ 30) × (length e.replies.items ≤ most_clients)
         × StillHold e.holds e.stage e.clashes × StillPlanned e.holds e.settings.workers e.stage e.planned.jobs e.planned.quiet e.planned.eventful × HoldsBounded e.standing e.holds
         × StillSpanned e.holds e.planned.jobs e.outputs e.copies e.planned.spans.items
-        × HasCopies e.settings.channels e.stage e.memory.words e.outputs e.copies × HasLanes e.stage e.memory.words × LanesRest e.stage e.block e.memory.words × HoldsRendered e.standing e.holds };
+        × CopiesLie e.settings.channels e.stage e.memory.words e.outputs e.copies × HasLanes e.stage e.memory.words × LanesRest e.stage e.block e.memory.words × HoldsRendered e.standing e.holds };
 }
 
 /// Whether a boundary was done, and its blocks are next.

@@ -6,7 +6,7 @@ ghost use Rattle.sn_world.specs.Pictures.{Pictures};
 ghost use Rattle.sn_world.specs.World.{world_of};
 ghost use Rattle.sn_play.specs.Spans.{ArePlayed};
 ghost use Rattle.sn_engine.specs.Outputs.{sounds};
-ghost use Rattle.sn_engine.specs.Planning.{AreSpanned, HasCopies, HasLanes, IsPlanOf, IsSpanned, LanesRest};
+ghost use Rattle.sn_engine.specs.Planning.{AreSpanned, CopiesLie, HasLanes, IsPlanOf, IsSpanned, LanesRest};
 ghost use Rattle.sn_engine.specs.Spans.{AreRounds};
 
 use crate::hearing::{hear_block, hear_copy};
@@ -138,7 +138,7 @@ fn render_span<H: Threads + Sync, G: Gate>(
     requires pictures { Pictures part.now.stage.now memory.old.words }
     requires planned { IsPlanOf part.now.stage.now part.now.planned.now.jobs }
     requires spanned { IsSpanned part.now.planned.now.jobs part.now.outputs.now part.now.copies span.now }
-    requires copies { HasCopies part.now.settings.now.channels part.now.stage.now memory.old.words part.now.outputs.now part.now.copies }
+    requires copies { CopiesLie part.now.settings.now.channels part.now.stage.now memory.old.words part.now.outputs.now part.now.copies }
     requires early { part.now.first + span.now.blocks < 2 ^ 63 }
     requires lanes { HasLanes part.now.stage.now memory.old.words }
     requires resting { LanesRest part.now.stage.now part.now.first memory.old.words }
@@ -182,7 +182,7 @@ fn render_first<H: Threads + Sync, G: Gate>(
     requires pictures { Pictures part.now.stage.now memory.old.words }
     requires planned { IsPlanOf part.now.stage.now part.now.planned.now.jobs }
     requires spanned { AreSpanned part.now.planned.now.jobs part.now.outputs.now part.now.copies part.now.planned.now.spans.items }
-    requires copies { HasCopies part.now.settings.now.channels part.now.stage.now memory.old.words part.now.outputs.now part.now.copies }
+    requires copies { CopiesLie part.now.settings.now.channels part.now.stage.now memory.old.words part.now.outputs.now part.now.copies }
     requires some { 1 ≤ part.now.blocks }
     requires early { part.now.first + part.now.blocks < 2 ^ 63 }
     requires lanes { HasLanes part.now.stage.now memory.old.words }
@@ -225,7 +225,7 @@ pub fn render<H: Threads + Sync, G: Gate>(
     requires pictures { Pictures part.now.stage.now memory.old.words }
     requires planned { IsPlanOf part.now.stage.now part.now.planned.now.jobs }
     requires spanned { AreSpanned part.now.planned.now.jobs part.now.outputs.now part.now.copies part.now.planned.now.spans.items }
-    requires copies { HasCopies part.now.settings.now.channels part.now.stage.now memory.old.words part.now.outputs.now part.now.copies }
+    requires copies { CopiesLie part.now.settings.now.channels part.now.stage.now memory.old.words part.now.outputs.now part.now.copies }
     requires early { part.now.first + part.now.blocks < 2 ^ 63 }
     requires lanes { HasLanes part.now.stage.now memory.old.words }
     requires resting { LanesRest part.now.stage.now part.now.first memory.old.words }

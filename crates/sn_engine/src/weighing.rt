@@ -30,27 +30,12 @@ const UNITS_IN_MANY_BLOCKS: usize = 128;
 /// To share so few jobs takes next to nothing.
 const FEW_JOBS: u32 = 16;
 
-/// How many units a node has that holds this.
-fn units_of(held: &Held) -> u32 {
-    match held {
-        Held::Group => 0,
-        Held::Synth { def, .. } => def.units.as_slice().len() as u32,
-    }
-}
-
-fn is_synth(held: &Held) -> bool {
-    match held {
-        Held::Group => false,
-        Held::Synth { .. } => true,
-    }
-}
-
 /// How many units each synth has that the walk reaches, in its order.
 fn units_in_walk(alloc: Global, stage: &Stage) -> Result<Vec<u32>, NoMemory> {
     let mut units = Vec::new(alloc);
     for visit in stage.tree.walk() {
-        if is_synth(visit.payload) {
-            units.push(units_of(visit.payload))?;
+        if visit.payload.is_synth() {
+            units.push(visit.payload.units() as u32)?;
         }
     }
     Ok(units)

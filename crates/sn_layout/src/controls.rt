@@ -66,13 +66,6 @@ fn holds_laid(held: &Held, run: &Run<'_>) -> bool
     }
 }
 
-fn units_of(held: &Held) -> usize {
-    match held {
-        Held::Group => 0,
-        Held::Synth { def, .. } => def.units.as_slice().len(),
-    }
-}
-
 /// Pays for `count` looks at each of `units` units and one more, if enough are left.
 fn pay(looks: &mut u32, units: usize, count: usize) -> bool {
     let Some(price) = units.checked_mul(count) else {
@@ -90,7 +83,7 @@ fn pay(looks: &mut u32, units: usize, count: usize) -> bool {
 fn may_hold(held: &Held, run: &Run<'_>, looks: &mut u32) -> bool
     ensures { result ≡ false → holds_laid (name_of run.now.control) (length (values_of run.now.values)) held.now ≡ false }
 {
-    if !pay(looks, units_of(held), value_count(run.values)) {
+    if !pay(looks, held.units(), value_count(run.values)) {
         return true;
     }
     holds_laid(held, run)

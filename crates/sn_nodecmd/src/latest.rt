@@ -7,8 +7,8 @@ use crate::names::NamedControl;
 use sn_ports::NoMemory;
 use std::alloc::Global;
 
-/// From this many requests on, those that later ones cover are left out.
-const MANY: usize = 16;
+/// From this many requests on, those that later ones cover are left out, and runs are resolved.
+pub(crate) const MANY: usize = 16;
 
 /// A request of controls. A later one may cover it: that one does all that this one does.
 pub trait Covering {

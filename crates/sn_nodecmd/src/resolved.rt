@@ -8,6 +8,7 @@ ghost use Rattle.sn_world.specs.NewSynth.{control_of};
 ghost use Rattle.sn_nodecmd.specs.Runs.{name_of, values_of, run_of};
 ghost use Rattle.sn_nodecmd.specs.Resolving.{entered_from, entered_at, entered, last_of, IsResolved};
 
+use crate::latest::MANY;
 use crate::names::number_of;
 use crate::runs::{Run, RunValues, split_first, value_count};
 use sn_def::{Def, Param};
@@ -16,9 +17,6 @@ use sn_tree::Tree;
 use sn_world::Held;
 use std::alloc::Global;
 use std::sync::Arc;
-
-/// From this many runs on, they are resolved.
-const MANY: usize = 16;
 
 /// They are resolved for this many definitions at most.
 const MOST_DEFS: usize = 8;

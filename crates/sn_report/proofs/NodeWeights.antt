@@ -31,7 +31,8 @@ use Rattle.sn_graph.proofs.Planning.{ids-append}
 use Rattle.sn_graph.proofs.Hearing.{all_heard}
 use Rattle.sn_graph.proofs.Filling.{AllFull, full-rows}
 use Rattle.sn_graph.proofs.Distinctly.{Distinct, distinct_after, distinct_below, held_some, not_below, not_here}
-use Rattle.sn_report.specs.Costs.{cost_of, units_at, units_in, units_of, units_or_none}
+use Rattle.sn_world.specs.Pictures.{units_of}
+use Rattle.sn_report.specs.Costs.{cost_of, units_at, units_in, units_or_none}
 use Rattle.sn_report.specs.Mixing.{pairs, shared_by}
 use Rattle.sn_report.specs.Reports.{Sight, held_sight, seen_mixes, seen_units, stage_weight}
 use Rattle.sn_report.specs.Weights.{Weighed, Weight, both, group_weight, group_weighed, heavier, heaviest, in_order, is_split, node_weighed, nothing, weighed}

@@ -5,7 +5,7 @@ use Rattle.std.proofs.lemmas.List.Elements.{filter-append}
 use Rattle.sn_mem.specs.Blocks.{table}
 use Rattle.sn_world.specs.declared.stage.Held.{Held}
 use Rattle.sn_world.specs.declared.stage.Held.TheVariants as held
-use Rattle.sn_world.specs.Pictures.{has_synth}
+use Rattle.sn_world.specs.Pictures.{has_synth, units_of}
 use Rattle.sn_foot.specs.declared.resource.Resource.{Resource}
 use Rattle.sn_foot.specs.declared.resource.Resource.TheVariants.{Audio, Control, Buffer}
 use Rattle.sn_foot.specs.declared.uses.Role.{Role}
@@ -14,7 +14,6 @@ use Rattle.sn_foot.specs.declared.uses.Use.{Use}
 use Rattle.sn_foot.specs.Uses.{footprint_in, uses_in}
 use Rattle.sn_clash.specs.Clashing.{resources}
 use Rattle.sn_clash.specs.Passing.{used_by}
-use Rattle.sn_report.specs.Costs.{units_of}
 use Rattle.sn_report.specs.Reports.{foot_line, held_sight, is_seen, node_line, seen_units}
 use Rattle.sn_report.specs.Visits.{used_so}
 

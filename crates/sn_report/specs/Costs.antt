@@ -1,17 +1,12 @@
 -- What synths cost: as much as they have units.
-use Rattle.std.specs.Prelude.{ℕ, ◌+◌, ℤ, List, [], ◌∷◌, length, Option, Some, None}
+use Rattle.std.specs.Prelude.{ℕ, ◌+◌, ℤ, List, [], ◌∷◌, Option, Some, None}
 use Rattle.std.specs.Option.{option_map}
-use Rattle.sn_def.specs.Defs.{definition_of}
 use Rattle.sn_tree.specs.Trees.{Nodes, label_of}
 use Rattle.sn_world.specs.declared.stage.Held.{Held}
-use Rattle.sn_world.specs.declared.stage.Held.TheVariants as held
 use Rattle.sn_world.specs.declared.stage.Stage.{Stage}
+use Rattle.sn_world.specs.Pictures.{units_of}
 
--- the units of what a node holds, none of a group
-abbrev pub units_of : Held → ℕ
-units_of held.Group = 0
-units_of (held.Synth def controls state) = length (definition_of def.value).units
-
+-- the units of what a node holds, none if there is nothing
 abbrev pub units_or_none : Option Held → ℕ
 units_or_none None = 0
 units_or_none (Some h) = units_of h

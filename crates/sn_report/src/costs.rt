@@ -2,28 +2,18 @@
 ghost use Rattle.std.specs.Prelude.{◌≡◌, ◌≤◌, ◌^◌, None, IfSome};
 ghost use Rattle.std.specs.Option.{option_copied};
 ghost use Rattle.sn_round.specs.Jobs.{job_at};
-ghost use Rattle.sn_report.specs.Costs.{cost_of, units_in, units_of, units_or_none};
+ghost use Rattle.sn_report.specs.Costs.{cost_of, units_in, units_or_none};
 ghost use Rattle.sn_report.specs.Certificates.{chain_cost};
 
 use sn_round::Plan;
 use sn_world::{Held, Stage};
 
-/// How many units a node has that holds this.
-pub fn units_of(held: &Held) -> u64
-    ensures { result ≡ units_of held.now }
-{
-    match held {
-        Held::Group => 0,
-        Held::Synth { def, .. } => def.units.as_slice().len() as u64,
-    }
-}
-
-/// The same, and 0 if there is nothing.
+/// How many units a node has that holds this, 0 if there is nothing.
 fn units_or_none(held: Option<&Held>) -> u64
     ensures { result ≡ units_or_none (option_copied held.entry) }
 {
     match held {
-        Some(held) => units_of(held),
+        Some(held) => held.units() as u64,
         None => 0,
     }
 }

@@ -16,7 +16,6 @@ mod words;
 pub use certificate::{Certificate, Levels};
 pub use certifying::longest;
 pub use checking::check;
-pub use costs::units_of;
 pub use laws::{certified_chain_is_longest, world_has_the_report};
 pub use levels::greatest_below;
 pub use reporting::{report, stage_report};

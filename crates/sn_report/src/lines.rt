@@ -2,15 +2,13 @@
 ghost use Rattle.std.specs.Prelude.{◌≡◌, ◌<◌, ◌^◌, ◌+◌, ◌++◌, map, if◌then◌else◌, IfOk, OnOk};
 ghost use Rattle.sn_tree.specs.Trees.{running_labels};
 ghost use Rattle.std.specs.List.{filter};
-ghost use Rattle.sn_world.specs.Pictures.{has_synth};
+ghost use Rattle.sn_world.specs.Pictures.{units_of};
 ghost use Rattle.sn_foot.specs.Footprints.{is_there};
 ghost use Rattle.sn_foot.specs.Uses.{footprint_in};
 ghost use Rattle.sn_clash.specs.Clashing.{resources};
-ghost use Rattle.sn_report.specs.Costs.{units_of};
 ghost use Rattle.sn_report.specs.Reports.{chain_line, foot_line, head_line, held_sight, is_seen, node_line, node_lines, resource_list, seen_units, synths_among, units_among};
 ghost use Rattle.sn_report.specs.Visits.{label_in, sight_in};
 
-use crate::costs::units_of;
 use crate::resources::used_resources;
 use crate::words::{put_chain, put_int, put_natural, put_resources};
 use sn_clash::used_by;
@@ -32,22 +30,13 @@ pub fn running<'a>(alloc: Global, tree: &'a Tree<Held>) -> Result<Vec<Visit<'a, 
     Ok(visits)
 }
 
-fn is_synth(held: &Held) -> bool
-    ensures { result ≡ has_synth held.now }
-{
-    match held {
-        Held::Group => false,
-        Held::Synth { .. } => true,
-    }
-}
-
 /// One more, if a node holds a synth.
 #[tactic(auto, using(crate::proofs::Used::seen_is))]
 fn counted(count: usize, held: &Held) -> usize
     requires { count < 2 ^ 63 }
     ensures { result ≡ count + (if is_seen (held_sight held.now) then 1 else 0) }
 {
-    if is_synth(held) { count + 1 } else { count }
+    if held.is_synth() { count + 1 } else { count }
 }
 
 /// How many of the nodes are synths.
@@ -66,7 +55,7 @@ pub fn synths_among(visits: &[Visit<'_, Held>]) -> usize
 fn seen_units(held: &Held) -> u64
     ensures { result ≡ seen_units (held_sight held.now) }
 {
-    units_of(held)
+    held.units() as u64
 }
 
 /// How many units they have together.
@@ -138,7 +127,7 @@ fn put_synth(
     out.append(b"node ")?;
     put_int(out, visit.id)?;
     out.append(b" units ")?;
-    put_natural(out, units_of(visit.payload))?;
+    put_natural(out, visit.payload.units() as u64)?;
     out.append(b" reads ")?;
     put_reads(alloc, out, buffers, uses)?;
     out.append(b" writes ")?;
@@ -157,7 +146,7 @@ fn put_node(
 ) -> Result<(), NoMemory>
     ensures { OnOk result (out.new.bytes ≡ out.old.bytes ++ node_line (is_there buffers.now) visit.now.id (held_sight visit.now.payload.now)) }
 {
-    if !is_synth(visit.payload) {
+    if !visit.payload.is_synth() {
         return Ok(());
     }
     let uses = used_by(alloc, visit.payload)?;

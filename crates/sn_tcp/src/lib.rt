@@ -7,5 +7,6 @@ mod link;
 mod pace;
 
 pub use laws::blocks_come_due;
+pub use line::PATIENCE;
 pub use link::TcpLink;
 pub use pace::Pace;

@@ -18,7 +18,7 @@ use std::os::fd::AsRawFd;
 use std::time::{Clock, Duration};
 
 /// A peer that takes nothing for this many seconds is a failure.
-const PATIENCE: u64 = 10;
+pub const PATIENCE: u64 = 10;
 
 /// A socket, and a clock by whose time its blocks are due.
 #[derive(Drop)]

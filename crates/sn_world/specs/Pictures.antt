@@ -54,6 +54,11 @@ abbrev pub has_synth : Held → Bool
 has_synth held.Group = false
 has_synth (held.Synth def controls state) = true
 
+-- the units of what a node holds, none of a group
+abbrev pub units_of : Held → ℕ
+units_of held.Group = 0
+units_of (held.Synth def controls state) = length (definition_of def.value).units
+
 -- a node is a synth by its kind exactly if it holds one, and no node stands below a synth
 abbrev pub KindAgrees : NodeKind → Held → Nodes Held → Type 0
 KindAgrees kinds.Synth h below = (has_synth h ≡ true) × (below ≡ none)

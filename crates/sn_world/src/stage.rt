@@ -1,7 +1,8 @@
 //! What the server holds besides its words: the nodes, the definitions, and the pool.
-ghost use Rattle.std.specs.Prelude.{◌≤◌, IfOk};
+ghost use Rattle.std.specs.Prelude.{◌≡◌, ◌≤◌, IfOk};
 ghost use Rattle.sn_ports.specs.Limits.{most_memory, most_clients};
 ghost use Rattle.sn_world.specs.Opening.{IsOpening};
+ghost use Rattle.sn_world.specs.Pictures.{has_synth, units_of};
 
 use crate::defs::Defs;
 use crate::flags::Flags;
@@ -24,6 +25,28 @@ pub enum Held {
         controls: Controls,
         state: Extent,
     },
+}
+
+impl Held {
+    /// Whether it is a synth.
+    pub fn is_synth(&self) -> bool
+        ensures { result ≡ has_synth self.now }
+    {
+        match self {
+            Held::Group => false,
+            Held::Synth { .. } => true,
+        }
+    }
+
+    /// How many units it has, none if it is a group.
+    pub fn units(&self) -> usize
+        ensures { result ≡ units_of self.now }
+    {
+        match self {
+            Held::Group => 0,
+            Held::Synth { def, .. } => def.units.as_slice().len(),
+        }
+    }
 }
 
 /// The nodes, the definitions, the pool from which the words of synths and buffers come, the buffers, and what the

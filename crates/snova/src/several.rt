@@ -5,7 +5,7 @@ ghost use Rattle.sn_ports.specs.Limits.{most_ticks};
 use crate::clock::now;
 use sn_clients::{Client, Clients, How, Pulse, Sinks, Watcher, serve_many};
 use sn_ports::{FileSink, FileSource, Open};
-use sn_tcp::Pace;
+use sn_tcp::{PATIENCE, Pace};
 use sn_words::ServeWords;
 use std::alloc::Global;
 use std::net::{Ipv4Addr, Net, Shutdown, TcpListener, TcpStream};
@@ -15,9 +15,6 @@ use std::sync::atomic::{AtomicU64, Ordering};
 use std::thread::Threads;
 use std::time::Duration;
 use std::{fs, io, thread};
-
-/// A peer that takes nothing for this many seconds is a failure.
-const PATIENCE: u64 = 10;
 
 /// The most turns of a session: 512 MiB of them, and about a day of turns of one block.
 const MOST_TURNS: u32 = 67_108_864;

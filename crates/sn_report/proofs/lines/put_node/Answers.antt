@@ -4,7 +4,7 @@ use Rattle.sn_foot.specs.declared.uses.Use.{Use}
 use Rattle.sn_foot.specs.Footprints.{is_there}
 use Rattle.sn_foot.specs.Uses.{footprint_in}
 use Rattle.sn_clash.specs.Passing.{used_by}
-use Rattle.sn_report.specs.Costs.{units_of}
+use Rattle.sn_world.specs.Pictures.{units_of}
 use Rattle.sn_report.specs.Reports.{foot_line, held_sight, node_line}
 use Rattle.sn_report.proofs.Used.{no_line, node_line_is}
 use Rattle.sn_report.proofs.lines.put_node.Goals as goal

@@ -4,7 +4,6 @@ use Rattle.sn_server.specs.Served.{GivesEnd}
 use Rattle.snova.specs.Connection.{AreServed}
 use Rattle.snova.proofs.listening.serve_since.Goals as goal
 
--- src/listening.rt:37:1
 pub returns : goal.returns
 returns g c = record {
   served = λ how is. subst

@@ -3,7 +3,7 @@ use crate::line::Unanswered;
 use crate::texts::TONE;
 use crate::trees::{attached, attached_and_undone, walked, written_and_undone};
 use sn_def::{DefKind, Unread, print, read};
-use sn_mem::{Extent, Extents, Foot, FootPort, PlainPort, clash, load_words, store_words};
+use sn_mem::{Extent, Extents, Foot, PlainPort, clash, load_words, store_words};
 use sn_osc::{Address, Body, Bundle, Frame, Message, Packet, frames_of, spellable};
 use sn_ports::{FileSink, FileSource, NoMemory, Text, fill, show, write_all};
 use sn_queue::Messages;
@@ -177,14 +177,13 @@ fn clashing(alloc: Global) -> Result<bool, Unanswered> {
     )
 }
 
-/// Words that are stored through a foot are loaded through it.
+/// Words that are stored are loaded.
 #[tactic(auto, using(crate::proofs::Plain::plain_may_write, crate::proofs::Plain::plain_may_read))]
-fn footed_words(alloc: Global) -> Result<bool, Unanswered> {
+fn plain_words(alloc: Global) -> Result<bool, Unanswered> {
     let mut port = PlainPort::new(alloc, 80)?;
-    let mut footed = FootPort::new(&mut port);
-    store_words(&mut footed, 70, &[4, 5]);
+    store_words(&mut port, 70, &[4, 5]);
     let mut words = [0u64; 3];
-    load_words(&mut footed, 69, &mut words);
+    load_words(&mut port, 69, &mut words);
     Ok(words == [0, 4, 5])
 }
 
@@ -215,7 +214,7 @@ pub fn calls<H: Files>(rt: &H, alloc: Global) -> [(&'static str, Result<bool, Un
         ("spellable", spelled(alloc)),
         ("frames_of", framed_stream(alloc)),
         ("clash", clashing(alloc)),
-        ("FootPort", footed_words(alloc)),
+        ("PlainPort", plain_words(alloc)),
         ("into_vec of messages", listed(alloc)),
         ("next_in_walk", walked(alloc)),
         ("attach", attached(alloc)),

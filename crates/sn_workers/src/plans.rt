@@ -11,10 +11,10 @@ use crate::mixing::{FAR, Mixing, NEAR};
 use sn_crew::Crew;
 use sn_jobs::{no_jobs, put};
 use sn_machine::{are_within, is_race_free};
-use sn_mem::{AllMoves, Extent, Extents, Foot, Moves, Scratch};
+use sn_mem::{AllMoves, Extent, Extents, Foot, Moves, Scratch, store_words};
 use sn_ports::{Gate, NoMemory};
 use sn_round::{Ids, Job, Jobs, Plan, SharedFoot};
-use sn_table::{MainSeat, Shared};
+use sn_table::{MainPort, MainSeat, Shared};
 use std::alloc::Global;
 use std::thread::Threads;
 
@@ -71,7 +71,16 @@ fn no_hands(alloc: Global, count: u32) -> Result<Vec<Hand>, NoMemory> {
     Ok(hands)
 }
 
-/// Stores a first word for each job.
+/// A first word for each job.
+fn first_words() -> [u64; JOBS as usize] {
+    let mut words = [0u64; JOBS as usize];
+    for word in 0..words.len() {
+        words[word] = (word as u64).wrapping_mul(7);
+    }
+    words
+}
+
+/// Stores a first word for each job, by the port of the commands.
 fn fill(shared: &Shared, main: &mut MainSeat)
     requires words { shared.now.words ≡ 200 }
     requires main { IsMainOf shared.now main.old }
@@ -79,9 +88,9 @@ fn fill(shared: &Shared, main: &mut MainSeat)
     ensures main { IsMainOf shared.now main.new }
     ensures idle { IsIdle (main_view main.new) }
 {
-    for word in 0..JOBS {
-        shared.store(main, word, u64::from(word).wrapping_mul(7));
-    }
+    let words = first_words();
+    let mut port = MainPort::new(shared, main);
+    store_words(&mut port, 0, &words);
 }
 
 /// A sum of all words that depends on their order.

@@ -3,14 +3,16 @@
 
     /usr/bin/python3 bench/speedup.py SNOVA WORKDIR PICTURE.png [ROUNDS [MOST]]
 
-SNOVA is the built program. WORKDIR has the workloads (run.py or gen.py makes them). Each workload is rendered by 1 to MOST workers
-(4) in turn, ROUNDS (5) times. What the machine gives to so many workers is the throughput of as many renderings by one worker side
-by side, over that of one. The least of the seconds that passed count. It needs matplotlib, as examples/show.py does.
+SNOVA is the built program. WORKDIR has the workloads (run.py or gen.py makes them). For each number of workers up to MOST
+(4) a workload is rendered by one worker, by so many, and by so many programs of one worker side by side, right after one
+another, ROUNDS (5) times. The throughput of the latter is what the machine gives. The medians of the rounds are drawn. It
+needs matplotlib, as examples/show.py does.
 """
 import os
 import subprocess
 import sys
 import time
+from statistics import median
 
 import matplotlib
 
@@ -38,15 +40,15 @@ def seconds(snova, folder, name, side_by_side, workers):
 
 
 def measured(snova, folder, name, rounds, most):
-    """How many times as fast as one worker so many are, and how many times one rendering's throughput the machine gives."""
-    counts = range(1, most + 1)
-    crew, side = {n: [] for n in counts}, {n: [] for n in counts}
+    """How many times as fast as one worker so many are, how many times its throughput the machine gives, and its seconds."""
+    ones, crew, gives = [], {1: [1.0]}, {1: [1.0]}
     for _ in range(rounds):
-        for n in counts:
-            crew[n].append(seconds(snova, folder, name, 1, n))
-            side[n].append(seconds(snova, folder, name, n, 1))
-    one = min(crew[1])
-    return [one / min(crew[n]) for n in counts], [n * one / min(side[n]) for n in counts], one
+        for n in range(2, most + 1):
+            one = seconds(snova, folder, name, 1, 1)
+            ones.append(one)
+            crew.setdefault(n, []).append(one / seconds(snova, folder, name, 1, n))
+            gives.setdefault(n, []).append(n * one / seconds(snova, folder, name, n, 1))
+    return [median(crew[n]) for n in crew], [median(gives[n]) for n in gives], median(ones)
 
 
 def main():
@@ -64,10 +66,10 @@ def main():
         place.set_title(label, fontsize=8)
         place.set_xlabel("workers")
         place.set_xticks(counts)
-        place.set_ylim(0)
         place.grid(alpha=0.3)
         told = ", ".join(f"{n}: {a:.2f} of {b:.2f}" for n, a, b in zip(counts, crew, gives))
         print(f"{name}: one worker {one:.2f} s; times as fast {told}")
+    places[0].set_ylim(bottom=0)
     places[0].set_ylabel("times as fast as one worker")
     places[0].legend(fontsize=8)
     figure.tight_layout()

@@ -4,4 +4,5 @@ pub mod Census
 pub mod Samples
 pub mod SampleCommands
 pub mod Reading
+pub mod Making
 pub mod Fills

@@ -1,23 +1,18 @@
 //! `/b_alloc`.
-ghost use Rattle.std.specs.Prelude.{◌≡◌, ◌≤◌, ◌<◌, ◌*◌, ◌^◌, None, length, map, Some, IfOk, IfErr, IfSome};
+ghost use Rattle.std.specs.Prelude.{◌≡◌, ◌≤◌, ◌<◌, ◌^◌, length, map, IfSome};
 ghost use Rattle.sn_ports.specs.Limits.{most_channels};
 ghost use Rattle.sn_osc.specs.Shape.{argument_of};
 ghost use Rattle.sn_mem.specs.Words.{SameButWords};
-ghost use Rattle.sn_pool.specs.Pools.{GivesPlace, with_extent};
-ghost use Rattle.sn_pool.specs.Regions.{IsFree, least_place};
 ghost use Rattle.sn_world.specs.World.{turn_of};
 ghost use Rattle.sn_world.specs.Pictures.{Pictures, WritesWorld, KeepsOutside};
-ghost use Rattle.sn_world.specs.BufferNumbers.{number_refusal};
-ghost use Rattle.sn_world.specs.BufferCommands.{frame_count, channel_count, asked_with, new_buffer, alloc_outcome, alloc_row};
+ghost use Rattle.sn_world.specs.BufferCommands.{frame_count, channel_count, asked_with, new_buffer, alloc_row};
 ghost use Rattle.sn_world.specs.Answers.{Follows, UnlessFollowed};
-ghost use Rattle.sn_buscmd.specs.Samples.{IsNew, Places, MayGo, IsGone, IsLive};
+ghost use Rattle.sn_buscmd.specs.Samples.{IsNew};
 
-use crate::buffers::{find, tell_done};
+use crate::buffer_holding::{FirstSamples, make};
 use crate::judging::is_number;
-use crate::samples::fill_samples;
-use sn_mem::{BufferPlace, Extent, Port};
+use sn_mem::Port;
 use sn_osc::Arg;
-use sn_pool::{Pool, Untaken};
 use sn_ports::NoMemory;
 use sn_ports::limits::MOST_CHANNELS;
 use sn_reply::{Reason, Replies};
@@ -86,110 +81,6 @@ fn new_buffer(arguments: &[Arg]) -> Option<NewBuffer>
     }
 }
 
-/// Takes a word for each sample.
-fn take_words(pool: &mut Pool, new: &NewBuffer) -> Result<Extent, Untaken>
-    requires new { IsNew new.now }
-    requires bounded { pool.old.region.len < 2 ^ 32 }
-    ensures by_trial { GivesPlace result (least_place pool.old.region pool.old.live (new.now.frames * new.now.channels)) }
-    ensures size { IfOk result (λ extent. extent.len ≡ new.now.frames * new.now.channels) }
-    ensures free { IfOk result (λ extent. IsFree pool.old.region pool.old.live (new.now.frames * new.now.channels) extent.at) }
-    ensures taken { IfOk result (λ extent. pool.new ≡ record pool.old { live = with_extent extent pool.old.live }) }
-    ensures refused { IfErr result (λ _. pool.new ≡ pool.old) }
-{
-    let words = u64::from(new.frames) * u64::from(new.channels);
-    if words > 4_294_967_295 {
-        return Err(Untaken::Full);
-    }
-    pool.take(words as u32)
-}
-
-/// Gives a buffer's words back, if there is one.
-fn give_old(pool: &mut Pool, old: Option<BufferPlace>)
-    requires may { MayGo old pool.old }
-    ensures gone { IsGone old pool.old pool.new }
-{
-    if let Some(place) = old {
-        pool.give_back(place.extent);
-    }
-}
-
-/// Takes words for a buffer, after those of the buffer with its number were given back. `None` comes if the pool then
-/// has no place. If no place was found, the pool is as it was.
-pub fn take_place(
-    pool: &mut Pool,
-    old: Option<BufferPlace>,
-    new: &NewBuffer,
-) -> Result<Option<BufferPlace>, NoMemory>
-    requires new { IsNew new.now }
-    requires closed { pool.old.journal ≡ None }
-    requires live { IsLive old pool.old }
-    requires bounded { pool.old.region.len < 2 ^ 32 }
-    ensures { Places old new.now pool.old pool.new result }
-{
-    let mark = pool.begin(1)?;
-    give_old(pool, old);
-    match take_words(pool, new) {
-        Ok(extent) => {
-            pool.commit(mark);
-            Ok(Some(BufferPlace {
-                extent,
-                frames: new.frames,
-                channels: new.channels,
-            }))
-        }
-        Err(fault) => {
-            pool.undo(mark);
-            match fault {
-                Untaken::Full => Ok(None),
-                Untaken::NoMemory => Err(NoMemory),
-            }
-        }
-    }
-}
-
-/// Makes a buffer of zeros, and tells of it.
-fn make<P: Port>(
-    alloc: Global,
-    stage: &mut Stage,
-    port: &mut P,
-    new: &NewBuffer,
-    from: u32,
-    replies: &mut Replies,
-) -> Result<Option<Reason>, NoMemory>
-    requires new { IsNew new.now }
-    requires number { number_refusal new.now.number ≡ None }
-    requires pictures { Pictures stage.old (P.words port.old) }
-    requires foot { WritesWorld (P.foot port.old) stage.old.pool.region }
-    ensures row { Follows result (alloc_outcome from (Some new.now) (turn_of stage.old (P.words port.old) replies.old)) (turn_of stage.new (P.words port.new) replies.new) }
-    ensures unchanged { UnlessFollowed result (stage.new ≡ stage.old) }
-    ensures untouched { UnlessFollowed result (P.words port.new ≡ P.words port.old) }
-    ensures untold { UnlessFollowed result (replies.new ≡ replies.old) }
-    ensures pictures { Pictures stage.new (P.words port.new) }
-    ensures region { stage.new.pool.region ≡ stage.old.pool.region }
-    ensures others { KeepsOutside stage.old.pool.region (P.words port.old) (P.words port.new) }
-    ensures len { length (P.words port.new) ≡ length (P.words port.old) }
-    ensures port { SameButWords P.foot P.rest port.old port.new }
-{
-    let told = replies.len();
-    tell_done(alloc, b"/b_alloc", new.number, from, replies)?;
-    let old = find(&stage.buffers, new.number);
-    match take_place(&mut stage.pool, old, new) {
-        Ok(Some(place)) => {
-            stage.buffers.set(new.number as u32, Some(place));
-            fill_samples(port, place.extent, 0, place.extent.len, 0);
-            Ok(None)
-        }
-        Ok(None) => {
-            replies.truncate(told);
-            Ok(Some(Reason::PoolFull))
-        }
-        Err(fault) => {
-            replies.truncate(told);
-            Err(fault)
-        }
-    }
-}
-
 /// `/b_alloc` number frames [channels]
 pub fn run_buffer_alloc<P: Port>(
     alloc: Global,
@@ -217,5 +108,13 @@ pub fn run_buffer_alloc<P: Port>(
     if !is_number(new.number) {
         return Ok(Some(Reason::Buffer));
     }
-    make(alloc, stage, port, &new, from, replies)
+    make(
+        alloc,
+        stage,
+        port,
+        &new,
+        &FirstSamples::Zeros,
+        from,
+        replies,
+    )
 }

@@ -4,6 +4,7 @@
 mod asking;
 mod asking_runs;
 mod buffer_freeing;
+mod buffer_holding;
 mod buffer_making;
 mod buffer_querying;
 mod buffer_reading;

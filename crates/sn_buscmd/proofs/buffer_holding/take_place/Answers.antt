@@ -4,7 +4,7 @@ use Rattle.sn_pool.specs.Pools.{PoolState, times}
 use Rattle.sn_pool.specs.Regions.{IsFree, least_place}
 use Rattle.sn_pool.proofs.Counts.{times_with}
 use Rattle.sn_buscmd.proofs.PlacingLemmas.{times_one}
-use Rattle.sn_buscmd.proofs.buffer_making.take_place.Goals as goal
+use Rattle.sn_buscmd.proofs.buffer_holding.take_place.Goals as goal
 
 pub returns-in-Ok : goal.returns-in-Ok
 returns-in-Ok c =

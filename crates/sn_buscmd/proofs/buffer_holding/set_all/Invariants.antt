@@ -3,7 +3,7 @@ use Rattle.sn_mem.specs.Buffers.{samples_of}
 use Rattle.sn_world.specs.BufferNumbers.{set_from}
 use Rattle.sn_world.specs.BufferReading.{ints_in}
 use Rattle.sn_buscmd.specs.Samples.{KeepsAround}
-use Rattle.sn_buscmd.proofs.buffer_reading.set_all.Given as goal
+use Rattle.sn_buscmd.proofs.buffer_holding.set_all.Given as goal
 
 abbrev pub invariant-loop-index : goal.invariant-loop-index
 invariant-loop-index g l = record {

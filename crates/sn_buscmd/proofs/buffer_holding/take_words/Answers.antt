@@ -1,6 +1,6 @@
 use Rattle.std.proofs.Common.{◌≡◌, ◌*◌, arith}
 use Rattle.sn_buscmd.proofs.PlacingLemmas.{too_many}
-use Rattle.sn_buscmd.proofs.buffer_making.take_words.Goals as goal
+use Rattle.sn_buscmd.proofs.buffer_holding.take_words.Goals as goal
 
 pub returns-then-words-gt4294967295-clause-by_trial : goal.returns-then-words-gt4294967295-clause-by_trial
 returns-then-words-gt4294967295-clause-by_trial c =

@@ -8,7 +8,7 @@ use Rattle.sn_mem.specs.Buffers.{samples_of}
 use Rattle.sn_buscmd.specs.Samples.{KeepsAround}
 use Rattle.sn_buscmd.proofs.ReadingLemmas.{all_read, sets_next}
 use Rattle.sn_buscmd.proofs.SampleLemmas.{length-samples}
-use Rattle.sn_buscmd.proofs.buffer_reading.set_all.Goals as goal
+use Rattle.sn_buscmd.proofs.buffer_holding.set_all.Goals as goal
 
 pub loop-index-preserved : goal.loop-index-preserved
 loop-index-preserved g c =

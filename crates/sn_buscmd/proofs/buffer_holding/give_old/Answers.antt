@@ -1,5 +1,5 @@
 use Rattle.sn_buscmd.proofs.PlacingLemmas.{gone_some, gone_none}
-use Rattle.sn_buscmd.proofs.buffer_making.give_old.Goals as goal
+use Rattle.sn_buscmd.proofs.buffer_holding.give_old.Goals as goal
 
 pub returns-in-Some : goal.returns-in-Some
 returns-in-Some c = record { gone = gone_some c.args.old c.in-Some.place c.args.pool.now c.give_back.new.self c.in-Some.is c.give_back.ensures.counted c.give_back.ensures.given }

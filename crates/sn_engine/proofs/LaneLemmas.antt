@@ -9,7 +9,7 @@ use Rattle.sn_mem.specs.Under.{foot_below}
 use Rattle.sn_mem.specs.Words.{has}
 use Rattle.sn_world.specs.declared.stage.Stage.{Stage}
 use Rattle.sn_world.specs.Pictures.{KeepsOutside, Pictures, WritesWorld}
-use Rattle.sn_play.specs.declared.block.Block.{Block}
+use Rattle.sn_play.specs.declared.block.BlockJobs.{BlockJobs}
 use Rattle.sn_play.specs.declared.span.Span.{Span}
 use Rattle.sn_play.specs.Blocks.{AreResting, IsReady}
 use Rattle.sn_engine.specs.Planning.{HasLanes, IsPlanOf, IsRowReady, LanesRest, first_lane, lanes_for}
@@ -20,7 +20,7 @@ lanes_few true = omega arith
 lanes_few false = omega arith
 
 -- a block of the plan of a stage that stands for a world is ready
-abbrev pub block_ready : (w : Block) (words : List ℕ) → Pictures w.stage.now words → HasLanes w.stage.now words → IsPlanOf w.stage.now w.plan.now → w.block < 2 ^ 63 → IsReady w
+abbrev pub block_ready : (w : BlockJobs) (words : List ℕ) → Pictures w.stage.now words → HasLanes w.stage.now words → IsPlanOf w.stage.now w.plan.now → w.block < 2 ^ 63 → IsReady w
 block_ready w words pictures lanes planned early = record {
   words = words;
   pictures = pictures;

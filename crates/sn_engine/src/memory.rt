@@ -13,7 +13,7 @@ ghost use Rattle.sn_engine.specs.Planning.{HasLanes, IsPlanOf, IsRowReady, Lanes
 use sn_crew::Crew;
 use sn_machine::RestedRounds;
 use sn_mem::Port;
-use sn_play::{Block, Span, block_is_the_walk, span_is_the_walks};
+use sn_play::{BlockJobs, Span, block_is_the_walk, span_is_the_walks};
 use sn_ports::limits::MOST_JOBS;
 use sn_ports::{Gate, NoMemory};
 use sn_table::{MainSeat, Shared};
@@ -77,7 +77,7 @@ impl Memory {
         &mut self,
         rt: &H,
         crew: &mut Crew,
-        block: &Block<'_>,
+        block: &BlockJobs<'_>,
         gate: &G,
     )
         requires pictures { Pictures block.now.stage.now self.old.words }

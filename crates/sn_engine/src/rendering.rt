@@ -15,7 +15,7 @@ use crate::planning::{Planned, SpanPlan};
 use sn_crew::Crew;
 use sn_mem::Extents;
 use sn_pcm::{Settings, frames};
-use sn_play::{Block, Span};
+use sn_play::{BlockJobs, Span};
 use sn_ports::{Gate, Text};
 use sn_span::COPY_WORDS;
 use sn_world::Stage;
@@ -42,13 +42,13 @@ pub struct Part<'a> {
 
 impl<'a> Part<'a> {
     /// The jobs of a block from the first one on.
-    fn block(&self, number: u32) -> Block<'a>
+    fn block(&self, number: u32) -> BlockJobs<'a>
         requires { self.now.first + number < 2 ^ 63 }
         ensures stage { result.stage.now ≡ self.now.stage.now }
         ensures plan { result.plan.now ≡ self.now.planned.now.jobs }
         ensures block { result.block ≡ self.now.first + number }
     {
-        Block {
+        BlockJobs {
             stage: self.stage,
             plan: &self.planned.jobs,
             block: self.first + u64::from(number),

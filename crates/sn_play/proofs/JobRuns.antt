@@ -19,12 +19,12 @@ use Rattle.sn_world.specs.Walk.{walk}
 use Rattle.sn_world.specs.World.{world_of}
 use Rattle.sn_world.specs.declared.stage.Stage.{Stage}
 use Rattle.sn_graph.specs.Plans.{runs_of}
-use Rattle.sn_play.specs.declared.block.Block.{Block}
+use Rattle.sn_play.specs.declared.block.BlockJobs.{BlockJobs}
 use Rattle.sn_play.specs.Blocks.{AreResting, IsReady, outcome_by_foot, outcome_of}
 use Rattle.sn_play.specs.Steps.{CanMoveAll, lane_steps}
 use Rattle.sn_play.proofs.LanedRuns as laned
 
-module _ (w : Block) (top : subtree (pos 0) w.stage.now.tree.attached ≡ w.stage.now.tree.attached) (distinct : AllDistinct int_eq (ids w.stage.now.tree.attached)) (r : IsReady w) where
+module _ (w : BlockJobs) (top : subtree (pos 0) w.stage.now.tree.attached ≡ w.stage.now.tree.attached) (distinct : AllDistinct int_eq (ids w.stage.now.tree.attached)) (r : IsReady w) where
   abbrev stage : Stage
   stage = w.stage.now
 

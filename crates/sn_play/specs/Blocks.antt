@@ -8,20 +8,20 @@ use Rattle.sn_round.specs.Jobs.{foot_at, job_at}
 use Rattle.sn_world.specs.Pictures.{Pictures}
 use Rattle.sn_graph.specs.Plans.{IsPlanned}
 use Rattle.sn_graph.specs.Stages.{nodes_with}
-use Rattle.sn_play.specs.declared.block.Block.{Block}
+use Rattle.sn_play.specs.declared.block.BlockJobs.{BlockJobs}
 use Rattle.sn_play.specs.Steps.{job_steps, lane_steps}
 
 -- what a job makes of words: its steps, kept to its foot
-abbrev pub outcome_of : Block → ℕ → List ℕ → List ℕ
+abbrev pub outcome_of : BlockJobs → ℕ → List ℕ → List ℕ
 outcome_of w j ws = kept_to (foot_at w.plan.now j) (lane_steps w.stage.now w.block (job_steps (job_at w.plan.now j))) ws
 
 -- it sees and changes the foot alone
-pub outcome_by_foot : (w : Block) (j : ℕ) → IsByFoot (foot_at w.plan.now j) (outcome_of w j)
+pub outcome_by_foot : (w : BlockJobs) (j : ℕ) → IsByFoot (foot_at w.plan.now j) (outcome_of w j)
 outcome_by_foot w j = kept_is_by_foot (foot_at w.plan.now j) (lane_steps w.stage.now w.block (job_steps (job_at w.plan.now j)))
 
 -- The stage of a block stands for a world with some words, and its jobs are a plan of the stage, with lanes that lie
 -- after the pool.
-pub record IsReady (w : Block) : Type 0 where
+pub record IsReady (w : BlockJobs) : Type 0 where
   pub words : List ℕ
   pub pictures : Pictures w.stage.now words
   pub first : ℕ

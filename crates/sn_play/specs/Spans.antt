@@ -14,12 +14,12 @@ use Rattle.sn_world.specs.declared.stage.Stage.{Stage}
 use Rattle.sn_quiet.specs.Walks.{walks}
 use Rattle.sn_graph.specs.Plans.{IsPlanned}
 use Rattle.sn_graph.specs.Stages.{nodes_with}
-use Rattle.sn_play.specs.declared.block.Block.{Block}
+use Rattle.sn_play.specs.declared.block.BlockJobs.{BlockJobs}
 use Rattle.sn_play.specs.declared.span.Span.{Span}
 use Rattle.sn_play.specs.Blocks.{outcome_of}
 
 -- block k of a span
-abbrev pub block_at : Block → ℕ → Block
+abbrev pub block_at : BlockJobs → ℕ → BlockJobs
 block_at first k = record first { block = first.block + k }
 
 -- what a job makes of words: one of a block what it makes in a round of that block, and a capture a copy of the block's

@@ -9,7 +9,7 @@ use sn_world::Stage;
 
 /// The jobs of a plan of a stage, in a block.
 #[derive(Clone, Copy)]
-pub struct Block<'a> {
+pub struct BlockJobs<'a> {
     /// The nodes, and where the buffers are.
     pub stage: &'a Stage,
     /// The jobs.
@@ -18,7 +18,7 @@ pub struct Block<'a> {
     pub block: u64,
 }
 
-impl Work for Block<'_> {
+impl Work for BlockJobs<'_> {
     ghost use Rattle.std.specs.Prelude.{length};
     ghost use Rattle.sn_mem.proofs.Masks.{touched};
     ghost use Rattle.sn_round.specs.Jobs.{foot_at};

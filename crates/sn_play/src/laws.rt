@@ -21,7 +21,7 @@ ghost use Rattle.sn_play.specs.Spans.{ArePlayed, IsSpanReady, outcome_in};
 ghost use Rattle.sn_play.specs.Steps.{CanMoveAll};
 ghost use Rattle.sn_play.specs.Synths.{synths_in, voices_of, walk_synths};
 
-use crate::block::Block;
+use crate::block::BlockJobs;
 use crate::span::Span;
 use sn_round::sequential_is_a_script;
 use sn_world::Stage;
@@ -47,7 +47,7 @@ pub fn worlds_lie_below(stage: &Stage)
 
 /// A law: let a stage stand for a world. Then each synth that a job names can run over the job's foot, with the buses
 /// moved that it moves, in each memory in which the foot lies.
-pub fn job_feet_suffice(work: &Block<'_>)
+pub fn job_feet_suffice(work: &BlockJobs<'_>)
     ensures { IsReady work.now → (i size : ℕ) → i < length work.now.plan.now → ((x : ℕ) → touches (foot_at work.now.plan.now i) x ≡ true → x < size)
         → CanMoveAll work.now.stage.now work.now.block (job_at work.now.plan.now i).synths (job_at work.now.plan.now i).moves (foot_at work.now.plan.now i) size }
 {
@@ -59,7 +59,7 @@ pub fn job_feet_suffice(work: &Block<'_>)
 /// with room for the lanes, the feet of its jobs lie in the memory. What its jobs make of the words, one after the
 /// other, is a script. If no lane counts as written in the block, the last words stand for the world after the walk,
 /// and no lane counts as written in the next block. The lanes after the plan's don't either, if they didn't before.
-pub fn block_is_the_walk(work: &Block<'_>)
+pub fn block_is_the_walk(work: &BlockJobs<'_>)
     ensures ready { (words : List ℕ) (first most : ℕ) → Pictures work.now.stage.now words → bus_words + work.now.stage.now.pool.region.len ≤ first → first + audio_bus_words * most ≤ length words → most ≤ most_lanes → first + lane_words < 4294967296
         → IsPlanned (nodes_with first most work.now.stage.now) work.now.plan.now → work.now.block < 2 ^ 63 → IsReady work.now }
     ensures feet { (words : List ℕ) (ready : IsReady work.now) → Pictures work.now.stage.now words → ready.first + audio_bus_words * ready.most ≤ length words → AreWithin (length words) work.now.plan.now }

@@ -8,7 +8,7 @@ mod laws;
 mod playing;
 mod span;
 
-pub use block::Block;
+pub use block::BlockJobs;
 pub use laws::{
     block_is_the_walk, groups_change_nothing, job_feet_suffice, span_is_the_walks,
     voices_are_the_walk, worlds_lie_below,

@@ -2,7 +2,7 @@
 ghost use Rattle.std.specs.Prelude.{◌≡◌, ◌<◌, ◌≤◌, ◌+◌, ◌*◌, length};
 ghost use Rattle.sn_span.specs.Unrolling.{start, unrolled};
 
-use crate::block::Block;
+use crate::block::BlockJobs;
 use sn_mem::{Extents, Foot, Port, Scratch};
 use sn_round::{Plan, Work};
 use sn_span::{COPY_WORDS, capture};
@@ -11,7 +11,7 @@ use sn_span::{COPY_WORDS, capture};
 #[derive(Clone, Copy)]
 pub struct Span<'a> {
     /// The first block, with the plan of each block.
-    pub first: Block<'a>,
+    pub first: BlockJobs<'a>,
     /// The jobs of all blocks.
     pub all: &'a Plan,
     /// How many blocks there are.
@@ -71,7 +71,7 @@ impl Work for Span<'_> {
             let at = self.copies + COPY_WORDS * place.block;
             capture(port, self.outputs.as_slice(), at, block);
         } else {
-            let played = Block {
+            let played = BlockJobs {
                 stage: self.first.stage,
                 plan: self.first.plan,
                 block,

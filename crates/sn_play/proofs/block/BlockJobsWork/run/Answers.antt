@@ -5,7 +5,7 @@ use Rattle.sn_round.specs.Jobs.{job_at, lanes_at}
 use Rattle.sn_graph.specs.Plans.{runs_of}
 use Rattle.sn_play.specs.Steps.{lane_steps}
 use Rattle.sn_play.proofs.JobRuns.{adds, by_foot, can, makes}
-use Rattle.sn_play.proofs.block.BlockWork.run.Goals as goal
+use Rattle.sn_play.proofs.block.BlockJobsWork.run.Goals as goal
 
 pub run_job-requires-clause-nodes : goal.run_job-requires-clause-nodes
 run_job-requires-clause-nodes g c =

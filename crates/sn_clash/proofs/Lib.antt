@@ -7,5 +7,6 @@ pub mod Thinned
 pub mod Together
 pub mod Members
 pub mod Stacking
+pub mod Mapped
 pub mod Worlds
 pub mod Numbers

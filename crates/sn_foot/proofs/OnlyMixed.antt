@@ -3,8 +3,7 @@
 use Rattle.std.proofs.Common.{◌≡◌, ◌≢◌, ◌≤◌, ◌<◌, ◌⊎◌, inl, inr, ⊎_elim, not, ℕ, zero, suc, ◌+◌, ◌*◌, ◌-◌, ◌==◌, nat_lt, Bool, true, false, ◌&&◌, ◌||◌, cond, if◌then◌else◌, List, [], ◌∷◌, ◌++◌, length, get_or, ℤ, pos, negsuc, ◌+ℤ◌, Option, Some, None, sym, refl, ap, subst, ◌∙◌, arith, All, true≢false}
 use Rattle.std.specs.List.{list_any}
 use Rattle.std.specs.Prelude.{nat_le}
-use Rattle.std.proofs.lemmas.Bool.{and_from, and_parts, cases_Bool, cases_lt, eqb-true, false_from_ne_true, eq-eqb, cases_eq, ne_eqb, le-leb, leb-true, lt-ltb, ltb-true, or_cases, or_from, or_left, or_parts, or_right}
-use Rattle.std.proofs.lemmas.Int.{ints}
+use Rattle.std.proofs.lemmas.Bool.{and_from, and_parts, cases_Bool, eqb-true, false_from_ne_true, eq-eqb, cases_eq, ne_eqb, le-leb, leb-true, lt-ltb, ltb-true, or_cases, or_from, or_left, or_right}
 use Rattle.std.proofs.lemmas.List.{length-map}
 use Rattle.std.proofs.lemmas.List.Elements.{All-cons, All-head, All-nil, All-tail}
 use Rattle.sn_mem.specs.declared.extents.Extent.{Extent}
@@ -22,7 +21,6 @@ use Rattle.sn_mem.specs.Through.{is_where, where_is}
 use Rattle.sn_def.specs.declared.control.Control.{Control as SynthControl}
 use Rattle.sn_def.specs.declared.kind.Kind.{Kind}
 use Rattle.sn_def.specs.declared.kind.Kind.TheVariants as kinds
-use Rattle.sn_def.specs.declared.control.Now.{Now}
 use Rattle.sn_def.specs.declared.table.Access.TheVariants as accesses
 use Rattle.sn_def.specs.declared.table.Bank.TheVariants as banks
 use Rattle.sn_def.specs.declared.unit.Unit.{Unit as UnitLine}
@@ -34,24 +32,24 @@ use Rattle.sn_def.proofs.RowLaws.{bus_index}
 use Rattle.sn_io.specs.BusUnits.{reads_audio, writes_audio}
 use Rattle.sn_foot.specs.Mixers.{mixes_audio}
 use Rattle.sn_io.specs.BufferUnits.{numbered}
-use Rattle.sn_io.specs.ByFoot.{Agree, BlocksAgree, IsByFoot}
-use Rattle.sn_io.specs.Channels.{audio_channel, control_number, signals}
+use Rattle.sn_io.specs.ByFoot.{Agree, IsByFoot}
+use Rattle.sn_io.specs.Channels.{audio_channel, control_number}
 use Rattle.sn_io.specs.Conditions.{MayReadAudio, MayReadBuffer, MayReadControl, MayWriteAudio, MayWriteBuffer, MayWriteControl}
 use Rattle.sn_io.specs.OverWords.{onto_block}
 use Rattle.sn_io.specs.Queues.{IsAmong, Puts}
 use Rattle.sn_io.proofs.Agreeing.{AreSeen}
-use Rattle.sn_io.proofs.Alike.{AreUnseen, IsWhole}
+use Rattle.sn_io.proofs.Alike.{AreUnseen}
 use Rattle.sn_synth.specs.Conditions.{AreControlsOf, MayFollow, MayOutput, MayPlay, MayRun, index_of}
-use Rattle.sn_synth.specs.Synths.{control_values, input_blocks, now_of}
-use Rattle.sn_synth.specs.Words.{Going, after_unit, after_units, begun, synth_words, unit_after}
-use Rattle.sn_synth.proofs.Alike.{IsAlike, IsMixer, mixer_alike, signal_is, units_alike}
-use Rattle.sn_synth.proofs.ByFoot.{standing, synth_by_foot, unit_by_foot, values_same}
+use Rattle.sn_synth.specs.Synths.{control_values, input_blocks}
+use Rattle.sn_synth.specs.Words.{after_units, begun, synth_words}
+use Rattle.sn_synth.proofs.Alike.{IsAlike, IsMixer, signal_is, units_alike}
+use Rattle.sn_synth.proofs.ByFoot.{standing, synth_by_foot, values_same}
 use Rattle.sn_synth.proofs.Indices.{index_is, reaches}
 use Rattle.sn_foot.specs.declared.resource.Resource.{Resource}
 use Rattle.sn_foot.specs.declared.resource.Resource.TheVariants.{Audio, Control, Buffer}
 use Rattle.sn_foot.specs.Footprints.{is_among, is_number, synth_mixes, unit_mixes, unit_reads, unit_writes, users}
 use Rattle.sn_foot.proofs.Finding.{all_parts}
-use Rattle.sn_foot.proofs.Sufficing.{among, any_at, by_audio, by_control, by_place}
+use Rattle.sn_foot.proofs.Sufficing.{among, by_audio, by_control, by_place}
 
 -- ---- the unit that mixes a bus
 
@@ -262,25 +260,6 @@ module _ (size : ℕ) (big : 4294967296 ≤ size) (whole : Foot) (off : ℕ → 
         (cases_Bool (moved n))
 
 -- ---- units
-
-wires_alike : (rate b : ℕ) (node : ℤ) (places : List (Option BufferPlace)) (values : List ℤ) (f : Foot) (lines : List UnitLine) (wires : List (List ℤ)) (at number : ℕ) (us ws : List ℕ) → MayWrite f at (units_words rate lines) → All (IsAlike f places values) lines → Agree (touches f) us ws
-    → (after_units rate b node places values lines (standing wires at number us)).wires ≡ (after_units rate b node places values lines (standing wires at number ws)).wires
-unfolding after_unit standing
-wires_alike rate b node places values f [] wires at number us ws state are a = refl
-wires_alike rate b node places values f (u ∷ lines) wires at number us ws state are a =
-    let len : ℕ = unit_words rate u in
-    let ins : List (List ℤ) = input_blocks values wires u.inputs in
-    let now : Now = now_of rate b node number in
-    let r : List ℕ × List (List ℤ) = unit_after u.kind now u.outputs places us at len ins in
-    let s : List ℕ × List (List ℤ) = unit_after u.kind now u.outputs places ws at len ins in
-    let own : MayWrite f at len = part_at f f at (len + units_words rate lines) at len state refl (omega arith) (omega arith) in
-    let one : BlocksAgree (touches f) r s = ⊎_elim
-    (λ (may : MayOutput f places values u). unit_by_foot u.kind now f u.outputs places us ws at len ins own (may wires) a)
-    (λ (is : IsMixer f values u). mixer_alike u.kind now f u.outputs places us ws at len ins is.kind (λ i lt. is.whole wires i lt) a)
-    (All-head (IsAlike f places values) u lines are) in
-    let rest : MayWrite f (at + len) (units_words rate lines) = part_at f f at (len + units_words rate lines) (at + len) (units_words rate lines) state refl (omega arith) (omega arith) in
-    let P : List (List ℤ) → Type 0 = λ (outs : List (List ℤ)). (after_units rate b node places values lines (standing (wires ++ r.1) (at + len) (number + 1) r.0)).wires ≡ (after_units rate b node places values lines (standing (wires ++ outs) (at + len) (number + 1) s.0)).wires in
-    subst P one.outputs (wires_alike rate b node places values f lines (wires ++ r.1) (at + len) (number + 1) r.0 s.0 rest (All-tail (IsAlike f places values) u lines are) one.words)
 
 units_words-append : (rate : ℕ) (us vs : List UnitLine) → units_words rate (us ++ vs) ≡ units_words rate us + units_words rate vs
 units_words-append rate [] vs = omega arith
@@ -512,7 +491,7 @@ module _ (rate b : ℕ) (node : ℤ) (size : ℕ) (whole : Foot) (places : List 
     unfolding standing
     agrees us ws a =
         let Q : List ℤ → Type 0 = λ (values : List ℤ). Agree (touches left) (change us) (after_units rate b node places values d.units (begun ws state.at)).words in
-        subst Q (values_are us ws a) (units_alike rate b node places (values_of us) left d.units [] state.at 0 us ws (subst (λ k. MayWrite left state.at k) is.long keeps_it) (alike_at us) a)
+        subst Q (values_are us ws a) (units_alike rate b node places (values_of us) left d.units [] state.at 0 us ws (subst (λ k. MayWrite left state.at k) is.long keeps_it) (alike_at us) a).0
 
     -- the signal is the same if the words agree
     same_signal : (n : ℕ) (low : n < 128) (mixed : synth_mixes d.units controls (Audio n) ≡ true) (us ws : List ℕ) → Agree (touches left) us ws → ins_of n low mixed us ≡ ins_of n low mixed ws
@@ -521,7 +500,7 @@ module _ (rate b : ℕ) (node : ℤ) (size : ℕ) (whole : Foot) (places : List 
         let c : Cut controls d.units (Audio n) = the_cut n low mixed in
         let own : All (IsAlike left places (values_of us)) (c.first ++ c.unit ∷ c.last) = subst (λ (vs : List UnitLine). All (IsAlike left places (values_of us)) vs) c.are (alike_at us) in
         let room : MayWrite left state.at (units_words rate c.first) = part_at left left state.at state.len state.at (units_words rate c.first) keeps_it refl (omega arith) (omega (arith, words_are n low mixed)) in
-        let wires = wires_alike rate b node places (values_of us) left c.first [] state.at 0 us ws room (all_parts (IsAlike left places (values_of us)) c.first (c.unit ∷ c.last) own).0 a in
+        let wires = (units_alike rate b node places (values_of us) left c.first [] state.at 0 us ws room (all_parts (IsAlike left places (values_of us)) c.first (c.unit ∷ c.last) own).0 a).1 in
         ap (λ (w : List (List ℤ)). input_blocks (values_of us) w c.unit.inputs) wires
         ∙ ap (λ (values : List ℤ). input_blocks values (after_units rate b node places values c.first (begun ws state.at)).wires c.unit.inputs) (values_are us ws a)
 

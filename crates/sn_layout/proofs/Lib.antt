@@ -1,6 +1,5 @@
 pub mod Values
 pub mod Reading
-pub mod Mapped
 pub mod Voices
 pub mod Rows
 pub mod Settings

@@ -33,7 +33,7 @@ use Rattle.sn_graph.specs.declared.nodes.Voice.{Voice}
 use Rattle.sn_graph.specs.Voices.{HeardNodes, none, synth}
 use Rattle.sn_graph.specs.Stages.{may_split, voice_of, with_group, with_node, running_of, clashing_in, nodes_in}
 use Rattle.sn_layout.specs.Layout.{Layout, extent_of, laid, layout_of}
-use Rattle.sn_layout.proofs.Mapped.{at_map, there_map, clashes_mapped}
+use Rattle.sn_clash.proofs.Mapped.{at_map, there_map, clashes_mapped}
 use Rattle.sn_layout.proofs.Reading.{quiet_laid, uses_same}
 
 -- ---- clashes

@@ -1,9 +1,5 @@
 -- The report of a stage and of a world that it stands for.
-use Rattle.std.proofs.Common.{◌≡◌, ℕ, zero, suc, ℤ, Bool, ◌&&◌, List, [], ◌∷◌, ◌++◌, map, Option, None, sym, refl, ap, ◌∙◌}
-use Rattle.std.specs.Prelude.{slice_index_or, nat_lt, is_some}
-use Rattle.std.specs.Option.{option_map}
-use Rattle.sn_mem.specs.declared.buffers.BufferPlace.{BufferPlace}
-use Rattle.sn_mem.specs.Buffers.{buffer_of, buffers_of}
+use Rattle.std.proofs.Common.{◌≡◌, ℕ, ℤ, Bool, List, [], ◌∷◌, ◌++◌, map, sym, refl, ap, ◌∙◌}
 use Rattle.sn_tree.specs.declared.walk.Visit.{Visit}
 use Rattle.sn_tree.specs.Trees.{Label, Nodes, none, node, running_labels, with_payloads}
 use Rattle.sn_tree.proofs.PayloadLaws.{relabelled}
@@ -13,26 +9,12 @@ use Rattle.sn_world.specs.declared.stage.Held.TheVariants as held
 use Rattle.sn_world.specs.declared.stage.Stage.{Stage}
 use Rattle.sn_world.specs.Nodes.{content_of}
 use Rattle.sn_world.specs.World.{world_of}
-use Rattle.sn_world.proofs.DefsLemmas.{is_some-map}
 use Rattle.sn_foot.specs.declared.resource.Resource.{Resource}
-use Rattle.sn_foot.specs.declared.resource.Resource.TheVariants.{Audio, Control, Buffer}
-use Rattle.sn_foot.specs.Footprints.{is_there}
-use Rattle.sn_clash.proofs.Worlds.{same_clashes}
+use Rattle.sn_clash.proofs.Worlds.{same_there, same_clashes}
 use Rattle.sn_graph.specs.Stages.{clashing_in}
 use Rattle.sn_report.specs.Reports.{Sight, chain_line, clashing_of, content_sight, head_line, held_sight, lines, node_lines, report_in, report_of, stage_weight, synths_among, units_among, weight_of, world_weight}
 use Rattle.sn_report.specs.Weights.{Weight}
 use Rattle.sn_report.specs.Visits.{label_in, sight_in}
-
-some_at : {A B : Type 0} (f : A → B) (os : List (Option A)) (n : ℕ) → is_some (slice_index_or (map (option_map f) os) n None) ≡ is_some (slice_index_or os n None)
-some_at f [] n = refl
-some_at f (o ∷ os) zero = is_some-map f o
-some_at f (o ∷ os) (suc n) = some_at f os n
-
-same_there : (words : List ℕ) (buffers : List (Option BufferPlace)) (r : Resource) → is_there (buffers_of words buffers) r ≡ is_there buffers r
-unfolding buffers_of
-same_there words buffers (Audio n) = refl
-same_there words buffers (Control n) = refl
-same_there words buffers (Buffer n) = ap (λ b. nat_lt n 1024 && b) (some_at (buffer_of words) buffers n)
 
 payloads_twice : {P Q R : Type 0} (f : P → Q) (g : Q → R) (t : Nodes P) → with_payloads g (with_payloads f t) ≡ with_payloads (λ p. g (f p)) t
 payloads_twice f g none = refl

@@ -54,8 +54,9 @@ mixer_alike k now f c places us ws at n inputs is whole a =
 
 pub units_alike : (rate b : ℕ) (node : ℤ) (places : List (Option BufferPlace)) (values : List ℤ) (f : Foot) (lines : List UnitLine) (wires : List (List ℤ)) (at number : ℕ) (us ws : List ℕ) → MayWrite f at (units_words rate lines) → All (IsAlike f places values) lines → Agree (touches f) us ws
     → Agree (touches f) (after_units rate b node places values lines (standing wires at number us)).words (after_units rate b node places values lines (standing wires at number ws)).words
+    × ((after_units rate b node places values lines (standing wires at number us)).wires ≡ (after_units rate b node places values lines (standing wires at number ws)).wires)
 unfolding after_unit standing
-units_alike rate b node places values f [] wires at number us ws state are a = a
+units_alike rate b node places values f [] wires at number us ws state are a = (a, refl)
 units_alike rate b node places values f (u ∷ lines) wires at number us ws state are a =
     let len : ℕ = unit_words rate u in
     let ins : List (List ℤ) = input_blocks values wires u.inputs in
@@ -68,7 +69,7 @@ units_alike rate b node places values f (u ∷ lines) wires at number us ws stat
     (λ (is : IsMixer f values u). mixer_alike u.kind now f u.outputs places us ws at len ins is.kind (λ i lt. is.whole wires i lt) a)
     (All-head (IsAlike f places values) u lines are) in
     let rest : MayWrite f (at + len) (units_words rate lines) = part_at f f at (len + units_words rate lines) (at + len) (units_words rate lines) state refl (omega arith) (omega arith) in
-    let P : List (List ℤ) → Type 0 = λ (outs : List (List ℤ)). Agree (touches f) (after_units rate b node places values lines (standing (wires ++ r.1) (at + len) (number + 1) r.0)).words (after_units rate b node places values lines (standing (wires ++ outs) (at + len) (number + 1) s.0)).words in
+    let P : List (List ℤ) → Type 0 = λ (outs : List (List ℤ)). Agree (touches f) (after_units rate b node places values lines (standing (wires ++ r.1) (at + len) (number + 1) r.0)).words (after_units rate b node places values lines (standing (wires ++ outs) (at + len) (number + 1) s.0)).words × ((after_units rate b node places values lines (standing (wires ++ r.1) (at + len) (number + 1) r.0)).wires ≡ (after_units rate b node places values lines (standing (wires ++ outs) (at + len) (number + 1) s.0)).wires) in
     subst P one.outputs (units_alike rate b node places values f lines (wires ++ r.1) (at + len) (number + 1) r.0 s.0 rest (All-tail (IsAlike f places values) u lines are) one.words)
 
 -- ---- the signal on one bus

@@ -1,10 +1,11 @@
--- The clashes of nodes whose payloads are changed.
-use Rattle.std.proofs.Common.{◌≡◌, ℕ, zero, suc, Bool, true, false, ◌&&◌, ◌||◌, List, [], ◌∷◌, ◌++◌, Option, None, get_or, sym, refl, ap, ◌∙◌, map, take}
+-- What is at a number, and the clashes of nodes, if payloads are changed.
+use Rattle.std.proofs.Common.{◌≡◌, ℕ, zero, suc, Bool, ◌&&◌, ◌||◌, List, [], ◌∷◌, ◌++◌, Option, None, get_or, refl, ap, ◌∙◌, map, take}
 use Rattle.std.specs.Prelude.{if◌then◌else◌, nat_lt, is_some}
 use Rattle.std.specs.List.{list_any}
 use Rattle.std.specs.Option.{option_map}
-use Rattle.std.proofs.lemmas.List.{map-append}
 use Rattle.sn_tree.specs.Trees.{Label, Nodes, none, node, running_labels, with_payloads}
+use Rattle.sn_tree.proofs.PayloadLaws.{relabelled}
+use Rattle.sn_tree.proofs.Walking.{running-payloads}
 use Rattle.sn_world.proofs.DefsLemmas.{is_some-map}
 use Rattle.sn_foot.specs.declared.resource.Resource.{Resource}
 use Rattle.sn_foot.specs.declared.resource.Resource.TheVariants.{Audio, Control, Buffer}
@@ -28,28 +29,14 @@ there_map f os (Buffer n) = ap (λ b. nat_lt n 1024 && b) (ap is_some (at_map f 
 -- ---- other payloads
 
 module _ {P Q : Type 0} (f : P → Q) where
-  abbrev relabeled : Label P → Label Q
-  relabeled l = record { id = l.id; kind = l.kind; running = l.running; payload = f l.payload }
-
-  mapped_if : (b : Bool) (l : Label P) (xs ys : List (Label P)) (us vs : List (Label Q)) → us ≡ map relabeled xs → vs ≡ map relabeled ys → (if b then relabeled l ∷ us else vs) ≡ map relabeled (if b then l ∷ xs else ys)
-  mapped_if true l xs ys us vs e g = ap (λ ls. relabeled l ∷ ls) e
-  mapped_if false l xs ys us vs e g = g
-
-  labels_mapped : (t : Nodes P) → running_labels (with_payloads f t) ≡ map relabeled (running_labels t)
-  labels_mapped none = refl
-  labels_mapped (node label below after) =
-      mapped_if label.running label (running_labels below ++ running_labels after) (running_labels after) (running_labels (with_payloads f below) ++ running_labels (with_payloads f after)) (running_labels (with_payloads f after))
-      (ap (λ xs. xs ++ running_labels (with_payloads f after)) (labels_mapped below) ∙ ap (λ ys. map relabeled (running_labels below) ++ ys) (labels_mapped after) ∙ sym (map-append relabeled (running_labels below) (running_labels after)))
-      (labels_mapped after)
-
-  any_mapped : (test : Q → Bool) (ls : List (Label P)) → list_any (λ (l : Label Q). test l.payload) (map relabeled ls) ≡ list_any (λ (l : Label P). test (f l.payload)) ls
+  any_mapped : (test : Q → Bool) (ls : List (Label P)) → list_any (λ (l : Label Q). test l.payload) (map (relabelled f) ls) ≡ list_any (λ (l : Label P). test (f l.payload)) ls
   any_mapped test [] = refl
   any_mapped test (l ∷ ls) = ap (λ b. test (f l.payload) || b) (any_mapped test ls)
 
   module _ (there : Resource → Bool) (uses : Role → Q → Resource → Bool) where
     footprint_mapped : (t : Nodes P) → footprint there uses (running_labels (with_payloads f t)) ≡ footprint there (λ role p. uses role (f p)) (running_labels t)
     footprint_mapped t =
-        ap (λ ls. footprint there uses ls) (labels_mapped t)
+        ap (λ ls. footprint there uses ls) (running-payloads f t)
         ∙ (λ i. record {
           reads = λ r. there r && any_mapped (λ q. uses Read q r) (running_labels t) i;
           writes = λ r. there r && any_mapped (λ q. uses Write q r) (running_labels t) i;

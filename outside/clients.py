@@ -258,18 +258,22 @@ def served(snova, client, folder):
     return got, how, time.monotonic() - began, os.path.getsize(sound) / BLOCK, memory
 
 
-def wrong_of(got, how, seconds, blocks, end, is_wanted, least, most):
-    """What is other than it should be."""
+def wrong_end(how, seconds, blocks, end, least, most):
+    """What is other than it should be at the end of a session."""
     found = []
     if how != end:
         found.append(f"its end should be {end}")
-    if not is_wanted(answers(got)):
-        found.append(f"other replies: {sorted(answers(got).items())[:5]}")
     if not least <= seconds <= most:
         found.append(f"it should take {least} to {most} seconds")
     if blocks % 1 or blocks > (seconds + 1) * SECOND:
         found.append("its sound has another length")
     return found
+
+
+def wrong_of(got, how, seconds, blocks, end, is_wanted, least, most):
+    """What is other than it should be."""
+    found = [] if is_wanted(answers(got)) else [f"other replies: {sorted(answers(got).items())[:5]}"]
+    return found + wrong_end(how, seconds, blocks, end, least, most)
 
 
 def main():

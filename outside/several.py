@@ -11,7 +11,7 @@ import tempfile
 import time
 
 import serving
-from clients import BLOCK, SECOND, all_of, answers, framed, many_groups, takes_little
+from clients import BLOCK, all_of, answers, framed, many_groups, takes_little, wrong_end
 
 QUIT, OVER = ("quit", 0), ("over", 0)
 
@@ -101,13 +101,7 @@ def served(snova, count, clients, folder):
 def wrong_of(found, how, seconds, blocks, end, least, most):
     """What is other than it should be."""
     wrong = [f"came {came}, wanted {wanted}" for came, wanted in found if came != wanted]
-    if how != end:
-        wrong.append(f"its end should be {end}")
-    if not least <= seconds <= most:
-        wrong.append(f"it should take {least} to {most} seconds")
-    if blocks % 1 or blocks > (seconds + 1) * SECOND:
-        wrong.append("its sound has another length")
-    return wrong
+    return wrong + wrong_end(how, seconds, blocks, end, least, most)
 
 
 def main():

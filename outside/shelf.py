@@ -129,7 +129,7 @@ TOLD = [("/b_query", *range(len(FILES))), *(("/b_getn", i, 0, 2) for i in range(
 SHELF_CASES = [
     ("files: each file", stream(*ASKED, *TOLD)),
     ("files: parts of a file", stream(*(("/b_allocRead", i, "two.wav", *part) for i, part in enumerate([(0,), (1,), (3,), (4,), (-1,), (0, 0), (0, 1), (1, 2), (1, 3), (1, 9), (0, -1), (2147483647,), (0, 2147483647)])), *TOLD)),
-    ("files: names", stream(*(("/b_allocRead", i, name) for i, name in enumerate(["below/deep.wav", "./a.wav", "below/../a.wav", "../a.wav", "below", "", ".", "pipe", "nowhere/a.wav", "a.wav/a.wav", "x" * 300, "below//deep.wav"])), *TOLD)),
+    ("files: names", stream(*(("/b_allocRead", i, name) for i, name in enumerate(["below/deep.wav", "./a.wav", "below/../a.wav", "../a.wav", "/proc/self/cwd/a.wav", "below", "", ".", "pipe", "nowhere/a.wav", "a.wav/a.wav", "x" * 300, "below//deep.wav"])), *TOLD)),
     ("files: in bundles, with completions", stream(osc.bundle(1, osc.message("/b_allocRead", 0, "a.wav", osc.message("/b_get", 0, 0)), osc.bundle(1, osc.message("/b_allocRead", 1, "notes.wav", 1, osc.message("/b_getn", 1, 0, 7)), osc.message("/b_allocRead", 2000, "a.wav"))), ("/b_alloc", 3, 1, osc.message("/b_allocRead", 4, "a.wav")))),
 ]
 

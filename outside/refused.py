@@ -1,9 +1,10 @@
 """Refuses memory and threads to a program, at each call that asks for one in turn: python3 refused.py SNOVA [-k WORD] [--workers 1,4] [--random N] [--seed N].
 
 It needs a C compiler `cc` and the GNU C library, for `refuse.c`. A stream with a parallel group is rendered, and connections of each end are served,
-by each number of workers; and N streams by chance are rendered. Once only the call of a number is refused, and once it and all later ones. Each
-time the program must end as it does with all memory there, or with `no memory`, and the files and the replies must be those, or a part from
-their begin. It prints each other end, and how many ends there were of each kind.
+by each number of workers; and N streams by chance are rendered. While two clients are served at once memory alone is refused, since without any
+thread their session waits for good. Once only the call of a number is refused, and once it and all later ones. Each time the program must end as
+it does with all memory there, or with `no memory`, and the files and the replies must be those, or a part from their begin. It prints each other
+end, and how many ends there were of each kind.
 """
 import argparse
 import collections
@@ -23,9 +24,10 @@ from random_cases import Chance, play
 
 HERE = Path(__file__).resolve().parent
 SYNC = osc.frame(osc.message("/sync", 7))
+SYNCED = osc.frame(osc.message("/synced", 7))
 # What comes over a connection, its replies, and how it ends with all memory there.
 CONNECTIONS = [
-    ("a message", SYNC, osc.frame(osc.message("/synced", 7)), ("closed", 0)),
+    ("a message", SYNC, SYNCED, ("closed", 0)),
     ("the front of a packet", SYNC[:7], b"", ("cut after 7 bytes", 10)),
     ("a packet at fault", osc.frame(b"A\0\0\0"), osc.frame(osc.message("/fail", "packet", "bad packet")), ("closed", 0)),
     ("a size of 6", b"\0\0\0\x06", b"", ("bad frame size 6", 11)),
@@ -34,7 +36,7 @@ CONNECTIONS = [
 TONES = [osc.message("/s_new", "tone", 10 + i, 1, 1, "out", 16 + i) for i in range(4)]
 COMMANDS = [*map(lambda it: osc.message(*it), recv("tone", "mix")), osc.message("/p_new", 1, 0, 0), *TONES, osc.message("/s_new", "mix", 20, 1, 0)]
 STREAM = osc.frame(osc.bundle(0, *COMMANDS)) + osc.frame(osc.bundle(1 << 32))
-NO_MEMORY = "no memory", 1
+OVER, NO_MEMORY = ("over", 0), ("no memory", 1)
 # With several workers the calls come in another order each time. So the last number is passed a few times.
 PASSED = 5
 
@@ -45,12 +47,14 @@ class Refusing:
     def __init__(self, snova, library, folder):
         self.snova, self.library, self.folder = snova, library, folder
 
-    def started(self, words, at, goes_on):
+    def started(self, words, at, goes_on, memory_alone=False):
         """The program, and where it tells that a call was refused."""
         told, tells = os.pipe()
         env = {**os.environ, "LD_PRELOAD": self.library, "REFUSE_AT": str(at), "REFUSE_TELL": str(tells)}
         if goes_on:
             env["REFUSE_ALL"] = ""
+        if memory_alone:
+            env["REFUSE_MEMORY"] = ""
         for name in ("sound", "replies"):
             (self.folder / name).unlink(missing_ok=True)
         program = subprocess.Popen([self.snova, *words], cwd=self.folder, env=env, pass_fds=[tells], stdout=subprocess.PIPE, stderr=subprocess.DEVNULL)
@@ -76,7 +80,15 @@ class Refusing:
     def serve(self, data, replies, workers, at, goes_on):
         port = serving.free_port()
         program, told = self.started(["serve", "memory=65536", f"workers={workers}", str(port), "sound"], at, goes_on)
-        got = served(program, port, data, len(replies))
+        got = served(program, port, 1, data, len(replies))
+        refused, how = self.ended(program, told)
+        return refused, how, self.written("sound"), b"".join(got)
+
+    def serve_two(self, workers, at, goes_on):
+        """The same of two clients, with what each of them gets."""
+        port = serving.free_port()
+        program, told = self.started(["serve", "clients=2", "memory=65536", f"workers={workers}", str(port), "sound"], at, goes_on, True)
+        got = served(program, port, 2, SYNC, len(SYNCED))
         refused, how = self.ended(program, told)
         return refused, how, self.written("sound"), got
 
@@ -91,20 +103,32 @@ def connected(program, port):
     return None
 
 
-def served(program, port, data, length):
-    """What a client gets that sends some bytes, waits for its replies, which have this length, and sends nothing more."""
-    link = connected(program, port)
-    if link is None:
+def answer(link, data, length):
+    """What a client gets that sends some bytes, and waits for its replies, which have this length."""
+    try:
+        link.sendall(data)
+        return serving.received(link, length)
+    except OSError:
         return b""
-    with link:
-        got = b""
-        try:
-            link.sendall(data)
-            got = serving.received(link, length)
-            link.shutdown(socket.SHUT_WR)
-        except OSError:
-            pass
-        return got + serving.received(link, 1 << 20)
+
+
+def rest(link):
+    """What a client gets that sends nothing more."""
+    try:
+        link.shutdown(socket.SHUT_WR)
+    except OSError:
+        pass
+    return serving.received(link, 1 << 20)
+
+
+def served(program, port, count, data, length):
+    """What each of so many clients gets. None stops before each had its replies."""
+    links = [link for link in [connected(program, port) for _ in range(count)] if link]
+    got = [answer(link, data, length) for link in links]
+    got = [some + rest(link) for some, link in zip(got, links)]
+    for link in links:
+        link.close()
+    return got
 
 
 def is_part(some, whole):
@@ -125,6 +149,13 @@ def is_wrong_serve(wanted, end, whole, how, sound, replies):
     return how != NO_MEMORY and (how != end or replies != wanted)
 
 
+def is_wrong_two(whole, how, sound, replies):
+    """The same of two clients. One that is not read on for want of memory ends nothing."""
+    if whole[0] != OVER or whole[2] != [SYNCED] * 2 or sound.strip(b"\0"):
+        return True
+    return how not in (OVER, NO_MEMORY) or not all(is_part(it, SYNCED) for it in replies)
+
+
 def refuse_in_turn(what, run, is_wrong, workers, goes_on):
     """How often each end came, and how many were wrong."""
     ends, wrong, passed, at = collections.Counter(), 0, 0, 0
@@ -133,7 +164,7 @@ def refuse_in_turn(what, run, is_wrong, workers, goes_on):
         refused, *came = run(workers, at, goes_on)
         if is_wrong(whole, *came):
             wrong += 1
-            print(f"{what}, {workers} workers, call {at}{' and later ones' * goes_on}: {came[0]}, {len(came[1])} and {len(came[2])} bytes", flush=True)
+            print(f"{what}, {workers} workers, call {at}{' and later ones' * goes_on}: {came[0]}, {len(came[1])} bytes of sound, replies {came[2]!r:.200}", flush=True)
         ends[came[0][0]] += refused
         passed += not refused
         at += 1
@@ -147,6 +178,7 @@ def tries(refusing, seeds):
     rows = [("render", refusing.render, is_wrong_render)]
     for name, data, replies, end in CONNECTIONS:
         rows.append((f"serve {name}", functools.partial(refusing.serve, data, replies), functools.partial(is_wrong_serve, replies, end)))
+    rows.append(("serve two clients", refusing.serve_two, is_wrong_two))
     for seed in seeds:
         rows.append((f"random {seed}", functools.partial(refusing.render, stream=play(Chance(seed))), is_wrong_render))
     return rows

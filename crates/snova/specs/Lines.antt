@@ -120,6 +120,7 @@ exit_line (exit.Session how) = Some (session_line how)
 exit_line (exit.Converted converted) = Some (converted_line converted)
 exit_line (exit.Drilled outcome) = Some (outcome_line outcome)
 exit_line (exit.Planned outcome) = Some (outcome_line outcome)
+exit_line exit.NoMemory = Some (codes "no memory")
 exit_line exit.NotOpened = Some (codes "cannot open")
 
 -- a drill that was done has printed its own line
@@ -144,6 +145,7 @@ has_line (exit.Session how) = true
 has_line (exit.Converted converted) = true
 has_line (exit.Drilled outcome) = is_unfinished outcome
 has_line (exit.Planned outcome) = true
+has_line exit.NoMemory = true
 has_line exit.NotOpened = true
 
 abbrev pub exit_status : Exit → ℕ
@@ -155,4 +157,5 @@ exit_status (exit.Session how) = session_status how
 exit_status (exit.Converted converted) = converted_status converted
 exit_status (exit.Drilled outcome) = outcome_status outcome
 exit_status (exit.Planned outcome) = outcome_status outcome
+exit_status exit.NoMemory = 1
 exit_status exit.NotOpened = 9

@@ -1,6 +1,7 @@
 //! What came of the words: the line that is printed, and the status of the program.
 ghost use Rattle.std.specs.Prelude.{◌≡◌, Some};
 ghost use Rattle.std.specs.Fmt.{DisplaysOnOk};
+ghost use Rattle.std.specs.declared.io.ErrorKind.TheVariants.{OutOfMemory};
 ghost use Rattle.snova.specs.Lines.{bad_stream_line, converted_line, end_line, exit_line, exit_status, fault_number, has_line, outcome_line, session_line, session_status, shelf_line};
 
 use crate::converting::Converted;
@@ -10,10 +11,13 @@ use crate::usage::{USAGE, VERSION};
 use sn_clients::How;
 use sn_osc::PacketKind;
 use sn_server::{Ended, Outcome, StreamFault};
-use std::fmt;
+use std::{fmt, io};
 
 /// The status if the words are refused.
 pub(crate) const BAD_WORDS: u8 = 2;
+
+/// The status if memory ran out before anything was read or served.
+const NO_MEMORY: u8 = 1;
 
 /// The status if a file or a connection can't be opened.
 const CANNOT_OPEN: u8 = 9;
@@ -37,12 +41,26 @@ pub(crate) enum Exit {
     Drilled(Outcome),
     /// A report was written.
     Planned(Outcome),
+    /// Memory ran out before anything was read or served.
+    NoMemory,
     /// A file could not be opened, no connection could be taken at the port, the clock could not be read, or one file
     /// would be written over another.
     NotOpened,
 }
 
 impl Exit {
+    /// What an error of this kind means that came while files or connections were opened.
+    pub(crate) fn unopened(kind: io::ErrorKind) -> Exit
+        ensures memory { kind ≡ OutOfMemory → result ≡ Exit.NoMemory }
+        ensures other { (kind ≡ OutOfMemory → ⊥) → result ≡ Exit.NotOpened }
+    {
+        if kind == io::ErrorKind::OutOfMemory {
+            Exit::NoMemory
+        } else {
+            Exit::NotOpened
+        }
+    }
+
     /// The status of the program.
     pub(crate) fn status(&self) -> u8
         ensures { result ≡ exit_status self.now }
@@ -55,6 +73,7 @@ impl Exit {
             Exit::Converted(converted) => converted.status(),
             Exit::Drilled(outcome) => outcome.status(),
             Exit::Planned(outcome) => outcome.status(),
+            Exit::NoMemory => NO_MEMORY,
             Exit::NotOpened => CANNOT_OPEN,
         }
     }
@@ -220,6 +239,7 @@ impl fmt::Display for Exit {
             Exit::Converted(converted) => write_converted(f, *converted),
             Exit::Drilled(outcome) => write_outcome(f, *outcome),
             Exit::Planned(outcome) => write_outcome(f, *outcome),
+            Exit::NoMemory => f.write_str("no memory"),
             Exit::NotOpened => f.write_str("cannot open"),
         }
     }

@@ -76,7 +76,7 @@ fn render_paths<H: Files + Clock + Eprint + AllocGlobal + Threads + Sync>(
     }
     match run_on_files(rt, words, commands, sound, replies, is_watched) {
         Ok(outcome) => Exit::Rendered(outcome),
-        Err(_) => Exit::NotOpened,
+        Err(error) => Exit::unopened(error.kind()),
     }
 }
 

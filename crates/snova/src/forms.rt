@@ -50,7 +50,7 @@ fn convert_paths<H: Files + AllocGlobal>(rt: &H, args: &[String], words: &[Word]
     }
     match convert_on_files(rt, words, given, made) {
         Ok(converted) => Exit::Converted(converted),
-        Err(_) => Exit::NotOpened,
+        Err(error) => Exit::unopened(error.kind()),
     }
 }
 

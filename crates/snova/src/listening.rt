@@ -108,7 +108,10 @@ pub(crate) fn serve_port<
     ensures { (i : ℕ) → serve_words_of words.now ≡ Err i → result ≡ Exit.Served (Served.BadWords i) }
 {
     match serve_words(words) {
-        Ok(chosen) => serve_chosen(rt, args, words, &chosen).unwrap_or(Exit::NotOpened),
+        Ok(chosen) => match serve_chosen(rt, args, words, &chosen) {
+            Ok(exit) => exit,
+            Err(error) => Exit::unopened(error.kind()),
+        },
         Err(bad) => Exit::Served(Served::BadWords { index: bad.index }),
     }
 }

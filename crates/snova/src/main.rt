@@ -25,9 +25,7 @@ use files::render_files;
 use forms::convert_files;
 use listening::serve_port;
 use reports::plan_files;
-use shelving::ShelfOutcome;
 use sn_ports::{NoMemory, Text, Word};
-use sn_server::Outcome;
 use std::io::{Eprint, IsTerminal, Print};
 use std::net::{Net, TcpListener, TcpStream};
 use std::process::ExitCode;
@@ -90,9 +88,7 @@ fn carry_out<
 
 fn main(rt: HostRuntime) -> io::Result<ExitCode> {
     let is_watched = rt.stderr().is_terminal();
-    let exit = carry_out(&rt, is_watched).unwrap_or(Exit::Rendered(ShelfOutcome::Ran(
-        Outcome::NoMemory,
-    )));
+    let exit = carry_out(&rt, is_watched).unwrap_or(Exit::NoMemory);
     // Whether anything can be printed or not, the status stands.
     if exit.has_line() {
         let _ = println!(rt; "{exit}");

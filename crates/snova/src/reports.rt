@@ -50,7 +50,7 @@ fn plan_paths<H: Files + AllocGlobal + Threads + Sync>(
     }
     match plan_on_files(rt, words, commands, report) {
         Ok(outcome) => Exit::Planned(outcome),
-        Err(_) => Exit::NotOpened,
+        Err(error) => Exit::unopened(error.kind()),
     }
 }
 

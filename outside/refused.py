@@ -36,7 +36,7 @@ CONNECTIONS = [
 TONES = [osc.message("/s_new", "tone", 10 + i, 1, 1, "out", 16 + i) for i in range(4)]
 COMMANDS = [*map(lambda it: osc.message(*it), recv("tone", "mix")), osc.message("/p_new", 1, 0, 0), *TONES, osc.message("/s_new", "mix", 20, 1, 0)]
 STREAM = osc.frame(osc.bundle(0, *COMMANDS)) + osc.frame(osc.bundle(1 << 32))
-OVER, NO_MEMORY = ("over", 0), ("no memory", 1)
+OVER, NO_MEMORY, WAITS = ("over", 0), ("no memory", 1), ("waits for good", None)
 # With several workers the calls come in another order each time. So the last number is passed a few times.
 PASSED = 5
 
@@ -61,11 +61,16 @@ class Refusing:
         os.close(tells)
         return program, told
 
-    def ended(self, program, told):
+    def ended(self, program, told, patience=120):
         """Whether a call was refused, the line and the status."""
-        line = program.communicate(timeout=120)[0].decode().rstrip("\n")
+        try:
+            how = program.communicate(timeout=patience)[0].decode().rstrip("\n"), program.returncode
+        except subprocess.TimeoutExpired:
+            program.kill()
+            program.communicate()
+            how = WAITS
         with open(told, "rb") as file:
-            return file.read() != b"", (line, program.returncode)
+            return file.read() != b"", how
 
     def written(self, name):
         path = self.folder / name
@@ -80,7 +85,7 @@ class Refusing:
     def serve(self, data, replies, workers, at, goes_on):
         port = serving.free_port()
         program, told = self.started(["serve", "memory=65536", f"workers={workers}", str(port), "sound"], at, goes_on)
-        got = served(program, port, 1, data, len(replies))
+        got = served(program, port, 1, data, len(replies), 60)
         refused, how = self.ended(program, told)
         return refused, how, self.written("sound"), b"".join(got)
 
@@ -88,17 +93,17 @@ class Refusing:
         """The same of two clients, with what each of them gets."""
         port = serving.free_port()
         program, told = self.started(["serve", "clients=2", "memory=65536", f"workers={workers}", str(port), "sound"], at, goes_on, True)
-        got = served(program, port, 2, SYNC, len(SYNCED))
-        refused, how = self.ended(program, told)
+        got = served(program, port, 2, SYNC, len(SYNCED), 3)
+        refused, how = self.ended(program, told, 10)
         return refused, how, self.written("sound"), got
 
 
-def connected(program, port):
+def connected(program, port, patience):
     """A connection, or None where the program ended before it listened."""
     while program.poll() is None:
         try:
-            return socket.create_connection(("127.0.0.1", port), timeout=60)
-        except ConnectionRefusedError:
+            return socket.create_connection(("127.0.0.1", port), timeout=patience)
+        except (ConnectionRefusedError, ConnectionResetError):
             time.sleep(0.002)
     return None
 
@@ -112,20 +117,21 @@ def answer(link, data, length):
         return b""
 
 
-def rest(link):
-    """What a client gets that sends nothing more."""
+def stop(link):
+    """Nothing more is sent."""
     try:
         link.shutdown(socket.SHUT_WR)
     except OSError:
         pass
-    return serving.received(link, 1 << 20)
 
 
-def served(program, port, count, data, length):
-    """What each of so many clients gets. None stops before each had its replies."""
-    links = [link for link in [connected(program, port) for _ in range(count)] if link]
+def served(program, port, count, data, length, patience):
+    """What each of so many clients gets. None stops before each had its replies, or lost its patience, in seconds."""
+    links = [link for link in [connected(program, port, patience) for _ in range(count)] if link]
     got = [answer(link, data, length) for link in links]
-    got = [some + rest(link) for some, link in zip(got, links)]
+    for link in links:
+        stop(link)
+    got = [some + serving.received(link, 1 << 20) for some, link in zip(got, links)]
     for link in links:
         link.close()
     return got

@@ -1,7 +1,6 @@
 -- Flags of audio buses, and what they say of nodes.
-use Rattle.std.proofs.Common.{◌≡◌, ◌<◌, ℕ, ◌+◌, Bool, false, ◌||◌, ◌&&◌, List, [], ◌∷◌, ◌++◌, length, Option, take, replicate, sym, ap, ◌∙◌, arith}
+use Rattle.std.proofs.Common.{◌≡◌, ◌<◌, ℕ, Bool, false, ◌||◌, ◌&&◌, List, ◌++◌, length, Option, take, replicate, sym, ap, ◌∙◌, arith}
 use Rattle.std.specs.Prelude.{slice_index_or}
-use Rattle.std.specs.List.{list_any}
 use Rattle.std.proofs.lemmas.List.{get_or-replicate, length-replicate, same_lists, take_all}
 use Rattle.std.proofs.lemmas.List.Folds.{list_any-append}
 use Rattle.sn_mem.specs.declared.moves.Moved.{Moved}
@@ -22,7 +21,7 @@ none_told n =
     same_lists (replicate n false) (table (λ k. false) n) (length-replicate n false ∙ sym (length-table (λ k. false) n))
     (λ k d lt. let low : k < n = omega (arith, lt, length-replicate n false) in get_or-replicate n k false d low ∙ sym (table_at (λ m. false) n k d low))
 
-told : (f : ℕ → Bool) (xs : List Bool) → xs ≡ table f 128 → (k : ℕ) → k < 128 → slice_index_or xs k false ≡ f k
+pub told : (f : ℕ → Bool) (xs : List Bool) → xs ≡ table f 128 → (k : ℕ) → k < 128 → slice_index_or xs k false ≡ f k
 told f xs e k lt = ap (λ (ys : List Bool). slice_index_or ys k false) e ∙ table_at f 128 k false lt
 
 pub either_told : (f g : ℕ → Bool) (xs ys zs : List Bool) → xs ≡ table f 128 → ys ≡ table g 128 → zs ≡ table (λ n. slice_index_or xs n false || slice_index_or ys n false) 128 → zs ≡ table (λ n. f n || g n) 128

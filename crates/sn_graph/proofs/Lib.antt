@@ -27,6 +27,7 @@ pub mod Flags
 pub mod Staging
 pub mod Labels
 pub mod Counting
+pub mod Covering
 pub mod Clearing
 pub mod Worlds
 pub mod Beside

@@ -1,26 +1,21 @@
-use Rattle.std.proofs.Common.{◌≡◌, ◌<◌, ◌∙◌, false, length, length-set, ap, sym, arith}
-use Rattle.sn_graph.specs.Sharing.{mixes}
-use Rattle.std.proofs.lemmas.List.{length-replicate}
-use Rattle.sn_mem.proofs.Tables.{table_none, table_step}
-use Rattle.sn_graph.proofs.Flags.{whole_table}
+use Rattle.std.proofs.Common.{◌≤◌, ◌*◌, ◌∙◌, List, length, ap, take_all, arith}
+use Rattle.sn_mem.specs.declared.extents.Extent.{Extent}
+use Rattle.sn_mem.specs.Blocks.{table}
+use Rattle.sn_mem.specs.Words.{has}
+use Rattle.sn_graph.proofs.Flags.{none_told}
+use Rattle.sn_graph.proofs.Covering.{covers_next}
 use Rattle.sn_graph.proofs.mixing.buses_of.Goals as goal
 
-pub loop-bus-init : goal.loop-bus-init
-loop-bus-init c = record {
-  size = ap length c.no_buses-flags.ensures ∙ length-replicate 128 false;
-  first = sym (table_none (mixes c.args.voice.now));
-}
+pub loop-extent-init : goal.loop-extent-init
+loop-extent-init c = c.no_buses-flags.ensures ∙ none_told 128
 
-pub loop-bus-preserved : goal.loop-bus-preserved
-loop-bus-preserved c =
-    let i = c.loop-bus.invariant in
-    let low : c.loop-bus.bus < length c.loop-bus.flags = omega (arith, c.loop-bus-test.true, i.size) in
-    record {
-      size = length-set c.loop-bus.flags c.loop-bus.bus c.mixes.result ∙ i.size;
-      first = table_step (mixes c.args.voice.now) c.loop-bus.flags c.loop-bus.bus c.mixes.result low i.first c.mixes.ensures;
-    }
+pub loop-extent-preserved : goal.loop-extent-preserved
+loop-extent-preserved c =
+    let items : List Extent = c.as_slice-extent-items.result.now in
+    c.add_covered.ensures ∙ covers_next items c.args.voice.now.reach.mixes c.loop-extent.extent-index _ c.loop-extent.flags c.as_slice-extent-items.ensures c.loop-extent-test.true c.loop-extent.invariant
 
 pub returns : goal.returns
 returns c =
-    let last : c.loop-bus.bus ≡ 128 = omega (arith, c.loop-bus-test.false, c.loop-bus.auto.bus-end) in
-    whole_table (mixes c.args.voice.now) c.loop-bus.flags c.loop-bus.bus last c.loop-bus.invariant.size c.loop-bus.invariant.first
+    let mixes : List Extent = c.args.voice.now.reach.mixes in
+    let past : length mixes ≤ c.loop-extent.extent-index = omega (arith, c.loop-extent-test.false, ap (λ (es : List Extent). length es) c.as_slice-extent-items.ensures) in
+    c.loop-extent.invariant ∙ ap (λ (es : List Extent). table (λ n. has es (65 * n)) 128) (take_all c.loop-extent.extent-index mixes past)

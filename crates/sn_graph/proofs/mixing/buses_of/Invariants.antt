@@ -1,11 +1,8 @@
--- The first flags are put.
-use Rattle.std.proofs.Common.{◌≡◌, length, take}
-use Rattle.sn_graph.specs.Sharing.{mixes}
+-- The flags tell of the extents before this one.
+use Rattle.std.proofs.Common.{◌≡◌, ◌*◌, take}
 use Rattle.sn_mem.specs.Blocks.{table}
+use Rattle.sn_mem.specs.Words.{has}
 use Rattle.sn_graph.proofs.mixing.buses_of.Given as goal
 
-abbrev pub invariant-loop-bus : goal.invariant-loop-bus
-invariant-loop-bus l = record {
-  size : length l.flags ≡ 128;
-  first : take l.bus l.flags ≡ table (mixes l.voice) l.bus;
-}
+abbrev pub invariant-loop-extent : goal.invariant-loop-extent
+invariant-loop-extent l = l.flags ≡ table (λ n. has (take l.extent-index l.voice.reach.mixes) (65 * n)) 128

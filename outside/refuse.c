@@ -1,5 +1,4 @@
 /* Refuses memory and threads: of the calls that ask for one, that of the number REFUSE_AT, from 0, and with REFUSE_ALL each later one.
-   With REFUSE_MEMORY calls for threads, and what they take of memory, are not counted and not refused.
    It is put before the C library (LD_PRELOAD). At the first refusal it writes a byte to the descriptor REFUSE_TELL. */
 #define _GNU_SOURCE
 #include <dlfcn.h>
@@ -18,23 +17,19 @@ typedef int (*create_thread)(pthread_t *, const pthread_attr_t *, void *(*)(void
 
 static atomic_long calls;
 static long at = -1;
-static int all, memory_alone, tell = -1;
-static _Thread_local int starting __attribute__((tls_model("initial-exec")));
+static int all, tell = -1;
 static create_thread libc_create;
 
 __attribute__((constructor)) static void begin(void) {
     const char *number = getenv("REFUSE_AT"), *descriptor = getenv("REFUSE_TELL");
     libc_create = (create_thread)dlsym(RTLD_NEXT, "pthread_create");
     all = getenv("REFUSE_ALL") != NULL;
-    memory_alone = getenv("REFUSE_MEMORY") != NULL;
     tell = descriptor ? atoi(descriptor) : -1;
     atomic_store(&calls, 0);
     at = number ? atol(number) : -1;
 }
 
 static int is_refused(void) {
-    if (starting)
-        return 0;
     long call = atomic_fetch_add(&calls, 1);
     if (at < 0 || call < at || (call > at && !all))
         return 0;
@@ -67,10 +62,5 @@ int posix_memalign(void **place, size_t alignment, size_t size) {
 }
 
 int pthread_create(pthread_t *thread, const pthread_attr_t *attributes, void *(*body)(void *), void *given) {
-    if (!memory_alone && is_refused())
-        return EAGAIN;
-    starting = memory_alone;
-    int failed = libc_create(thread, attributes, body, given);
-    starting = 0;
-    return failed;
+    return is_refused() ? EAGAIN : libc_create(thread, attributes, body, given);
 }

@@ -1,10 +1,9 @@
 """Refuses memory and threads to a program, at each call that asks for one in turn: python3 refused.py SNOVA [-k WORD] [--workers 1,4] [--random N] [--seed N].
 
-It needs a C compiler `cc` and the GNU C library, for `refuse.c`. A stream with a parallel group is rendered, and connections of each end are served,
-by each number of workers; and N streams by chance are rendered. While two clients are served at once memory alone is refused, since without any
-thread their session waits for good. Once only the call of a number is refused, and once it and all later ones. Each time the program must end as
-it does with all memory there, or with `no memory`, and the files and the replies must be those, or a part from their begin. It prints each other
-end, and how many ends there were of each kind.
+It needs a C compiler `cc` and the GNU C library, for `refuse.c`. A stream with a parallel group is rendered, and connections of each end and two
+clients at once are served, by each number of workers; and N streams by chance are rendered. Once only the call of a number is refused, and once it
+and all later ones. Each time the program must end as it does with all memory there, or with `no memory`, and the files and the replies must be
+those, or a part from their begin. It prints each other end, and how many ends there were of each kind.
 """
 import argparse
 import collections
@@ -47,24 +46,22 @@ class Refusing:
     def __init__(self, snova, library, folder):
         self.snova, self.library, self.folder = snova, library, folder
 
-    def started(self, words, at, goes_on, memory_alone=False):
+    def started(self, words, at, goes_on):
         """The program, and where it tells that a call was refused."""
         told, tells = os.pipe()
         env = {**os.environ, "LD_PRELOAD": self.library, "REFUSE_AT": str(at), "REFUSE_TELL": str(tells)}
         if goes_on:
             env["REFUSE_ALL"] = ""
-        if memory_alone:
-            env["REFUSE_MEMORY"] = ""
         for name in ("sound", "replies"):
             (self.folder / name).unlink(missing_ok=True)
         program = subprocess.Popen([self.snova, *words], cwd=self.folder, env=env, pass_fds=[tells], stdout=subprocess.PIPE, stderr=subprocess.DEVNULL)
         os.close(tells)
         return program, told
 
-    def ended(self, program, told, patience=120):
+    def ended(self, program, told):
         """Whether a call was refused, the line and the status."""
         try:
-            how = program.communicate(timeout=patience)[0].decode().rstrip("\n"), program.returncode
+            how = program.communicate(timeout=120)[0].decode().rstrip("\n"), program.returncode
         except subprocess.TimeoutExpired:
             program.kill()
             program.communicate()
@@ -92,9 +89,9 @@ class Refusing:
     def serve_two(self, workers, at, goes_on):
         """The same of two clients, with what each of them gets."""
         port = serving.free_port()
-        program, told = self.started(["serve", "clients=2", "memory=65536", f"workers={workers}", str(port), "sound"], at, goes_on, True)
+        program, told = self.started(["serve", "clients=2", "memory=65536", f"workers={workers}", str(port), "sound"], at, goes_on)
         got = served(program, port, 2, SYNC, len(SYNCED), 3)
-        refused, how = self.ended(program, told, 10)
+        refused, how = self.ended(program, told)
         return refused, how, self.written("sound"), got
 
 

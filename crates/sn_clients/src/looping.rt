@@ -266,7 +266,8 @@ impl Desk {
         unreachable!()
     }
 
-    /// Takes notes and asks the pulse in turn until it gives 0, and then takes what the readers still put.
+    /// Once the readers have begun, takes notes and asks the pulse in turn until it gives 0. Then it takes what the readers
+    /// still put.
     fn run<H: Threads + Wait + Sync, R: Sink, T: Pulse, O: Sink, G: Gate>(
         &mut self,
         rt: &H,
@@ -293,6 +294,7 @@ impl Desk {
         ensures inlets { SameInlets (end_of self.old.outlet) (end_of self.new.outlet) }
         ensures stopped { has_stopped self.new.outlet ≡ has_stopped self.old.outlet }
     {
+        readers.wait_for_begin(rt)?;
         for _ in rt.forever() {
             self.take_notes(rt, alloc, relay, sinks, most)?;
             let more = self.ask(rt, alloc, sinks, pulse, most, sound, gate)?;

@@ -51,6 +51,7 @@ pub(crate) fn read_clients<H: Threads + Wait + Sync, S: Source + Send, U: Watche
     ensures read { (k : ℕ) (d : Client S) → k < length clients.old → IsRead relay.now S.left S.faults k (slice_index_or clients.old k d) (slice_index_or clients.new k d) }
     ensures count { length clients.new ≡ length clients.old }
 {
+    readers.begin();
     let threads = clients.len();
     for_each_mut(
         rt,

@@ -1,10 +1,11 @@
 use Rattle.std.proofs.Common.{◌∙◌, ℕ, Ok, ap, refl, subst, sym, false, true}
 use Rattle.sn_ports.specs.Causes.{Rose}
+use Rattle.sn_clients.specs.declared.playing.Halt.TheVariants as halts
 use Rattle.sn_clients.specs.declared.seats.Outlet.{Outlet}
 use Rattle.sn_clients.specs.Answers.{IsOutletOf, end_of, has_stopped}
 use Rattle.sn_clients.specs.Looping.{CountedAt, SameInlets}
 use Rattle.sn_clients.proofs.FaultLemmas.{counted_none, counted_not, counted_so}
-use Rattle.sn_clients.proofs.LoopLemmas.{asked_more, asked_zero, inlets_both, no_sound_fault, on_any_ok, runs_halted, runs_rest, same_inlets}
+use Rattle.sn_clients.proofs.LoopLemmas.{asked_more, asked_zero, halts_before, inlets_both, no_sound_fault, on_any_ok, runs_halted, runs_rest, same_inlets}
 use Rattle.sn_clients.proofs.desk.Desk.run.Goals as goal
 
 pub loop-init : goal.loop-init
@@ -29,14 +30,37 @@ loop-preserved g c =
       still = a.counted ∙ i.still;
     }
 
+-- ---- no reader has begun
+
+pub returns-in_err-wait_for_begin-clause-plays : goal.returns-in_err-wait_for_begin-clause-plays
+returns-in_err-wait_for_begin-clause-plays g c = λ first sinks_first sound_first left_first h.
+    let taken = g.R.Sink.taken in
+    let faults = g.R.Sink.faults in
+    let sinks = c.args.sinks.now in
+    let sound = g.O.Sink.taken c.args.sound.now in
+    let left = g.T.Pulse.left c.args.pulse.now in
+    let zeros = g.T.Pulse.zeros c.args.pulse.now in
+    let desk = c.args.self.now in
+    runs_halted taken faults first sinks_first sinks sound_first sound false left_first left zeros zeros desk c.from_residual.result halts.NoMemory c.from_residual.ensures.1 refl
+    (halts_before taken faults first sinks_first sinks sound_first sound false left_first left desk desk (record { engine = refl; failed = refl; turns = refl; end = refl }) h)
+
+pub returns-in_err-wait_for_begin-clause-inlets : goal.returns-in_err-wait_for_begin-clause-inlets
+returns-in_err-wait_for_begin-clause-inlets g c = same_inlets (end_of c.args.self.now.outlet)
+
+pub returns-in_err-wait_for_begin-clause-counted : goal.returns-in_err-wait_for_begin-clause-counted
+returns-in_err-wait_for_begin-clause-counted g c =
+    let before = g.O.Sink.faults c.args.sound.now in
+    counted_so c.from_residual.result halts.NoMemory before before c.from_residual.ensures.1 refl
+
 -- ---- an end among the notes
 
 pub returns-in_err-take_notes-clause-plays : goal.returns-in_err-take_notes-clause-plays
 returns-in_err-take_notes-clause-plays g c = λ first sinks_first sound_first left_first h.
     let n = c.take_notes.new in
+    let r = c.from_residual-in_err-take_notes in
     let sound = g.O.Sink.taken c.loop.sound in
     let left = g.T.Pulse.left c.loop.pulse in
-    runs_halted g.R.Sink.taken g.R.Sink.faults first sinks_first n.sinks sound_first sound false left_first left (g.T.Pulse.zeros c.args.pulse.now) (g.T.Pulse.zeros c.loop.pulse) n.self c.from_residual.result c.in_err-take_notes.field-0.0 c.from_residual.ensures.1 c.loop.invariant.zeros
+    runs_halted g.R.Sink.taken g.R.Sink.faults first sinks_first n.sinks sound_first sound false left_first left (g.T.Pulse.zeros c.args.pulse.now) (g.T.Pulse.zeros c.loop.pulse) n.self r.result c.in_err-take_notes.field-0.0 r.ensures.1 c.loop.invariant.zeros
     (c.in_err-take_notes.ensures.plays first sinks_first sound_first sound left_first left false (c.loop.invariant.plays first sinks_first sound_first left_first h))
 
 pub returns-in_err-take_notes-clause-inlets : goal.returns-in_err-take_notes-clause-inlets
@@ -44,10 +68,11 @@ returns-in_err-take_notes-clause-inlets g c = inlets_both (end_of c.args.self.no
 
 pub returns-in_err-take_notes-clause-counted : goal.returns-in_err-take_notes-clause-counted
 returns-in_err-take_notes-clause-counted g c =
+    let r = c.from_residual-in_err-take_notes in
     let halt = c.in_err-take_notes.field-0.0 in
     let before = g.O.Sink.faults c.args.sound.now in
     let now = g.O.Sink.faults c.loop.sound in
-    counted_so c.from_residual.result halt before now c.from_residual.ensures.1 (counted_none halt before now c.in_err-take_notes.ensures.only.0 c.loop.invariant.still)
+    counted_so r.result halt before now r.ensures.1 (counted_none halt before now c.in_err-take_notes.ensures.only.0 c.loop.invariant.still)
 
 -- ---- an end among the blocks
 

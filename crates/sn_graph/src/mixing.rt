@@ -1,5 +1,5 @@
 //! Which audio buses are mixed: a flag for each.
-ghost use Rattle.std.specs.Prelude.{◌≡◌, ◌<◌, ◌*◌, ◌^◌, ◌&&◌, ◌||◌, false, replicate, slice_index_or};
+ghost use Rattle.std.specs.Prelude.{◌≡◌, ◌<◌, ◌*◌, ◌&&◌, ◌||◌, false, replicate, slice_index_or};
 ghost use Rattle.std.specs.Int.{div_ceil};
 ghost use Rattle.sn_ports.specs.Limits.{audio_bus_count};
 ghost use Rattle.sn_mem.specs.Blocks.{table};
@@ -39,7 +39,6 @@ pub fn no_buses() -> [bool; BUSES]
 
 /// The number of the first audio bus, of however many, that begins at a word or after it.
 fn first_bus(word: u64) -> usize
-    requires { word < 2 ^ 33 }
     ensures { result ≡ div_ceil word audio_bus_words }
 {
     word.div_ceil(u64::from(Places::audio(0).len)) as usize

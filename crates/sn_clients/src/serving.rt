@@ -1,5 +1,5 @@
 //! A session of several clients: a reader for each of them, and one engine for all.
-ghost use Rattle.std.specs.Prelude.{◌≡◌, ◌⊎◌, ◌≤◌, ◌<◌, ◌+◌, ℕ, List, Option, [], false, Ok, Err, length, slice_index_or, IfOk, OnOk};
+ghost use Rattle.std.specs.Prelude.{◌≡◌, ◌⊎◌, ◌≤◌, ◌<◌, ◌+◌, ℕ, [], false, Ok, Err, length, slice_index_or, IfOk};
 ghost use Rattle.std.specs.Thread.{IsSend, IsSync};
 ghost use Rattle.sn_ports.specs.Causes.{Rose};
 ghost use Rattle.sn_ports.specs.Limits.{most_clients};
@@ -23,7 +23,7 @@ use crate::presence::Presence;
 use crate::pulse::Pulse;
 use crate::readers::read_clients;
 use crate::seats::{Inlets, Outlet, Relay};
-use crate::turns::{How, Session};
+use crate::turns::{How, Session, Turns};
 use crate::watching::Watcher;
 use sn_engine::Engine;
 use sn_pcm::Settings;
@@ -60,9 +60,9 @@ fn begin(
     ensures inlets { IfOk result (λ r. (length r.1.items ≡ clients) × AreNewInlets r.0 r.1.items) }
     ensures desk { IfOk result (λ r. IsBegun r.0 settings.now base clients r.2) }
 {
+    let failed = vec![in alloc; false; clients as usize]?;
     let (relay, inlets, outlet) = Relay::open(alloc, clients, MOST_RELAYED)?;
     let engine = Engine::open(alloc, settings, base, Some(MOST_ENTRIES), clients)?;
-    let failed = vec![in alloc; false; clients as usize]?;
     let desk = Desk {
         engine,
         outlet,
@@ -245,6 +245,14 @@ fn play_and_read<
     end
 }
 
+/// What a desk leaves: its turns, and whose sinks have failed.
+fn remains(desk: Desk) -> (Turns, Vec<bool>)
+    ensures turns { result.0.items ≡ desk.turns.items }
+    ensures failed { result.1.items ≡ desk.failed.items }
+{
+    (desk.turns, desk.failed)
+}
+
 /// A session for which there was no memory.
 fn unbegun<S: Source>(alloc: Global, clients: &mut [Client<S>]) -> Session
     ensures stopped { (c : ℕ) (d : Client S) → c < length clients.old → IsStopped (slice_index_or clients.old c d) (slice_index_or clients.new c d) }
@@ -312,12 +320,7 @@ pub fn serve_many<
     );
     gather_all(&relay, &mut desk.outlet, clients.as_mut_slice());
     let end = desk.end(rt, alloc, &relay, sinks.as_mut_slice(), most, played);
-    let Desk {
-        engine: _,
-        outlet: _,
-        turns,
-        failed,
-    } = desk;
+    let (turns, failed) = remains(desk);
     tell_faults(clients.as_mut_slice(), &failed);
     Session {
         how: how_of(end),

@@ -194,16 +194,16 @@ impl Engine {
         ensures running { IfOk result (λ e. e.running ≡ opened settings.now base limit clients) }
         ensures past { IfOk result (λ e. e.past ≡ no_past settings.now.workers) }
     {
-        let stage = Stage::new(alloc, settings.rate, settings.memory, clients)?;
-        let planned = Planned::nothing(alloc)?;
+        let outputs = first_buses(alloc, settings.channels)?;
+        let replies = silent(alloc, clients)?;
         let copies = POOL_AT + settings.memory;
         let memory = Memory::open(alloc, copies + COPIES + LANE_WORDS)?;
-        let outputs = first_buses(alloc, settings.channels)?;
         let crew = Crew::open(alloc, settings.workers)?;
+        let planned = Planned::nothing(alloc)?;
+        let stage = Stage::new(alloc, settings.rate, settings.memory, clients)?;
         let queue = Queue::new(alloc, base, settings.rate, limit);
         let clashes = Clashes::new(alloc);
         let sound = Text::new(alloc);
-        let replies = silent(alloc, clients)?;
         Ok(Engine {
             settings: *settings,
             stage,

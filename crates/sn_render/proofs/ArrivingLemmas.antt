@@ -1,6 +1,6 @@
 -- Packets of a stream are offered one after another.
 use Rattle.std.proofs.Common.{◌≡◌, ◌+◌, ◌*◌, ◌≤◌, ℕ, Bool, true, false, List, [], ◌∷◌, ◌++◌, length, refl, sym, ap, subst, ◌∙◌, arith}
-use Rattle.std.specs.Prelude.{if◌then◌else◌}
+use Rattle.std.specs.Prelude.{None, if◌then◌else◌}
 use Rattle.std.specs.List.{AllByRecursion}
 use Rattle.std.specs.Int.{w32, w64, to_be_bytes}
 use Rattle.std.proofs.lemmas.List.{length-append}
@@ -9,11 +9,12 @@ use Rattle.sn_osc.specs.Bytes.{bundle_head, elements_bytes}
 use Rattle.sn_osc.specs.Frames.{Frames}
 use Rattle.sn_osc.proofs.Encoded.{packet_is}
 use Rattle.sn_osc.proofs.Streams.{four_or_more, no_more}
+use Rattle.sn_pcm.specs.declared.settings.Settings.{Settings}
 use Rattle.sn_queue.specs.Steps.{put}
 use Rattle.sn_reply.proofs.FrameLaws.{as_many}
 use Rattle.sn_engine.specs.Arriving.{IsSpelled, Offered, next_boundary, nothing_offered, is_full, refusal_of, offer_entry, offer_entries, offered, with_offered}
 use Rattle.sn_engine.specs.Entries.{Timed, entries_of}
-use Rattle.sn_engine.specs.Running.{Running}
+use Rattle.sn_engine.specs.Running.{Running, opened}
 use Rattle.sn_engine.proofs.PutLemmas.{entries_few}
 use Rattle.sn_render.specs.Arriving.{ArePut, IsBegun}
 use Rattle.sn_render.specs.Play.{arrive}
@@ -83,9 +84,16 @@ spelled_most (bundle tag inner) s =
     let four : 4 ≤ length s.0 = omega (arith, len, length-append (bundle_head ++ to_be_bytes w64 tag) (elements_bytes inner), length-append bundle_head (to_be_bytes w64 tag)) in
     omega (arith, entries_few (bundle tag inner) s.0 s.1 four, s.2)
 
-pub playable_put : (xs : List Shape) (puts : ℕ) → AllByRecursion IsSpelled xs → puts + length xs * 134217728 ≤ 4611686018427387904 → ArePut xs puts
+playable_put : (xs : List Shape) (puts : ℕ) → AllByRecursion IsSpelled xs → puts + length xs * 134217728 ≤ 4611686018427387904 → ArePut xs puts
 playable_put [] puts all few = tt
 playable_put (x ∷ xs) puts all few = (all.0, omega (arith, few, spelled_most x all.0), playable_put xs (puts + length (entries_of x)) all.1 (omega (arith, few, spelled_most x all.0)))
+
+-- at an engine at which nothing has arrived
+pub opened_begun : (s : Settings) (e : Running) → e ≡ opened s 0 None 1 → IsBegun e
+opened_begun s e is = record { block = ap (λ (r : Running). r.block) is; standing = ap (λ (r : Running). r.standing) is }
+
+pub opened_put : (s : Settings) (xs : List Shape) (e : Running) → ArePlayable xs → e ≡ opened s 0 None 1 → ArePut xs e.waiting.puts
+opened_put s xs e playable is = subst (ArePut xs) (sym (ap (λ (r : Running). r.waiting.puts) is)) (playable_put xs 0 playable.spelled (omega (arith, playable.few)))
 
 -- the packets of a stream can be played
 frames_spelled : (xs : List Shape) (bytes : List ℕ) → Frames xs bytes → AllByRecursion IsSpelled xs × (8 * length xs ≤ length bytes)

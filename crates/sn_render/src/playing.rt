@@ -1,6 +1,7 @@
 //! Packets are played, wherever they come from.
-ghost use Rattle.std.specs.Prelude.{◌≡◌, ◌⊎◌, ◌≤◌, ◌++◌, ℕ, Err, IfOk, OnErr, OnOk, map};
+ghost use Rattle.std.specs.Prelude.{◌≡◌, ◌⊎◌, ◌≤◌, ◌++◌, ℕ, Err, None, OnErr, OnOk, map};
 ghost use Rattle.std.specs.Io.KnownBytes.{Appends};
+ghost use Rattle.sn_engine.specs.Running.{opened};
 ghost use Rattle.sn_osc.specs.Shape.{shape};
 ghost use Rattle.sn_pcm.specs.Sound.{data_len, header_bytes};
 ghost use Rattle.sn_ports.specs.Causes.{Rose};
@@ -9,7 +10,7 @@ ghost use Rattle.sn_render.specs.Faults.{NoneElseFailed};
 ghost use Rattle.sn_render.specs.Fronts.{TakesFront, TakeFronts, TakeBoth};
 ghost use Rattle.sn_render.specs.Going.{IsAtBoundary};
 ghost use Rattle.sn_render.specs.Outcomes.{IsTooLong};
-ghost use Rattle.sn_render.specs.Play.{arrive, begun, to_end, to_first};
+ghost use Rattle.sn_render.specs.Play.{arrive, to_end, to_first};
 ghost use Rattle.sn_render.specs.Playing.{ArePlayable, HasEnd, IsEnd, PlayedPackets, WritesPackets};
 ghost use Rattle.sn_render.specs.declared.outcome.Outcome.{Outcome};
 
@@ -23,7 +24,11 @@ use std::alloc::Global;
 use std::thread::Threads;
 
 /// Offers packets that arrive at boundary 0 from client 0, in order.
-fn offer_all(alloc: Global, engine: &mut Engine, packets: Packets) -> Result<(), NoMemory>
+pub(crate) fn offer_all(
+    alloc: Global,
+    engine: &mut Engine,
+    packets: Packets,
+) -> Result<(), NoMemory>
     requires begun { IsBegun engine.old.running }
     requires put { ArePut (map shape packets.items) engine.old.running.waiting.puts }
     ensures { OnOk result (engine.new.running ≡ arrive (map shape packets.items) engine.old.running) }
@@ -32,20 +37,6 @@ fn offer_all(alloc: Global, engine: &mut Engine, packets: Packets) -> Result<(),
         engine.offer(alloc, packet, 0)?;
     }
     Ok(())
-}
-
-/// An engine at boundary 0, at which all packets have arrived.
-pub(crate) fn opened(
-    alloc: Global,
-    settings: &Settings,
-    packets: Packets,
-) -> Result<Engine, NoMemory>
-    requires { ArePut (map shape packets.items) 0 }
-    ensures { IfOk result (λ e. e.running ≡ begun settings.now (map shape packets.items)) }
-{
-    let mut engine = Engine::open(alloc, settings, 0, None, 1)?;
-    offer_all(alloc, &mut engine, packets)?;
-    Ok(engine)
 }
 
 /// Writes the header of the sound.
@@ -71,37 +62,39 @@ fn write_run<H: Threads + Sync, O: Sink, R: Sink, G: Gate>(
     alloc: Global,
     settings: &Settings,
     blocks: u64,
-    mut engine: Engine,
+    engine: &mut Engine,
     sound: &mut O,
     replies: &mut R,
     gate: &G,
 ) -> Result<(), Stop>
-    requires begun { engine.running.block ≡ 0 }
-    requires stands { IsAtBoundary engine.running }
+    requires begun { engine.old.running.block ≡ 0 }
+    requires stands { IsAtBoundary engine.old.running }
     requires short { IsTooLong settings.now blocks → ⊥ }
     ensures ended { OnOk result (TakeBoth (O.taken sound.old) (O.taken sound.new) (R.taken replies.old) (R.taken replies.new)
-        (header_bytes settings.now (data_len settings.now blocks) ++ (to_end blocks engine.running).sound) (to_first (to_end blocks engine.running).replies)) }
+        (header_bytes settings.now (data_len settings.now blocks) ++ (to_end blocks engine.old.running).sound) (to_first (to_end blocks engine.old.running).replies)) }
     ensures fronts { OnErr result (TakeFronts (O.taken sound.old) (O.taken sound.new) (R.taken replies.old) (R.taken replies.new)
-        (header_bytes settings.now (data_len settings.now blocks) ++ (to_end blocks engine.running).sound) (to_first (to_end blocks engine.running).replies)) }
+        (header_bytes settings.now (data_len settings.now blocks) ++ (to_end blocks engine.old.running).sound) (to_first (to_end blocks engine.old.running).replies)) }
     ensures sound { result ≡ Err Stop.SoundFault → Rose (O.faults sound.old) (O.faults sound.new) }
     ensures reply { result ≡ Err Stop.ReplyFault → Rose (R.faults replies.old) (R.faults replies.new) }
     ensures unfailed { NoneElseFailed result (O.faults sound.old) (O.faults sound.new) (R.faults replies.old) (R.faults replies.new) }
 {
     write_header(settings, blocks, sound)?;
-    render_blocks(rt, alloc, blocks, &mut engine, sound, replies, gate)
+    render_blocks(rt, alloc, blocks, engine, sound, replies, gate)
 }
 
-/// Checks the length, and writes what the packets give.
+/// Offers packets to an engine at which nothing has arrived, checks the length, and writes what the packets give.
 fn played<H: Threads + Sync, O: Sink, R: Sink, G: Gate>(
     rt: &H,
     alloc: Global,
     settings: &Settings,
     packets: Packets,
+    engine: &mut Engine,
     sound: &mut O,
     replies: &mut R,
     gate: &G,
 ) -> Outcome
     requires playable { ArePlayable (map shape packets.items) }
+    requires opened { engine.old.running ≡ opened settings.now 0 None 1 }
     ensures done { (n : ℕ) → result ≡ Outcome.Done n → PlayedPackets settings.now (map shape packets.items) n
         (O.taken sound.old) (O.taken sound.new) (R.taken replies.old) (R.taken replies.new) }
     ensures end { IsEnd settings.now (map shape packets.items) result }
@@ -111,7 +104,7 @@ fn played<H: Threads + Sync, O: Sink, R: Sink, G: Gate>(
     ensures replies_unfailed { (result ≡ Outcome.ReplyFault) ⊎ (R.faults replies.new ≡ R.faults replies.old) }
     ensures written { WritesPackets settings.now (map shape packets.items) result (O.taken sound.old) (O.taken sound.new) (R.taken replies.old) (R.taken replies.new) }
 {
-    let Ok(engine) = opened(alloc, settings, packets) else {
+    let Ok(()) = offer_all(alloc, engine, packets) else {
         return Outcome::NoMemory;
     };
     let blocks = engine.last().unwrap_or(0);
@@ -156,5 +149,17 @@ pub fn play<H: Threads + Sync, O: Sink, R: Sink, G: Gate>(
     // What each sink took at every other outcome: nothing, or a prefix of what the packets give.
     ensures written { WritesPackets settings.now (map shape packets.items) result (O.taken sound.old) (O.taken sound.new) (R.taken replies.old) (R.taken replies.new) }
 {
-    played(rt, alloc, settings, packets, sound, replies, gate)
+    let Ok(mut engine) = Engine::open(alloc, settings, 0, None, 1) else {
+        return Outcome::NoMemory;
+    };
+    played(
+        rt,
+        alloc,
+        settings,
+        packets,
+        &mut engine,
+        sound,
+        replies,
+        gate,
+    )
 }

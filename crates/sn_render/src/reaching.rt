@@ -1,5 +1,6 @@
 //! Packets are played for the world that they leave.
-ghost use Rattle.std.specs.Prelude.{◌≡◌, IfErr, IfOk, map};
+ghost use Rattle.std.specs.Prelude.{◌≡◌, IfErr, IfOk, None, OnOk, map};
+ghost use Rattle.sn_engine.specs.Running.{opened};
 ghost use Rattle.sn_osc.specs.Shape.{shape};
 ghost use Rattle.sn_render.specs.Play.{played};
 ghost use Rattle.sn_render.specs.Playing.{ArePlayable, HasEnd, IsUnreached};
@@ -8,7 +9,7 @@ ghost use Rattle.sn_render.specs.declared.outcome.Outcome.TheVariants.{Done};
 use crate::dropping::DroppingSink;
 use crate::gathering::Packets;
 use crate::outcome::Outcome;
-use crate::playing::opened;
+use crate::playing::offer_all;
 use crate::rendering::render_blocks;
 use sn_engine::Engine;
 use sn_pcm::{Settings, too_long};
@@ -25,6 +26,38 @@ pub struct Reached {
     pub blocks: u64,
 }
 
+/// Plays packets to the boundary after the last block, from an engine at which nothing has arrived, and tells how many
+/// blocks they were.
+fn play_to_end<H: Threads + Sync, G: Gate>(
+    rt: &H,
+    alloc: Global,
+    settings: &Settings,
+    packets: Packets,
+    engine: &mut Engine,
+    gate: &G,
+) -> Result<u64, Outcome>
+    requires playable { ArePlayable (map shape packets.items) }
+    requires opened { engine.old.running ≡ opened settings.now 0 None 1 }
+    ensures end { IfOk result (λ blocks. HasEnd settings.now (map shape packets.items) (Done blocks)) }
+    ensures world { OnOk result (engine.new.running.world ≡ (played settings.now (map shape packets.items)).world) }
+    ensures refused { IfErr result (IsUnreached settings.now (map shape packets.items)) }
+{
+    let Ok(()) = offer_all(alloc, engine, packets) else {
+        return Err(Outcome::NoMemory);
+    };
+    let blocks = engine.last().unwrap_or(0);
+    if too_long(settings, blocks) {
+        return Err(Outcome::LongSound { blocks });
+    }
+    let mut sound = DroppingSink {};
+    let mut replies = DroppingSink {};
+    match render_blocks(rt, alloc, blocks, engine, &mut sound, &mut replies, gate) {
+        Ok(()) => Ok(blocks),
+        // The two sinks never fail.
+        Err(_) => Err(Outcome::NoMemory),
+    }
+}
+
 /// Plays packets as one stream and drops their sound and their replies. It refuses what [`play`](crate::play) refuses.
 pub fn reach<H: Threads + Sync, G: Gate>(
     rt: &H,
@@ -38,26 +71,11 @@ pub fn reach<H: Threads + Sync, G: Gate>(
     ensures world { IfOk result (λ r. r.engine.running.world ≡ (played settings.now (map shape packets.items)).world) }
     ensures refused { IfErr result (IsUnreached settings.now (map shape packets.items)) }
 {
-    let Ok(mut engine) = opened(alloc, settings, packets) else {
+    let Ok(mut engine) = Engine::open(alloc, settings, 0, None, 1) else {
         return Err(Outcome::NoMemory);
     };
-    let blocks = engine.last().unwrap_or(0);
-    if too_long(settings, blocks) {
-        return Err(Outcome::LongSound { blocks });
-    }
-    let mut sound = DroppingSink {};
-    let mut replies = DroppingSink {};
-    match render_blocks(
-        rt,
-        alloc,
-        blocks,
-        &mut engine,
-        &mut sound,
-        &mut replies,
-        gate,
-    ) {
-        Ok(()) => Ok(Reached { engine, blocks }),
-        // The two sinks never fail.
-        Err(_) => Err(Outcome::NoMemory),
+    match play_to_end(rt, alloc, settings, packets, &mut engine, gate) {
+        Ok(blocks) => Ok(Reached { engine, blocks }),
+        Err(outcome) => Err(outcome),
     }
 }

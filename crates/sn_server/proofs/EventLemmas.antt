@@ -16,7 +16,7 @@ use Rattle.sn_server.specs.declared.ended.Ended.TheVariants.{Quit, NoMemory, Clo
 use Rattle.sn_render.specs.Play.{to_first}
 use Rattle.sn_server.specs.PlayEvents.{Live, Over, Course, going, ended, event, is_worn, worn, unless_worn, after_event, after_events, at_end, closing, closed, beginning, over_events, play_events, bytes_in}
 use Rattle.sn_server.specs.Served.{TakesBetween, TakesEach, WhileOpen, IsCutShort, ByEnd, IsServed, GivesEnd, AtClose}
-use Rattle.sn_server.specs.Serving.{IsLive, IsReady, HasEnded, GoesOn, IsCut, Follows, IsWornOut, HasLeft, TookEvent, EndsBy, IsStepCut, Took, IsServing}
+use Rattle.sn_server.specs.Serving.{IsLive, IsOpened, IsReady, HasEnded, GoesOn, IsCut, Follows, IsWornOut, HasLeft, TookEvent, EndsBy, IsStepCut, Took, IsServing}
 use Rattle.sn_server.proofs.JoiningLemmas.{some_left, events_both}
 use Rattle.sn_render.proofs.StepLemmas.{grows_not}
 use Rattle.sn_server.proofs.GrowingLemmas.{grows_end, live_end}
@@ -187,6 +187,13 @@ begins_serving s base left_old sound_old sent_old e f engine framer = record {
   course = refl;
   stands = begun_live s base sound_old sent_old e f engine framer;
 }
+
+-- the engine of the settings and of the time with which it was opened
+pub is_opened : (s : Settings) (base : ℕ) (e : Running) → e ≡ opened s base (Some 65536) 1 → IsOpened e
+is_opened s base e engine = subst IsOpened (sym engine) refl
+
+pub opened_gives : (s : Settings) (base : ℕ) (e : Running) (P : Settings → ℕ → Type 0) → e ≡ opened s base (Some 65536) 1 → P e.settings e.waiting.base → P s base
+opened_gives s base e P engine h = subst (λ (r : Running). P r.settings r.waiting.base) engine h
 
 pub begins_ready : (s : Settings) (base : ℕ) (e : Running) (f : Framing) → e ≡ opened s base (Some 65536) 1 → f ≡ record { kept = []; fed = 0 } → IsReady e f
 begins_ready s base e f engine framer = record {

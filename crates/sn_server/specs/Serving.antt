@@ -1,12 +1,12 @@
 -- How far a connection has come that is served.
 use Rattle.std.specs.Prelude.{◌≡◌, ◌⊎◌, ◌≤◌, ◌<◌, ◌+◌, ◌||◌, nat_le, true, false, ℕ, List, [], ◌∷◌, length, Option, None, Some, Result, Ok, Err, ⊤}
 use Rattle.std.specs.Io.KnownBytes.{Appends, Keeps}
-use Rattle.sn_ports.specs.Limits.{most_count}
+use Rattle.sn_ports.specs.Limits.{most_count, most_entries}
 use Rattle.sn_ports.specs.Links.{LinkEvent, Takes, Known}
 use Rattle.sn_osc.specs.Framing.{Framing}
 use Rattle.sn_osc.specs.Frames.{FirstFrame, cut, bad_size}
 use Rattle.sn_pcm.specs.declared.settings.Settings.{Settings}
-use Rattle.sn_engine.specs.Running.{Running, at_boundary, flow_at}
+use Rattle.sn_engine.specs.Running.{Running, at_boundary, flow_at, opened}
 use Rattle.sn_engine.specs.declared.standing.Flow.TheVariants.{On}
 use Rattle.sn_engine.specs.declared.standing.Flow.TheVariants as flows
 use Rattle.sn_engine.specs.declared.standing.Standing.TheVariants.{Settled}
@@ -88,6 +88,10 @@ pub record IsCut (sound_old sound_new sent_old sent_new : Option (List ℕ)) (v 
 abbrev pub Follows : Option (List ℕ) → Option (List ℕ) → Option (List ℕ) → Option (List ℕ) → Live → Course → Running → Framing → Result Unit Ended → Type 0
 Follows sound_old sound_new sent_old sent_new v c e f (Ok x) = GoesOn sound_old sound_new sent_old sent_new c e f
 Follows sound_old sound_new sent_old sent_new v c e f (Err how) = ByEnd how (HasEnded sound_old sound_new sent_old sent_new c how) (IsCut sound_old sound_new sent_old sent_new v c)
+
+-- an engine at which nothing has arrived
+abbrev pub IsOpened : Running → Type 0
+IsOpened e = e ≡ opened e.settings e.waiting.base (Some most_entries) 1
 
 -- an engine and a framer that can take what comes: no more entries were put than bytes were used
 pub record IsReady (e : Running) (f : Framing) : Type 0 where

@@ -5,7 +5,7 @@ ghost use Rattle.sn_ports.specs.Causes.{Rose};
 ghost use Rattle.sn_ports.specs.Links.{LinkEvent};
 ghost use Rattle.sn_server.specs.PlayEvents.{Live, bytes_in, closing, play_events};
 ghost use Rattle.sn_server.specs.Served.{GivesEnd, AtClose};
-ghost use Rattle.sn_server.specs.Serving.{IsLive, IsReady, HasLeft, Took};
+ghost use Rattle.sn_server.specs.Serving.{IsLive, IsOpened, IsReady, HasLeft, Took};
 ghost use Rattle.sn_server.specs.declared.ended.Ended.{Ended};
 
 use crate::ended::Ended;
@@ -105,7 +105,45 @@ fn serve_event<H: Threads + Sync, L: Link, O: Sink, G: Gate>(
     take_event(rt, alloc, engine, framer, piece, link, sound, gate)
 }
 
-/// Takes event after event, until the connection ends.
+/// Takes event after event, until the connection ends. Nothing has arrived at `engine` yet.
+fn take_events<H: Threads + Sync, L: Link, O: Sink, G: Gate>(
+    rt: &H,
+    alloc: Global,
+    engine: &mut Engine,
+    link: &mut L,
+    sound: &mut O,
+    gate: &G,
+) -> Ended
+    requires opened { IsOpened engine.old.running }
+    ensures served { GivesEnd engine.old.running.settings engine.old.running.waiting.base (L.left link.old) (L.left link.new) (O.taken sound.old) (O.taken sound.new) (L.sent link.old) (L.sent link.new) result }
+    ensures close { AtClose result (L.left link.old) (L.left link.new) }
+    ensures link { result ≡ Ended.LinkFault → Rose (L.faults link.old) (L.faults link.new) }
+    ensures sound { result ≡ Ended.SoundFault → Rose (O.faults sound.old) (O.faults sound.new) }
+    ensures link_unfailed { (result ≡ Ended.LinkFault) ⊎ (L.faults link.new ≡ L.faults link.old) }
+    ensures sound_unfailed { (result ≡ Ended.SoundFault) ⊎ (O.faults sound.new ≡ O.faults sound.old) }
+{
+    let Ok(mut piece) = zeroed(alloc, PIECE) else {
+        return Ended::NoMemory;
+    };
+    let mut framer = Framer::new(alloc);
+    loop {
+        match serve_event(
+            rt,
+            alloc,
+            engine,
+            &mut framer,
+            &mut piece,
+            link,
+            sound,
+            gate,
+        ) {
+            Ok(()) => {}
+            Err(how) => return how,
+        }
+    }
+}
+
+/// Opens an engine, and takes event after event, until the connection ends.
 fn serve_events<H: Threads + Sync, L: Link, O: Sink, G: Gate>(
     rt: &H,
     alloc: Global,
@@ -125,25 +163,7 @@ fn serve_events<H: Threads + Sync, L: Link, O: Sink, G: Gate>(
     let Ok(mut engine) = Engine::open(alloc, settings, base, Some(MOST_ENTRIES), 1) else {
         return Ended::NoMemory;
     };
-    let Ok(mut piece) = zeroed(alloc, PIECE) else {
-        return Ended::NoMemory;
-    };
-    let mut framer = Framer::new(alloc);
-    loop {
-        match serve_event(
-            rt,
-            alloc,
-            &mut engine,
-            &mut framer,
-            &mut piece,
-            link,
-            sound,
-            gate,
-        ) {
-            Ok(()) => {}
-            Err(how) => return how,
-        }
-    }
+    take_events(rt, alloc, &mut engine, link, sound, gate)
 }
 
 /// Serves one connection until it ends, with block 0 at the time tag `base`.

@@ -15,15 +15,15 @@ use sn_engine::Engine;
 use sn_pcm::Settings;
 use sn_ports::{Gate, NoMemory, Sink, Source, Text, Word, write_all};
 use sn_report::stage_report;
-use sn_server::{Outcome, Packets, reach, read_packets};
+use sn_server::{Outcome, Packets, Reached, reach, read_packets};
 use sn_words::plan_words;
 use std::alloc::Global;
 use std::thread::Threads;
 
 /// The report of the world of an engine.
-fn engine_report(alloc: Global, engine: &Engine) -> Result<Text, NoMemory>
-    ensures text { IfOk result (λ text. text.bytes ≡ report_of engine.now.running.world) }
-    ensures longest { OnOk result (HasLongest engine.now.running.world) }
+fn engine_report(alloc: Global, engine: Engine) -> Result<Text, NoMemory>
+    ensures text { IfOk result (λ text. text.bytes ≡ report_of engine.running.world) }
+    ensures longest { OnOk result (HasLongest engine.running.world) }
 {
     stage_report(alloc, engine.stage())
 }
@@ -48,13 +48,12 @@ fn plan_packets<H: Threads + Sync, O: Sink, G: Gate>(
         Ok(reached) => reached,
         Err(outcome) => return outcome,
     };
-    let Ok(text) = engine_report(alloc, &reached.engine) else {
+    let Reached { engine, blocks } = reached;
+    let Ok(text) = engine_report(alloc, engine) else {
         return Outcome::NoMemory;
     };
     match write_all(out, text.as_slice()) {
-        Ok(()) => Outcome::Done {
-            blocks: reached.blocks,
-        },
+        Ok(()) => Outcome::Done { blocks },
         Err(_) => Outcome::SoundFault,
     }
 }

@@ -1,4 +1,4 @@
-use Rattle.std.proofs.Common.{◌≡◌, ◌∙◌, ◌⊎◌, ◌<◌, ℕ, Bool, false, List, OnOk, Option, Result, ap, inr, length, map, refl, subst, sym, arith, rules}
+use Rattle.std.proofs.Common.{◌≡◌, ◌∙◌, ◌⊎◌, ◌<◌, ℕ, Bool, false, List, OnOk, Result, ap, inr, length, map, refl, subst, sym, arith, rules}
 use Rattle.std.specs.Prelude.{slice_index_or}
 use Rattle.std.specs.Vec.{with_items}
 use Rattle.std.proofs.lemmas.List.{with_items_is, places}
@@ -12,7 +12,7 @@ use Rattle.sn_clients.specs.declared.turns.How.TheVariants.{Over, SoundFault}
 use Rattle.sn_clients.specs.declared.turns.Turn.{Turn}
 use Rattle.sn_ports.specs.Causes.{Rose}
 use Rattle.sn_clients.specs.Answers.{end_of, has_stopped}
-use Rattle.sn_clients.specs.Clients.{HasInlet, IsRead}
+use Rattle.sn_clients.specs.Clients.{HasInlet}
 use Rattle.sn_clients.specs.Ends.{clients_in, gathered_in}
 use Rattle.sn_clients.specs.Looping.{IsSteady, RunsTo}
 use Rattle.sn_clients.specs.PlayMany.{Streams, start}
@@ -123,7 +123,8 @@ returns-clause-served g c =
     let gathered_is : (with_items read gathered).items ≡ gathered = with_items_is read gathered (search (rules, places)) in
     let told_is : c.as_mut_slice-5.result.now ≡ (with_items read gathered).items = search rules in
     let last_is : (with_items (with_items read gathered) last).items ≡ last = with_items_is (with_items read gathered) last (search (rules, places)) in
-    let flags_are : c.deref.result.now ≡ n.self.failed.items = search rules in
+    let flags_here : c.deref.result.now ≡ c.remains-turns.result.1.items = search rules in
+    let flags_are : c.deref.result.now ≡ n.self.failed.items = flags_here ∙ c.remains-turns.ensures.failed in
     let sinks_are : c.as_mut_slice-4.result.now ≡ p.new.sinks.items = search rules in
     let sinks_end : (with_items p.new.sinks n.sinks).items ≡ n.sinks = with_items_is p.new.sinks n.sinks (search (rules, places)) in
     -- their streams
@@ -170,16 +171,16 @@ returns-clause-served g c =
     (subst (λ (q : List (Client g.row.S.Denot) × List (Client g.row.S.Denot)). (k : ℕ) (d : Client g.row.S.Denot) (x : Sender) → k < length q.0 → IsGathered (has_stopped c.gather_all.new.outlet) k (slice_index_or q.0 k d) (slice_index_or q.1 k d) (slice_index_or senders k x)) (λ i. (read_is i, sym gathered_is i)) gathering.gathered)
     (subst (λ (q : List (Client g.row.S.Denot) × List (Client g.row.S.Denot) × List Bool). (k : ℕ) (d : Client g.row.S.Denot) → k < length q.0 → slice_index_or q.1 k d ≡ told (slice_index_or q.2 k false) (slice_index_or q.0 k d)) (λ i. (told_is i, sym last_is i, flags_are i)) c.tell_faults.ensures.told)
     still all in
-    subst (λ (q : List g.row.R.Denot × How). IsServed g.S.Source.left g.S.Source.faults taken faults s base first.items (with_items (with_items read gathered) last).items sinks q.0 sound sound_new left left_new zeros_old zeros_new q.1 n.self.turns.items) (λ i. (sym sinks_end i, sym c.how_of.ensures i)) whole_session
+    subst (λ (q : List g.row.R.Denot × How × List Turn). IsServed g.S.Source.left g.S.Source.faults taken faults s base first.items (with_items (with_items read gathered) last).items sinks q.0 sound sound_new left left_new zeros_old zeros_new q.1 q.2) (λ i. (sym sinks_end i, sym c.how_of.ensures i, sym c.remains-turns.ensures.turns i)) whole_session
 
 pub returns-clause-few : goal.returns-clause-few
-returns-clause-few g c = c.end-end.ensures.few
+returns-clause-few g c = omega (arith, c.end-end.ensures.few, ap length c.remains-turns.ensures.turns)
 
 pub returns-clause-full : goal.returns-clause-full
-returns-clause-full g c = λ full. c.end-end.ensures.full (full_is c.end-end.result (sym c.how_of.ensures ∙ full))
+returns-clause-full g c = λ full. ap length c.remains-turns.ensures.turns ∙ c.end-end.ensures.full (full_is c.end-end.result (sym c.how_of.ensures ∙ full))
 
 pub returns-clause-over : goal.returns-clause-over
-returns-clause-over g c = λ over. over_gives c.end-end.result (sym c.how_of.ensures ∙ over) c.end-end.ensures.over
+returns-clause-over g c = λ over. omega (arith, over_gives c.end-end.result (sym c.how_of.ensures ∙ over) c.end-end.ensures.over, ap length c.remains-turns.ensures.turns)
 
 pub returns-clause-zero : goal.returns-clause-zero
 returns-clause-zero g c = λ over.

@@ -11,7 +11,7 @@ render_blocks-requires-clause-blocks g c = λ κs lives. few_blocks c.args.setti
 
 pub returns-clause-ended : goal.returns-clause-ended
 returns-clause-ended g c =
-    let whole = to_end c.args.blocks c.args.engine.running in
+    let whole = to_end c.args.blocks c.args.engine.now.running in
     let s = c.args.settings.now in
     on_ok c.render_blocks.result (headed (header_bytes s (data_len s c.args.blocks)) whole.sound (to_first whole.replies) _ _ _ _ _ c.in_ok-write_header.ensures.written) c.render_blocks.ensures.ended
 
@@ -31,12 +31,12 @@ returns-in_err-write_header-clause-unfailed g c =
 
 pub returns-in_err-write_header-clause-fronts : goal.returns-in_err-write_header-clause-fronts
 returns-in_err-write_header-clause-fronts g c =
-    let whole = to_end c.args.blocks c.args.engine.running in
+    let whole = to_end c.args.blocks c.args.engine.now.running in
     let s = c.args.settings.now in
     on_any_err c.from_residual.result (head_cut (header_bytes s (data_len s c.args.blocks)) whole.sound (to_first whole.replies) _ _ _ c.in_err-write_header.ensures.front)
 
 pub returns-clause-fronts : goal.returns-clause-fronts
 returns-clause-fronts g c =
-    let whole = to_end c.args.blocks c.args.engine.running in
+    let whole = to_end c.args.blocks c.args.engine.now.running in
     let s = c.args.settings.now in
     on_err c.render_blocks.result (headed_cut (header_bytes s (data_len s c.args.blocks)) whole.sound (to_first whole.replies) _ _ _ _ _ c.in_ok-write_header.ensures.written) c.render_blocks.ensures.fronts

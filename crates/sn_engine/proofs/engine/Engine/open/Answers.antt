@@ -16,6 +16,9 @@ open-requires c = memory_opens c.args.settings.now.memory c.args.settings.now.me
 pub open-requires-2 : goal.open-requires-2
 open-requires-2 c = workers_fit c.args.settings.now.workers c.args.settings.now.workers_are
 
+pub new-queue-requires : goal.new-queue-requires
+new-queue-requires c = omega (arith, (rate_fits c.args.settings.now.rate c.args.settings.now.rate_is).0)
+
 pub returns-clause-running : goal.returns-clause-running
 returns-clause-running c = opens_engine c.args.settings.now c.args.base c.args.limit c.args.clients (10368 + c.args.settings.now.memory + 16384 + 266240) c.in_ok-stage.stage c.in_ok-memory.memory.words c.new-queue.result _ _ _
     c.in_ok-stage.ensures (words_same c.in_ok-memory.ensures) c.new-queue.ensures c.new-clashes.ensures c.new-sound.ensures c.in_ok-replies.ensures

@@ -2,11 +2,11 @@
 use Rattle.std.proofs.Common.{◌≡◌, ◌≤◌, ◌+◌, ◌-◌, ◌^◌, length}
 use Rattle.sn_server.specs.Serving.{IsReady, IsServing}
 use Rattle.sn_render.specs.Faults.{NothingFailed}
-use Rattle.sn_server.proofs.serving.serve_events.Given as goal
+use Rattle.sn_server.proofs.serving.take_events.Given as goal
 
 abbrev pub invariant-loop-how : goal.invariant-loop-how
 invariant-loop-how g l = record {
-  serving : IsServing l.settings l.base (g.L.Link.left l.fn.link) (g.L.Link.left l.link) (g.O.Sink.taken l.fn.sound) (g.O.Sink.taken l.sound) (g.L.Link.sent l.fn.link) (g.L.Link.sent l.link) l.engine.running l.framer;
+  serving : IsServing l.fn.engine.running.settings l.fn.engine.running.waiting.base (g.L.Link.left l.fn.link) (g.L.Link.left l.link) (g.O.Sink.taken l.fn.sound) (g.O.Sink.taken l.sound) (g.L.Link.sent l.fn.link) (g.L.Link.sent l.link) l.engine.running l.framer;
   ready : IsReady l.engine.running l.framer;
   piece : length l.piece.items ≡ 65536;
   link_later : g.L.Link.faults l.fn.link ≤ g.L.Link.faults l.link;

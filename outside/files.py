@@ -11,8 +11,8 @@ STREAM = osc.frame(osc.message("/sync", 1)) + osc.frame(osc.bundle(1 << 31))
 # The three files of a rendering, and its end.
 FILES = [
     ("none", "sound", "replies", "cannot open", 9), ("commands", "none/sound", "replies", "cannot open", 9), ("commands", "sound", "none/replies", "cannot open", 9),
-    ("commands", "commands", "replies", "cannot open", 9), (".", "sound", "replies", "read fault", 6), ("commands", "/dev/full", "replies", "sound fault", 7),
-    ("commands", "sound", "/dev/full", "reply fault", 8),
+    ("commands", "commands", "unmade", "cannot open", 9), ("commands", "unmade", "commands", "cannot open", 9), ("commands", "unmade", "unmade", "cannot open", 9),
+    (".", "sound", "replies", "read fault", 6), ("commands", "/dev/full", "replies", "sound fault", 7), ("commands", "sound", "/dev/full", "reply fault", 8),
 ]
 SHORT = 1000  # bytes that a file may have
 
@@ -41,6 +41,9 @@ def differences(binary, folder):
     with open(os.path.join(folder, "commands"), "wb") as file:
         file.write(STREAM)
     wanted = [(ended(binary, ["render", *paths], folder), (line, status), paths) for *paths, line, status in FILES]
+    with open(os.path.join(folder, "commands"), "rb") as file:
+        wanted.append((file.read(), STREAM, "the commands where one file is named twice"))
+    wanted.append((os.path.exists(os.path.join(folder, "unmade")), False, "a file that is made where one is named twice"))
     wanted.append((ended(binary, ["render", "commands", "sound", "replies"], folder, preexec_fn=with_short_files), ("sound fault", 7), "a file of 1,000 bytes"))
     with open(os.path.join(folder, "sound"), "rb") as file:
         wanted.append((file.read(), server.run([], STREAM)[2][:SHORT], "what is left of it"))

@@ -62,11 +62,14 @@ def served(binary, data, wanted, folder):
 
 def differences(binary, folder, bad_words, connections):
     """Lines for each command line and each connection that does not go as it should."""
-    lines = []
+    lines, empty = [], os.path.join(folder, "refused")
+    os.mkdir(empty)
     for words, index in bad_words:
-        found = refused(binary, words, folder)
+        found = refused(binary, words, empty)
         if found != (f"bad word {index}", 2):
             lines.append(f"words {words}: wanted {index}, program {found}")
+    if os.listdir(empty):
+        lines.append(f"words that are refused made {os.listdir(empty)}")
     for name, data, replies, line, status in connections:
         wanted = b"".join(osc.frame(osc.message(*reply)) for reply in replies)
         found = served(binary, data, wanted, folder)

@@ -1,4 +1,5 @@
 """Command lines that are refused, with what is printed; and connections that are served."""
+import time
 import osc
 from cases import SYNC, bytes_of, packet, recv, stream
 
@@ -13,12 +14,16 @@ BAD_WORDS = [
     (["render", "rate=48000", "x", "bits=16", "a", "b", "c"], 2), (["render", "bits=16", "rate=48000"], 3), (["render", " bits=16", "a", "b", "c"], 1), (["render", "bits=24 ", "a", "b", "c"], 1),
 ]
 
+HOUR = 3600 << 32  # of a time tag
+NOW = int((time.time() + 2208988800) * (1 << 32))  # as a time tag
+
 # What is sent over a connection that is then closed; the replies; the line and the status.
 CONNECTIONS = [
     ("a number", stream(("/sync", 7)), [("/synced", 7)], "closed", 0),
     ("nothing", b"", [], "closed", 0),
     ("late bundles act in the order of arrival", stream(*[osc.bundle(tag, osc.message("/sync", tag)) for tag in (900, 5, 0, 1, 77)]), [("/synced", tag) for tag in (900, 5, 0, 1, 77)], "closed", 0),
     ("a late bundle and what is inside it", stream(osc.bundle(9, SYNC, osc.bundle(1, osc.message("/sync", 2)), osc.message("/sync", 3))), [("/synced", 1), ("/synced", 3), ("/synced", 2)], "closed", 0),
+    ("a bundle of an hour ago acts, and one in an hour waits", stream(osc.bundle(NOW + HOUR, SYNC), osc.bundle(NOW - HOUR, osc.message("/sync", 2))), [("/synced", 2)], "closed", 0),
     ("packets at fault are told and skipped", stream(bytes_of("41000000"), bytes_of("23627500"), bytes_of("2f610001"), ("/none",)), [("/fail", "packet", "bad packet")] * 3 + [("/fail", "/none", "unknown command")], "closed", 0),
     ("a bad size", stream(bytes_of("41000000")) + bytes_of("00000006 00000000"), [("/fail", "packet", "bad packet")], "bad frame size 6", 11),
     ("a negative size", stream(bytes_of("41000000")) + bytes_of("fffffffc"), [("/fail", "packet", "bad packet")], "bad frame size -4", 11),

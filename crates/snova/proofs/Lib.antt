@@ -1,6 +1,1 @@
-pub mod ByWordsLemmas
-pub mod PlanLemmas
-pub mod ServeLemmas
-pub mod ConvertLemmas
-pub mod DrillLemmas
-pub mod ShelfLemmas
+pub mod ClientLemmas

@@ -12,15 +12,15 @@ use Rattle.sn_server.specs.declared.ended.Ended.{Ended}
 use Rattle.sn_server.specs.declared.ended.Ended.TheVariants as ends
 use Rattle.sn_clients.specs.declared.turns.How.{How}
 use Rattle.sn_clients.specs.declared.turns.How.TheVariants as hows
-use Rattle.snova.specs.Connection.{served_status}
-use Rattle.snova.specs.Converting.{converted_status}
-use Rattle.snova.specs.declared.converting.Converted.{Converted}
-use Rattle.snova.specs.declared.converting.Converted.TheVariants as converted
-use Rattle.snova.specs.declared.serving.Served.{Served}
-use Rattle.snova.specs.declared.serving.Served.TheVariants as served
-use Rattle.snova.specs.Shelving.{shelf_status}
-use Rattle.snova.specs.declared.shelving.ShelfOutcome.{ShelfOutcome}
-use Rattle.snova.specs.declared.shelving.ShelfOutcome.TheVariants as shelves
+use Rattle.sn_top.specs.Connection.{served_status}
+use Rattle.sn_top.specs.Converting.{converted_status}
+use Rattle.sn_top.specs.declared.converting.Converted.{Converted}
+use Rattle.sn_top.specs.declared.converting.Converted.TheVariants as converted
+use Rattle.sn_top.specs.declared.serving.Served.{Served}
+use Rattle.sn_top.specs.declared.serving.Served.TheVariants as served
+use Rattle.sn_top.specs.Shelving.{shelf_status}
+use Rattle.sn_top.specs.declared.shelving.ShelfOutcome.{ShelfOutcome}
+use Rattle.sn_top.specs.declared.shelving.ShelfOutcome.TheVariants as shelves
 use Rattle.snova.specs.declared.exit.Exit.{Exit}
 use Rattle.snova.specs.declared.exit.Exit.TheVariants as exit
 

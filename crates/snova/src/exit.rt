@@ -4,13 +4,11 @@ ghost use Rattle.std.specs.Fmt.{DisplaysOnOk};
 ghost use Rattle.std.specs.declared.io.ErrorKind.TheVariants.{OutOfMemory};
 ghost use Rattle.snova.specs.Lines.{bad_stream_line, converted_line, end_line, exit_line, exit_status, fault_number, has_line, outcome_line, session_line, session_status, shelf_line};
 
-use crate::converting::Converted;
-use crate::serving::Served;
-use crate::shelving::ShelfOutcome;
 use crate::usage::{USAGE, VERSION};
 use sn_clients::How;
 use sn_osc::PacketKind;
 use sn_server::{Ended, Outcome, StreamFault};
+use sn_top::{Converted, Served, ShelfOutcome};
 use std::{fmt, io};
 
 /// The status if the words are refused.

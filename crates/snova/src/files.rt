@@ -4,14 +4,14 @@ ghost use Rattle.sn_render.specs.declared.outcome.Outcome.{Outcome};
 ghost use Rattle.sn_words.specs.Words.{settings_of};
 ghost use Rattle.snova.specs.Paths.{are_apart};
 ghost use Rattle.snova.specs.declared.exit.Exit.{Exit};
-ghost use Rattle.snova.specs.declared.shelving.ShelfOutcome.{ShelfOutcome};
+ghost use Rattle.sn_top.specs.declared.shelving.ShelfOutcome.{ShelfOutcome};
 
 use crate::exit::Exit;
 use crate::progress::Progress;
-use crate::shelving::{ShelfOutcome, run_shelf};
 use sn_ports::{FileSink, FileSource, Open, Word};
 use sn_server::Outcome;
 use sn_shelf::FolderShelf;
+use sn_top::{ShelfOutcome, run_shelf};
 use sn_words::settings;
 use std::io::Eprint;
 use std::rt::Files;

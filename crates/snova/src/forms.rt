@@ -2,12 +2,12 @@
 ghost use Rattle.std.specs.Prelude.{◌≡◌, ◌<◌, ◌^◌, ℕ, Err, length, IsTrue, IsOk};
 ghost use Rattle.sn_words.specs.Converting.{convert_words_of};
 ghost use Rattle.snova.specs.Paths.{is_other};
-ghost use Rattle.snova.specs.declared.converting.Converted.{Converted};
+ghost use Rattle.sn_top.specs.declared.converting.Converted.{Converted};
 ghost use Rattle.snova.specs.declared.exit.Exit.{Exit};
 
-use crate::converting::{Converted, convert};
 use crate::exit::Exit;
 use sn_ports::{FileSink, FileSource, Word};
+use sn_top::{Converted, convert};
 use sn_words::convert_words;
 use std::rt::Files;
 use std::{fs, io};

@@ -7,15 +7,15 @@ ghost use Rattle.sn_server.specs.declared.ended.Ended.{Ended};
 ghost use Rattle.sn_words.specs.Choices.{numbers};
 ghost use Rattle.sn_words.specs.Serving.{serve_words_of};
 ghost use Rattle.snova.specs.Clock.{time_tag};
-ghost use Rattle.snova.specs.Connection.{AreServed};
+ghost use Rattle.sn_top.specs.Connection.{AreServed};
 ghost use Rattle.snova.specs.declared.exit.Exit.{Exit};
 
 use crate::clock::{Reading, now};
 use crate::exit::Exit;
-use crate::serving::{Served, serve};
 use crate::several::serve_several;
 use sn_ports::{FileSink, Link, Open, Sink, Word};
 use sn_tcp::TcpLink;
+use sn_top::{Served, serve};
 use sn_words::{ServeWords, serve_words};
 use std::io::{Read, Write};
 use std::net::{Ipv4Addr, Net, OpenListener, OpenStream, TcpListener, TcpStream};

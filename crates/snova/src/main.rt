@@ -4,22 +4,17 @@
 #![tactic(auto)]
 
 mod clock;
-mod converting;
-mod drilling;
+mod drills;
 mod exit;
 mod files;
 mod forms;
 mod listening;
-mod planning;
 mod progress;
-mod rendering;
 mod reports;
-mod serving;
 mod several;
-mod shelving;
 mod usage;
 
-use drilling::drill_printed;
+use drills::drill_printed;
 use exit::{BAD_WORDS, Exit};
 use files::render_files;
 use forms::convert_files;
@@ -99,6 +94,3 @@ fn main(rt: HostRuntime) -> io::Result<ExitCode> {
     }
     Ok(ExitCode::from(status))
 }
-
-#[cfg(test)]
-mod tests;

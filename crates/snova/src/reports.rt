@@ -7,9 +7,9 @@ ghost use Rattle.snova.specs.declared.exit.Exit.{Exit};
 
 use crate::exit::Exit;
 use crate::forms::is_other;
-use crate::planning::plan_run;
 use sn_ports::{FileSink, FileSource, Open, Word};
 use sn_server::Outcome;
+use sn_top::plan_run;
 use sn_words::plan_words;
 use std::rt::Files;
 use std::thread::Threads;

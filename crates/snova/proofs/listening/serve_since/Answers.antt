@@ -1,7 +1,7 @@
 use Rattle.std.proofs.Common.{◌≡◌, ℕ, subst}
 use Rattle.sn_pcm.specs.declared.settings.Settings.{Settings}
 use Rattle.sn_server.specs.Served.{GivesEnd}
-use Rattle.snova.specs.Connection.{AreServed}
+use Rattle.sn_top.specs.Connection.{AreServed}
 use Rattle.snova.proofs.listening.serve_since.Goals as goal
 
 pub returns : goal.returns

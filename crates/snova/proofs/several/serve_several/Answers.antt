@@ -1,5 +1,5 @@
 use Rattle.std.proofs.Common.{arith}
-use Rattle.snova.proofs.ServeLemmas.{clients_fit}
+use Rattle.snova.proofs.ClientLemmas.{clients_fit}
 use Rattle.snova.proofs.several.serve_several.Goals as goal
 
 pub serve_many-session-requires-clause-clients : goal.serve_many-session-requires-clause-clients

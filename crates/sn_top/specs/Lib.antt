@@ -1,0 +1,6 @@
+pub mod Connection
+pub mod Converting
+pub mod Drilling
+pub mod Headline
+pub mod Planning
+pub mod Shelving

@@ -1,5 +1,0 @@
-use Rattle.snova.proofs.DrillLemmas.{last_is, not_long}
-use Rattle.snova.proofs.drilling.short_drill.Goals as goal
-
-pub returns : goal.returns
-returns c = λ s seed blocks some few. (last_is s seed blocks some, not_long s blocks few)

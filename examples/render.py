@@ -3,7 +3,7 @@
 
     python3 examples/render.py [--unproved] NAME..
 
-If `snova` isn't built yet, the kit's `rt ci` proves and builds it first, which takes one to two and a half hours on four processors; it is said
+If `snova` isn't built yet, the kit's `rt ci` proves and builds it first, which takes about an hour on four processors; it is said
 before it begins. It runs in this directory, where pieces find the files in sounds/. With --unproved the kit's `rt try` builds it for each
 piece, which takes a minute or two and proves nothing; it runs where no piece finds a file. It exits with 1 if a piece isn't rendered to its
 end, or if a command of it is refused.
@@ -16,7 +16,7 @@ import replies
 
 CRATE = make.HERE.parent / "crates" / "snova"
 BUILT = CRATE / "out" / "snova"
-TAKES = "the proof takes one to two and a half hours on four processors"
+TAKES = "the proof takes about an hour on four processors"
 
 
 def is_built():

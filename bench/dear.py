@@ -1,7 +1,7 @@
 """Streams that ask for much in few bytes, for snova alone. gen.py writes them, and hostile.py measures them."""
 import os
 
-from osc import bundle, frame, msg
+from osc import at, bundle, frame, msg
 
 FULL = 16777216  # bytes that a stream may have
 PACKET = 65536  # bytes that a packet may have
@@ -15,17 +15,19 @@ ARRAYS = "".join(f"array v{i}{' 0' * 64}\n" for i in range(CONTROLS // 64))
 BANK = f"snova 2\ndef bank\n{ARRAYS}a = SinOsc v0 0\nOut.ar 16 a\nend\n".encode()
 MINUTE = b"snova 1\ndef minute\na = DelayN 0 60000 0\nOut.ar 16 a\nend\n"
 MINUTE_WORDS = 2880002  # at 48,000 frames a second
+SPREAD = ("snova 1\ndef spread\na = SinOsc 440000 0\n" + "Out.ar 16 a a a a a a a a\n" * 255 + "end\n").encode()
 ASKED = 12900  # numbers that a message has room for
+TURNS = 10  # blocks at which a node is paused or runs again
 
 
 class Dear:
     """A stream: what stands at its begin, and what is then repeated as often as there is room for or as it says.
 
-    `touched` is how many things one repetition must touch, and `thing` what these are.
+    `touched` is how many things one repetition must touch, and `thing` what these are. It lasts so many blocks.
     """
 
-    def __init__(self, name, what, first, again, thing, touched, times=None, memory=None):
-        self.name, self.what, self.first, self.again, self.thing = name, what, first, again, thing
+    def __init__(self, name, what, first, again, thing, touched, times=None, memory=None, blocks=0):
+        self.name, self.what, self.first, self.again, self.thing, self.blocks = name, what, first, again, thing, blocks
         self.times = times or (FULL - len(first)) // len(again)
         self.touched = touched * self.times
         self.words = [] if memory is None else [f"memory={memory}"]
@@ -193,6 +195,25 @@ def trees():
     return Dear("trees", f"4,096 times the whole tree of {NODES:,} synths is asked for in one packet", voices(0), messages(("/g_queryTree", *[0, 0] * 4096)), "node told", 4096 * NODES, 1)
 
 
+def turns(node):
+    """A node is paused, and runs again, at one block after the other."""
+    return b"".join(frame(bundle(at(block), msg("/n_run", node, block % 2))) for block in range(TURNS))
+
+
+def paused_great():
+    first = messages(("/d_recv", SPREAD), ("/d_recv", VOICE), ("/g_new", 1, 0, 0), ("/n_run", 1, 0), ("/p_new", 2, 0, 0))
+    first += synths("spread", 1) + bundles(0, [("/s_new", "voice", 3 + i, 1, 2) for i in range(2)])
+    what = f"beside {NODES:,} synths of 255 outputs in a group that is paused, a voice is paused or runs again at {TURNS} blocks"
+    return Dear("paused_great", what, first, turns(3), "node of a block", TURNS * NODES, 1, blocks=TURNS - 1)
+
+
+def nested_parallel():
+    groups = [word for i in range(2047) for word in (1 + i, 0, i)]
+    first = messages(("/d_recv", VOICE), ("/p_new", *groups)) + bundles(0, [("/s_new", "voice", 10000 + i, 1, 1 + i) for i in range(2047)])
+    what = f"of 2,047 parallel groups, each inside the one before and with a voice, the innermost is paused or runs again at {TURNS} blocks"
+    return Dear("nested_parallel", what, first, turns(2047), "node of a block", TURNS * 4094, 1, blocks=TURNS - 1)
+
+
 def definitions():
     return Dear("definitions", "definitions of the greatest size, each in the place of the one before", b"", messages(("/d_recv", greatest())), "byte", len(greatest()))
 
@@ -257,4 +278,5 @@ def all_dear():
     controls = [set_again, setn_again, fill_again, map_again, names_again, fill_runs, set_root]
     replies = [long_replies, great_replies, trees, ask_nodes, ask_controls, ask_pool]
     pool = [definitions, buffers_in_turn, alloc_pool, zero_pool, fill_pool, fill_pool_again, fill_buses]
-    return [make() for make in nodes + waiting + controls + replies + pool]
+    plans = [paused_great, nested_parallel]
+    return [make() for make in nodes + plans + waiting + controls + replies + pool]

@@ -27,7 +27,7 @@ def rendered(snova, folder, dear):
     line = child.stdout.read()
     _, status, used = os.wait4(child.pid, 0)
     child.returncode = os.waitstatus_to_exitcode(status)
-    if line != b"done 0 blocks\n":
+    if line != b"done %d blocks\n" % dear.blocks:
         sys.exit(f"{dear.name}: {line}, status {child.returncode}")
     return used.ru_utime + used.ru_stime, used.ru_maxrss // 1024
 

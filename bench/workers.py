@@ -13,14 +13,13 @@ import time
 
 HERE = os.path.dirname(os.path.abspath(__file__))
 EXAMPLES = os.path.join(HERE, "..", "examples")
-WORKLOADS = ("drill", "notes_64", "members_parallel", "members_wide", "members_wide_set", "groups_planned_anew", "lanes_8x32")
+WORKLOADS = ("drill", "notes_64", "members_parallel", "members_wide", "members_wide_set", "groups_flag_turned", "lanes_8x32")
 
 
 def examples():
     """The examples as streams, by their names."""
-    subprocess.run([sys.executable, os.path.join(EXAMPLES, "make.py")], check=True, stdout=subprocess.DEVNULL)
-    names = sorted(file.removesuffix(".txt") for file in os.listdir(EXAMPLES) if file.endswith(".txt"))
-    return {name: os.path.join(EXAMPLES, "out", f"{name}.osc") for name in names}
+    made = subprocess.run([sys.executable, os.path.join(EXAMPLES, "make.py")], check=True, capture_output=True, text=True)
+    return {os.path.basename(path).removesuffix(".osc"): path for path in made.stdout.splitlines()}
 
 
 def seconds(snova, folder, path, workers):

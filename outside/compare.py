@@ -1,4 +1,4 @@
-"""Runs a binary on all cases, and compares each with the model: python3 compare.py BINARY [-k WORD] [--random N] [--damage N] [--texts N] [--seed N]."""
+"""Runs a binary on all cases, and compares each with the model: python3 compare.py BINARY [-k WORD] [--random N] [--damage N] [--texts N] [--connections N] [--seed N]."""
 import argparse
 import itertools
 import os
@@ -6,6 +6,8 @@ import pathlib
 import subprocess
 import sys
 import tempfile
+import time
+import connection
 import files
 import osc
 import scores
@@ -13,20 +15,27 @@ import server
 import serving
 import shelf
 from cases import CASES
-from damage import damaged_case, damaged_text
+from damage import damaged_case, damaged_connection, damaged_text
 from random_cases import random_case
 from words import BAD_WORDS, CONNECTIONS
 
 
+SINCE_1900 = 2208988800  # seconds of the clock's epoch since that of time tags
+FEWEST_BLOCKS = 6  # of a session over which damaged bytes come, if its connection isn't ended by a bad size
+CLOSINGS = {"closed": 0, "cut": 10, "bad": 11}
+
+
 def program_run(binary, words, stream, folder):
+    """The line, the status, the sound and the replies of a rendering into files that were empty."""
     paths = [os.path.join(folder, name) for name in ("commands", "sound", "replies")]
-    with open(paths[0], "wb") as file:
-        file.write(stream)
+    for path, content in zip(paths, (stream, b"", b"")):
+        with open(path, "wb") as file:
+            file.write(content)
     try:
         done = subprocess.run([*binary, "render", *words, *paths], capture_output=True, timeout=600)
     except subprocess.TimeoutExpired:
         return "no end within 600 seconds", None, None, None
-    sound, replies = (open(path, "rb").read() if os.path.exists(path) else None for path in paths[1:])
+    sound, replies = (open(path, "rb").read() for path in paths[1:])
     return done.stdout.decode().rstrip("\n"), done.returncode, sound, replies
 
 
@@ -69,6 +78,16 @@ def is_converted(binary, seed, folder):
     return scores.compare_text(binary, folder, damaged_text(seed)) and bool(same)
 
 
+def connection_differences(binary, seed, folder):
+    """The name of a session over which damaged bytes come, and lines that say where the model and the program differ."""
+    name, words, data = damaged_connection(seed)
+    settings, base = server.settings_of(words), int(time.time() + SINCE_1900) << 32
+    block = settings["channels"] * settings["bits"] // 8 * 64
+    program = serving.paced(binary, words, data, FEWEST_BLOCKS * block, folder)
+    line, sound, replies = connection.serve(settings, base, [1, data, len(program[2]) // block - 1])
+    return name, differences((line, CLOSINGS[line.split()[0]], sound, replies), program)
+
+
 def main():
     parser = argparse.ArgumentParser()
     parser.add_argument("binary", help="the program, with words before it where a loader runs it")
@@ -76,6 +95,7 @@ def main():
     parser.add_argument("--random", type=int, default=0, help="so many random streams beside the table")
     parser.add_argument("--damage", type=int, default=0, help="so many damaged streams beside the table")
     parser.add_argument("--texts", type=int, default=0, help="so many damaged texts that are scored, and damaged streams that are dumped")
+    parser.add_argument("--connections", type=int, default=0, help="so many connections over which damaged packets and streams come")
     parser.add_argument("--seed", type=int, default=1, help="the first random or damaged stream or text")
     given = parser.parse_args()
     # Some runs have a folder of their own.
@@ -96,6 +116,12 @@ def main():
             wrong += not is_converted(given.binary, seed, pathlib.Path(folder))
         if given.texts:
             print(f"{given.texts} texts and as many streams were converted")
+        for seed in range(given.seed, given.seed + given.connections):
+            count += 1
+            name, found = connection_differences(binary, seed, folder)
+            if found:
+                wrong += 1
+                print(name, *found, sep="\n", flush=True)
         shelf.lay_out(folder)
         shelves = [case for case in shelf.SHELF_CASES if given.k in case[0]]
         for name, stream in shelves:
@@ -108,9 +134,9 @@ def main():
             print(*found, sep="\n", flush=True)
             print(f"{len(BAD_WORDS)} command lines and {len(CONNECTIONS)} connections, {len(found)} with a difference")
             wrong += len(found)
-            found = files.differences(binary, folder)
+            found, runs = files.differences(binary, folder)
             print(*found, sep="\n", flush=True)
-            print(f"{len(files.FILES) + 2} files that fail, {len(found)} with a difference")
+            print(f"{runs} runs over files, {len(found)} with a difference")
             wrong += len(found)
     print(f"{count + len(shelves)} cases, {wrong} with a difference")
     return 1 if wrong else 0

@@ -105,6 +105,14 @@ def enclose(chance, data):
 WAYS = [change_bytes] * 4 + [enclose, take_out, put_in, cut, change_size, change_size, change_tag, exchange_frames]
 
 
+def damaged_packet(chance, packet):
+    """A packet with some damage, of a length that a frame may have."""
+    data = osc.frame(packet)
+    for _ in range(chance.choice([1, 1, 2])):
+        data = chance.choice(WAYS)(chance, data) or data
+    return osc.padded(data[4:osc.LONGEST + 4]) or bytes(4)
+
+
 TEXT_PIECES = [b"", b" ", b"\n", b'"', b"\\", b"#", b"0", b"-", b"?", b"[ 0 1\n", b"]\n", b"()", b"\\x", b"\\x00", b"/", b"/a\n", b"\r", b"\xff", b"4294967296", b"2147483648"]
 
 
@@ -124,6 +132,30 @@ def damaged_text(seed):
     return text[:chance.randrange(len(text) + 1)] if chance.random() < 0.1 else text
 
 
+def settings_by_chance(chance):
+    return (f"rate={chance.choice([44100, 48000, 96000])}", f"channels={chance.randint(1, 2)}", f"bits={chance.choice([16, 24])}",
+            f"workers={chance.choice([1, 4])}", "memory=65536")
+
+
+def drawn(chance):
+    """The kind of a stream without damage, and the stream."""
+    kind = chance.choice(["packets"] * 5 + ["play"] * 2 + ["texts"])
+    make = {"packets": packets, "play": play, "texts": lambda chance: stream(*[("/d_recv", faulty_text(chance)) for _ in range(4)], ("/status",))}
+    return kind, make[kind](chance)
+
+
+def damaged_connection(seed):
+    """What is sent over a connection: a stream, of which some packets are damaged, and in half of all cases also the frames."""
+    chance = Chance(seed)
+    words, (kind, data) = settings_by_chance(chance), drawn(chance)
+    frames, rest = frames_of(data)
+    share = chance.choice([0.1, 0.5, 1])
+    data = b"".join(osc.frame(damaged_packet(chance, frame[4:])) if chance.random() < share else frame for frame in frames) + rest
+    if chance.random() < 0.5:
+        data = chance.choice(WAYS)(chance, data) or data
+    return f"damaged connection {seed}, {kind}", words, data
+
+
 def is_short(words, data):
     """Whether a stream is refused, or played in a few blocks."""
     try:
@@ -135,9 +167,7 @@ def is_short(words, data):
 
 def damaged_case(seed):
     chance = Chance(seed)
-    words = (f"rate={chance.choice([44100, 48000, 96000])}", f"channels={chance.randint(1, 2)}", f"bits={chance.choice([16, 24])}", f"workers={chance.choice([1, 4])}", "memory=65536")
-    kind = chance.choice(["packets"] * 5 + ["play"] * 2 + ["texts"])
-    whole = {"packets": packets, "play": play, "texts": lambda chance: stream(*[("/d_recv", faulty_text(chance)) for _ in range(4)], ("/status",))}[kind](chance)
+    words, (kind, whole) = settings_by_chance(chance), drawn(chance)
     while True:
         data = whole
         for _ in range(chance.choice([1, 1, 1, 2, 3])):

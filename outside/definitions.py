@@ -30,18 +30,20 @@ WORDS = {
 
 
 class BadLine(Exception):
-    def __init__(self, line):
-        super().__init__(line)
-        self.line = line
+    """The first line at which no definition goes on, its kind of fault, and the word that is at fault, if it is one."""
+
+    def __init__(self, line, kind, word=""):
+        super().__init__(line, kind, word)
+        self.line, self.kind, self.word = line, kind, word
 
 
 class Wrong(Exception):
-    """The line that is read continues no definition."""
+    """The line that is read continues no definition: the kind of its fault, and the word."""
 
 
-def want(holds):
+def want(holds, kind="Line", word=""):
     if not holds:
-        raise Wrong
+        raise Wrong(kind, word)
 
 
 def literal(word):
@@ -88,44 +90,57 @@ class Definition:
         return word in KEPT or word == "array" and self.version == 2
 
     def new_name(self, word):
-        want(re.fullmatch(r"[A-Za-z_][A-Za-z0-9_]{0,30}", word, re.A) and not self.begins_lines(word) and word not in self.names)
+        want(re.fullmatch(r"[A-Za-z_][A-Za-z0-9_]{0,30}", word, re.A) and not self.begins_lines(word), "Name", word)
+        want(word not in self.names, "Twice", word)
         return word
 
-    def control(self, name, value):
-        want(value is not None and len(self.controls) < MOST_CONTROLS[self.version])
+    def room(self, count):
+        """Refuses so many more controls if there is no room for them."""
+        want(len(self.controls) + count <= MOST_CONTROLS[self.version], "Limit")
+
+    def control(self, name, word):
+        value = literal(word)
+        want(value is not None, "Number", word)
         self.names[name] = ("c", len(self.controls))
         self.controls.append((name, value))
 
     def control_line(self, fields):
         want(len(fields) == 3 and not self.units)
-        self.control(self.new_name(fields[1]), literal(fields[2]))
+        self.room(1)
+        self.control(self.new_name(fields[1]), fields[2])
 
     def array_line(self, fields):
         """The elements are NAME, NAME.1, NAME.2 and so on, each a control of its own."""
         name, values = fields[1], fields[2:]
-        want(1 <= len(values) <= MOST_ELEMENTS and not self.units)
+        want(not self.units)
+        want(len(values) <= MOST_ELEMENTS, "Limit")
+        self.room(len(values))
         self.arrays.append((len(self.controls), len(values)))
-        self.control(self.new_name(name), literal(values[0]))
+        self.control(self.new_name(name), values[0])
         for k, value in enumerate(values[1:], 1):
-            self.control(f"{name}.{k}", literal(value))
+            self.control(f"{name}.{k}", value)
 
     def input(self, kind, word):
         value = literal(word)
         given = self.names.get(word) if value is None else ("v", value)
-        want(given is not None and (kind != "#" or given[0] in "vc") and (kind != "!" or given[0] == "v"))
+        want(given is not None, "Input", word)
+        want(kind != "#" or given[0] in "vc", "Index", word)
+        want(kind != "!" or given[0] == "v", "Constant", word)
         if kind == "#" and given[0] == "c":
             self.index_controls.add(given[1])
         return given
 
     def unit_line(self, outputs, fields):
-        want(fields and fields[0] in UNITS and len(self.units) < 256 and self.wires + len(outputs) <= 512)
+        want(fields)
+        want(len(self.units) < 256 and self.wires + len(outputs) <= 512, "Limit")
+        want(fields[0] in UNITS, "Unit", fields[0])
         inputs, count = UNITS[fields[0]]
-        want(len(outputs) in (range(1, 9) if count == "+" else [count]))
+        want(len(outputs) in (range(1, 9) if count == "+" else [count]), "Count", fields[0])
         if inputs.endswith("+"):
             more = len(fields) - len(inputs)
-            want(1 <= more <= 8)
+            want(1 <= more <= 8, "Count", fields[0])
             inputs = inputs[:-1] + "s" * more
-        want(len(fields) - 1 == len(inputs))
+        want(len(fields) - 1 == len(inputs), "Count", fields[0])
         before = dict(self.names)
         for name in outputs:
             self.names[self.new_name(name)] = ("w", self.wires)
@@ -133,7 +148,8 @@ class Definition:
         after, self.names = self.names, before
         given = [self.input(kind, word) for kind, word in zip(inputs, fields[1:])]
         self.names = after
-        want(fields[0] not in ("DelayN", "CombN") or 0 <= given[1][1] <= 60000)
+        if fields[0] in ("DelayN", "CombN"):
+            want(0 <= given[1][1] <= 60000, "Constant", fields[2])
         self.units.append(Unit(fields[0], given, len(outputs)))
 
     def line(self, number, text):
@@ -170,8 +186,8 @@ def read(text):
         try:
             want(not ended)
             ended = definition.line(number, line)
-        except Wrong:
-            raise BadLine(number) from None
+        except Wrong as wrong:
+            raise BadLine(number, *wrong.args) from None
     if rest or not ended:
-        raise BadLine(len(lines) + 1)
+        raise BadLine(len(lines) + 1, "Line")
     return definition

@@ -194,9 +194,11 @@ def chance_stream(seed):
 
 
 def program(binary, words, data, folder):
+    """The line, the status and the report of a stream by the program: none where it wrote none."""
     paths = [os.path.join(folder, name) for name in ("commands", "report")]
-    with open(paths[0], "wb") as file:
-        file.write(data)
+    for path, content in zip(paths, (data, b"")):
+        with open(path, "wb") as file:
+            file.write(content)
     done = subprocess.run([*binary, "plan", *words, *paths], capture_output=True, timeout=600)
     with open(paths[1]) as file:
         return done.stdout.decode().rstrip("\n"), done.returncode, file.read()

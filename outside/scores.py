@@ -325,7 +325,7 @@ def examples():
     import make
 
     for name in make.all_names():
-        yield f"examples/{name}.txt", b"".join(osc.frame(make.bundle(make.tag_at(seconds), messages)) for seconds, messages in make.read(name))
+        yield f"examples/{name}.txt", make.stream(name)
 
 
 def main(snova):

@@ -1,7 +1,12 @@
 """Runs a binary on command lines that are refused, and serves connections by it."""
+import array
+import contextlib
+import fcntl
 import os
+import selectors
 import socket
 import subprocess
+import termios
 import time
 import osc
 
@@ -58,6 +63,59 @@ def served(binary, data, wanted, folder):
     link.close()
     line = program.communicate(timeout=60)[0].decode().rstrip("\n")
     return got, line, program.returncode, os.path.getsize(sound) % 256 == 0
+
+
+def sent_before(port, data):
+    """A connection over which all bytes came before it is taken: what was sent is acknowledged."""
+    link, left = connected(port), array.array("i", [1])
+    link.sendall(data)
+    while left[0]:
+        fcntl.ioctl(link, termios.TIOCOUTQ, left)
+    return link
+
+
+def heard(pipe, link, least):
+    """All that comes through a pipe and over a connection, or None where nothing comes for a minute. Nothing more is
+    sent once so many bytes came through the pipe."""
+    parts = {pipe: bytearray(), link: bytearray()}
+    with selectors.DefaultSelector() as selector:
+        for one in parts:
+            selector.register(one, selectors.EVENT_READ)
+        while selector.get_map():
+            ready = selector.select(60)
+            if not ready:
+                return None
+            for key, _ in ready:
+                piece = os.read(key.fd, 4096)
+                parts[key.fileobj] += piece
+                if not piece:
+                    selector.unregister(key.fileobj)
+            if least is not None and len(parts[pipe]) >= least:
+                least = link.shutdown(socket.SHUT_WR)
+    return bytes(parts[pipe]), bytes(parts[link])
+
+
+def paced(binary, words, data, least, folder):
+    """The line, the status, the sound and the replies of a session at the pace of a pipe, which has at least so many
+    bytes of sound unless a bad size ends it. All data comes between its first and its second block.
+
+    The port is bound before the sound is opened, which waits for a reader of the pipe, and then a connection is taken.
+    So all data is there when the session starts, and it is short enough to be read at once."""
+    port, path = free_port(), os.path.join(folder, "paced")
+    if not os.path.exists(path):
+        os.mkfifo(path)
+    command = [*binary, "serve", "pace=sound", *words, str(port), path]
+    program = subprocess.Popen(command, stdout=subprocess.PIPE)
+    with sent_before(port, data) as link:
+        pipe = os.open(path, os.O_RDONLY | os.O_NONBLOCK)
+        with contextlib.suppress(OSError):
+            fcntl.fcntl(pipe, fcntl.F_SETPIPE_SZ, 4096)
+        came = heard(pipe, link, least)
+        os.close(pipe)
+    if came is None:
+        program.kill()
+    line = program.communicate(timeout=60)[0].decode().rstrip("\n")
+    return line, program.returncode, *(came or (b"", b""))
 
 
 def differences(binary, folder, bad_words, connections):

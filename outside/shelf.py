@@ -134,10 +134,13 @@ SHELF_CASES = [
 ]
 
 
-def model(words, data):
-    """The line, the status, the sound and the replies of a run."""
+LAID_OUT = {**FILES, "./a.wav": FILES["a.wav"], "below//deep.wav": FILES["below/deep.wav"]}
+
+
+def model(words, data, files=LAID_OUT):
+    """The line, the status, the sound and the replies of a run over these files."""
     settings = server.settings_of(words)
-    shelf = Shelf({**FILES, "./a.wav": FILES["a.wav"], "below//deep.wav": FILES["below/deep.wav"]})
+    shelf = Shelf(files)
     run = server.Run(settings, [shelf.packet(packet) for packet in server.accepted(settings, data)])
     run.play()
     replies = b"".join(osc.frame(osc.message(*reply)) for reply in run.replies)

@@ -11,6 +11,7 @@ BAD_WORDS = [
     (["render", "channels=0", "a", "b", "c"], 1), (["render", "channels=9", "a", "b", "c"], 1), (["render", "channels=8", "workers=17", "a", "b", "c"], 2), (["render", "workers=0", "a", "b", "c"], 1),
     (["render", "memory=65535", "a", "b", "c"], 1), (["render", "memory=16777217", "a", "b", "c"], 1), (["render", "memory=65536", "rate=18446744073709600000", "a", "b", "c"], 2), (["render", "rate=99999999999999999999999", "a", "b", "c"], 1),
     (["serve", "clients=0", "5000", "a"], 1), (["serve", "clients=5", "5000", "a"], 1), (["serve", "clients=2", "rate=48000", "clients=2", "5000", "a"], 3), (["serve", "clients=2", "0", "a"], 2), (["render", "clients=2", "a", "b", "c"], 1), (["drill", "clients=2"], 1),
+    (["serve", "pace=drum", "5000", "a"], 1), (["serve", "pace=1", "5000", "a"], 1), (["serve", "pace=sound", "pace=clock", "5000", "a"], 2), (["render", "pace=sound", "a", "b", "c"], 1),
     (["render", "rate=48000", "x", "bits=16", "a", "b", "c"], 2), (["render", "bits=16", "rate=48000"], 3), (["render", " bits=16", "a", "b", "c"], 1), (["render", "bits=24 ", "a", "b", "c"], 1),
 ]
 

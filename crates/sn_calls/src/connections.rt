@@ -3,7 +3,7 @@ ghost use Rattle.sn_calls.specs.Ready.{Always};
 
 use crate::line::{Answer, Line, Rows, Unanswered, number, said, spelled};
 use sn_ports::{Failed, Fed, Link, send_all};
-use sn_tcp::TcpLink;
+use sn_tcp::{Pace, TcpLink};
 use std::alloc::Global;
 use std::cell::Cell;
 use std::io;
@@ -42,11 +42,21 @@ struct Connection<'a, S> {
     link: TcpLink<S, &'a Steps>,
 }
 
-/// Makes a connection whose blocks come at 48,000 frames a second.
+/// The pace at 48,000 frames a second that a word names.
+fn pace_of(word: &str) -> Result<Pace, Unanswered> {
+    match word {
+        "clock" => Ok(Pace::by_clock(48_000)),
+        "sound" => Ok(Pace::by_sound(48_000)),
+        _ => Err(Unanswered::NoRow),
+    }
+}
+
+/// Makes a connection whose blocks come at this pace.
 fn connected<'a, H: Net>(
     rt: &H,
     alloc: Global,
     clock: &'a Steps,
+    pace: Pace,
 ) -> Result<Connection<'a, H::Stream>, Unanswered> {
     let listener = TcpListener::bind(rt, "127.0.0.1:0")?;
     let client = TcpStream::connect(rt, listener.local_addr()?)?;
@@ -56,7 +66,7 @@ fn connected<'a, H: Net>(
         alloc,
         clock,
         client: Some(client),
-        link: TcpLink::new(server, clock, 48_000)?,
+        link: TcpLink::new(server, clock, pace)?,
     })
 }
 
@@ -113,13 +123,13 @@ impl<'a, S: Read + Write + OpenStream + AsRawFd + Drop> Connection<'a, S> {
                 self.client = None;
                 said(alloc, "ok")
             }
-            "faults" => number(alloc, i128::from(self.link.faults())),
+            "faults" => number(alloc, i128::from(self.link.faults().count())),
             _ => Err(Unanswered::NoRow),
         }
     }
 }
 
-/// Each row is a connection and what happens to it, step by step.
+/// Each row is the pace of a connection and what happens to it, step by step.
 #[derive(Drop)]
 pub struct ConnectionRows<'a, H> {
     pub rt: &'a H,
@@ -131,9 +141,10 @@ fn tried<H: Net>(rt: &H, alloc: Global, line: &mut Line<'_>) -> Answer {
     let clock = Steps {
         micros: Cell::new(0),
     };
-    let mut connection = connected(rt, alloc, &clock)?;
+    let (pace, steps) = line.rest().split_once(' ').unwrap_or((line.rest(), ""));
+    let mut connection = connected(rt, alloc, &clock, pace_of(pace)?)?;
     let mut out = String::new(alloc);
-    for word in line.rest().split_whitespace() {
+    for word in steps.split_whitespace() {
         let (verb, rest) = word.split_once(':').unwrap_or((word, ""));
         out.push_str(connection.step(verb, rest)?.as_str())?;
         out.push_str(" ")?;

@@ -2,18 +2,15 @@
 //! what the script says.
 #![tactic(auto)]
 
-mod bytes;
-mod case;
 mod drawn;
 mod ending;
 mod engine;
-mod script;
 mod serving;
 mod session;
 mod trial;
 
 use engine::engine_tells;
-use script::read_cases;
+use sn_scripts::read_cases;
 use std::process::ExitCode;
 use std::rt::Files;
 use std::sync::Wait;

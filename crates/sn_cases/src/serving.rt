@@ -2,12 +2,12 @@
 ghost use Rattle.std.specs.Prelude.{IfOk, IfSome, OnOk};
 ghost use Rattle.sn_ports.specs.Links.{ArePlayable, IsPlayable};
 
-use crate::case::{Case, Connection, Step};
 use crate::ending::{ended_line, ended_writes};
 use crate::trial::{CAPACITY, Came, sink};
 use sn_pcm::Settings;
 use sn_ports::limits::MOST_TICKS;
 use sn_ports::{Event, Events, NoMemory, Open, PlayedLink, Text};
+use sn_scripts::{Case, Connection, Step};
 use sn_server::serve_one;
 use std::alloc::Global;
 use std::thread::Threads;

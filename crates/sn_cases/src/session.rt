@@ -2,13 +2,13 @@
 ghost use Rattle.std.specs.Prelude.{◌≤◌, All, IfOk, OnOk};
 ghost use Rattle.sn_ports.specs.Limits.{most_ticks};
 
-use crate::case::{Case, Session};
 use crate::ending::{Written, counted, said};
 use crate::trial::{Came, sink};
 use sn_clients::{Client, ClientEnd, Clients, How, ListPulse, Unwatched, serve_many};
 use sn_pcm::Settings;
 use sn_ports::limits::{MOST_CLIENTS, MOST_TICKS};
 use sn_ports::{MemorySink, MemorySource, NoMemory, Open, Text};
+use sn_scripts::{Case, Session};
 use std::alloc::Global;
 use std::sync::Wait;
 use std::thread::Threads;

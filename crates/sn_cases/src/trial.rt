@@ -1,6 +1,4 @@
 //! A case, tried.
-use crate::bytes::{header, sum_of};
-use crate::case::{Again, Case, Hold, Port};
 use crate::drawn::DrawnGate;
 use crate::ending::{Written, outcome_line, outcome_writes};
 use crate::serving::served;
@@ -8,6 +6,7 @@ use crate::session::served_together;
 use sn_crew::HoldGate;
 use sn_pcm::Settings;
 use sn_ports::{Gate, MemorySink, MemorySource, NoMemory, Open, Source, Text, Word};
+use sn_scripts::{Again, Case, Hold, Port, header, sum_of};
 use sn_server::{Outcome, render};
 use sn_words::settings;
 use std::alloc::Global;

@@ -4,4 +4,5 @@ pub mod Voices
 pub mod Rows
 pub mod Settings
 pub mod Runs
+pub mod KeptFlags
 pub mod Messages

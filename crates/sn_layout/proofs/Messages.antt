@@ -1,12 +1,13 @@
 -- Messages that leave the layout of a world.
-use Rattle.std.proofs.Common.{◌≡◌, ℕ, suc, Bool, true, false, not, ◌||◌, List, [], ◌∷◌, length, Option, Some, None, Result, Ok, Err, refl, ap, ◌∙◌, arith}
+use Rattle.std.proofs.Common.{◌≡◌, ℕ, suc, negsuc, true, false, not, ◌&&◌, ◌||◌, List, [], ◌∷◌, length, Option, Some, None, Result, Ok, Err, refl, ap, ◌∙◌, arith}
 use Rattle.std.specs.Prelude.{nat_lt}
+use Rattle.std.specs.List.{list_all}
 use Rattle.std.proofs.lemmas.Bool.{ltb-true}
 use Rattle.sn_osc.specs.Shape.{Argument, int, string, blob, BodyShape, bare, arguments, foreign, MessageShape}
 use Rattle.sn_reply.specs.declared.reason.Reason.{Reason}
 use Rattle.sn_reply.specs.Replies.{ReplyShape}
-use Rattle.sn_tree.specs.Trees.{Nodes, none, node, subtree, with_payloads}
-use Rattle.sn_tree.proofs.PayloadLaws.{subtree-payloads}
+use Rattle.sn_tree.specs.Trees.{Nodes, none, node, subtree, view_of, with_payloads}
+use Rattle.sn_tree.proofs.PayloadLaws.{subtree-payloads, view-payloads}
 use Rattle.sn_world.specs.declared.command.ServerCommand.{ServerCommand}
 use Rattle.sn_world.specs.declared.command.ServerCommand.TheVariants as servers
 use Rattle.sn_world.specs.declared.command.Command.{Command}
@@ -15,6 +16,7 @@ use Rattle.sn_world.specs.declared.command.Handled.{Handled}
 use Rattle.sn_world.specs.declared.command.Handled.TheVariants as answers
 use Rattle.sn_world.specs.declared.command.NodeCommand.{NodeCommand}
 use Rattle.sn_world.specs.declared.command.NodeCommand.TheVariants as calls
+use Rattle.sn_world.specs.declared.node_repetition.RunFlag.{RunFlag}
 use Rattle.sn_world.specs.declared.stage.Held.{Held}
 use Rattle.sn_world.specs.declared.stage.Held.TheVariants as held
 use Rattle.sn_world.specs.declared.stage.Stage.{Stage}
@@ -27,11 +29,12 @@ use Rattle.sn_world.specs.Mappings.{any_node}
 use Rattle.sn_world.specs.NewSynth.{ControlName, control_name}
 use Rattle.sn_world.specs.Nodes.{Content, content_of}
 use Rattle.sn_world.specs.Notifying.{notify_flag}
-use Rattle.sn_world.specs.Rows.{singles}
+use Rattle.sn_world.specs.Rows.{pairs, singles}
+use Rattle.sn_world.specs.RunFlags.{is_flagged, run_flag}
 use Rattle.sn_world.specs.World.{Turn, turn_of}
 use Rattle.sn_layout.specs.Layout.{layout_of}
-use Rattle.sn_layout.specs.Leaving.{LeavesLayout, asked_leaves, holds_laid, lays, node_leaves, runs_laid, runs_plain, server_leaves, sets_plain}
-use Rattle.sn_layout.proofs.Rows.{Leaves, get_leaves, notify_leaves, query_leaves, server_row_leaves, tree_leaves}
+use Rattle.sn_layout.specs.Leaving.{LeavesLayout, asked_leaves, flags_stay, holds_laid, lays, node_leaves, runs_laid, runs_plain, server_leaves}
+use Rattle.sn_layout.proofs.Rows.{Leaves, get_leaves, notify_leaves, query_leaves, run_leaves, server_row_leaves, tree_leaves}
 use Rattle.sn_layout.proofs.Settings.{set_outcome_leaves}
 
 -- ---- no completion message is carried
@@ -91,11 +94,12 @@ none_with c o absent = ap (λ (b : Option (List ℕ)). is_completing (next_with 
 
 -- ---- rows
 
-node_row_leaves : (c : NodeCommand) (from : ℕ) (xs : List Argument) (t : Turn) → node_leaves (sets_plain lays t.world.nodes xs) c ≡ true → Leaves t (node_row c from xs t)
+node_row_leaves : (c : NodeCommand) (from : ℕ) (xs : List Argument) (t : Turn) → node_leaves lays t.world.nodes xs c ≡ true → Leaves t (node_row c from xs t)
 node_row_leaves calls.Notify from xs t h = notify_leaves from (notify_flag xs) t
 node_row_leaves calls.SetControls from xs t h = set_outcome_leaves (asked_runs value_run xs) t h
 node_row_leaves calls.SetRuns from xs t h = set_outcome_leaves (asked_runs values_run xs) t h
 node_row_leaves calls.FillRuns from xs t h = set_outcome_leaves (asked_runs fill_run xs) t h
+node_row_leaves calls.TurnNodes from xs t h = run_leaves (pairs run_flag xs) t h
 node_row_leaves calls.Query from xs t h = query_leaves from xs t
 node_row_leaves calls.QueryTree from xs t h = tree_leaves from xs t
 node_row_leaves calls.GetControls from xs t h = get_leaves from (asked_of (singles control_name) xs) t
@@ -118,7 +122,7 @@ answer_leaves from address t (Err reason) h = refl
 abbrev outcome : ℕ → Option Command → BodyShape → Turn → Result Turn Reason
 outcome from o body t = or_unknown (either (node_outcome (on_nodes_alone o) from body t) (server_outcome (on_server_alone o) from body t))
 
-outcome_leaves : (from : ℕ) (o : Option Command) (body : BodyShape) (t : Turn) → asked_leaves (sets_plain lays t.world.nodes) o body ≡ true → Leaves t (outcome from o body t)
+outcome_leaves : (from : ℕ) (o : Option Command) (body : BodyShape) (t : Turn) → asked_leaves lays t.world.nodes o body ≡ true → Leaves t (outcome from o body t)
 outcome_leaves from None body t h = tt
 outcome_leaves from (Some (OnNodes c)) bare t h = node_row_leaves c from [] t h
 outcome_leaves from (Some (OnNodes c)) (arguments xs) t h = node_row_leaves c from xs t h
@@ -127,18 +131,18 @@ outcome_leaves from (Some (OnServer c)) bare t h = whole_leaves c from [] t h
 outcome_leaves from (Some (OnServer c)) (arguments xs) t h = whole_leaves c from xs t h
 outcome_leaves from (Some (OnServer c)) (foreign tags rest) t h = tt
 
-next_alone_after : (plain : List Argument → (List Argument → Option (ControlRun × List Argument)) → Bool) (from : ℕ) (o : Option Command) (body : BodyShape) (t : Turn) → asked_leaves plain o body ≡ true
+next_alone_after : (all : Nodes Content) (from : ℕ) (o : Option Command) (body : BodyShape) (t : Turn) → asked_leaves lays all o body ≡ true
     → is_completing (next_in (node_outcome (on_nodes_alone o) from body t) (server_outcome (on_server_alone o) from body t) (next_of (on_server_alone o) body)) ≡ false
-next_alone_after plain from None body t h = refl
-next_alone_after plain from (Some (OnNodes c)) body t h = refl
-next_alone_after plain from (Some (OnServer c)) bare t h = next_in_alone (whole_row c from [] t) (next_with c (message_in (carried c []))) (none_with c (carried c []) (carried_none c [] h))
-next_alone_after plain from (Some (OnServer c)) (arguments xs) t h = next_in_alone (whole_row c from xs t) (next_with c (message_in (carried c xs))) (none_with c (carried c xs) (carried_none c xs h))
-next_alone_after plain from (Some (OnServer c)) (foreign tags rest) t h = refl
+next_alone_after all from None body t h = refl
+next_alone_after all from (Some (OnNodes c)) body t h = refl
+next_alone_after all from (Some (OnServer c)) bare t h = next_in_alone (whole_row c from [] t) (next_with c (message_in (carried c []))) (none_with c (carried c []) (carried_none c [] h))
+next_alone_after all from (Some (OnServer c)) (arguments xs) t h = next_in_alone (whole_row c from xs t) (next_with c (message_in (carried c xs))) (none_with c (carried c xs) (carried_none c xs h))
+next_alone_after all from (Some (OnServer c)) (foreign tags rest) t h = refl
 
-leaves_turn : (m : MessageShape) (t : Turn) → asked_leaves (sets_plain lays t.world.nodes) (command_of m.address) m.body ≡ true → LeavesLayout m t
+leaves_turn : (m : MessageShape) (t : Turn) → asked_leaves lays t.world.nodes (command_of m.address) m.body ≡ true → LeavesLayout m t
 leaves_turn m t h = record {
   layout = λ from. answer_leaves from m.address t (outcome from (command_of m.address) m.body t) (outcome_leaves from (command_of m.address) m.body t h);
-  alone = λ from. next_alone_after (sets_plain lays t.world.nodes) from (command_of m.address) m.body t h;
+  alone = λ from. next_alone_after t.world.nodes from (command_of m.address) m.body t h;
 }
 
 -- ---- what a stage holds
@@ -159,7 +163,30 @@ plain_seen : (words : List ℕ) (t : Nodes Held) (o : Option (ForNode ControlRun
 plain_seen words t None = refl
 plain_seen words t (Some r) = ap not (ap (λ (u : Nodes Content). runs_laid lays u r.all) (subtree-payloads (content_of words) r.id t) ∙ runs_seen words (subtree r.id t) r.all)
 
-pub leaves : (stage : Stage) (words : List ℕ) (replies : List ReplyShape) (m : MessageShape) → asked_leaves (sets_plain holds_laid stage.tree.attached) (command_of m.address) m.body ≡ true → LeavesLayout m (turn_of stage words replies)
-leaves stage words replies m h =
-    leaves_turn m (turn_of stage words replies)
-    ((λ i. asked_leaves (λ xs read. plain_seen words stage.tree.attached (asked_runs read xs) i) (command_of m.address) m.body) ∙ h)
+flagged_seen : (words : List ℕ) (t : Nodes Held) (rs : List RunFlag) → list_all (λ r. is_flagged r.on (view_of r.id (with_payloads (content_of words) t))) rs ≡ list_all (λ r. is_flagged r.on (view_of r.id t)) rs
+flagged_seen words t [] = refl
+flagged_seen words t (r ∷ rs) = λ i. is_flagged r.on (view-payloads (content_of words) (negsuc 0) (negsuc 0) r.id t i) && flagged_seen words t rs i
+
+flags_seen : (words : List ℕ) (t : Nodes Held) (o : Option (List RunFlag)) → flags_stay (with_payloads (content_of words) t) o ≡ flags_stay t o
+flags_seen words t None = refl
+flags_seen words t (Some rs) = flagged_seen words t rs
+
+-- a command on nodes is judged alike by what they hold and by what it stands for
+node_seen : (words : List ℕ) (t : Nodes Held) (xs : List Argument) (c : NodeCommand) → node_leaves lays (with_payloads (content_of words) t) xs c ≡ node_leaves holds_laid t xs c
+node_seen words t xs calls.SetControls = plain_seen words t (asked_runs value_run xs)
+node_seen words t xs calls.SetRuns = plain_seen words t (asked_runs values_run xs)
+node_seen words t xs calls.FillRuns = plain_seen words t (asked_runs fill_run xs)
+node_seen words t xs calls.TurnNodes = flags_seen words t (pairs run_flag xs)
+node_seen words t xs _ = refl
+
+asked_seen : (words : List ℕ) (t : Nodes Held) (o : Option Command) (body : BodyShape) → asked_leaves lays (with_payloads (content_of words) t) o body ≡ asked_leaves holds_laid t o body
+asked_seen words t None body = refl
+asked_seen words t (Some (OnNodes c)) bare = node_seen words t [] c
+asked_seen words t (Some (OnNodes c)) (arguments xs) = node_seen words t xs c
+asked_seen words t (Some (OnNodes c)) (foreign tags rest) = refl
+asked_seen words t (Some (OnServer c)) bare = refl
+asked_seen words t (Some (OnServer c)) (arguments xs) = refl
+asked_seen words t (Some (OnServer c)) (foreign tags rest) = refl
+
+pub leaves : (stage : Stage) (words : List ℕ) (replies : List ReplyShape) (m : MessageShape) → asked_leaves holds_laid stage.tree.attached (command_of m.address) m.body ≡ true → LeavesLayout m (turn_of stage words replies)
+leaves stage words replies m h = leaves_turn m (turn_of stage words replies) (asked_seen words stage.tree.attached (command_of m.address) m.body ∙ h)

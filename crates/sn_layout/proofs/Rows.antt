@@ -1,5 +1,8 @@
 -- Rows that leave the layout of a world.
-use Rattle.std.proofs.Common.{◌≡◌, ℕ, ℤ, pos, negsuc, Bool, true, List, [], ◌∷◌, get_or, map, Option, Some, None, Result, Ok, Err, codes, refl, ◌∙◌}
+use Rattle.std.proofs.Common.{◌≡◌, ℕ, ℤ, pos, negsuc, Bool, true, List, [], ◌∷◌, get_or, map, Option, Some, None, Result, Ok, Err, codes, refl, sym, ap, subst, ◌∙◌}
+use Rattle.std.specs.Prelude.{if◌then◌else◌}
+use Rattle.std.specs.List.{list_all}
+use Rattle.std.proofs.lemmas.Bool.{and_parts}
 use Rattle.std.specs.Option.{option_map}
 use Rattle.std.proofs.Math.Seq.{map-set_same}
 use Rattle.sn_osc.specs.Shape.{Argument, MessageShape}
@@ -12,6 +15,7 @@ use Rattle.sn_tree.specs.declared.node.NodeView.{NodeView}
 use Rattle.sn_tree.specs.Trees.{view_of, with_payloads}
 use Rattle.sn_world.specs.declared.command.ServerCommand.{ServerCommand}
 use Rattle.sn_world.specs.declared.command.ServerCommand.TheVariants as servers
+use Rattle.sn_world.specs.declared.node_repetition.RunFlag.{RunFlag}
 use Rattle.sn_world.specs.Nodes.{Content, group, synth}
 use Rattle.sn_world.specs.World.{World, Turn, replied}
 use Rattle.sn_world.specs.Rows.{unless, steps, row, question, first_refusal, singles, pairs, triples, some_of}
@@ -25,6 +29,8 @@ use Rattle.sn_world.specs.Forgetting.{name_of, judge_forget, act_forget}
 use Rattle.sn_world.specs.Status.{status_row}
 use Rattle.sn_world.specs.Ending.{quit_row, clear_row}
 use Rattle.sn_world.specs.Notifying.{notify_outcome}
+use Rattle.sn_world.specs.Notices.{told}
+use Rattle.sn_world.specs.RunFlags.{act_run, is_flagged, judge_run, turning, with_flag}
 use Rattle.sn_world.specs.Queries.{node_query, judge_query, info_at, act_query}
 use Rattle.sn_world.specs.TreeQueries.{tree_query, judge_tree, act_tree}
 use Rattle.sn_world.specs.SynthQueries.{values_from, values_outcome, payload_at}
@@ -32,7 +38,7 @@ use Rattle.sn_world.specs.NewSynth.{ControlName}
 use Rattle.sn_world.specs.ControlRuns.{ForNode}
 use Rattle.sn_world.specs.Commands.{server_row}
 use Rattle.sn_layout.specs.Layout.{extent_of, laid, layout_of}
-use Rattle.sn_layout.specs.Leaving.{server_leaves}
+use Rattle.sn_layout.specs.Leaving.{flags_stay, server_leaves}
 
 -- what is accepted has the layout of the turn before
 abbrev pub Leaves : Turn → Result Turn Reason → Type 0
@@ -149,6 +155,24 @@ values_leave from r (Some (synth s)) t = refl
 pub get_leaves : (from : ℕ) (o : Option (ForNode ControlName)) (t : Turn) → Leaves t (values_outcome from o t)
 get_leaves from None t = tt
 get_leaves from (Some r) t = values_leave from r (payload_at r.id t.world.nodes) t
+
+-- ---- run flags
+
+-- a node that has the flag already
+flag_kept : (r : RunFlag) (t : Turn) → is_flagged r.on (view_of r.id t.world.nodes) ≡ true → act_run r t ≡ t
+flag_kept r t flagged = ap (λ (b : Bool). if b then t else told (turning r.on) r.id (with_flag r t)) flagged
+
+flags_leave : (rs : List RunFlag) (t : Turn) → list_all (λ r. is_flagged r.on (view_of r.id t.world.nodes)) rs ≡ true → Leaves t (steps judge_run act_run rs t)
+flags_leave [] t h = refl
+flags_leave (r ∷ rs) t h =
+    let both = and_parts (is_flagged r.on (view_of r.id t.world.nodes)) (list_all (λ s. is_flagged s.on (view_of s.id t.world.nodes)) rs) h in
+    unless_leaves t (judge_run t.world r) (steps judge_run act_run rs (act_run r t))
+    (subst (λ (u : Turn). Leaves t (steps judge_run act_run rs u)) (sym (flag_kept r t both.0)) (flags_leave rs t both.1))
+
+pub run_leaves : (o : Option (List RunFlag)) (t : Turn) → flags_stay t.world.nodes o ≡ true → Leaves t (row judge_run act_run (some_of o) t)
+run_leaves None t h = tt
+run_leaves (Some []) t h = tt
+run_leaves (Some (r ∷ rs)) t h = flags_leave (r ∷ rs) t h
 
 -- ---- commands on buses, buffers, definitions and the server itself
 

@@ -1,18 +1,20 @@
 -- Commands that leave the layout of a world.
 use Rattle.std.specs.Prelude.{◌≡◌, ℕ, zero, suc, ◌+◌, Bool, true, false, not, ◌||◌, nat_lt, List, [], ◌∷◌, length, slice_index_or, Option, Some, None, is_some}
+use Rattle.std.specs.List.{list_all}
 use Rattle.sn_osc.specs.Shape.{Argument, BodyShape, bare, arguments, foreign, MessageShape}
 use Rattle.sn_def.specs.declared.control.Control.{Control}
 use Rattle.sn_def.specs.Definition.{Definition}
 use Rattle.sn_def.specs.Defs.{definition_of}
 use Rattle.sn_def.specs.Asked.{is_index}
 use Rattle.sn_synth.specs.Conditions.{no_control}
-use Rattle.sn_tree.specs.Trees.{Nodes, subtree}
+use Rattle.sn_tree.specs.Trees.{Nodes, subtree, view_of}
 use Rattle.sn_world.specs.declared.command.ServerCommand.{ServerCommand}
 use Rattle.sn_world.specs.declared.command.ServerCommand.TheVariants as server
 use Rattle.sn_world.specs.declared.command.NodeCommand.{NodeCommand}
 use Rattle.sn_world.specs.declared.command.NodeCommand.TheVariants as nodes
 use Rattle.sn_world.specs.declared.command.Command.{Command}
 use Rattle.sn_world.specs.declared.command.Command.TheVariants.{OnNodes, OnServer}
+use Rattle.sn_world.specs.declared.node_repetition.RunFlag.{RunFlag}
 use Rattle.sn_world.specs.declared.stage.Held.{Held}
 use Rattle.sn_world.specs.declared.stage.Held.TheVariants as held
 use Rattle.sn_world.specs.Commands.{command, next_after}
@@ -21,6 +23,8 @@ use Rattle.sn_world.specs.Ending.{is_completing}
 use Rattle.sn_world.specs.Mappings.{any_node}
 use Rattle.sn_world.specs.NewSynth.{ControlName, control_of}
 use Rattle.sn_world.specs.Nodes.{Content, group, synth}
+use Rattle.sn_world.specs.Rows.{pairs}
+use Rattle.sn_world.specs.RunFlags.{is_flagged, run_flag}
 use Rattle.sn_world.specs.World.{Turn}
 use Rattle.sn_layout.specs.Layout.{layout_of}
 
@@ -74,19 +78,27 @@ module _ {P : Type 0} (test : ControlName → ℕ → P → Bool) where
   abbrev pub sets_plain : Nodes P → List Argument → (List Argument → Option (ControlRun × List Argument)) → Bool
   sets_plain all xs read = runs_plain all (asked_runs read xs)
 
+-- ---- `/n_run`
+
+-- Each node that is named has the flag already. If none is named, the command is refused.
+abbrev pub flags_stay : {P : Type 0} → Nodes P → Option (List RunFlag) → Bool
+flags_stay all None = true
+flags_stay all (Some rs) = list_all (λ r. is_flagged r.on (view_of r.id all)) rs
+
 -- ---- commands
 
--- a command on nodes leaves the layout; `plain` says, by how a run is read, whether the controls that runs set are
--- plain
-abbrev pub node_leaves : ((List Argument → Option (ControlRun × List Argument)) → Bool) → NodeCommand → Bool
-node_leaves plain nodes.SetControls = plain value_run
-node_leaves plain nodes.SetRuns = plain values_run
-node_leaves plain nodes.FillRuns = plain fill_run
-node_leaves plain nodes.Notify = true
-node_leaves plain nodes.Query = true
-node_leaves plain nodes.QueryTree = true
-node_leaves plain nodes.GetControls = true
-node_leaves plain _ = false
+module _ {P : Type 0} (test : ControlName → ℕ → P → Bool) where
+  -- a command on nodes with these arguments leaves the layout, where these are the nodes
+  abbrev pub node_leaves : Nodes P → List Argument → NodeCommand → Bool
+  node_leaves all xs nodes.SetControls = sets_plain test all xs value_run
+  node_leaves all xs nodes.SetRuns = sets_plain test all xs values_run
+  node_leaves all xs nodes.FillRuns = sets_plain test all xs fill_run
+  node_leaves all xs nodes.TurnNodes = flags_stay all (pairs run_flag xs)
+  node_leaves all xs nodes.Notify = true
+  node_leaves all xs nodes.Query = true
+  node_leaves all xs nodes.QueryTree = true
+  node_leaves all xs nodes.GetControls = true
+  node_leaves all xs _ = false
 
 -- With so many arguments it carries no completion message.
 abbrev pub server_leaves : ℕ → ServerCommand → Bool
@@ -110,14 +122,14 @@ server_leaves n server.ClearSched = true
 server_leaves n server.Quit = true
 server_leaves n _ = false
 
-module _ (plain : List Argument → (List Argument → Option (ControlRun × List Argument)) → Bool) where
-  abbrev pub command_leaves : Command → List Argument → Bool
-  command_leaves (OnNodes c) xs = node_leaves (plain xs) c
-  command_leaves (OnServer c) xs = server_leaves (length xs) c
+module _ {P : Type 0} (test : ControlName → ℕ → P → Bool) where
+  abbrev pub command_leaves : Nodes P → Command → List Argument → Bool
+  command_leaves all (OnNodes c) xs = node_leaves test all xs c
+  command_leaves all (OnServer c) xs = server_leaves (length xs) c
 
   -- What is no command, and what has tags that are not read, is refused.
-  abbrev pub asked_leaves : Option Command → BodyShape → Bool
-  asked_leaves None body = true
-  asked_leaves (Some c) bare = command_leaves c []
-  asked_leaves (Some c) (arguments xs) = command_leaves c xs
-  asked_leaves (Some c) (foreign tags rest) = true
+  abbrev pub asked_leaves : Nodes P → Option Command → BodyShape → Bool
+  asked_leaves all None body = true
+  asked_leaves all (Some c) bare = command_leaves all c []
+  asked_leaves all (Some c) (arguments xs) = command_leaves all c xs
+  asked_leaves all (Some c) (foreign tags rest) = true

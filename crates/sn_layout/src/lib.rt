@@ -2,6 +2,7 @@
 #![tactic(auto)]
 
 mod controls;
+mod flags;
 mod laws;
 mod leaving;
 mod watch;

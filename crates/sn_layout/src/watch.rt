@@ -4,7 +4,7 @@ ghost use Rattle.sn_osc.specs.Shape.{body_of, message_of};
 ghost use Rattle.sn_reply.specs.Replies.{ReplyShape};
 ghost use Rattle.sn_world.specs.Addresses.{command_of};
 ghost use Rattle.sn_world.specs.World.{turn_of};
-ghost use Rattle.sn_layout.specs.Leaving.{LeavesLayout, asked_leaves, holds_laid, sets_plain};
+ghost use Rattle.sn_layout.specs.Leaving.{LeavesLayout, asked_leaves, holds_laid};
 
 use crate::leaving::leaves_layout;
 use sn_osc::Message;
@@ -36,7 +36,7 @@ impl Watch {
     /// Whether the layout stayed so far, and a message surely leaves it.
     fn still_stays(&mut self, stage: &Stage, message: &Message) -> bool
         ensures so_far { result ≡ true → self.old.stays ≡ true }
-        ensures leaves { result ≡ true → asked_leaves (sets_plain holds_laid stage.now.tree.attached) (command_of message.now.address.bytes) (body_of message.now.body) ≡ true }
+        ensures leaves { result ≡ true → asked_leaves holds_laid stage.now.tree.attached (command_of message.now.address.bytes) (body_of message.now.body) ≡ true }
     {
         if !self.stays {
             return false;

@@ -123,32 +123,39 @@ fn asks(ending: &Ending) -> bool
     pauses(ending.action) || frees(ending.action)
 }
 
-/// Does what a unit's end asks for. The node is sought only if something is asked.
-fn act(stage: &mut Stage, ending: &Ending, outs: &mut [Text])
+/// Does what a unit's end asks for. The node is sought only if something is asked. Returns `false` only if the stage is
+/// unchanged.
+fn act(stage: &mut Stage, ending: &Ending, outs: &mut [Text]) -> bool
     requires other { IsBelowRoot ending.now }
     requires pictures { (words : List ℕ) × Pictures stage.old words }
     requires clients { length outs.old ≤ most_clients }
     requires room { HaveRoom 48 outs.old }
-    ensures { IsActed 1 (acted ending.now) stage.old stage.new outs.old outs.new }
+    ensures acted { IsActed 1 (acted ending.now) stage.old stage.new outs.old outs.new }
+    ensures same { result ≡ false → stage.new ≡ stage.old }
 {
     if !asks(ending) {
-        return;
+        return false;
     }
     let Some(view) = view_of(&stage.tree, ending) else {
-        return;
+        return false;
     };
     act_here(stage, ending, &view, outs);
+    true
 }
 
-/// Does what the ends of units ask for, one after the other. None is of the root, which is a group.
-pub fn act_all(stage: &mut Stage, endings: &[Ending], outs: &mut [Text])
+/// Does what the ends of units ask for, one after the other. None is of the root, which is a group. Returns `false` only
+/// if the stage is unchanged, and always if nothing is asked.
+pub fn act_all(stage: &mut Stage, endings: &[Ending], outs: &mut [Text]) -> bool
     requires others { All IsBelowRoot endings.now }
     requires pictures { (words : List ℕ) × Pictures stage.old words }
     requires clients { length outs.old ≤ most_clients }
     requires room { HaveRoom (48 * length endings.now) outs.old }
-    ensures { IsActed (length endings.now) (all_acted endings.now) stage.old stage.new outs.old outs.new }
+    ensures acted { IsActed (length endings.now) (all_acted endings.now) stage.old stage.new outs.old outs.new }
+    ensures same { result ≡ false → stage.new ≡ stage.old }
 {
+    let mut changed = false;
     for ending in endings {
-        act(stage, ending, outs);
+        changed = act(stage, ending, outs) | changed;
     }
+    changed
 }

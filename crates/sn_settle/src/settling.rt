@@ -20,8 +20,8 @@ use sn_world::{Endings, Stage};
 
 /// Settles a block that was just walked: first its triggers are told. Then the units that ended in it pause or free
 /// their synths, which is told too. What is told is put after the bytes that wait for each client, by their numbers. Of
-/// the synths only the eventful ones are looked at, which are given. Returns `false` only if the stage stays as it is,
-/// and always if no unit ended.
+/// the synths only the eventful ones are looked at, which are given. Returns `false` only if the stage is unchanged, and
+/// always if no unit ended.
 ///
 /// It takes no memory: each client's bytes have room for 48 bytes for each unit of a running synth that sends triggers
 /// or ends, and `endings` has room for as many. What `endings` holds then are the ends of this block, and no room of it
@@ -64,6 +64,5 @@ pub fn settle<P: Port>(
     stage.tree.root_holds_all();
     stage.tree.root_is_a_group();
     stage.tree.root_is_on_top(0);
-    act_all(stage, endings.as_slice(), outs);
-    true
+    act_all(stage, endings.as_slice(), outs)
 }

@@ -6,8 +6,9 @@ use Rattle.sn_osc.specs.Shape.{MessageShape, Shape, Shapes, shape, shapes, bundl
 use Rattle.sn_osc.specs.declared.packet.Packet.{Packet}
 use Rattle.sn_shelf.specs.Files.{File, bytes_named, within_limit}
 use Rattle.sn_shelf.specs.Waves.{Wave, wave_in}
+use Rattle.sn_shelf.proofs.PartLemmas.{impossible}
 use Rattle.sn_shelf.proofs.WaveLemmas.{no_head, too_long_head}
-use Rattle.sn_shelf.specs.Expanded.{Request, request_of, natural, part_in, part_within, given, filled, expanded_message, expanded, expanded_elements, ◌>>=◌}
+use Rattle.sn_shelf.specs.Expanded.{Request, request_of, is_possible, natural, part_in, part_within, given, filled, expanded_message, expanded, expanded_elements, ◌>>=◌}
 
 -- ---- messages
 
@@ -68,7 +69,15 @@ pub fills : (files : List File) (room : ℕ) (m : MessageShape) (r : Request) (b
     → part_in room bytes r.start r.frames ≡ Some part → filled m room r part ≡ expanded_message files room m
 fills files room m r bytes part some is given = sym (read_gives files room m r bytes some is ∙ ap (from_part m room r) given)
 
+impossible_given : (file : Option (List ℕ)) (room : ℕ) (r : Request) → is_possible room r.start r.frames ≡ false → (file >>= λ bytes. part_in room bytes r.start r.frames) ≡ None
+impossible_given None room r h = refl
+impossible_given (Some bytes) room r h = impossible room bytes r.start r.frames h
+
 -- ---- the same of a shelf that may tell its files
+
+pub told_impossible : (told : Option (List File)) (room : ℕ) (m : MessageShape) (r : Request) → request_of m ≡ Some r → is_possible room r.start r.frames ≡ false → IfSome told (λ fs. (m, room) ≡ expanded_message fs room m)
+told_impossible None room m r some h = tt
+told_impossible (Some fs) room m r some h = sym (asks fs room m r some ∙ ap (from_part m room r) (impossible_given (bytes_named r.path fs) room r h))
 
 pub told_unasked : (told : Option (List File)) (room : ℕ) (m : MessageShape) → request_of m ≡ None → IfSome told (λ fs. (m, room) ≡ expanded_message fs room m)
 told_unasked None room m nothing = tt

@@ -1,18 +1,18 @@
 -- Parts of a recording.
 use Rattle.std.proofs.Common.{◌≡◌, ◌≤◌, ◌<◌, ◌+◌, ◌-◌, ◌*◌, ◌/◌, ◌^◌, ◌⊎◌, ℕ, zero, suc, ℤ, pos, negsuc, List, ◌∷◌, ◌++◌, length, take, drop, append_assoc, append-nil, Option, Some, None, Bool, true, false, inl, inr, refl, sym, ap, ◌∙◌, subst, arith, le_refl}
-use Rattle.std.specs.Prelude.{if◌then◌else◌, nat_lt, ◌==◌, ◌||◌, int_lt, unsigned_abs, FitsSigned}
+use Rattle.std.specs.Prelude.{if◌then◌else◌, nat_lt, ◌==◌, ◌||◌, ◌&&◌, is_some, int_lt, unsigned_abs, FitsSigned}
 use Rattle.std.proofs.lemmas.Bool.{le-ltb, lt-ltb, ltb-true}
-use Rattle.std.proofs.Math.Nat.{add-mul, suc-mul, mul-div_cancel, mul-le-mul_right}
+use Rattle.std.proofs.Math.Nat.{add-mul, suc-mul, div-zero, mul-div_cancel, mul-le-mul_right, div-mul-le_self}
 use Rattle.std.specs.List.{flat_map}
 use Rattle.std.specs.Int.{w32, cast_signed, cast_unsigned}
 use Rattle.std.proofs.lemmas.Int.{to_z-of_z, to_z_pos}
 use Rattle.std.proofs.lemmas.Nat.{mul-le}
-use Rattle.std.proofs.lemmas.List.{drop-drop, length-drop}
+use Rattle.std.proofs.lemmas.List.{drop-drop, length-drop, length-take}
 use Rattle.sn_osc.specs.Bytes.{int_bytes}
 use Rattle.sn_shelf.specs.declared.waves.Recording.{Recording}
-use Rattle.sn_shelf.specs.Waves.{Wave, sample_of, samples_of}
+use Rattle.sn_shelf.specs.Waves.{Wave, sample_of, samples_of, wave_in}
 use Rattle.sn_shelf.specs.WaveViews.{heard, IsWhole}
-use Rattle.sn_shelf.specs.Expanded.{natural, frames_of, frames_taken, part_of, within_room, part_within}
+use Rattle.sn_shelf.specs.Expanded.{natural, frames_of, frames_taken, is_possible, part_in, part_of, within_room, part_within, ◌>>=◌}
 
 -- ---- samples
 
@@ -178,6 +178,48 @@ has_space room r part start wanted frames whole early is few fits cut =
     let count : length p.samples ≡ frames * r.channels = part_count r start frames (omega (arith, few, early)) in
     starts room r start wanted whole early ∙ ap (λ (n : ℕ). within_room room (part_of (heard r) start n)) (sym is)
     ∙ kept (nat_lt room (length p.samples)) p (le-ltb room (length p.samples) (omega (arith, count, fits))) ∙ ap (λ (w : Wave). Some w) (sym cut)
+
+-- ---- requests that no file can meet
+
+some_channel : (channels count start : ℕ) → start < count / channels → 0 < channels
+some_channel zero count start early = absurd (omega (arith, early, div-zero count))
+some_channel (suc n) count start early = omega arith
+
+some_samples : (w : Wave) (start wanted : ℕ) → start < frames_of w → 0 < length (part_of w start (frames_taken (frames_of w - start) wanted)).samples
+some_samples w start wanted early =
+    let n = length w.samples in
+    let c = w.channels in
+    let frames = frames_taken (n / c - start) wanted in
+    let some : 1 ≤ frames = some_taken (n / c - start) wanted (omega (arith, early)) in
+    let channels : 0 < c = some_channel c n start early in
+    let asked : 0 < frames * c = omega (arith, mul-le 1 1 frames c some channels) in
+    let before : start * c < n = omega (arith, mul-le-mul_right c early, suc-mul start c, div-mul-le_self n c, channels) in
+    let left : 0 < length (drop (start * c) w.samples) = omega (arith, length-drop (start * c) w.samples, before) in
+    omega (arith, length-take (frames * c) (drop (start * c) w.samples), asked, left)
+
+no_part_fits : (w : Wave) (start wanted : ℕ) → part_within 0 w start wanted ≡ None
+unfolding part_within
+no_part_fits w start wanted = by (nat_lt start (frames_of w)) refl
+  where
+    by : (b : Bool) → nat_lt start (frames_of w) ≡ b → part_by 0 w start wanted b ≡ None
+    by false is = refl
+    by true is =
+        let part = part_of w start (frames_taken (frames_of w - start) wanted) in
+        dropped (nat_lt 0 (length part.samples)) part (lt-ltb 0 (length part.samples) (some_samples w start wanted (ltb-true start (frames_of w) is)))
+
+none_fits : (first count : Option ℕ) (room : ℕ) (wave : Option Wave) → (is_some first && is_some count && nat_lt 0 room) ≡ false → (first >>= λ start. count >>= λ wanted. wave >>= λ w. part_within room w start wanted) ≡ None
+none_fits None count room wave h = refl
+none_fits (Some start) None room wave h = refl
+none_fits (Some start) (Some wanted) room None h = refl
+none_fits (Some start) (Some wanted) zero (Some w) h = no_part_fits w start wanted
+none_fits (Some start) (Some wanted) (suc room) (Some w) h =
+    let on : nat_lt 0 (suc room) ≡ true = lt-ltb 0 (suc room) (omega arith) in
+    let not_so : true ≡ false = sym on ∙ h in
+    absurd cc
+
+pub impossible : (room : ℕ) (bytes : List ℕ) (first count : ℤ) → is_possible room first count ≡ false → part_in room bytes first count ≡ None
+unfolding part_in
+impossible room bytes first count h = none_fits (natural first) (natural count) room (wave_in bytes) h
 
 -- ---- numbers that are at least 0
 

@@ -1,5 +1,5 @@
 -- What `/b_allocRead` with the path of a file becomes: the command that carries the samples.
-use Rattle.std.specs.Prelude.{◌-◌, ◌*◌, ◌/◌, ◌==◌, ◌||◌, ℕ, ℤ, pos, negsuc, nat_lt, if◌then◌else◌, List, [], ◌∷◌, length, take, drop, Option, Some, None, option_map, option_to_list, unwrap_or, codes, bytes_eq}
+use Rattle.std.specs.Prelude.{◌-◌, ◌*◌, ◌/◌, ◌==◌, ◌||◌, ◌&&◌, ℕ, ℤ, Bool, pos, negsuc, nat_lt, if◌then◌else◌, List, [], ◌∷◌, length, take, drop, Option, Some, None, is_some, option_map, option_to_list, unwrap_or, codes, bytes_eq}
 use Rattle.std.specs.List.{flat_map}
 use Rattle.sn_ports.specs.Limits.{most_samples}
 use Rattle.sn_osc.specs.Shape.{Argument, int, string, blob, BodyShape, bare, arguments, foreign, MessageShape, Shape, Shapes, message, bundle, none, more}
@@ -94,6 +94,10 @@ part_in room bytes first count = do
   wanted ← natural count
   w ← wave_in bytes
   part_within room w start wanted
+
+-- some file can meet a request with these numbers: both are at least 0, and there is room
+abbrev pub is_possible : ℕ → ℤ → ℤ → Bool
+is_possible room first count = is_some (natural first) && is_some (natural count) && nat_lt 0 room
 
 -- ---- messages and packets
 

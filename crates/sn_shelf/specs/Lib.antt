@@ -6,3 +6,4 @@ pub mod Expanded
 pub mod Asking
 pub mod ExpandedViews
 pub mod Growth
+pub mod Remembering

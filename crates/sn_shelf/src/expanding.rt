@@ -8,12 +8,13 @@ ghost use Rattle.sn_shelf.specs.Asking.{asks, AllKeepUnasked};
 ghost use Rattle.sn_shelf.specs.Expanded.{with_samples, expanded_message, expanded, expanded_elements, expanded_packets};
 ghost use Rattle.sn_shelf.specs.ExpandedViews.{asked};
 ghost use Rattle.sn_shelf.specs.Growth.{MessageGrows, Grows, AllGrow, IsSpelledWithin, AllSpelledWithin};
+ghost use Rattle.sn_shelf.specs.Remembering.{Knows};
 ghost use Rattle.sn_shelf.specs.WaveViews.{heard, IsWhole};
 
 use crate::asking::asks;
 use crate::fault::Unexpanded;
-use crate::files::read_file;
-use crate::parts::{blob_of, part_in};
+use crate::parts::{blob_of, is_possible, part_in};
+use crate::reader::Reader;
 use crate::requests::{Request, request_of};
 use crate::traits::Shelf;
 use crate::waves::Recording;
@@ -64,15 +65,17 @@ fn with_samples(
 /// A message, with the samples in place of the name of their file, if it asks for them and there is room.
 #[tactic(auto, using(crate::proofs::ExpandedLemmas::told_unasked, crate::proofs::ExpandedLemmas::told_unfit, crate::proofs::GrowthLemmas::stays))]
 fn fill_message<H: Shelf>(
-    alloc: Global,
+    reader: &mut Reader,
     shelf: &mut H,
     message: Message,
     room: &mut u32,
 ) -> Result<Message, Unexpanded>
-    requires { room.old ≤ most_samples }
+    requires room { room.old ≤ most_samples }
+    requires knows { Knows (H.files shelf.old) reader.old.last }
     ensures told { IfSome (H.files shelf.old) (λ fs. IfOk result (λ m. (message_of m, room.new) ≡ expanded_message fs room.old (message_of message))) }
     ensures grows { IfOk result (λ m. MessageGrows (message_of message) (message_of m) room.old room.new) }
     ensures room { room.new ≤ room.old }
+    ensures knows { Knows (H.files shelf.new) reader.new.last }
     ensures kept { H.files shelf.new ≡ H.files shelf.old }
     ensures later { H.faults shelf.old ≤ H.faults shelf.new }
     ensures failed { result ≡ Err Unexpanded.Failed → Rose (H.faults shelf.old) (H.faults shelf.new) }
@@ -81,14 +84,17 @@ fn fill_message<H: Shelf>(
     let Some(request) = request_of(&message) else {
         return Ok(message);
     };
-    let bytes = match read_file(alloc, shelf, request.path)? {
-        Some(bytes) => bytes,
-        None => return Ok(message),
-    };
-    let Some(part) = part_in(*room, bytes.as_slice(), &request) else {
+    if !is_possible(*room, &request) {
+        return Ok(message);
+    }
+    reader.load(shelf, request.path)?;
+    let Some(bytes) = reader.found() else {
         return Ok(message);
     };
-    let args = with_samples(alloc, &request, &part)?;
+    let Some(part) = part_in(*room, bytes, &request) else {
+        return Ok(message);
+    };
+    let args = with_samples(reader.alloc, &request, &part)?;
     *room -= part.frames * part.channels;
     Ok(Message {
         address: message.address,
@@ -106,23 +112,25 @@ fn bundle_packet(tag: u64, elements: Elements) -> Packet
 #[cycle(filling)]
 #[tactic(auto, using(crate::proofs::ExpandedLemmas::none_yet, crate::proofs::GrowthLemmas::none_grow))]
 fn fill_elements<H: Shelf>(
-    alloc: Global,
+    reader: &mut Reader,
     shelf: &mut H,
     elements: Elements,
     room: &mut u32,
 ) -> Result<Elements, Unexpanded>
-    requires { room.old ≤ most_samples }
+    requires room { room.old ≤ most_samples }
+    requires knows { Knows (H.files shelf.old) reader.old.last }
     ensures told { IfSome (H.files shelf.old) (λ fs. IfOk result (λ xs. (shapes xs.items, room.new) ≡ expanded_elements fs room.old (shapes elements.items))) }
     ensures grows { IfOk result (λ xs. AllGrow (shapes elements.items) (shapes xs.items) room.old room.new) }
     ensures room { room.new ≤ room.old }
+    ensures knows { Knows (H.files shelf.new) reader.new.last }
     ensures kept { H.files shelf.new ≡ H.files shelf.old }
     ensures later { H.faults shelf.old ≤ H.faults shelf.new }
     ensures failed { result ≡ Err Unexpanded.Failed → Rose (H.faults shelf.old) (H.faults shelf.new) }
     ensures unfailed { (result ≡ Err Unexpanded.Failed) ⊎ (H.faults shelf.new ≡ H.faults shelf.old) }
 {
-    let mut done = Vec::new(alloc);
+    let mut done = Vec::new(reader.alloc);
     for packet in elements {
-        done.push(fill(alloc, shelf, packet, room)?)?;
+        done.push(fill(reader, shelf, packet, room)?)?;
     }
     Ok(done)
 }
@@ -131,28 +139,59 @@ fn fill_elements<H: Shelf>(
 #[cycle(filling)]
 #[tactic(auto, using(crate::proofs::GrowthLemmas::message_grows))]
 fn fill<H: Shelf>(
-    alloc: Global,
+    reader: &mut Reader,
     shelf: &mut H,
     packet: Packet,
     room: &mut u32,
 ) -> Result<Packet, Unexpanded>
-    requires { room.old ≤ most_samples }
+    requires room { room.old ≤ most_samples }
+    requires knows { Knows (H.files shelf.old) reader.old.last }
     ensures told { IfSome (H.files shelf.old) (λ fs. IfOk result (λ p. (shape p, room.new) ≡ expanded fs room.old (shape packet))) }
     ensures grows { IfOk result (λ p. Grows (shape packet) (shape p) room.old room.new) }
     ensures room { room.new ≤ room.old }
+    ensures knows { Knows (H.files shelf.new) reader.new.last }
     ensures kept { H.files shelf.new ≡ H.files shelf.old }
     ensures later { H.faults shelf.old ≤ H.faults shelf.new }
     ensures failed { result ≡ Err Unexpanded.Failed → Rose (H.faults shelf.old) (H.faults shelf.new) }
     ensures unfailed { (result ≡ Err Unexpanded.Failed) ⊎ (H.faults shelf.new ≡ H.faults shelf.old) }
 {
     match packet {
-        Packet::Message(message) => Ok(Packet::Message(fill_message(alloc, shelf, message, room)?)),
+        Packet::Message(message) => Ok(Packet::Message(fill_message(
+            reader, shelf, message, room,
+        )?)),
         Packet::Bundle(bundle) => {
             let tag = bundle.tag;
-            let elements = fill_elements(alloc, shelf, bundle.elements, room)?;
+            let elements = fill_elements(reader, shelf, bundle.elements, room)?;
             Ok(bundle_packet(tag, elements))
         }
     }
+}
+
+/// A packet with the samples in place of the names of their files.
+fn expand_by<H: Shelf>(
+    reader: &mut Reader,
+    shelf: &mut H,
+    packet: Packet,
+    room: &mut u32,
+) -> Result<Packet, Unexpanded>
+    requires room { room.old ≤ most_samples }
+    requires knows { Knows (H.files shelf.old) reader.old.last }
+    ensures told { IfSome (H.files shelf.old) (λ fs. IfOk result (λ p. (shape p, room.new) ≡ expanded fs room.old (shape packet))) }
+    ensures unasked { IfOk result (λ p. asks (shape packet) ≡ false → (p ≡ packet) × (room.new ≡ room.old)) }
+    ensures spelled { (bytes : List ℕ) → Spells (shape packet) bytes → length bytes ≤ most_packet
+        → IfOk result (λ p. IsSpelledWithin (shape p) (2 * length bytes + 4 * (room.old - room.new))) }
+    ensures room { room.new ≤ room.old }
+    ensures knows { Knows (H.files shelf.new) reader.new.last }
+    ensures kept { H.files shelf.new ≡ H.files shelf.old }
+    ensures later { H.faults shelf.old ≤ H.faults shelf.new }
+    ensures failed { result ≡ Err Unexpanded.Failed → Rose (H.faults shelf.old) (H.faults shelf.new) }
+    ensures unfailed { (result ≡ Err Unexpanded.Failed) ⊎ (H.faults shelf.new ≡ H.faults shelf.old) }
+{
+    // Most packets ask for nothing, and needn't be taken apart.
+    if !asks(&packet) {
+        return Ok(packet);
+    }
+    fill(reader, shelf, packet, room)
 }
 
 /// A packet in which each `/b_allocRead` with the path of a file carries the file's samples, if the file has some that
@@ -183,11 +222,7 @@ pub fn expand<H: Shelf>(
     ensures failed { result ≡ Err Unexpanded.Failed → Rose (H.faults shelf.old) (H.faults shelf.new) }
     ensures unfailed { (result ≡ Err Unexpanded.Failed) ⊎ (H.faults shelf.new ≡ H.faults shelf.old) }
 {
-    // Most packets ask for nothing, and needn't be taken apart.
-    if !asks(&packet) {
-        return Ok(packet);
-    }
-    fill(alloc, shelf, packet, room)
+    expand_by(&mut Reader::new(alloc), shelf, packet, room)
 }
 
 /// The packets of a stream, each with the samples in place of the names of their files. At most 16,777,216 samples come
@@ -212,9 +247,10 @@ pub fn expand_all<H: Shelf>(
     ensures unfailed { (result ≡ Err Unexpanded.Failed) ⊎ (H.faults shelf.new ≡ H.faults shelf.old) }
 {
     let mut room = MOST_SAMPLES;
+    let mut reader = Reader::new(alloc);
     let mut done = Vec::new(alloc);
     for packet in packets {
-        done.push(expand(alloc, shelf, packet, &mut room)?)?;
+        done.push(expand_by(&mut reader, shelf, packet, &mut room)?)?;
     }
     Ok(done)
 }

@@ -11,7 +11,7 @@ use sn_ports::limits::MOST_FILE;
 use std::alloc::{AllocError, Global};
 
 /// How many bytes are asked for at once.
-const PIECE: usize = 1048576;
+pub(crate) const PIECE: usize = 1048576;
 
 /// What came of a file.
 #[derive(Clone, Copy, Debug, PartialEq, Eq)]
@@ -25,7 +25,7 @@ enum Piece {
 }
 
 /// `len` bytes to write over.
-fn zeroed(alloc: Global, len: usize) -> Result<Vec<u8>, AllocError>
+pub(crate) fn zeroed(alloc: Global, len: usize) -> Result<Vec<u8>, AllocError>
     ensures { IfOk result (λ v. length v.items ≡ len) }
 {
     vec![in alloc; 0; len]
@@ -62,9 +62,35 @@ fn read_piece<H: Shelf>(
     }
 }
 
+/// The bytes of the file with this name, if there is one of at most 33,554,432 bytes, read by way of a piece. A longer
+/// one is not read to its end.
+#[tactic(auto, using(crate::proofs::FileLemmas::read_whole, crate::proofs::FileLemmas::read_nothing, crate::proofs::FileLemmas::read_some, crate::proofs::FileLemmas::read_too_much, crate::proofs::FileLemmas::none_read))]
+pub(crate) fn read_by<H: Shelf>(
+    alloc: Global,
+    shelf: &mut H,
+    piece: &mut [u8],
+    name: &Text,
+) -> Result<Option<Text>, Unexpanded>
+    requires { length piece.old ≡ 1048576 }
+    ensures told { IfSome (H.files shelf.old) (λ fs. IfOk result (λ o. option_map (λ t. t.bytes) o ≡ within_limit (bytes_named name.now.bytes fs))) }
+    ensures kept { H.files shelf.new ≡ H.files shelf.old }
+    ensures later { H.faults shelf.old ≤ H.faults shelf.new }
+    ensures failed { result ≡ Err Unexpanded.Failed → Rose (H.faults shelf.old) (H.faults shelf.new) }
+    ensures unfailed { (result ≡ Err Unexpanded.Failed) ⊎ (H.faults shelf.new ≡ H.faults shelf.old) }
+{
+    let mut bytes = Text::new(alloc);
+    while bytes.len() <= MOST_FILE {
+        match read_piece(shelf, name, piece, &mut bytes)? {
+            Piece::More => {}
+            Piece::End => return Ok(Some(bytes)),
+            Piece::NoFile => return Ok(None),
+        }
+    }
+    Ok(None)
+}
+
 /// The bytes of the file with this name, if there is one of at most 33,554,432 bytes. A longer one is not read to its
 /// end.
-#[tactic(auto, using(crate::proofs::FileLemmas::read_whole, crate::proofs::FileLemmas::read_nothing, crate::proofs::FileLemmas::read_some, crate::proofs::FileLemmas::read_too_much, crate::proofs::FileLemmas::none_read))]
 pub fn read_file<H: Shelf>(
     alloc: Global,
     shelf: &mut H,
@@ -76,14 +102,6 @@ pub fn read_file<H: Shelf>(
     ensures failed { result ≡ Err Unexpanded.Failed → Rose (H.faults shelf.old) (H.faults shelf.new) }
     ensures unfailed { (result ≡ Err Unexpanded.Failed) ⊎ (H.faults shelf.new ≡ H.faults shelf.old) }
 {
-    let mut bytes = Text::new(alloc);
     let mut piece = zeroed(alloc, PIECE)?;
-    while bytes.len() <= MOST_FILE {
-        match read_piece(shelf, name, &mut piece, &mut bytes)? {
-            Piece::More => {}
-            Piece::End => return Ok(Some(bytes)),
-            Piece::NoFile => return Ok(None),
-        }
-    }
-    Ok(None)
+    read_by(alloc, shelf, &mut piece, name)
 }

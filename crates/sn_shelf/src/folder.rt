@@ -1,9 +1,11 @@
 //! A shelf over the files below a folder.
 ghost use Rattle.std.specs.Prelude.{◌≡◌, ◌≤◌, None, IfOk, IfSome, length};
 ghost use Rattle.std.specs.Io.{ReadsAtMost};
+ghost use Rattle.sn_ports.specs.Causes.{Rose};
 
 use crate::traits::{Shelf, Unshelved};
 use sn_ports::Text;
+use std::alloc::Global;
 use std::io::{ErrorKind, Read, Seek, SeekFrom};
 use std::rt::Files;
 use std::{fs, io};
@@ -15,15 +17,51 @@ use std::{fs, io};
 #[derive(Drop)]
 pub struct FolderShelf<'a, H: Files> {
     rt: &'a H,
+    alloc: Global,
     faults: u64,
+    unread: Option<Unread>,
+}
+
+/// A file that failed, and why.
+#[derive(Drop)]
+pub struct Unread {
+    /// Its name, or no byte if there was no memory for it.
+    pub name: Text,
+    /// Why it failed.
+    pub error: io::Error,
 }
 
 impl<'a, H: Files> FolderShelf<'a, H> {
     /// A shelf that has not failed.
-    pub fn new(rt: &'a H) -> Self
+    pub fn new(rt: &'a H, alloc: Global) -> Self
         ensures { result.faults ≡ 0 }
     {
-        FolderShelf { rt, faults: 0 }
+        FolderShelf {
+            rt,
+            alloc,
+            faults: 0,
+            unread: None,
+        }
+    }
+
+    /// The file that failed last, if one did.
+    pub fn unread(&self) -> &Option<Unread>
+        ensures { result.now ≡ self.now.unread }
+    {
+        &self.unread
+    }
+
+    /// Counts a failure, and notes the file and why it failed.
+    fn note(&mut self, name: &Text, error: io::Error)
+        ensures later { self.old.faults ≤ self.new.faults }
+        ensures rose { Rose self.old.faults self.new.faults }
+    {
+        self.faults = self.faults.saturating_add(1);
+        let name = Text::from_slice(self.alloc, name.as_slice());
+        self.unread = Some(Unread {
+            name: name.unwrap_or(Text::new(self.alloc)),
+            error,
+        });
     }
 }
 
@@ -80,8 +118,8 @@ impl<'a, H: Files> Shelf for FolderShelf<'a, H> {
         match read_inside(self.rt, name.as_slice(), at, into) {
             Ok(Some(count)) => Ok(count),
             Ok(None) => Err(Unshelved::Missing),
-            Err(_) => {
-                self.faults = self.faults.saturating_add(1);
+            Err(error) => {
+                self.note(name, error);
                 Err(Unshelved::Failed)
             }
         }

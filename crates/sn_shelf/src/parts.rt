@@ -5,7 +5,7 @@ ghost use Rattle.sn_ports.specs.Limits.{most_samples};
 ghost use Rattle.sn_osc.specs.Bytes.{int_bytes};
 ghost use Rattle.sn_shelf.specs.Waves.{sample_of, sample_16, sample_24, samples_of};
 ghost use Rattle.sn_shelf.specs.WaveViews.{heard, IsWhole, Finds};
-ghost use Rattle.sn_shelf.specs.Expanded.{natural, frames_taken, part_of, part_within, part_in};
+ghost use Rattle.sn_shelf.specs.Expanded.{natural, is_possible, frames_taken, part_of, part_within, part_in};
 
 use crate::requests::Request;
 use crate::waves::{Recording, recording_in};
@@ -92,6 +92,13 @@ fn part_within<'a>(
         return None;
     }
     Some(cut(whole, start, frames))
+}
+
+/// Whether some file can meet a request: its numbers are at least 0, and there is room.
+pub(crate) fn is_possible(room: u32, request: &Request<'_>) -> bool
+    ensures { result ≡ is_possible room request.now.start request.now.frames }
+{
+    natural(&request.start).is_some() && natural(&request.frames).is_some() && room > 0
 }
 
 /// The part of a file that a request names by its first frame and the number of its frames, if there is room for it.

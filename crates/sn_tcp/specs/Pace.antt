@@ -1,5 +1,6 @@
 -- When blocks are due, in nanoseconds after the start, and how many are given.
-use Rattle.std.specs.Prelude.{◌≡◌, ℕ, ◌+◌, ◌*◌, ◌/◌, ◌≤◌, ◌<◌, Result, Option, MatchOption, MatchResult}
+use Rattle.std.specs.Prelude.{◌≡◌, ℕ, ◌+◌, ◌-◌, ◌*◌, ◌/◌, ◌^◌, ◌≤◌, ◌<◌, min, Bool, cond, Result, Option, MatchOption, MatchResult}
+use Rattle.sn_ports.specs.Limits.{most_ticks}
 use Rattle.sn_ports.specs.declared.links.Fed.{Fed}
 use Rattle.sn_ports.specs.declared.links.Fed.TheVariants as fed
 
@@ -10,6 +11,15 @@ IsDue rate nanos k = k * 64000000000 ≤ nanos * rate
 -- how many blocks are due; so it is the number of the first that isn't
 abbrev pub blocks_due : ℕ → ℕ → ℕ
 blocks_due rate nanos = nanos * rate / 64000000000 + 1
+
+-- how many blocks may be given in all
+abbrev pub most_given : ℕ
+most_given = 2 ^ 127
+
+-- how many more blocks are to come, of which so many were given: by the sound the next one, since what takes the sound took the one before; by
+-- the clock those that are due
+abbrev pub blocks_to_come : Bool → ℕ → ℕ → ℕ → ℕ
+blocks_to_come by_sound rate nanos given = cond by_sound (min 1 (most_given - given)) (min (blocks_due rate nanos - given) most_ticks)
 
 -- it is so long until the first block that isn't due is due, and no shorter
 pub record IsUntilNext (rate nanos wait : ℕ) : Type 0 where

@@ -5,8 +5,10 @@ mod laws;
 mod line;
 mod link;
 mod pace;
+mod steady;
 
 pub use laws::blocks_come_due;
 pub use line::PATIENCE;
 pub use link::TcpLink;
 pub use pace::Pace;
+pub use steady::Steady;

@@ -8,6 +8,7 @@ ghost use Rattle.sn_tcp.specs.Hearing.{MayHear, NextHears};
 ghost use Rattle.sn_tcp.specs.Pace.{MayGive, NextGives};
 
 use crate::pace::{Pace, whole_millis};
+use crate::steady::write_again;
 use libc::net::{POLLIN, poll};
 use libc::types::pollfd;
 use sn_ports::Fed;
@@ -39,11 +40,10 @@ fn is_ready(told: i16) -> bool
 }
 
 impl<S: Read + Write + OpenStream + AsRawFd + Drop, C: Clock + Drop> Line<S, C> {
-    /// A line over this socket that has given no block.
-    pub(crate) fn new(socket: S, clock: C, rate: u32) -> io::Result<Self>
-        requires { 0 < rate }
+    /// A line over this socket, whose blocks come at this pace.
+    pub(crate) fn new(socket: S, clock: C, pace: Pace) -> io::Result<Self>
         ensures socket { IfOk result (λ line. line.socket ≡ socket) }
-        ensures pace { IfOk result (λ line. (line.pace.rate ≡ rate) × (line.pace.given ≡ 0)) }
+        ensures pace { IfOk result (λ line. line.pace ≡ pace) }
     {
         // What is sent is not held back.
         socket.set_nodelay(true)?;
@@ -54,7 +54,7 @@ impl<S: Read + Write + OpenStream + AsRawFd + Drop, C: Clock + Drop> Line<S, C> 
             socket,
             clock,
             start,
-            pace: Pace::new(rate),
+            pace,
             listens: false,
         })
     }
@@ -174,12 +174,6 @@ impl<S: Read + Write + OpenStream + AsRawFd + Drop, C: Clock + Drop> Line<S, C> 
         ensures rate { self.new.pace.rate ≡ self.old.pace.rate }
         ensures given { self.new.pace.given ≡ self.old.pace.given }
     {
-        for _ in 0..u64::MAX {
-            match self.socket.write(piece) {
-                Err(error) if error.kind() == io::ErrorKind::Interrupted => {}
-                told => return told,
-            }
-        }
-        Err(io::Error::other("interrupted too often"))
+        write_again(&mut self.socket, piece)
     }
 }

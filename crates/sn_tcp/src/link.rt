@@ -1,6 +1,6 @@
-ghost use Rattle.std.specs.Prelude.{◌≡◌, ◌<◌, ◌≤◌, None, IfOk, OnOk, OnErr, length};
+ghost use Rattle.std.specs.Prelude.{◌≡◌, ◌<◌, None, IfOk, OnOk, OnErr, length};
 ghost use Rattle.std.specs.Io.KnownBytes.{WriteAppends};
-ghost use Rattle.sn_ports.specs.Causes.{HasCause, Rose};
+ghost use Rattle.sn_ports.specs.Causes.{HasCause};
 ghost use Rattle.sn_ports.specs.Fake.{counted};
 ghost use Rattle.sn_ports.specs.Links.{FeedsWithin};
 ghost use Rattle.sn_ports.specs.Transfer.{WritesSome};
@@ -8,6 +8,8 @@ ghost use Rattle.sn_tcp.specs.Hearing.{NextHears};
 ghost use Rattle.sn_tcp.specs.Pace.{NextGives};
 
 use crate::line::Line;
+use crate::pace::Pace;
+use sn_files::Faults;
 use sn_ports::{Failed, Fed, Link};
 use std::io;
 use std::io::{Read, Write};
@@ -22,40 +24,39 @@ use std::time::Clock;
 /// How it works, which the contracts of its `Pace` carry in part: blocks come when the clock says that they are due,
 /// block k after k * 64 / rate seconds. Until the next one is due, it waits for bytes, in whole milliseconds, and gives
 /// those that the socket has. After a pause the blocks that are due come 1,024 at a time, and bytes take turns with
-/// them. If the peer takes nothing of a piece for ten seconds, sending it fails.
+/// them. At the pace of the sound one block comes whenever the next event is asked for, and bytes that the socket has
+/// take turns with them, without a wait: so what takes the sound makes the link wait. If the peer takes nothing of a piece for ten seconds, sending it fails.
 #[derive(Drop)]
 pub struct TcpLink<S, C> {
     line: Line<S, C>,
-    faults: u64,
+    faults: Faults,
+    /// Whether a byte came.
+    has_heard: bool,
 }
 
 impl<S: Read + Write + OpenStream + AsRawFd + Drop, C: Clock + Drop> TcpLink<S, C> {
-    /// A link over this socket that has not failed and has asked for no block.
-    pub fn new(socket: S, clock: C, rate: u32) -> io::Result<Self>
-        requires { 0 < rate }
+    /// A link over this socket that has not failed, whose blocks come at this pace.
+    pub fn new(socket: S, clock: C, pace: Pace) -> io::Result<Self>
         ensures socket { IfOk result (λ link. link.line.socket ≡ socket) }
-        ensures pace { IfOk result (λ link. (link.line.pace.rate ≡ rate) × (link.line.pace.given ≡ 0)) }
-        ensures unfailed { IfOk result (λ link. link.faults ≡ 0) }
+        ensures pace { IfOk result (λ link. link.line.pace ≡ pace) }
+        ensures unfailed { IfOk result (λ link. link.faults.count ≡ 0) }
     {
         Ok(TcpLink {
-            line: Line::new(socket, clock, rate)?,
-            faults: 0,
+            line: Line::new(socket, clock, pace)?,
+            faults: Faults::none(),
+            has_heard: false,
         })
     }
 
-    /// Counts a failure.
-    fn fails(&mut self) -> Failed
-        ensures later { self.old.faults ≤ self.new.faults }
-        ensures rose { Rose self.old.faults self.new.faults }
-        ensures once { self.new.faults ≡ counted 64 self.old.faults }
-        ensures line { self.new.line ≡ self.old.line }
+    /// Whether a byte came.
+    pub fn has_heard(&self) -> bool
+        ensures { result ≡ self.now.has_heard }
     {
-        self.faults = self.faults.saturating_add(1);
-        Failed
+        self.has_heard
     }
 
-    /// How many calls failed.
-    pub fn faults(&self) -> u64
+    /// What failed.
+    pub fn faults(&self) -> Faults
         ensures { result ≡ self.now.faults }
     {
         self.faults
@@ -67,7 +68,7 @@ impl<S: Read + Write + OpenStream + AsRawFd + Drop, C: Clock + Drop> Link for Tc
 
     ghost sent = { λ _. None };
 
-    ghost faults = { λ link. link.faults };
+    ghost faults = { λ link. link.faults.count };
 
     fn next(&mut self, into: &mut [u8]) -> Result<Fed, Failed>
         requires room { 0 < length into.old }
@@ -75,14 +76,17 @@ impl<S: Read + Write + OpenStream + AsRawFd + Drop, C: Clock + Drop> Link for Tc
         ensures heard { NextHears (S.remaining self.old.line.socket) (S.remaining self.new.line.socket) result into.new }
         ensures rate { self.new.line.pace.rate ≡ self.old.line.pace.rate }
         ensures given { NextGives self.old.line.pace.given self.new.line.pace.given result }
-        ensures cause { HasCause self.old.faults self.new.faults result }
+        ensures cause { HasCause self.old.faults.count self.new.faults.count result }
         // Each failure is counted once, and nothing else is.
-        ensures faults { OnErr result (self.new.faults ≡ counted 64 self.old.faults) }
-        ensures unfailed { OnOk result (self.new.faults ≡ self.old.faults) }
+        ensures faults { OnErr result (self.new.faults.count ≡ counted 64 self.old.faults.count) }
+        ensures unfailed { OnOk result (self.new.faults.count ≡ self.old.faults.count) }
     {
         match self.line.next(into) {
-            Ok(fed) => Ok(fed),
-            Err(_) => Err(self.fails()),
+            Ok(fed) => {
+                self.has_heard = self.has_heard || matches!(fed, Fed::Bytes(_));
+                Ok(fed)
+            }
+            Err(error) => Err(self.faults.note(error)),
         }
     }
 
@@ -91,14 +95,17 @@ impl<S: Read + Write + OpenStream + AsRawFd + Drop, C: Clock + Drop> Link for Tc
         ensures bytes { WriteAppends (S.contents self.old.line.socket) (S.contents self.new.line.socket) result piece.now }
         ensures rate { self.new.line.pace.rate ≡ self.old.line.pace.rate }
         ensures given { self.new.line.pace.given ≡ self.old.line.pace.given }
-        ensures cause { HasCause self.old.faults self.new.faults result }
+        ensures cause { HasCause self.old.faults.count self.new.faults.count result }
         // Each failure is counted once, and nothing else is.
-        ensures faults { OnErr result (self.new.faults ≡ counted 64 self.old.faults) }
-        ensures unfailed { OnOk result (self.new.faults ≡ self.old.faults) }
+        ensures faults { OnErr result (self.new.faults.count ≡ counted 64 self.old.faults.count) }
+        ensures unfailed { OnOk result (self.new.faults.count ≡ self.old.faults.count) }
     {
         match self.line.send(piece) {
-            Ok(count) if count > 0 || piece.is_empty() => Ok(count),
-            _ => Err(self.fails()),
+            Ok(0) if !piece.is_empty() => {
+                Err(self.faults.note(io::Error::from(io::ErrorKind::WriteZero)))
+            }
+            Ok(count) => Ok(count),
+            Err(error) => Err(self.faults.note(error)),
         }
     }
 }

@@ -8,9 +8,9 @@ use Rattle.sn_words.specs.Serving.{ServeChoices, serve_words_of}
 use Rattle.sn_top.specs.declared.serving.Served.{Served}
 use Rattle.sn_top.specs.declared.serving.Served.TheVariants.{BadWords, Ran}
 
--- the words choose these settings, some port and some number of clients
+-- what the words choose has these settings
 abbrev pub AreServed : List Octets → Settings → Type 0
-AreServed words s = (port : ℕ) × (clients : ℕ) × (serve_words_of words ≡ Ok (record { settings = numbers s; port = port; clients = clients }))
+AreServed words s = (chosen : ServeChoices) × (serve_words_of words ≡ Ok chosen) × (chosen.settings ≡ numbers s)
 
 -- A fact about the settings that the words choose, if they choose some.
 abbrev pub ForServed : List Octets → Result ServeChoices ℕ → (Settings → Type 0) → Type 0

@@ -1,5 +1,5 @@
 -- Words `key=value`, and the settings that a list of them chooses.
-use Rattle.std.specs.Prelude.{ℕ, ◌+◌, ◌==◌, Bool, true, ◌&&◌, cond, List, [], ◌∷◌, ◌++◌, length, take, drop, position, codes, Option, Some, None, unwrap_or}
+use Rattle.std.specs.Prelude.{ℕ, ◌+◌, ◌==◌, Bool, true, ◌&&◌, cond, nat_le, List, [], ◌∷◌, ◌++◌, length, take, drop, position, codes, Option, Some, None, unwrap_or}
 use Rattle.std.specs.Option.{is_some, is_none, option_or}
 use Rattle.std.specs.List.{list_any}
 use Rattle.std.specs.Str.{bytes_eq}
@@ -16,7 +16,7 @@ setting_keys = Key.Rate ∷ Key.Channels ∷ Key.Bits ∷ Key.Workers ∷ Key.Me
 
 -- those of `serve`
 abbrev pub serve_keys : List Key
-serve_keys = Key.Clients ∷ setting_keys
+serve_keys = Key.Clients ∷ Key.Pace ∷ setting_keys
 
 -- and those of a drill
 abbrev pub drill_keys : List Key
@@ -29,6 +29,7 @@ name Key.Bits = codes "bits"
 name Key.Workers = codes "workers"
 name Key.Memory = codes "memory"
 name Key.Clients = codes "clients"
+name Key.Pace = codes "pace"
 name Key.Seed = codes "seed"
 name Key.Blocks = codes "blocks"
 
@@ -40,6 +41,7 @@ allows Key.Bits n = is_width n
 allows Key.Workers n = is_within 1 most_workers n
 allows Key.Memory n = is_within least_memory most_memory n
 allows Key.Clients n = is_within 1 most_clients n
+allows Key.Pace n = nat_le n 1
 allows Key.Seed n = true
 allows Key.Blocks n = is_within 1 20000 n
 
@@ -51,8 +53,25 @@ default_value Key.Bits = 16
 default_value Key.Workers = 4
 default_value Key.Memory = 1048576
 default_value Key.Clients = 1
+default_value Key.Pace = 0
 default_value Key.Seed = 1
 default_value Key.Blocks = 1000
+
+-- the clock sets the pace, or what takes the sound does
+abbrev pub pace_named : List ℕ → Option ℕ
+pace_named text = cond (bytes_eq text (codes "clock")) (Some 0) (cond (bytes_eq text (codes "sound")) (Some 1) None)
+
+-- the number that a text gives: of the pace that of its name, of any other key what its digits spell
+abbrev pub number_of : Key → List ℕ → Option ℕ
+number_of Key.Rate text = natural text
+number_of Key.Channels text = natural text
+number_of Key.Bits text = natural text
+number_of Key.Workers text = natural text
+number_of Key.Memory text = natural text
+number_of Key.Clients text = natural text
+number_of Key.Pace text = pace_named text
+number_of Key.Seed text = natural text
+number_of Key.Blocks text = natural text
 
 -- a number as a value of the key
 abbrev pub allowed : Key → Option ℕ → Option ℕ
@@ -61,7 +80,7 @@ allowed key None = None
 
 -- a word that is divided at its `=`, or has none
 abbrev pub value_at : Key → List ℕ → Option ℕ → Option ℕ
-value_at key word (Some at) = cond (bytes_eq (take at word) (name key)) (allowed key (natural (drop (at + 1) word))) None
+value_at key word (Some at) = cond (bytes_eq (take at word) (name key)) (allowed key (number_of key (drop (at + 1) word))) None
 value_at key word None = None
 
 -- The value that a word `key=value` gives the key, if the key may have it; 61 is `=`.

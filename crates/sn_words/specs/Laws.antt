@@ -8,7 +8,7 @@ use Rattle.sn_words.specs.Choices.{Choices, numbers}
 use Rattle.sn_words.specs.declared.keys.Key.{Key}
 use Rattle.sn_words.specs.Drilling.{DrillChoices, drill_words_of}
 use Rattle.sn_words.specs.Keys.{setting_keys, serve_keys, drill_keys, is_good, first_bad, choices, value_of}
-use Rattle.sn_words.specs.Serving.{ServeChoices, port_word, serve_words_of}
+use Rattle.sn_words.specs.Serving.{ServeChoices, pacing_of, port_word, serve_words_of}
 use Rattle.sn_words.specs.Words.{begins_with, between, no_word, plan_words_of, settings_of}
 
 -- The word with this index is good after the words before it, if these are the keys.
@@ -56,6 +56,7 @@ pub record IsServeLine (words : List Octets) (chosen : ServeChoices) : Type 0 wh
   pub line : IsLine serve_keys (codes "serve") 2 words
   pub settings : chosen.settings ≡ choices (between 2 words)
   pub clients : chosen.clients ≡ value_of (between 2 words) Key.Clients
+  pub pacing : chosen.pacing ≡ pacing_of (value_of (between 2 words) Key.Pace)
   pub port : natural (port_word words) ≡ Some chosen.port
   pub least : 1 ≤ chosen.port
   pub greatest : chosen.port ≤ 65535

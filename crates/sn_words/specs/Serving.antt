@@ -1,18 +1,24 @@
 -- The words `serve [key=value ..] PORT SOUND`.
-use Rattle.std.specs.Prelude.{ℕ, ◌-◌, cond, List, length, get_or, codes, Option, Some, None, Result, Ok, Err}
+use Rattle.std.specs.Prelude.{ℕ, ◌-◌, ◌==◌, cond, List, length, get_or, codes, Option, Some, None, Result, Ok, Err}
 use Rattle.sn_fixed.specs.Natural.{natural}
 use Rattle.sn_pcm.specs.Allowed.{is_within}
 use Rattle.sn_ports.specs.Octets.{Octets}
 use Rattle.sn_words.specs.declared.keys.Key.{Key}
+use Rattle.sn_words.specs.declared.serve.Pacing.{Pacing}
 use Rattle.sn_words.specs.Choices.{Choices}
 use Rattle.sn_words.specs.Keys.{serve_keys, choices, value_of}
 use Rattle.sn_words.specs.Words.{bad_word, between, no_word}
 
--- settings, the port to listen on, and how many clients are served at once
+-- what sets the pace, by the value of its key
+abbrev pub pacing_of : ℕ → Pacing
+pacing_of n = cond (n == 0) Pacing.Clock Pacing.Sound
+
+-- settings, the port to listen on, how many clients are served at once, and what sets the pace
 pub record ServeChoices : Type 0 where
   pub settings : Choices
   pub port : ℕ
   pub clients : ℕ
+  pub pacing : Pacing
 
 -- The word before the last, which is a path.
 abbrev pub port_word : List Octets → List ℕ
@@ -25,7 +31,7 @@ port_of None = None
 
 -- no other word is bad, and there is a port, or its word is bad
 abbrev pub by_port : List Octets → Option ℕ → Result ServeChoices ℕ
-by_port words (Some port) = Ok (record { settings = choices (between 2 words); port = port; clients = value_of (between 2 words) Key.Clients })
+by_port words (Some port) = Ok (record { settings = choices (between 2 words); port = port; clients = value_of (between 2 words) Key.Clients; pacing = pacing_of (value_of (between 2 words) Key.Pace) })
 by_port words None = Err (length words - 2)
 
 -- a word is bad, or none but that of the port may be

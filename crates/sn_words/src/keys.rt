@@ -1,6 +1,7 @@
 //! The settings, the numbers of a drill and of connections, and words `key=value`.
 ghost use Rattle.std.specs.Prelude.{◌≡◌, ◌==◌, position, IsTrue, IfSome};
-ghost use Rattle.sn_words.specs.Keys.{setting_keys, serve_keys, drill_keys, name, allows, default_value, allowed, value_in};
+ghost use Rattle.std.specs.Str.{bytes_eq};
+ghost use Rattle.sn_words.specs.Keys.{setting_keys, serve_keys, drill_keys, name, allows, default_value, pace_named, number_of, allowed, value_in};
 
 use sn_fixed::natural;
 use sn_ports::limits::{
@@ -23,6 +24,8 @@ pub(crate) enum Key {
     Memory,
     /// How many clients are served at once.
     Clients,
+    /// What says when a block is due: the clock, 0, or what takes the sound, 1.
+    Pace,
     /// The seed of a drill.
     Seed,
     /// The blocks of a drill.
@@ -43,11 +46,12 @@ pub(crate) fn setting_keys() -> [Key; 5]
 }
 
 /// The keys of `serve`.
-pub(crate) fn serve_keys() -> [Key; 6]
+pub(crate) fn serve_keys() -> [Key; 7]
     ensures { result ≡ serve_keys }
 {
     [
         Key::Clients,
+        Key::Pace,
         Key::Rate,
         Key::Channels,
         Key::Bits,
@@ -83,6 +87,7 @@ impl Key {
             Key::Workers => b"workers",
             Key::Memory => b"memory",
             Key::Clients => b"clients",
+            Key::Pace => b"pace",
             Key::Seed => b"seed",
             Key::Blocks => b"blocks",
         }
@@ -98,6 +103,7 @@ impl Key {
             Key::Workers => 1 <= value && value <= MOST_WORKERS,
             Key::Memory => LEAST_MEMORY <= value && value <= MOST_MEMORY,
             Key::Clients => 1 <= value && value <= MOST_CLIENTS,
+            Key::Pace => value <= 1,
             Key::Seed => true,
             Key::Blocks => 1 <= value && value <= 20_000,
         }
@@ -115,8 +121,19 @@ impl Key {
             Key::Workers => 4,
             Key::Memory => 1_048_576,
             Key::Clients => 1,
+            Key::Pace => 0,
             Key::Seed => 1,
             Key::Blocks => 1_000,
+        }
+    }
+
+    /// The number that a text gives: of the pace that of its name, of any other key what its digits spell.
+    fn number_of(self, text: &[u8]) -> Option<u32>
+        ensures { result ≡ number_of self text.now }
+    {
+        match self {
+            Key::Pace => pace_named(text),
+            _ => natural(text),
         }
     }
 
@@ -138,10 +155,23 @@ impl Key {
     {
         let at = equals_sign(word)?;
         if &word[..at] == self.name() {
-            self.allowed(natural(&word[at + 1..]))
+            self.allowed(self.number_of(&word[at + 1..]))
         } else {
             None
         }
+    }
+}
+
+/// The number of what sets the pace, by its name.
+fn pace_named(text: &[u8]) -> Option<u32>
+    ensures { result ≡ pace_named text.now }
+{
+    if text == b"clock".as_slice() {
+        Some(0)
+    } else if text == b"sound".as_slice() {
+        Some(1)
+    } else {
+        None
     }
 }
 

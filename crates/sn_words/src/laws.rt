@@ -28,8 +28,8 @@ pub fn chosen_plan()
     ensures { (words : List Octets) (chosen : Choices) → PlansBy words chosen }
 {}
 
-/// Words choose settings, a port and a number of clients exactly if they are `serve`, good words, a port from 1 to
-/// 65535 and one more word.
+/// Words choose settings, a port, a number of clients and a pace exactly if they are `serve`, good words, a port from 1
+/// to 65535 and one more word.
 pub fn chosen_port()
     ensures { (words : List Octets) (chosen : ServeChoices) → ServesBy words chosen }
 {}

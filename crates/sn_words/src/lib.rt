@@ -20,4 +20,4 @@ pub use laws::{
 pub use lines::BadWord;
 pub use plan::plan_words;
 pub use render::settings;
-pub use serve::{ServeWords, serve_words};
+pub use serve::{Pacing, ServeWords, serve_words};

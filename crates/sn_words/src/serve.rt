@@ -4,7 +4,7 @@ ghost use Rattle.sn_ports.specs.Limits.{most_clients};
 ghost use Rattle.sn_pcm.specs.Allowed.{is_within};
 ghost use Rattle.sn_fixed.specs.Natural.{natural};
 ghost use Rattle.sn_words.specs.Choices.{numbers};
-ghost use Rattle.sn_words.specs.Serving.{port_word, port_of, serve_words_of};
+ghost use Rattle.sn_words.specs.Serving.{pacing_of, port_word, port_of, serve_words_of};
 
 use crate::choices::{chosen, value_of};
 use crate::keys::{Key, serve_keys};
@@ -13,6 +13,15 @@ use crate::paths::{bad_word, between};
 use sn_fixed::natural;
 use sn_pcm::Settings;
 use sn_ports::Word;
+
+/// What says when a block is due.
+#[derive(Clone, Copy, Debug, PartialEq, Eq)]
+pub enum Pacing {
+    /// The clock: block k is due k * 64 / rate seconds after the start.
+    Clock,
+    /// What takes the sound: a block is due as soon as the block before it was taken.
+    Sound,
+}
 
 /// What the words `serve [key=value ..] PORT SOUND` choose.
 #[derive(Clone, Copy, Debug)]
@@ -23,6 +32,8 @@ pub struct ServeWords {
     pub port: u16,
     /// How many clients are served at once: 1 to 4.
     pub clients: u32,
+    /// What sets the pace.
+    pub pacing: Pacing,
     pub ghost clients_are: { IsTrue (is_within 1 most_clients clients) },
 }
 
@@ -45,9 +56,20 @@ fn port_of(word: &[u8]) -> Option<u16>
     }
 }
 
-/// The settings, the port and the number of clients that the words `serve [key=value ..] PORT SOUND` choose.
+/// What sets the pace, by the value of its key.
+fn pacing_of(value: u32) -> Pacing
+    ensures { result ≡ pacing_of value }
+{
+    if value == 0 {
+        Pacing::Clock
+    } else {
+        Pacing::Sound
+    }
+}
+
+/// The settings, the port, the number of clients and the pace that the words `serve [key=value ..] PORT SOUND` choose.
 ///
-/// `clients` is 1 to 4 (1 if no word gives it). The other keys are those of [`settings`](crate::settings). A port is 1
+/// `clients` is 1 to 4 (1 if no word gives it), and `pace` is `clock` or `sound` (`clock`). The other keys are those of [`settings`](crate::settings). A port is 1
 /// to 65535, in decimal digits without a leading zero.
 ///
 /// # Errors
@@ -57,7 +79,7 @@ fn port_of(word: &[u8]) -> Option<u16>
 #[tactic(auto, unfolding(crate::specs::Serving::serve_words_of))]
 pub fn serve_words(words: &[Word]) -> Result<ServeWords, BadWord>
     requires { length words.now < 2 ^ 32 }
-    ensures ok { IfOk result (λ s. serve_words_of words.now ≡ Ok (record { settings = numbers s.settings; port = s.port; clients = s.clients })) }
+    ensures ok { IfOk result (λ s. serve_words_of words.now ≡ Ok (record { settings = numbers s.settings; port = s.port; clients = s.clients; pacing = s.pacing })) }
     ensures err { IfErr result (λ b. serve_words_of words.now ≡ Err b.index) }
     ensures port { IfOk result (λ s. 0 < s.port) }
 {
@@ -72,6 +94,7 @@ pub fn serve_words(words: &[Word]) -> Result<ServeWords, BadWord>
             settings: chosen(given),
             port,
             clients: value_of(given, Key::Clients),
+            pacing: pacing_of(value_of(given, Key::Pace)),
         }),
         None => Err(BadWord {
             index: words.len() as u32 - 2,

@@ -1,66 +1,79 @@
 //! The files that the words of a conversion name.
-ghost use Rattle.std.specs.Prelude.{◌≡◌, ◌<◌, ◌^◌, ℕ, Err, length, IsTrue, IsOk};
+ghost use Rattle.std.specs.Prelude.{◌≡◌, ◌<◌, ◌^◌, ℕ, Err, false, length, is_some, IsOk};
+ghost use Rattle.sn_files.specs.Kept.{AreOne};
 ghost use Rattle.sn_words.specs.Converting.{convert_words_of};
-ghost use Rattle.snova.specs.Paths.{is_other};
 ghost use Rattle.sn_top.specs.declared.converting.Converted.{Converted};
 ghost use Rattle.snova.specs.declared.exit.Exit.{Exit};
 
 use crate::exit::Exit;
-use sn_ports::{FileSink, FileSource, Word};
+use crate::pairs::{Pair, Paths, open_pair};
+use crate::reasons::{tell_last, told};
+use sn_files::{MadeFile, NotedSink, NotedSource};
+use sn_ports::Word;
 use sn_top::{Converted, convert};
 use sn_words::convert_words;
+use std::fs::OpenFile;
+use std::io::{Eprint, Write};
 use std::rt::Files;
-use std::{fs, io};
 
-/// Whether the two paths are not spelled alike.
-pub(crate) fn is_other(given: &str, made: &str) -> bool
-    ensures { result ≡ is_other given.now made.now }
+/// What a conversion answers. If it was done, a file to which no byte was written is emptied first.
+fn finished<H: Eprint, F: Write + OpenFile + Drop>(
+    rt: &H,
+    path: &str,
+    converted: Converted,
+    made: &mut MadeFile<F>,
+) -> Converted
+    ensures done { (n : ℕ) → result ≡ Converted.Done n → (converted ≡ result) × (made.new.is_kept ≡ false) }
+    ensures other { ((n : ℕ) → converted ≡ Converted.Done n → ⊥) → (result ≡ converted) × (made.new ≡ made.old) }
 {
-    given != made
+    match converted {
+        Converted::Done { .. } if told(rt, path, made.finish()).is_err() => Converted::OutFault,
+        _ => converted,
+    }
 }
 
-/// Converts the file at one path into that at the other, for words that choose a conversion.
-fn convert_on_files<H: Files + AllocGlobal>(
+/// Converts one file into the other, which holds what it held, for words that choose a conversion.
+fn convert_over<H: Files + Eprint + AllocGlobal>(
     rt: &H,
     words: &[Word],
-    given: &str,
-    made: &str,
-) -> io::Result<Converted>
+    paths: &Paths<'_>,
+    pair: Pair<H::File>,
+) -> Converted
     requires room { length words.now < 2 ^ 32 }
     requires accepted { IsOk (convert_words_of words.now) }
-    requires apart { IsTrue (is_other given.now made.now) }
+    requires kept { pair.made.is_kept ≡ is_some pair.made.identity }
+    requires apart { AreOne pair.made.identity pair.given.identity → ⊥ }
 {
-    let mut source = FileSource::new(fs::open(rt, given)?);
-    let mut out = FileSink::new(fs::create(rt, made)?);
-    Ok(convert(rt.alloc(), words, &mut source, &mut out))
+    let mut source = NotedSource::new(pair.given);
+    let mut out = NotedSink::new(pair.made);
+    let converted = convert(rt.alloc(), words, &mut source, &mut out);
+    tell_last(rt, paths.given, source.faults().last());
+    tell_last(rt, paths.made, out.faults().last());
+    finished(rt, paths.made, converted, &mut out.into_inner())
 }
 
-/// Converts the file at one path into that at the other, the last two of words that choose a conversion. Two paths
-/// that are spelled alike are refused, since the file would be written over itself.
-fn convert_paths<H: Files + AllocGlobal>(rt: &H, args: &[String], words: &[Word]) -> Exit
-    requires room { length words.now < 2 ^ 32 }
-    requires accepted { IsOk (convert_words_of words.now) }
-{
-    let [.., given, made] = args else {
-        return Exit::NotOpened;
-    };
-    let (given, made) = (given.as_str(), made.as_str());
-    if !is_other(given, made) {
-        return Exit::NotOpened;
-    }
-    match convert_on_files(rt, words, given, made) {
-        Ok(converted) => Exit::Converted(converted),
-        Err(error) => Exit::unopened(error.kind()),
-    }
-}
-
-/// Converts the file that the words name. If they are refused, no file is opened.
-pub(crate) fn convert_files<H: Files + AllocGlobal>(rt: &H, args: &[String], words: &[Word]) -> Exit
+/// Converts the file that the words name. If they are refused, no file is opened. Two paths of one file are refused,
+/// since it would be written over itself.
+pub(crate) fn convert_files<H: Files + Eprint + AllocGlobal>(
+    rt: &H,
+    args: &[String],
+    words: &[Word],
+) -> Exit
     requires { length words.now < 2 ^ 32 }
     ensures { (i : ℕ) → convert_words_of words.now ≡ Err i → result ≡ Exit.Converted (Converted.BadWords i) }
 {
-    match convert_words(words) {
-        Ok(_) => convert_paths(rt, args, words),
-        Err(bad) => Exit::Converted(Converted::BadWords { index: bad.index }),
+    if let Err(bad) = convert_words(words) {
+        return Exit::Converted(Converted::BadWords { index: bad.index });
+    }
+    let [.., given, made] = args else {
+        return Exit::NotOpened;
+    };
+    let paths = Paths {
+        given: given.as_str(),
+        made: made.as_str(),
+    };
+    match open_pair(rt, &paths) {
+        Ok(pair) => Exit::Converted(convert_over(rt, words, &paths, pair)),
+        Err(error) => Exit::unopened(error.kind()),
     }
 }

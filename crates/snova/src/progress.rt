@@ -134,11 +134,14 @@ impl<O: Sink + Drop, C: Clock + Eprint + Drop> Progress<O, C> {
         let _ = eprint!(self.clock; "\r{done} of {all} seconds, {pace} times real time   ");
     }
 
-    /// Ends the line, if there is one.
-    pub(crate) fn end(&self) {
+    /// Ends the line, if there is one, and returns the sink below.
+    pub(crate) fn end(self) -> O
+        ensures { result ≡ self.inner }
+    {
         if self.told != self.begun {
             let _ = eprintln!(self.clock);
         }
+        self.inner
     }
 }
 

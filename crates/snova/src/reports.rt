@@ -1,61 +1,62 @@
 //! The files that the words of a plan name.
-ghost use Rattle.std.specs.Prelude.{◌≡◌, ◌<◌, ◌^◌, ℕ, Err, length, IsTrue, IsOk};
+ghost use Rattle.std.specs.Prelude.{◌≡◌, ◌<◌, ◌^◌, ℕ, Err, false, length, is_some, IsOk};
+ghost use Rattle.sn_files.specs.Kept.{AreOne};
 ghost use Rattle.sn_render.specs.declared.outcome.Outcome.{Outcome};
 ghost use Rattle.sn_words.specs.Words.{plan_words_of};
-ghost use Rattle.snova.specs.Paths.{is_other};
 ghost use Rattle.snova.specs.declared.exit.Exit.{Exit};
 
 use crate::exit::Exit;
-use crate::forms::is_other;
-use sn_ports::{FileSink, FileSource, Open, Word};
+use crate::pairs::{Pair, Paths, open_pair};
+use crate::reasons::{tell_last, told};
+use sn_files::{MadeFile, NotedSink, NotedSource};
+use sn_ports::{Open, Word};
 use sn_server::Outcome;
 use sn_top::plan_run;
 use sn_words::plan_words;
+use std::fs::OpenFile;
+use std::io::{Eprint, Write};
 use std::rt::Files;
 use std::thread::Threads;
-use std::{fs, io};
 
-/// Plays the file at one path and writes the report into that at the other, for words that choose settings.
-fn plan_on_files<H: Files + AllocGlobal + Threads + Sync>(
+/// What a plan answers. If it was done, a file to which no byte was written is emptied first.
+fn finished<H: Eprint, F: Write + OpenFile + Drop>(
     rt: &H,
-    words: &[Word],
-    commands: &str,
-    report: &str,
-) -> io::Result<Outcome>
-    requires room { length words.now < 2 ^ 32 }
-    requires accepted { IsOk (plan_words_of words.now) }
-    requires apart { IsTrue (is_other commands.now report.now) }
+    path: &str,
+    outcome: Outcome,
+    made: &mut MadeFile<F>,
+) -> Outcome
+    ensures done { (n : ℕ) → result ≡ Outcome.Done n → (outcome ≡ result) × (made.new.is_kept ≡ false) }
+    ensures other { ((n : ℕ) → outcome ≡ Outcome.Done n → ⊥) → (result ≡ outcome) × (made.new ≡ made.old) }
 {
-    let mut source = FileSource::new(fs::open(rt, commands)?);
-    let mut out = FileSink::new(fs::create(rt, report)?);
-    Ok(plan_run(rt, rt.alloc(), words, &mut source, &mut out, &Open))
-}
-
-/// Plays the file at one path and writes the report into that at the other, the last two of words that choose settings.
-/// Two paths that are spelled alike are refused, since the file would be written over itself.
-fn plan_paths<H: Files + AllocGlobal + Threads + Sync>(
-    rt: &H,
-    args: &[String],
-    words: &[Word],
-) -> Exit
-    requires room { length words.now < 2 ^ 32 }
-    requires accepted { IsOk (plan_words_of words.now) }
-{
-    let [.., commands, report] = args else {
-        return Exit::NotOpened;
-    };
-    let (commands, report) = (commands.as_str(), report.as_str());
-    if !is_other(commands, report) {
-        return Exit::NotOpened;
-    }
-    match plan_on_files(rt, words, commands, report) {
-        Ok(outcome) => Exit::Planned(outcome),
-        Err(error) => Exit::unopened(error.kind()),
+    match outcome {
+        Outcome::Done { .. } if told(rt, path, made.finish()).is_err() => Outcome::SoundFault,
+        _ => outcome,
     }
 }
 
-/// Writes the report of the file that the words name. If they are refused, no file is opened.
-pub(crate) fn plan_files<H: Files + AllocGlobal + Threads + Sync>(
+/// Plays one file and writes the report into the other, which holds what it held, for words that choose settings.
+fn plan_over<H: Files + Eprint + AllocGlobal + Threads + Sync>(
+    rt: &H,
+    words: &[Word],
+    paths: &Paths<'_>,
+    pair: Pair<H::File>,
+) -> Outcome
+    requires room { length words.now < 2 ^ 32 }
+    requires accepted { IsOk (plan_words_of words.now) }
+    requires kept { pair.made.is_kept ≡ is_some pair.made.identity }
+    requires apart { AreOne pair.made.identity pair.given.identity → ⊥ }
+{
+    let mut source = NotedSource::new(pair.given);
+    let mut out = NotedSink::new(pair.made);
+    let outcome = plan_run(rt, rt.alloc(), words, &mut source, &mut out, &Open);
+    tell_last(rt, paths.given, source.faults().last());
+    tell_last(rt, paths.made, out.faults().last());
+    finished(rt, paths.made, outcome, &mut out.into_inner())
+}
+
+/// Writes the report of the file that the words name. If they are refused, no file is opened. Two paths of one file are
+/// refused, since it would be written over itself.
+pub(crate) fn plan_files<H: Files + Eprint + AllocGlobal + Threads + Sync>(
     rt: &H,
     args: &[String],
     words: &[Word],
@@ -63,8 +64,18 @@ pub(crate) fn plan_files<H: Files + AllocGlobal + Threads + Sync>(
     requires { length words.now < 2 ^ 32 }
     ensures { (i : ℕ) → plan_words_of words.now ≡ Err i → result ≡ Exit.Planned (Outcome.BadWords i) }
 {
-    match plan_words(words) {
-        Ok(_) => plan_paths(rt, args, words),
-        Err(bad) => Exit::Planned(Outcome::BadWords { index: bad.index }),
+    if let Err(bad) = plan_words(words) {
+        return Exit::Planned(Outcome::BadWords { index: bad.index });
+    }
+    let [.., commands, report] = args else {
+        return Exit::NotOpened;
+    };
+    let paths = Paths {
+        given: commands.as_str(),
+        made: report.as_str(),
+    };
+    match open_pair(rt, &paths) {
+        Ok(pair) => Exit::Planned(plan_over(rt, words, &paths, pair)),
+        Err(error) => Exit::unopened(error.kind()),
     }
 }

@@ -1,20 +1,25 @@
 //! Several connections at a port are served at once.
 ghost use Rattle.std.specs.Prelude.{◌≡◌, ◌≤◌, ◌<◌, ◌^◌, IfOk, length};
 ghost use Rattle.sn_ports.specs.Limits.{most_ticks};
+ghost use Rattle.snova.specs.Pacing.{by_sound};
 
 use crate::clock::now;
+use crate::pacing::{open_sound, pace_of};
+use crate::reasons::{tell_last, told};
 use sn_clients::{Client, Clients, How, Pulse, Sinks, Watcher, serve_many};
-use sn_ports::{FileSink, FileSource, Open};
-use sn_tcp::{PATIENCE, Pace};
+use sn_files::{NotedSink, NotedSource};
+use sn_ports::Open;
+use sn_tcp::{PATIENCE, Pace, Steady};
 use sn_words::ServeWords;
 use std::alloc::Global;
+use std::io::Eprint;
 use std::net::{Ipv4Addr, Net, Shutdown, TcpListener, TcpStream};
 use std::rt::{Clock, Files};
 use std::sync::Wait;
 use std::sync::atomic::{AtomicU64, Ordering};
 use std::thread::Threads;
 use std::time::Duration;
-use std::{fs, io, thread};
+use std::{io, thread};
 
 /// The most turns of a session: 512 MiB of them, and about a day of turns of one block.
 const MOST_TURNS: u32 = 67_108_864;
@@ -66,15 +71,14 @@ pub(crate) struct ClockPulse<'a, C: Clock> {
 }
 
 impl<'a, C: Clock> ClockPulse<'a, C> {
-    /// Block 0 is due now.
-    pub(crate) fn new(clock: &'a C, rate: u32, connections: &'a Connections) -> io::Result<Self>
-        requires { 0 < rate }
-        ensures pace { IfOk result (λ pulse. pulse.pace.rate ≡ rate) }
+    /// Block 0 is due now, and the others at this pace.
+    pub(crate) fn new(clock: &'a C, pace: Pace, connections: &'a Connections) -> io::Result<Self>
+        ensures pace { IfOk result (λ pulse. pulse.pace ≡ pace) }
     {
         Ok(ClockPulse {
             clock,
             start: clock.monotonic()?,
-            pace: Pace::new(rate),
+            pace,
             connections,
             zeros: 0,
         })
@@ -130,27 +134,27 @@ impl<C: Clock> Pulse for ClockPulse<'_, C> {
     }
 }
 
-/// A pulse at the rate of the settings.
+/// A pulse at the pace that the words choose.
 fn pulse_of<'a, C: Clock>(
     clock: &'a C,
     chosen: &ServeWords,
     connections: &'a Connections,
 ) -> io::Result<ClockPulse<'a, C>>
-    ensures { IfOk result (λ pulse. pulse.pace.rate ≡ chosen.now.settings.rate) }
+    ensures { IfOk result (λ pulse. (pulse.pace.rate ≡ chosen.now.settings.rate) × (pulse.pace.by_sound ≡ by_sound chosen.now.pacing)) }
 {
-    ClockPulse::new(clock, chosen.settings.rate, connections)
+    ClockPulse::new(clock, pace_of(chosen), connections)
 }
 
 /// The connections that were taken: what comes over each, where its replies go, and the connection itself.
 #[derive(Drop)]
 pub(crate) struct Accepted {
-    pub(crate) clients: Clients<FileSource<TcpStream>>,
-    pub(crate) sinks: Sinks<FileSink<TcpStream>>,
+    pub(crate) clients: Clients<NotedSource<Steady<TcpStream>>>,
+    pub(crate) sinks: Sinks<NotedSink<Steady<TcpStream>>>,
     pub(crate) streams: Vec<TcpStream>,
 }
 
-/// Takes `count` connections.
-pub(crate) fn accept_all(alloc: Global, listener: &TcpListener, count: u32) -> io::Result<Accepted>
+/// Takes `count` connections, and no other.
+pub(crate) fn accept_all(alloc: Global, listener: TcpListener, count: u32) -> io::Result<Accepted>
     ensures clients { IfOk result (λ a. length a.clients.items ≡ count) }
     ensures sinks { IfOk result (λ a. length a.sinks.items ≡ count) }
 {
@@ -162,9 +166,9 @@ pub(crate) fn accept_all(alloc: Global, listener: &TcpListener, count: u32) -> i
         // What is sent is not held back.
         stream.set_nodelay(true)?;
         stream.set_write_timeout(Some(Duration::from_secs(PATIENCE)))?;
-        sinks.push(FileSink::new(stream.try_clone()?))?;
+        sinks.push(NotedSink::new(Steady::new(stream.try_clone()?)))?;
         streams.push(stream.try_clone()?)?;
-        clients.push(Client::new(FileSource::new(stream)))?;
+        clients.push(Client::new(NotedSource::new(Steady::new(stream))))?;
     }
     Ok(Accepted {
         clients,
@@ -173,20 +177,46 @@ pub(crate) fn accept_all(alloc: Global, listener: &TcpListener, count: u32) -> i
     })
 }
 
+/// Takes `count` connections at a port, or says why that can't be.
+fn accept_told<H: Eprint>(
+    rt: &H,
+    alloc: Global,
+    port: &str,
+    listener: TcpListener,
+    count: u32,
+) -> io::Result<Accepted>
+    ensures clients { IfOk result (λ a. length a.clients.items ≡ count) }
+    ensures sinks { IfOk result (λ a. length a.sinks.items ≡ count) }
+{
+    told(rt, port, accept_all(alloc, listener, count))
+}
+
+/// What the words name: the port, and the path of the sound.
+#[derive(Clone, Copy)]
+pub(crate) struct Names<'a> {
+    pub(crate) port: &'a str,
+    pub(crate) sound: &'a str,
+}
+
 /// Serves as many connections as the words choose at once, and writes the sound to a file.
 pub(crate) fn serve_several<
     H: Files
         + Clock
+        + Eprint
         + Net<Listener = TcpListener, Stream = TcpStream>
         + AllocGlobal
         + Threads
         + Wait
         + Sync,
->(rt: &H, chosen: &ServeWords, sound: &str) -> io::Result<How> {
+>(rt: &H, chosen: &ServeWords, names: &Names<'_>) -> io::Result<How> {
     let alloc = rt.alloc();
-    let listener = TcpListener::bind(rt, (Ipv4Addr::LOCALHOST, chosen.port))?;
-    let mut sound = FileSink::new(fs::create(rt, sound)?);
-    let accepted = accept_all(alloc, &listener, chosen.clients)?;
+    let listener = told(
+        rt,
+        names.port,
+        TcpListener::bind(rt, (Ipv4Addr::LOCALHOST, chosen.port)),
+    )?;
+    let mut sound = NotedSink::new(told(rt, names.sound, open_sound(rt, names.sound, chosen))?);
+    let accepted = accept_told(rt, alloc, names.port, listener, chosen.clients)?;
     let Accepted {
         clients,
         sinks,
@@ -195,8 +225,8 @@ pub(crate) fn serve_several<
     let mut clients = clients;
     let mut sinks = sinks;
     let connections = Connections::new(streams, chosen.clients);
-    let start = now(rt)?;
-    let mut pulse = pulse_of(rt, chosen, &connections)?;
+    let start = told(rt, "the clock", now(rt))?;
+    let mut pulse = told(rt, "the clock", pulse_of(rt, chosen, &connections))?;
     let session = serve_many(
         rt,
         alloc,
@@ -210,5 +240,6 @@ pub(crate) fn serve_several<
         &Open,
         &connections,
     );
+    tell_last(rt, names.sound, sound.faults().last());
     Ok(session.how)
 }

@@ -41,6 +41,8 @@ Keys, and the values where no word gives one:
     memory    65536 to 16777216 words of 8 bytes       1048576
 for serve alone:
     clients   1 to 4, all at once                      1
+    pace      clock, or sound: a block is due as soon
+              as what takes the sound took the last    clock
 and for drill alone:
     seed      0 to 4294967295                          1
     blocks    1 to 20000                               1000

@@ -1,4 +1,4 @@
-use Rattle.std.proofs.Common.{◌≡◌, ◌≤◌, ◌*◌, ◌++◌, ◌∙◌, length, get_or, ap, sym, subst, arith, List, [], ℕ, All}
+use Rattle.std.proofs.Common.{◌≡◌, ◌≤◌, ◌*◌, ◌++◌, ◌∙◌, length, get_or, ap, sym, subst, arith, List, [], ℕ, All, true≢false}
 use Rattle.std.proofs.lemmas.Bool.{eqb-true}
 use Rattle.sn_tree.specs.Trees.{running_labels}
 use Rattle.sn_world.specs.declared.endings.Ending.{Ending}
@@ -57,7 +57,7 @@ returns-clause-world g c =
     let stage = c.args.stage.now in
     let ws = g.P.Port.words c.args.port.now in
     let are : c.as_slice-2.result.now ≡ walk_endings stage.rate (running_labels stage.tree.attached) ws = c.as_slice-2.ensures ∙ c.look_at_all.ensures.seen.noted.items ∙ ap (λ (xs : List Ending). xs ++ walk_endings stage.rate (running_labels stage.tree.attached) ws) c.clear.ensures.items in
-    let acts = subst (λ (es : List Ending). IsActed (length es) (all_acted es) stage c.act_all.new.stage c.look_at_all.new.outs c.act_all.new.outs) are c.act_all.ensures in
+    let acts = subst (λ (es : List Ending). IsActed (length es) (all_acted es) stage c.act_all.new.stage c.look_at_all.new.outs c.act_all.new.outs) are c.act_all.ensures.acted in
     let words = c.settle_words.ensures.words in
     ap (world_of c.act_all.new.stage) (words ∙ ap (λ (us : List ℕ). settled_walk stage.rate (running_labels stage.tree.attached) us) c.look_at_all.ensures.words)
     ∙ sym (ap (λ (t : Turn). t.world) (settled_is stage c.args.block ws c.requires.pictures c.act_all.new.stage c.args.outs.now c.look_at_all.new.outs c.act_all.new.outs _ c.look_at_all.ensures.seen.told acts))
@@ -67,7 +67,7 @@ returns-clause-sent g c =
     let stage = c.args.stage.now in
     let ws = g.P.Port.words c.args.port.now in
     let are : c.as_slice-2.result.now ≡ walk_endings stage.rate (running_labels stage.tree.attached) ws = c.as_slice-2.ensures ∙ c.look_at_all.ensures.seen.noted.items ∙ ap (λ (xs : List Ending). xs ++ walk_endings stage.rate (running_labels stage.tree.attached) ws) c.clear.ensures.items in
-    let acts = subst (λ (es : List Ending). IsActed (length es) (all_acted es) stage c.act_all.new.stage c.look_at_all.new.outs c.act_all.new.outs) are c.act_all.ensures in
+    let acts = subst (λ (es : List Ending). IsActed (length es) (all_acted es) stage c.act_all.new.stage c.look_at_all.new.outs c.act_all.new.outs) are c.act_all.ensures.acted in
     all_sent stage c.args.block ws c.requires.pictures c.act_all.new.stage c.args.outs.now c.look_at_all.new.outs c.act_all.new.outs _ c.look_at_all.ensures.seen.told acts
 
 pub returns-clause-pictures : goal.returns-clause-pictures
@@ -75,7 +75,7 @@ returns-clause-pictures g c =
     let stage = c.args.stage.now in
     let ws = g.P.Port.words c.args.port.now in
     let are : c.as_slice-2.result.now ≡ walk_endings stage.rate (running_labels stage.tree.attached) ws = c.as_slice-2.ensures ∙ c.look_at_all.ensures.seen.noted.items ∙ ap (λ (xs : List Ending). xs ++ walk_endings stage.rate (running_labels stage.tree.attached) ws) c.clear.ensures.items in
-    let acts = subst (λ (es : List Ending). IsActed (length es) (all_acted es) stage c.act_all.new.stage c.look_at_all.new.outs c.act_all.new.outs) are c.act_all.ensures in
+    let acts = subst (λ (es : List Ending). IsActed (length es) (all_acted es) stage c.act_all.new.stage c.look_at_all.new.outs c.act_all.new.outs) are c.act_all.ensures.acted in
     subst (Pictures c.act_all.new.stage) (sym (c.settle_words.ensures.words ∙ ap (λ (us : List ℕ). settled_walk stage.rate (running_labels stage.tree.attached) us) c.look_at_all.ensures.words))
     (pictured stage c.args.block ws c.requires.pictures c.act_all.new.stage c.args.outs.now c.look_at_all.new.outs c.act_all.new.outs _ c.look_at_all.ensures.seen.told acts)
 
@@ -99,7 +99,7 @@ returns-clause-idle g c = λ none.
     let stage = c.args.stage.now in
     let ws = g.P.Port.words c.args.port.now in
     let are : c.as_slice.result.now ≡ walk_endings stage.rate (running_labels stage.tree.attached) ws = c.as_slice.ensures ∙ c.look_at_all.ensures.seen.noted.items ∙ ap (λ (xs : List Ending). xs ++ walk_endings stage.rate (running_labels stage.tree.attached) ws) c.clear.ensures.items in
-    none_there c.as_slice.result.now (sym c.if-is_empty.ensures) (are ∙ sym (ended stage c.args.block ws c.requires.pictures) ∙ none)
+    absurd (true≢false (none_there c.as_slice.result.now (sym c.if-is_empty.ensures) (are ∙ sym (ended stage c.args.block ws c.requires.pictures) ∙ none)))
 
 pub returns-then-is_empty-clause-endings : goal.returns-then-is_empty-clause-endings
 returns-then-is_empty-clause-endings g c =

@@ -43,6 +43,7 @@ fill_elements-loop-packet-preserved g t c =
           subst (λ (ps : List Packet). AllGrow (shapes (at.yielded ++ packet ∷ [])) (shapes ps) room after) (sym pushed)
           (more_grow at.yielded at.done.items packet new room at.room after at.invariant.grows c.in_ok-fill.ensures.grows);
       less = omega (arith, at.invariant.less, c.fill.ensures.room);
+      knows = c.fill.ensures.knows;
       kept = c.fill.ensures.kept ∙ at.invariant.kept;
       later = omega (arith, at.invariant.later, c.fill.ensures.later);
       still = still ∙ at.invariant.still;

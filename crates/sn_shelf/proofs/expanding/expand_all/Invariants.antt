@@ -6,6 +6,7 @@ use Rattle.sn_osc.specs.Shape.{shape}
 use Rattle.sn_shelf.specs.Asking.{AllKeepUnasked}
 use Rattle.sn_shelf.specs.Expanded.{expanded_list}
 use Rattle.sn_shelf.specs.Growth.{AllSpelledWithin}
+use Rattle.sn_shelf.specs.Remembering.{Knows}
 use Rattle.sn_shelf.proofs.expanding.expand_all.Given as goal
 
 abbrev pub invariant-loop-packet : goal.invariant-loop-packet
@@ -16,6 +17,7 @@ invariant-loop-packet g l = record {
   left : AllSpelledWithin 65536 (map shape l.packet-iterator.rest.items);
   count : length l.done.items ≡ length l.yielded;
   room : l.room ≤ most_samples;
+  knows : Knows (g.H.Shelf.files l.shelf) l.reader.last;
   kept : g.H.Shelf.files l.shelf ≡ g.H.Shelf.files l.fn.shelf;
   later : g.H.Shelf.faults l.fn.shelf ≤ g.H.Shelf.faults l.shelf;
   still : g.H.Shelf.faults l.shelf ≡ g.H.Shelf.faults l.fn.shelf;

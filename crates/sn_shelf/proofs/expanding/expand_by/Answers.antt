@@ -5,7 +5,7 @@ use Rattle.sn_osc.specs.declared.packet.Packet.{Packet}
 use Rattle.sn_shelf.specs.Growth.{Grows, IsSpelledWithin}
 use Rattle.sn_shelf.proofs.AskingLemmas.{asked_apart, unasked_told, spelled_as_it_was}
 use Rattle.sn_shelf.proofs.GrowthLemmas.{spelled_again}
-use Rattle.sn_shelf.proofs.expanding.expand.Goals as goal
+use Rattle.sn_shelf.proofs.expanding.expand_by.Goals as goal
 
 pub returns-clause-spelled : goal.returns-clause-spelled
 returns-clause-spelled g c = λ bytes spelled few.
@@ -13,7 +13,7 @@ returns-clause-spelled g c = λ bytes spelled few.
     let room = c.args.room.now in
     let after = c.fill.new.room in
     IfOk-weaker c.fill.result (λ (p : Packet). Grows x (shape p) room after) (λ (p : Packet). IsSpelledWithin (shape p) (2 * length bytes + 4 * (room - after)))
-    (λ p grows. spelled_again x (shape p) bytes room after spelled few c.requires c.fill.ensures.room grows) c.fill.ensures.grows
+    (λ p grows. spelled_again x (shape p) bytes room after spelled few c.requires.room c.fill.ensures.room grows) c.fill.ensures.grows
 
 pub returns-clause-unasked : goal.returns-clause-unasked
 returns-clause-unasked g c =

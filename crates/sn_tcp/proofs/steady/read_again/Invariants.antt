@@ -1,0 +1,6 @@
+-- Nothing was read so far.
+use Rattle.std.specs.Io.KnownBytes.{Keeps}
+use Rattle.sn_tcp.proofs.steady.read_again.Given as goal
+
+abbrev pub invariant-loop : goal.invariant-loop
+invariant-loop g l = Keeps (g.R.Read.remaining l.fn.reader) (g.R.Read.remaining l.reader)

@@ -1,0 +1,6 @@
+-- Nothing was written so far.
+use Rattle.std.specs.Io.KnownBytes.{Keeps}
+use Rattle.sn_tcp.proofs.steady.write_again.Given as goal
+
+abbrev pub invariant-loop : goal.invariant-loop
+invariant-loop g l = Keeps (g.W.Write.contents l.fn.writer) (g.W.Write.contents l.writer)

@@ -1,20 +1,25 @@
 #!/usr/bin/env python3
 """Turns a command file that sclang wrote (`Score.write`) into one that `snova` renders.
 
-    python3 bridge/convert.py [--rate FRAMES] [--strict] [--texts] IN.osc OUT.osc
+    python3 bridge/convert.py [--rate FRAMES] [--memory WORDS] [--definitions FOLDER] [--strict] [--why] [--texts]
+        IN.osc OUT.osc
 
-What is refused, times that were rounded and units that do less here are told by lines on the standard error. The run
-goes on without what is refused and ends with status 1 after it wrote OUT.osc; with `--strict` it ends at the first
-refusal and writes nothing. `--texts` prints the definitions.
+What is refused, times that were rounded and units that do less here are reported on the standard error, and a last
+line says how much plays. The run goes on without what is refused and ends with status 1 after it wrote OUT.osc; with
+`--strict` it ends at the first refusal and writes nothing. `--why` gives all reasons of each refusal. `--texts` prints
+the definitions. The samples of sound files are put into OUT.osc. Definitions that a score needs and doesn't bring are
+taken from the files of a folder, as sclang stores them.
 """
 import argparse
+import re
 import sys
 from pathlib import Path
 
 from converter import osc
-from converter.session import Session
+from converter.session import MEMORY, Session
 
-LONGEST_PACKET = 65536
+# So many bytes snova reads of a command file.
+LONGEST_FILE = 2**24
 
 
 class Stopped(Exception):
@@ -47,24 +52,19 @@ def read(path):
     return sorted(found, key=lambda entry: entry[0])
 
 
-def learnt(score, rate):
-    """A session that has seen the whole score: what it learns of measures is known from the begin."""
-    session = Session(rate, learns=True)
+def learnt(score, rate, memory=MEMORY):
+    """A session that has seen the whole score: what it learns of measures is known from the beginning."""
+    session = Session(rate, learns=True, memory=memory)
     for _, messages in score:
         for message in messages:
             session.messages(message)
     return session
 
 
-def bundles(tag, messages):
-    """The packets of a bundle: as many as its messages need."""
-    packets, elements = [], []
-    for message in messages:
-        if elements and len(osc.encoded(osc.Bundle(tag, [*elements, message]))) > LONGEST_PACKET:
-            packets.append(osc.Bundle(tag, elements))
-            elements = []
-        elements.append(message)
-    return [osc.encoded(each) for each in [*packets, osc.Bundle(tag, elements)]]
+def stored(names, folder):
+    """A bundle at the beginning, of the definitions of some names that a folder has."""
+    paths = [Path(folder) / f"{name}.scsyndef" for name in names if "/" not in name]
+    return 0, [osc.Message("/d_recv", [path.read_bytes()]) for path in paths if path.is_file()]
 
 
 def turned(score, session, strict):
@@ -74,28 +74,62 @@ def turned(score, session, strict):
         made = []
         for message in messages:
             made += session.messages(message)
-            if strict and session.refusals:
-                raise Stopped(session.refusals[0])
-        found += bundles(tag, made)
+            if strict and (lines := refusals(session)):
+                raise Stopped(lines[0])
+        found += osc.packets(tag, map(osc.encoded, made))
     return found
+
+
+def refusals(session):
+    """What was refused: of what differs in its numbers alone the first, with how many there are; and what needs it."""
+    needing = {f"/d_recv {name}": session.tally.needing(name) for name in session.tally.refused}
+    kinds, lines = {}, []
+    for line in session.refusals:
+        kinds.setdefault(re.sub(r"\d[\d.]*", "#", line), []).append(line)
+    for kind in kinds.values():
+        needs = needing.pop(kind[0].partition(": ")[0], "")
+        lines.append(kind[0] + needs + (f" ({len(kind)} times)" if len(kind) > 1 else ""))
+    return lines + session.tally.missing()
+
+
+def report(session):
+    """What was noted and refused, and how much plays."""
+    notes, refused = list(dict.fromkeys(session.notes)), refusals(session)
+    differing = list(dict.fromkeys(note.partition(": ")[0] for note in notes))
+    lines = [f"note: {line}" for line in notes] + [f"refused: {line}" for line in refused]
+    return [*lines, session.tally.line(differing)]
 
 
 def options():
     parser = argparse.ArgumentParser(description="Turns a command file of sclang into one for snova.")
     parser.add_argument("--rate", type=int, default=48000, help="frames a second of the rendering, 48000")
+    parser.add_argument("--memory", type=int, default=MEMORY, help=f"words that snova has for buffers, {MEMORY}")
+    parser.add_argument("--definitions", metavar="FOLDER", help="where sclang stored definitions")
     parser.add_argument("--strict", action="store_true", help="end at the first refusal and write nothing")
+    parser.add_argument("--why", action="store_true", help="print all reasons of each refusal")
     parser.add_argument("--texts", action="store_true", help="print the definitions")
     parser.add_argument("source", metavar="IN.osc")
     parser.add_argument("target", metavar="OUT.osc")
     return parser.parse_args()
 
 
+def converted(given):
+    """The session that has seen the score, and the packets for `snova`."""
+    score = read(given.source)
+    first = learnt(score, given.rate, given.memory)
+    if given.definitions and first.tally.absent():
+        score.insert(0, stored(first.tally.absent(), given.definitions))
+        first = learnt(score, given.rate, given.memory)
+    session = Session(given.rate, learnt=first, memory=given.memory)
+    session.most_bytes = LONGEST_FILE
+    session.most_reasons = None if given.why else 1
+    return session, turned(score, session, given.strict)
+
+
 def main():
     given = options()
     try:
-        score = read(given.source)
-        session = Session(given.rate, learnt=learnt(score, given.rate))
-        packets = turned(score, session, given.strict)
+        session, packets = converted(given)
     except Stopped as stopped:
         print(f"refused: {stopped}", file=sys.stderr)
         return 1
@@ -105,10 +139,8 @@ def main():
     Path(given.target).write_bytes(b"".join(map(osc.sized, packets)))
     if given.texts:
         print("\n".join(each.text for each in session.built.values() if each.text), end="")
-    for kind, lines in (("note", session.notes), ("refused", session.refusals)):
-        for line in lines:
-            print(f"{kind}: {line}", file=sys.stderr)
-    return 1 if session.refusals else 0
+    print("\n".join(report(session)), file=sys.stderr)
+    return 1 if refusals(session) else 0
 
 
 if __name__ == "__main__":

@@ -3,7 +3,8 @@ from typing import NamedTuple, Union
 
 from .graph import Control, Wire
 from .measures import NUMBER, SAMPLE, Refused, Slot
-from .scgf import AUDIO
+from .rows import Row, first
+from .scgf import AUDIO, SCALAR
 from .templates import action, index, template
 
 # So many channels a unit has here.
@@ -41,32 +42,49 @@ def slots(graph, bus, count):
     return found
 
 
-def reading(unit):
+def read(graph, unit, bus, count):
+    """What stands on some buses."""
+    measures, found = slots(graph, bus, count), []
+    for start, channels in runs(graph, bus, count):
+        found += graph.line(unit, [(start, Slot(NUMBER))], [measures[at] for at in channels])
+    return found
+
+
+def reading(unit=None):
+    """A unit that reads buses; one at scalar rate does so once."""
     def build(graph, bus):
-        bus, count = index(bus), graph.unit.outputs
-        measures, found = slots(graph, bus, count), []
-        for first, channels in runs(graph, bus, count):
-            outputs = [measures[at] for at in channels]
-            found += graph.line(unit or f"In.{graph.rate_name}", [(first, Slot(NUMBER))], outputs)
-        return found
+        rate = graph.unit.rate
+        found = read(graph, unit or ("In.ar" if rate == AUDIO else "In.kr"), index(bus), graph.unit.outputs)
+        return [first(graph, each) for each in found] if rate == SCALAR else found
     return build
 
 
-def writing(unit):
-    def build(graph, bus, signals):
-        bus = index(bus)
-        if unit and graph.unit.rate != AUDIO:
-            raise Refused("it is there at audio rate alone")
-        measures = slots(graph, bus, len(signals))
-        for first, channels in runs(graph, bus, len(signals)):
-            given = [(signals[at], measures[at]) for at in channels]
-            graph.line(unit or f"Out.{graph.rate_name}", [(first, Slot(NUMBER)), *given])
-        return []
-    return build
+def write(graph, unit, bus, signals):
+    """Puts signals on buses."""
+    measures = slots(graph, bus, len(signals))
+    for start, channels in runs(graph, bus, len(signals)):
+        graph.line(unit, [(start, Slot(NUMBER)), *((signals[at], measures[at]) for at in channels)])
+    return []
 
 
-bus_in, bus_in_feedback = reading(None), reading("InFeedback")
-bus_out, bus_replace = writing(None), writing("ReplaceOut")
+def add_out(graph, bus, signals):
+    return write(graph, "Out.ar" if graph.unit.rate == AUDIO else "Out.kr", index(bus), signals)
+
+
+def replace_out(graph, bus, signals):
+    if graph.unit.rate == AUDIO:
+        return write(graph, "ReplaceOut", index(bus), signals)
+    graph.note("at control rate it adds to what another unit has written in the same block")
+    return write(graph, "Out.kr", index(bus), signals)
+
+
+def cross_out(graph, bus, part, signals):
+    """From what is on a bus to a signal, by a part from 0 to 1."""
+    if graph.unit.rate != AUDIO:
+        raise Refused("it is there at audio rate alone")
+    there = read(graph, "In.ar", index(bus), len(signals))
+    ways = [graph.sum(new, graph.product(old, -1.0)) for old, new in zip(there, signals)]
+    return write(graph, "ReplaceOut", index(bus), [graph.product(way, part, old) for way, old in zip(ways, there)])
 
 
 def buffer_slot(graph, buf):
@@ -82,32 +100,20 @@ def check_width(count):
     return count
 
 
-def play_buf(graph, buf, rate, trig, start, loop, done):
-    """A whole rate plays by whole steps; another that loops goes by parts of a frame, and plays the one below."""
-    slot, count = buffer_slot(graph, buf), check_width(graph.unit.outputs)
-    if isinstance(rate, float) and rate != round(rate):
-        return play_between(graph, buf, rate, trig, start, loop, slot)
-    if isinstance(rate, Wire) and not isinstance(rate, Control):
-        raise Refused("its rate is worked out, and must be a whole number")
-    inputs = [(index(buf), Slot(NUMBER)), (rate, Slot(NUMBER)), (trig, Slot()), (start, Slot(NUMBER)), (loop, Slot()),
-              (action(done), Slot(NUMBER))]
-    return graph.line("PlayBuf", inputs, [slot] * count)
-
-
 # The frames of a buffer through which a unit goes by parts of a frame: with fewer, the parts would be greater.
 LONGEST = 2**19 - 1
 RAMP = template("Phasor trig:any step:F start:F end:F start:F -> F")
 FRAMES = template("BufFrames buf:index -> number")
 
 
-def play_between(graph, buf, rate, trig, start, loop, slot):
-    if isinstance(loop, Wire) or loop <= 0:
-        raise Refused(f"its rate is {rate:g}, and must be whole if it doesn't loop")
+def play_loop(graph, buf, rate, trig, start):
+    """A rate that isn't whole goes round by parts of a frame, and plays the one below."""
     graph.note("nothing is read between two frames here")
-    frames = graph.product(FRAMES(graph, buf=buf)[0], 1.0)
+    slot, frames = buffer_slot(graph, buf), graph.product(FRAMES(graph, buf=buf)[0], 1.0)
     frames.slot.note(LONGEST)
     ramp, = RAMP(graph, trig=trig, step=rate, start=start, end=frames)
-    return graph.line("BufRd", [(index(buf), Slot(NUMBER)), frame_at(graph, ramp)], [slot] * graph.unit.outputs)
+    outputs = [slot] * check_width(graph.unit.outputs)
+    return graph.line("BufRd", [(index(buf), Slot(NUMBER)), frame_at(graph, ramp)], outputs)
 
 
 def frame_at(graph, at):
@@ -136,3 +142,16 @@ def buf_wr(graph, buf, at, signals):
     check_width(len(signals))
     graph.line("BufWr", [(index(buf), Slot(NUMBER)), frame_at(graph, at), *((each, slot) for each in signals)])
     return [signals[0]]
+
+
+UNITS = {
+    "In": Row("bus", reading()),
+    "InFeedback": Row("bus", reading("InFeedback")),
+    "Out": Row("bus signals*", add_out),
+    "OffsetOut": Row("bus signals*", add_out, note="it starts at a block"),
+    "ReplaceOut": Row("bus signals*", replace_out),
+    "XOut": Row("bus part signals*", cross_out),
+    "RecordBuf": Row("buf offset=0 level old=0 run loop trig=1 done signals*", record_buf, frames=True),
+    "BufRd": Row("buf at loop? between", buf_rd),
+    "BufWr": Row("buf at loop? signals*", buf_wr, frames=True),
+}

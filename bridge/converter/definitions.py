@@ -1,43 +1,22 @@
 """A SynthDef of sclang becomes the text of a definition here, with what its controls mean."""
 import math
-import re
 
-from .graph import Control, Graph, Writer
+from .controls import CONTROLS, fired, named_controls, plain_name
+from .ends import with_done_actions
+from .filters import lag
+from .graph import Graph, Unknown, Writer
+from .held import pass_on, slid
+from .listeners import listeners
 from .measures import Refused, raw
 from .operators import BINARY, UNARY, operate
 from .scgf import RATES, Source
-from .units import UNITS, lag
+from .units import UNITS
 
-KEPT = {"snova", "def", "control", "end"}
 MOST_CONTROLS = 128
+# What lasts for ever there lasts so many seconds here.
+FOREVER = 1e6
 
 
-def plain_name(name, taken=()):
-    """A name that may stand here and isn't taken."""
-    found = re.sub(r"[^A-Za-z0-9_]", "_", name)[:31]
-    if not re.match(r"[A-Za-z_]", found) or found in KEPT:
-        found = ("_" + found)[:31]
-    number = 2
-    while found in taken:
-        end = f"_{number}"
-        found, number = found.removesuffix(f"_{number - 1}")[:31 - len(end)] + end, number + 1
-    return found
-
-
-def named_controls(synth_def):
-    """The controls in their order; those of an array are numbered."""
-    begins, found = {number: name for name, number in synth_def.names}, []
-    name, start = "control", 0
-    for number, default in enumerate(synth_def.controls):
-        if number in begins:
-            name, start = begins[number], number
-        own = name if number == start else f"{name}_{number - start}"
-        found.append(Control(plain_name(own, {control.name for control in found}), default))
-    return found
-
-
-# Controls; those of a LagControl have inputs, their times.
-CONTROLS = {"Control", "AudioControl", "LagControl"}
 OPERATORS = {"BinaryOpUGen": BINARY, "UnaryOpUGen": UNARY}
 
 
@@ -49,6 +28,8 @@ def told(unit):
 
 def given(made, each):
     """What an input is here: a constant, or an output of a unit that was made."""
+    if each == math.inf:
+        return FOREVER
     if not isinstance(each, Source):
         if not math.isfinite(each):
             raise Refused(f"a constant is {each}")
@@ -59,47 +40,86 @@ def given(made, each):
 
 
 class Definition:
-    """A definition that is being turned: `build` makes its units, and once measures are settled `text` is its text."""
+    """A definition that is being turned: `build` makes its units, and once measures are settled `text` is its text.
 
-    def __init__(self, synth_def, rate):
-        self.source, self.graph = synth_def, Graph(rate)
-        self.name, self.controls = plain_name(synth_def.name), named_controls(synth_def)
+    `reasons` says why it is refused; what comes after a unit that is refused is built all the same, to find them all.
+    """
+
+    def __init__(self, synth_def, rate, known=()):
+        self.source, self.graph = synth_def, Graph(rate, known)
+        end = "".join(f"_{each:.0f}" for each in known)[:24]
+        self.name = plain_name(synth_def.name)[:31 - len(end)] + end
+        self.controls = named_controls(synth_def)
         self.numbers = dict(synth_def.names)
-        self.text = self.refused = None
+        self.text, self.reasons = None, []
+
+    @property
+    def refused(self):
+        """The first reason for which it is refused, or None."""
+        return self.reasons[0] if self.reasons else None
+
+    def refuse(self, reason):
+        if reason not in self.reasons:
+            self.reasons.append(reason)
 
     def build(self):
         """Builds the units, and joins the measures of what is connected."""
         if len(self.controls) > MOST_CONTROLS:
-            raise Refused(f"it has {len(self.controls)} controls, and there may be {MOST_CONTROLS}")
-        made = []
-        for unit in self.source.units:
+            self.refuse(f"it has {len(self.controls)} controls, and there may be {MOST_CONTROLS}")
+        made, self.graph.units = [], with_done_actions(self.source.units, self.note_stand_in)
+        for unit, self.graph.listeners in zip(self.graph.units, listeners(self.graph.units)):
             self.graph.origin = told(unit)
             self.graph.unit, self.graph.rate_name = unit, RATES.get(unit.rate)
             try:
-                made.append(self.outputs(unit, [given(made, each) for each in unit.inputs]))
+                inputs = slid(self.graph, unit, [given(made, each) for each in unit.inputs])
+                made.append(pass_on(unit, inputs, self.outputs(unit, inputs)))
             except Refused as refused:
-                raise Refused(f"{self.graph.origin}: {refused}") from None
+                self.refuse(f"{self.graph.origin}: {refused}")
+                made.append([Unknown() for _ in range(unit.outputs)])
+
+    def note_stand_in(self, unit, text):
+        self.graph.origin = told(unit)
+        self.graph.note(text, stand_in=True)
 
     def outputs(self, unit, inputs):
         """What the outputs of a unit become."""
         if unit.name in CONTROLS:
             controls = self.controls[unit.special:unit.special + unit.outputs]
+            if unit.name == "TrigControl":
+                return [fired(self.graph, control) for control in controls]
             lagged = [lag(self.graph, control, time)[0] for control, time in zip(controls, inputs)]
             return lagged or controls
         if unit.name in OPERATORS:
             return operate(OPERATORS[unit.name], self.graph, unit.special, inputs)
-        if unit.name == "TrigControl":
-            raise Refused("a control here keeps its value: no control is a trigger")
         if unit.name not in UNITS:
             raise Refused("there is no such unit here")
         return UNITS[unit.name].outputs(self.graph, unit, inputs)
 
     def finish(self):
         """Settles the measures that are open, and writes the text."""
-        self.graph.solve()
-        heads = [self.head(each) for each in self.controls]
-        lines = Writer(self.graph, {control.name for control in self.controls}).lines()
+        try:
+            controls = [*self.controls, *self.own_controls()]
+            writer = Writer(self.graph, {control.name for control in controls})
+            writer.check_heard()
+            self.graph.solve()
+            heads = [self.head(each) for each in controls]
+            lines = writer.lines()
+        except Refused as refused:
+            self.refuse(str(refused))
+            return
         self.text = "".join(line + "\n" for line in ["snova 1", f"def {self.name}", *heads, *lines, "end"])
+
+    def own_controls(self):
+        """The controls that it has here alone, for buses of its synths, with names that aren't taken."""
+        taken = {control.name for control in self.controls}
+        for control, _ in self.graph.local.values():
+            control.name = plain_name(control.name, taken)
+            taken.add(control.name)
+            yield control
+
+    def private(self, buses):
+        """Pairs of a control and a bus that a new synth gets for itself."""
+        return [each for control, slots in self.graph.local.values() for each in (control.name, buses.take(len(slots)))]
 
     def head(self, control):
         """The line of a control."""

@@ -8,8 +8,17 @@ GREATEST = 128.0
 STEP = 64.0
 
 
+# What may come of a few sums of sounds.
+SOUND = 8.0
+# Units that end, and then may free or pause their synth.
+ENDING = {"Line", "Linen", "PlayBuf", "DetectSilence"}
+
+
 class Wire:
     """An output of a unit, with the place of its measure."""
+
+    # Whether it stands still for a block, and how great its values are at most, if that is known.
+    held, most = False, math.inf
 
     def __init__(self, slot=None):
         self.slot, self.name = slot or Slot(), None
@@ -23,6 +32,23 @@ class Control(Wire):
         super().__init__()
         self.name, self.default, self.size = name, default, abs(default)
         self.slot.note(default)
+
+    def sent(self, value):
+        """The number that is sent for a value."""
+        return raw(value, self.slot.guess())
+
+
+class Unknown(Wire):
+    """Stands for an output of a unit that was refused: any measure suits it."""
+
+    slot = property(lambda self: Slot(), lambda self, _: None, doc="A place of its own for each use.")
+
+
+def most_of(operand):
+    """How great the values of an operand are at most."""
+    if callable(operand):
+        return math.inf
+    return operand.most if isinstance(operand, Wire) else abs(operand)
 
 
 def decimal(value):
@@ -47,12 +73,26 @@ class Line:
     def lines(self, writer):
         yield self.unit, [writer.input(given, slot) for given, slot in self.inputs], self.outputs
 
+    def acts(self):
+        """Whether it does something even if nothing hears it."""
+        return not self.outputs or self.unit in ENDING
+
+    def hears(self):
+        return [given for given, _ in self.inputs]
+
 
 class Product:
     """`x * factor + addend`. The factor is a wire, or a number that may change the measure; addend may be None."""
 
     def __init__(self, origin, x, factor, addend, output):
         self.origin, self.x, self.factor, self.addend, self.output = origin, x, factor, addend, output
+        self.outputs = [output]
+
+    def acts(self):
+        return False
+
+    def hears(self):
+        return [self.x, self.factor, self.addend]
 
     def is_gain(self):
         return not isinstance(self.factor, Wire)
@@ -77,21 +117,17 @@ class Product:
         carrier.join(self.output.slot)
         other.set(SAMPLE)
 
-    def backward(self):
-        """Guesses from the measure of the product; it answers whether it could."""
-        if self.output.slot.measure is None:
+    def exact(self):
+        """Guesses from the measure of the product, where it is of another kind; it answers whether it could."""
+        measure = self.output.slot.measure
+        if measure is None or not self.is_gain():
             return False
-        if not self.is_gain():
-            larger = self.factor if self.factor.size > self.x.size else self.x
-            self.choose(larger.slot)
-        elif self.output.slot.measure.whole:
+        if measure.whole:
             self.x.slot.set(fraction_of(self.x.slot.bound))
-        elif self.output.slot.measure.scale not in (SAMPLE.scale, HERTZ.scale):
+        elif measure.scale not in (SAMPLE.scale, HERTZ.scale):
             self.x.slot.settle()
-        elif abs(self.fixed_factor()) > 8 and self.x.slot.bound < 16:
-            self.x.slot.set(SAMPLE)
         else:
-            self.x.slot.join(self.output.slot)
+            return False
         return True
 
     def forward(self):
@@ -99,10 +135,25 @@ class Product:
         if not self.is_gain() or self.x.slot.measure is None:
             return False
         out, factor = self.output.slot, self.fixed_factor()
-        if self.x.slot.measure == SAMPLE and max(abs(factor), out.bound) >= LOUDEST:
+        if self.x.slot.measure == SAMPLE and max(abs(factor), out.bound, self.output.size) >= LOUDEST:
             out.set(HERTZ)
+        elif self.x.slot.measure.whole and factor % 1:
+            out.settle()
         else:
             out.join(self.x.slot)
+        return True
+
+    def backward(self):
+        """Guesses from the measure of the product; it answers whether it could."""
+        if self.output.slot.measure is None:
+            return False
+        if not self.is_gain():
+            larger = self.factor if self.factor.size > self.x.size else self.x
+            self.choose(larger.slot)
+        elif abs(self.fixed_factor()) > 8 and self.x.slot.bound < 16:
+            self.x.slot.set(SAMPLE)
+        else:
+            self.x.slot.join(self.output.slot)
         return True
 
     def fixed_factor(self):
@@ -142,29 +193,84 @@ class Product:
             yield "MulAdd", [*inputs, writer.input(self.addend, self.output.slot)], [self.output]
 
 
+def size_of(operand):
+    """About how great an operand is. A wire of which little is known is like a sound."""
+    if callable(operand):
+        return 1.0
+    if not isinstance(operand, Wire):
+        return abs(operand)
+    found = operand.size or operand.slot.bound
+    return found if found > SOUND else 1.0
+
+
+def size_at(slot, inputs):
+    """The greatest size that is known of what goes to a place or to one that has the same measure."""
+    sizes = [size_of(given) for given, other in inputs if isinstance(given, Wire) and other.root() is slot.root()]
+    return max(slot.bound, *sizes)
+
+
+# What may be asked of a buffer, and of a control: whether its value isn't whole.
+RATE, CHANNELS, BETWEEN = "rate", "channels", "between"
+
+
 class Graph:
-    """The units of a definition in their order. `origin` is the unit there that is turned into units here."""
+    """The units of a definition in their order. `origin` is the unit there that is turned into units here.
 
-    def __init__(self, rate):
+    `asked` are the buffers and controls of which something is asked, each with what it is, and `known` the answers, if
+    they aren't the likely ones.
+    """
+
+    def __init__(self, rate, known=()):
         self.rate, self.items, self.origin = rate, [], ""
-        self.notes, self.places, self.triggers, self.start = [], [], {}, None
+        self.known, self.asked = known, []
+        self.notes, self.stand_ins, self.places, self.triggers = [], [], [], {}
+        self.start = self.random = self.part = self.block_start = None
+        self.listeners, self.local, self.bends = set(), {}, {}
 
-    def note(self, text):
-        """Notes that something will sound other than there."""
+    def note(self, text, stand_in=False):
+        """Notes that something will sound other than there; a stand-in is counted too."""
         found = f"{self.origin}: {text}"
         if found not in self.notes:
             self.notes.append(found)
+        if stand_in:
+            self.stand_ins.append(self.origin)
+
+    def fact(self, what, index):
+        """The sample rate of what is in a buffer, or its channels; whether a value is between whole ones."""
+        self.asked.append((what, index))
+        return self.known[len(self.asked) - 1] if self.known else self.likely(what, index)
+
+    def likely(self, what, index=None):
+        """What is true if nothing is known: a control has its default."""
+        if what == BETWEEN:
+            return float(index.default != round(index.default))
+        return {RATE: float(self.rate), CHANNELS: 1.0}[what]
 
     def line(self, unit, inputs, outputs=()):
         """Adds a unit. Its inputs are pairs of an operand and a slot; it has one output for each slot of `outputs`."""
         for given, slot in inputs:
-            if isinstance(given, Wire):
-                given.slot.join(slot)
-            else:
+            if not isinstance(given, Wire):
                 slot.note(given)
+        inputs = [(self.heard(given, slot, inputs), slot) for given, slot in inputs]
         wires = [Wire(slot) for slot in outputs]
         self.items.append(Line(self.origin, unit, inputs, wires))
         return wires
+
+    def heard(self, given, slot, inputs):
+        """An operand as a unit hears it: itself, or the same value in another measure, in which it fits."""
+        if not isinstance(given, Wire):
+            return given
+        mine, wanted = given.slot.measure, slot.measure
+        if mine and wanted:
+            converts = mine.scale != wanted.scale and wanted.holds(given.slot.bound)
+        else:
+            converts = mine == SAMPLE and not SAMPLE.holds(size_at(slot, inputs))
+        if not converts:
+            given.slot.join(slot)
+            return given
+        found = self.product(given, 1.0)
+        found.slot.join(slot)
+        return found
 
     def product(self, x, factor, addend=None):
         """`x * factor + addend`, folded where nothing flows."""
@@ -181,7 +287,8 @@ class Graph:
             if isinstance(each, Wire):
                 each.slot.multiply()
         output = Wire()
-        output.size = x.size * (abs(factor) if isinstance(factor, float) else 1.0)
+        output.size = size_of(x) * size_of(factor) + (abs(addend) if isinstance(addend, float) else 0.0)
+        output.most = most_of(x) * most_of(factor) + most_of(addend or 0.0)
         if isinstance(addend, Wire):
             output.slot.join(addend.slot)
         elif addend is not None:
@@ -196,7 +303,9 @@ class Graph:
         if not isinstance(a, Wire) and not isinstance(b, Wire):
             return a + b
         slot = Slot()
-        return self.line("Add", [(a, slot), (b, slot)], [slot])[0]
+        found, = self.line("Add", [(a, slot), (b, slot)], [slot])
+        found.most = most_of(a) + most_of(b)
+        return found
 
     def with_origin(self, item, act):
         """Acts for an item; what is refused names its unit."""
@@ -219,7 +328,7 @@ class Graph:
                 slot.settle()
 
     def guess_one(self, pending):
-        return any(self.with_origin(item, guess) for guesses in ("backward", "forward") for item in pending
+        return any(self.with_origin(item, guess) for guesses in ("exact", "forward", "backward") for item in pending
                    for guess in [getattr(item, guesses)])
 
     def slots_of(self, item):
@@ -256,11 +365,27 @@ class Writer:
             head = " ".join(wire.name for wire in outputs)
             self.text.append(" ".join(filter(None, [head and head + " =", unit, *inputs])))
 
+    def heard(self):
+        """The items that do something, and those that they hear."""
+        found, wanted = [], set()
+        for item in reversed(self.graph.items):
+            if item.acts() or any(wire in wanted for wire in item.outputs):
+                found.append(item)
+                wanted.update(each for each in item.hears() if isinstance(each, Wire))
+        return reversed(found)
+
+    def check_units(self, count):
+        if count > self.MOST_UNITS:
+            raise Refused(f"it takes {count} units here, and there may be {self.MOST_UNITS}")
+
+    def check_heard(self):
+        """Refuses what is too long, whatever its measures are: products aside, each item is a line."""
+        self.check_units(sum(isinstance(item, Line) for item in self.heard()))
+
     def lines(self):
-        for item in self.graph.items:
+        for item in self.heard():
             self.graph.with_origin(item, lambda: self.item_lines(item))
-        if len(self.text) > self.MOST_UNITS:
-            raise Refused(f"it takes {len(self.text)} units here, and there may be {self.MOST_UNITS}")
+        self.check_units(len(self.text))
         if self.wires > self.MOST_WIRES:
             raise Refused(f"it takes {self.wires} wires here, and there may be {self.MOST_WIRES}")
         return self.text

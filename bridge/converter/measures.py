@@ -7,6 +7,14 @@ class Refused(Exception):
     """Something can't be said here; the text says why."""
 
 
+class Lacking(Refused):
+    """What is refused because a definition was refused or didn't come."""
+
+    def __init__(self, definition, reason):
+        super().__init__(reason)
+        self.definition = definition
+
+
 class Measure(NamedTuple):
     """A unit of measure: 1.0 there is `scale` here. A measure of a circle wraps at 2^32."""
 
@@ -14,6 +22,10 @@ class Measure(NamedTuple):
     scale: float
     wraps: bool = False
     whole: bool = False
+
+    def holds(self, size):
+        """Whether values up to a size can be said in it, and parts of them."""
+        return not self.whole and size * self.scale < 2**31
 
 
 SAMPLE = Measure("samples", 2.0**24)

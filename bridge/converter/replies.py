@@ -1,38 +1,41 @@
 """Turns what `snova` answers into what sclang expects: values are floats again."""
+from .commands import Form
 from .measures import SAMPLE, value_of
 from .osc import Message
-from .session import groups_of, runs_of
 
 
-def slot_values(session, kind, pairs):
-    """Values of buses or buffers: pairs of a number of theirs and the values."""
-    return [[value_of(value, session.slot(kind, number).guess()) for value in values] for number, values in pairs]
+PAIRS, RUNS = Form("(int int)..").read, Form("(int run)..").read
+ID_AND_PAIRS, ID_AND_RUNS = Form("int (control int)..").read, Form("int (int run)..").read
+
+
+def there(session, kind, number, value):
+    """A value of a bus or of a buffer as it is there."""
+    return value_of(value, session.slot(kind, number).guess())
 
 
 def set_buses(session, arguments):
-    pairs = groups_of(arguments, 2)
-    return [each for bus, value in pairs for each in (bus, slot_values(session, "bus", [(bus, [value])])[0][0])]
+    (pairs,), _ = PAIRS(arguments)
+    return [each for bus, value in pairs for each in (bus, there(session, "bus", bus, value))]
 
 
 def set_bus_runs(session, arguments):
+    (runs,), _ = RUNS(arguments)
     found = []
-    for begin, values in runs_of(arguments):
-        found += [begin, len(values)]
-        found += [slot_values(session, "bus", [(begin + at, [value])])[0][0] for at, value in enumerate(values)]
+    for begin, values in runs:
+        found += [begin, len(values), *(there(session, "bus", begin + at, value) for at, value in enumerate(values))]
     return found
 
 
 def set_samples(session, arguments):
-    buffer, found = arguments[0], [arguments[0]]
-    for at, value in groups_of(arguments[1:], 2):
-        found += [at, *slot_values(session, "buffer", [(buffer, [value])])[0]]
-    return found
+    (buffer, pairs), _ = ID_AND_PAIRS(arguments)
+    return [buffer, *(each for at, value in pairs for each in (at, there(session, "buffer", buffer, value)))]
 
 
 def set_sample_runs(session, arguments):
-    buffer, found = arguments[0], [arguments[0]]
-    for begin, values in runs_of(arguments[1:]):
-        found += [begin, len(values), *slot_values(session, "buffer", [(buffer, values)])[0]]
+    (buffer, runs), _ = ID_AND_RUNS(arguments)
+    found = [buffer]
+    for begin, values in runs:
+        found += [begin, len(values), *(there(session, "buffer", buffer, value) for value in values)]
     return found
 
 
@@ -43,8 +46,9 @@ def definition_of(session, number):
 
 def set_controls(session, arguments):
     """The values of a synth's controls, which `/s_get` asked for, with the names that they have there."""
-    definition, found = definition_of(session, arguments[0]), [arguments[0]]
-    for given, value in groups_of(arguments[1:], 2):
+    (node, pairs), _ = ID_AND_PAIRS(arguments)
+    definition, found = definition_of(session, node), [node]
+    for given, value in pairs:
         name = definition.name_there(given) if definition else given
         control = definition.control(name) if definition else None
         found += [name, value_of(value, control.slot.guess() if control else SAMPLE)]
@@ -59,17 +63,35 @@ def trigger(session, arguments):
 
 
 def status(session, arguments):
-    """With the use of the processor, which isn't measured here, and the rates."""
-    return [*arguments, 0.0, 0.0, float(session.rate), float(session.rate)]
+    """With the use of the processor and the rates."""
+    return [*arguments, *session.use()]
+
+
+SIZES = Form("(int int int int)..").read
 
 
 def info(session, arguments):
-    return [each for *sizes, rate in groups_of(arguments, 4) for each in (*sizes, float(rate))]
+    """The sizes of buffers, with the rates of what is in them."""
+    (rows,), _ = SIZES(arguments)
+    return [each for row in rows for each in info_row(session, *row)]
+
+
+def info_row(session, number, frames, channels, rate):
+    known = session.buffers.get(number)
+    return number, frames, channels, known.rate if known and frames else float(rate)
+
+
+def query_tree(session, arguments):
+    """The tree below a group. The name of a definition, two places after the id of its synth, is the one there."""
+    definitions = {at: definition_of(session, arguments[at - 2]) for at, each in enumerate(arguments)
+                   if isinstance(each, str)}
+    return [definitions[at].source.name if definitions.get(at) else each for at, each in enumerate(arguments)]
 
 
 TURNED_BACK = {
     "/c_set": set_buses, "/c_setn": set_bus_runs, "/b_set": set_samples, "/b_setn": set_sample_runs,
     "/n_set": set_controls, "/tr": trigger, "/status.reply": status, "/b_info": info,
+    "/g_queryTree.reply": query_tree,
 }
 
 

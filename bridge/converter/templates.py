@@ -34,7 +34,7 @@ def index(given):
 def action(given):
     done = constant(given, "the done action")
     if done not in (0, 1, 2):
-        raise Refused(f"the done action {done:g} isn't there: 0, 1 and 2 are")
+        raise Refused(f"the done action {done:g} isn't there: 0 to 15 are")
     return done
 
 

@@ -4,28 +4,31 @@
     python3 bridge/tests/run.py
 """
 import re
-import socket
 import struct
 import subprocess
 import sys
 import tempfile
-import threading
 from pathlib import Path
 
+import files
+import keeping
+import live_checks
+import page
 import sounds
-from expected import COMMANDS, LIVE, REFUSED, REPLIES, SOUNDS
+from expected import BY_NUMBER, COMMANDS, NUMBERED, REFUSED, REPLIES, SOUNDS
 
+import convert
 import definitions as model_definitions
-import live
 from converter import osc, scgf
 from converter.definitions import CONTROLS, OPERATORS, Definition
-from converter.measures import Refused
 from converter.osc import Message
 from converter.replies import back
 from converter.session import Session
+from converter.table import COMMANDS as TABLE
+from converter.table import NUMBERS
 from converter.units import UNITS
 
-DATA = Path(__file__).resolve().parent / "data"
+DATA = sounds.DATA
 CONVERT = Path(__file__).resolve().parent.parent / "convert.py"
 TAKEN, REFUSED_FILE = DATA / "taken.scsyndef", DATA / "refused.scsyndef"
 
@@ -38,12 +41,10 @@ def compare(what, wanted, found):
 def text_of(source):
     """The text of a definition, or why it is refused."""
     definition = Definition(source, sounds.RATE)
-    try:
-        definition.build()
+    definition.build()
+    if not definition.refused:
         definition.finish()
-    except Refused as refused:
-        return str(refused)
-    return definition.text
+    return definition.refused or definition.text
 
 
 def definitions():
@@ -62,12 +63,74 @@ def definitions():
     yield from compare("refused", REFUSED, found)
 
 
+def many():
+    """A definition with units that can't be converted."""
+    a, b, c = (scgf.Source(unit, 0) for unit in range(3))
+    units = [("Missing", [], 0), ("SinOsc", [a, a], 0), ("Lag", [a, a], 0), ("BinaryOpUGen", [b, a], 4),
+             ("Missing", [c], 0), ("Decay", [b, a], 0), ("Out", [0.0, a, b], 0)]
+    return scgf.SynthDef("many", [], [], [scgf.Unit(name, scgf.AUDIO, inputs, 1, special)
+                                          for name, inputs, special in units])
+
+
+# Why it is refused: each reason once, and none that only follows from another one.
+REASONS = ["Missing.ar: there is no such unit here", "BinaryOpUGen.ar /: division by a signal isn't there",
+           "Decay.ar: its time must be a constant"]
+
+
+def reasons():
+    """All reasons of a refusal are named."""
+    found = Definition(many(), sounds.RATE)
+    found.build()
+    yield from compare("reasons", REASONS, found.reasons)
+
+
+def reported():
+    """The end of a run says how much plays; what is refused stands once, with what needs it."""
+    commands_there = [
+        ("/d_recv", TAKEN.read_bytes()), ("/d_recv", version_1(many())), ("/s_new", "many", 1000, 0, 0),
+        ("/s_new", "many", 1001, 0, 0), ("/n_set", 1000, "gate", 0), ("/s_new", "absent", 1002, 0, 0),
+        ("/s_new", "tone", 1003, 0, 0), ("/n_set", 1003, "amp", 500), ("/n_set", 1003, "amp", 600), (0,)]
+    score = [(0, [Message(address, list(given)) for address, *given in commands_there])]
+    session_there = Session(sounds.RATE, learnt=convert.learnt(score, sounds.RATE))
+    session_there.most_reasons = None
+    convert.turned(score, session_there, False)
+    *lines, last = [line for line in convert.report(session_there) if not line.startswith("note")]
+    need = " (2 notes and 1 other command need it)"
+    wanted = [f"refused: /d_recv many: {reason}{need if reason is REASONS[0] else ''}" for reason in REASONS]
+    wanted += ["refused: /n_set 1003: 500 is too great for samples, which are below 128 here (2 times)",
+               "refused: /s_new absent: the definition absent didn't come (1 note needs it)"]
+    yield from compare("what is reported", wanted, lines)
+    count = len(scgf.read(TAKEN.read_bytes())) + 1
+    start = f"1 of 4 notes play, 1 of {count} definitions is refused, and "
+    yield from compare("the last line", start, last[:len(start)])
+
+
+def named(page, start, end):
+    """What stands in the first column of a table of a page."""
+    rows = re.findall(r"^\| ([^|]+) \| ([^|]+)", page[page.index(start):page.index(end)], re.M)
+    return {name: what for names, what in rows[1:] for name in names.split(", ")}
+
+
 def table():
-    """The table of docs/FROM-SUPERCOLLIDER.md names each unit that is turned, and no other."""
-    page = (sounds.TOP / "docs/FROM-SUPERCOLLIDER.md").read_text()
-    rows = re.findall(r"^\| ([^|]+) \|", page[page.index("| Unit there |"):page.index("## What isn't there")], re.M)
-    named = sorted(name for row in rows[1:] for name in row.split(", "))
-    yield from compare("the table", sorted([*UNITS, *CONTROLS, *OPERATORS]), named)
+    """The tables of docs/FROM-SUPERCOLLIDER.md name each unit and each command, and no other, and what is refused."""
+    text_of_page = (sounds.TOP / "docs/FROM-SUPERCOLLIDER.md").read_text()
+    units = named(text_of_page, "| Unit there |", "## The commands that the bridge takes")
+    yield from compare("the table of units", sorted([*UNITS, *CONTROLS, *OPERATORS]), sorted(units))
+    commands_there = named(text_of_page, "| Command there |", "## How much of it plays")
+    yield from compare("the table of commands", sorted(set(TABLE) - {"/none"}), sorted(commands_there))
+    refused = sorted(name for name, what in commands_there.items() if what.startswith("refused"))
+    yield from compare("refused commands", sorted(name for name, row in TABLE.items() if row.refused), refused)
+
+
+def all_units():
+    """docs/FROM-SUPERCOLLIDER.md has all units of SuperCollider as page.py prints them."""
+    text = (sounds.TOP / "docs/FROM-SUPERCOLLIDER.md").read_text()
+    found, others = page.table()
+    yield from compare("units that have no kind", [], page.missing())
+    yield from compare("the table of all units", True, "\n".join(found) + "\n\n" in text)
+    for unit, names in page.operators():
+        yield from compare(f"the operators of {unit}", True, f"| {unit} | {names} |" in text)
+    yield from compare("what sclang writes with others", True, ", ".join(others) + "." in re.sub(r"\s+", " ", text))
 
 
 def text(name):
@@ -105,7 +168,7 @@ def versions():
 
 def session():
     """A session that has the definitions that are taken, and what it sent for them."""
-    found = Session(sounds.RATE)
+    found = Session(sounds.RATE, live=True)
     found.messages(Message("/d_recv", [TAKEN.read_bytes()]))
     return found
 
@@ -122,12 +185,41 @@ def commands():
         yield from compare(there, wanted, [found.address, *found.arguments])
 
 
+def numbers():
+    """Each number of the Server Command Reference is that of its command, and no other is there."""
+    yield from compare("the numbers", dict(enumerate("/" + name for name in NUMBERED)),
+                       {number: row.address for number, row in sorted(NUMBERS.items())})
+
+
+def own_controls():
+    """A trigger that comes again is another number; each synth has buses of its own for what it feeds back."""
+    struck = scgf.SynthDef("struck", [0.0], [("t_hit", 0)], [
+        scgf.Unit("TrigControl", scgf.CONTROL, [], 1, 0),
+        scgf.Unit("FreeSelf", scgf.CONTROL, [scgf.Source(0, 0)], 0, 0)])
+    echo = scgf.SynthDef("echo", [], [], [
+        scgf.Unit("LocalIn", scgf.AUDIO, [0.0], 1, 0), scgf.Unit("LocalOut", scgf.AUDIO, [scgf.Source(0, 0)], 0, 0)])
+    played = Session(sounds.RATE)
+    for source in (struck, echo):
+        played.messages(Message("/d_recv", [version_1(source)]))
+    sent = [["/s_new", "struck", 5], ["/n_set", 5, "t_hit", 1.0], ["/n_set", 5, "t_hit", 1.0],
+            ["/s_new", "echo", 6], ["/s_new", "echo", 7]]
+    found = [[each.address, *each.arguments] for there in sent
+             for each in played.messages(Message(there[0], there[1:]))]
+    one = 1 << 24
+    wanted = [["/s_new", "struck", 5, 0, 0], ["/n_set", 5, "t_hit", one + 1], ["/n_set", 5, "t_hit", one + 2],
+              ["/s_new", "echo", 6, 0, 0, "local_bus", 127], ["/s_new", "echo", 7, 0, 0, "local_bus", 126]]
+    yield from compare("own controls", wanted, found)
+
+
 def packets():
     """What is spelled is read again."""
     message = Message("/a", [1, 0.5, "b", b"cd", [2, "e"]])
     nested = osc.Bundle(7, [message, osc.Bundle(9, [Message("/f", [])])])
     for packet in (message, nested):
         yield from compare("a packet", packet, osc.decoded(osc.encoded(packet)))
+    for data, message in BY_NUMBER:
+        yield from compare("a message by number", message, osc.decoded(data))
+        yield from compare("its bytes", data, osc.encoded(message))
     for data in (b"", b"/a\0", b"/a\0\0,i\0\0", b"/a\0\0,?\0\0"):
         try:
             osc.decoded(data)
@@ -147,6 +239,14 @@ def heard():
                 yield f"{name}, channel {channel}: {apart:.1f} dB apart, and at most {most} are wanted"
 
 
+def random():
+    """A number from 0.2 to 0.4 that stays, and a noise of -1 and 1, both at half their level."""
+    number, noise = sounds.by_model(sounds.turned(DATA / "random.osc"), 4)
+    yield from compare("a random number stays", 1, len(set(number)))
+    yield from compare("it is in its range", True, 0.1 <= number[0] <= 0.2)
+    yield from compare("a noise of -1 and 1", {-0.5, 0.5}, set(noise))
+
+
 def strictness():
     """A run goes on after a refusal, and ends at it if it is strict."""
     with tempfile.TemporaryDirectory() as folder:
@@ -157,55 +257,14 @@ def strictness():
             done = subprocess.run([sys.executable, CONVERT, *words, source, target], capture_output=True, text=True)
             yield from compare(f"status {words}", 1, done.returncode)
             yield from compare(f"written {words}", written, target.exists())
-            first = "refused: /d_recv lowpass: LPF.ar: there is no such unit here"
+            first = "refused: /d_recv lowpass: MoogFF.ar: there is no such unit here"
             yield from compare(f"told {words}", first, done.stderr.splitlines()[0])
         wanted = osc.sized(osc.encoded(osc.Bundle(0, [Message("/c_set", [0, 8388608])])))
         yield from compare("what is left", wanted, target.read_bytes())
 
 
-class Server(threading.Thread):
-    """Stands for `snova serve`: keeps what comes, answers with what it is given, and ends."""
-
-    def __init__(self, answers):
-        super().__init__(daemon=True)
-        self.listener, self.answers, self.came = socket.create_server(("127.0.0.1", 0)), answers, []
-        self.port = self.listener.getsockname()[1]
-
-    def run(self):
-        link, _ = self.listener.accept()
-        self.link, kept = link, b""
-        while len(self.came) < len(self.answers):
-            found, kept = osc.whole_packets(kept + link.recv(65536))
-            for data, answer in zip(found, self.answers[len(self.came):]):
-                self.came.append(osc.decoded(data))
-                link.sendall(osc.sized(osc.encoded(answer)))
-        link.shutdown(socket.SHUT_WR)
-
-
-def proxied():
-    """Over UDP and over TCP packets come turned, and replies go back turned."""
-    server = Server([answer for _, _, answer, _ in LIVE])
-    server.start()
-    proxy = live.Proxy(0, live.connected(server.port), sounds.RATE, False)
-    port = proxy.datagrams.getsockname()[1]
-    runs = threading.Thread(target=proxy.run, daemon=True)
-    runs.start()
-    near = socket.socket(socket.AF_INET, socket.SOCK_DGRAM)
-    near.settimeout(5)
-    stream = socket.create_connection(("127.0.0.1", port))
-    stream.settimeout(5)
-    for at, (there, _, _, wanted) in enumerate(LIVE):
-        if at % 2:
-            stream.sendall(osc.sized(osc.encoded(there)))
-        else:
-            near.sendto(osc.encoded(there), ("127.0.0.1", port))
-        yield from compare(f"the reply to {there}", wanted, osc.decoded(near.recv(65536)))
-    runs.join(5)
-    for (there, wanted, _, _), found in zip(LIVE, server.came):
-        yield from compare(there, wanted, found)
-
-
-CHECKS = [table, packets, versions, definitions, commands, heard, strictness, proxied]
+CHECKS = [table, all_units, numbers, packets, versions, definitions, reasons, reported, commands, own_controls, heard,
+          random, strictness, *files.CHECKS, *live_checks.CHECKS, *keeping.CHECKS]
 
 
 def main():

@@ -12,6 +12,7 @@ import server  # noqa: E402
 from converter import osc  # noqa: E402
 from converter.session import Session  # noqa: E402
 
+DATA = Path(__file__).resolve().parent / "data"
 RATE, CHANNELS = 48000, 2
 KEPT_FRAMES = 1280
 

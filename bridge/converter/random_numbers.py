@@ -1,0 +1,111 @@
+"""Random numbers that are drawn once or at triggers.
+
+The noises of one synth begin nearly alike, so none of them is a random number at the first frame. `number` makes a
+chain of them from the first one.
+"""
+import math
+
+from .graph import Wire
+from .measures import NUMBER, SAMPLE, Refused
+from .rows import GREATER, LATCH, LESS, LESSER, Row, counted, start
+from .shapes import exponential, steps
+from .templates import constant, template
+
+NOISE = template("WhiteNoise -> sample")
+# What a trigger lets in, wrapped to -1 to 1, from then on.
+WRAPPED = template("Phasor trig:any 0:sample -1:sample 1:sample x:sample -> sample")
+FAR, ASIDE = 127.0, 0.3
+NUMBERS = "its random numbers are others"
+SEED = "it is left out: a seed is that of the node"
+
+
+def number(graph):
+    """A number from -1 to 1 that is drawn at the first frame: the square of the last one goes far, and is wrapped."""
+    last = graph.random or NOISE(graph)[0]
+    square = graph.product(last, last)
+    graph.random, = WRAPPED(graph, trig=start(graph), x=graph.product(square, FAR, ASIDE))
+    return graph.random
+
+
+def drawn_at(graph, trig):
+    """A number from -1 to 1 that is drawn at each trigger, and the number by which it is moved."""
+    moved = number(graph)
+    return WRAPPED(graph, trig=trig, x=graph.sum(NOISE(graph)[0], moved))[0], moved
+
+
+def between(graph, r, low, high):
+    """What goes from `low` to `high` as r goes from -1 to 1."""
+    if isinstance(low, Wire) or isinstance(high, Wire):
+        return graph.product(graph.product(r, 0.5, 0.5), graph.sum(high, graph.product(low, -1.0)), low)
+    return graph.product(r, (high - low) / 2, (high + low) / 2)
+
+
+def between_by_ratios(graph, r, low, high):
+    """The same, by e to a line of r."""
+    low, high = constant(low, "its start"), constant(high, "its end")
+    if low * high <= 0:
+        raise Refused("its start and its end must have one sign, and none may be 0")
+    if low == high:
+        return low
+    depth, most = -abs(math.log(high / low)), max(low, high, key=abs)
+    half = depth / 2 ** steps(depth) / 2
+    z = graph.product(r, half if most == low else -half, half)
+    if isinstance(z, Wire):
+        z.slot.set(SAMPLE)
+    return graph.product(exponential(graph, z, depth), most)
+
+
+def between_whole(graph, r, low, high):
+    """The same in whole numbers, each as likely: a measure of whole numbers rounds down."""
+    count = graph.sum(graph.sum(high, graph.product(low, -1.0)), 1.0)
+    found = graph.product(graph.product(r, 0.5, 0.5), count, low)
+    found.slot.set(NUMBER)
+    return found
+
+
+def once(way):
+    return lambda graph, low, high: [way(graph, number(graph), low, high)]
+
+
+def at_triggers(way):
+    """A random number that is drawn at the first frame and at each trigger."""
+    def build(graph, low, high, trig):
+        return [way(graph, drawn_at(graph, graph.sum(trig, start(graph)))[0], low, high)]
+    return build
+
+
+def outer_of_two(graph, low, high, side):
+    choice = GREATER if constant(side, "its side") > 0 else LESSER
+    return [between(graph, choice(graph, a=number(graph), b=number(graph))[0], low, high)]
+
+
+def mean(graph, low, high, count):
+    count, total = max(1, round(constant(count, "its count"))), 0.0
+    for _ in range(count):
+        total = graph.sum(number(graph), total)
+    return [between(graph, graph.product(total, 1 / count), low, high)]
+
+
+def coin_gate(graph, chance, trig):
+    """A trigger that passes as a coin says."""
+    coin, = LATCH(graph, x=NOISE(graph)[0], trig=trig)
+    return [graph.product(LESS(graph, a=coin, b=graph.product(chance, 2.0, -1.0))[0], trig)]
+
+
+def left_out(graph, rest):
+    return [0.0]
+
+
+UNITS = {
+    "Rand": Row("low high", once(between), note=NUMBERS),
+    "IRand": Row("low high", counted(once(between_whole), "high"), note=NUMBERS),
+    "ExpRand": Row("low high", once(between_by_ratios), note=NUMBERS),
+    "LinRand": Row("low high side", outer_of_two, note=NUMBERS),
+    "NRand": Row("low high count", mean, note=NUMBERS),
+    "TRand": Row("low high trig", at_triggers(between), note=NUMBERS),
+    "TIRand": Row("low high trig", counted(at_triggers(between_whole), "high"), note=NUMBERS),
+    "TExpRand": Row("low high trig", at_triggers(between_by_ratios), note=NUMBERS),
+    "CoinGate": Row("chance trig", coin_gate, note=NUMBERS),
+    "RandSeed": Row("rest*", left_out, note=SEED, stand_in=True),
+    "RandID": Row("rest*", left_out, note=SEED, stand_in=True),
+}

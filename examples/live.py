@@ -79,17 +79,16 @@ def type_lines(connection, listener):
 
     If the connection is closed at once, the server may end before it answers; so the answers are waited for.
     """
-    lines = enumerate((line.rstrip("\n") for line in sys.stdin), 1)
-    for _, line in lines:
+    reader, lines = make.Reader(), enumerate((line.rstrip("\n") for line in sys.stdin), 1)
+    for place in lines:
+        line = place[1]
         try:
-            if line in make.TITLES:
-                connection.sendall(make.sized(make.message("/d_recv", [make.definition(line, lines)])))
-            elif line.startswith("/"):
-                connection.sendall(make.sized(make.line_message(line)))
+            if line in make.TITLES or line.startswith("/"):
+                connection.sendall(make.sized(reader.message_at(place, lines)))
             elif line and not line.startswith("#"):
-                raise make.BadLine(f"it is no message: {line}")
+                raise make.BadLine("it is no message")
         except make.BadLine as bad:
-            print(f"not sent: {bad}", file=sys.stderr)
+            print(f"not sent: {bad.shown(*place)}", file=sys.stderr)
     connection.sendall(make.sized(make.message("/sync", [LAST])))
     listener.answered.wait(10)
     connection.shutdown(socket.SHUT_WR)

@@ -42,10 +42,9 @@ def shown(packet):
     return " ".join(str(word) for word in words(packet))
 
 
-def main():
-    if len(sys.argv) != 2:
-        raise SystemExit(__doc__.strip())
-    found, left = packets(Path(sys.argv[1]).read_bytes())
+def printed(path):
+    """Prints the messages of a file, and gives 1 if there is a `/fail` or a part of a packet, else 0."""
+    found, left = packets(path.read_bytes())
     lines = [shown(packet) for packet in found]
     for line in lines:
         print(line)
@@ -55,6 +54,12 @@ def main():
     if failed:
         print(f"{failed} of {len(lines)} replies are /fail", file=sys.stderr)
     return 1 if failed or left else 0
+
+
+def main():
+    if len(sys.argv) != 2:
+        raise SystemExit(__doc__.strip())
+    return printed(Path(sys.argv[1]))
 
 
 if __name__ == "__main__":

@@ -1,17 +1,22 @@
 #!/usr/bin/env python3
-"""Keeps a session for hours, and says each minute what became of it: python3 bench/soak.py SNOVA HOURS [PICTURE.svg].
+"""Keeps a session for hours, and says each minute what became of it.
+
+    python3 bench/soak.py SNOVA HOURS [PICTURE.svg] [--window]
 
 A client plays 10 notes a second, each 0.2 s ahead, and another client takes its place each minute. The player reads
 3 % too slowly and 3 % too fast in turn, a minute each, and looks whether each frame follows the one before. The
 table has, of each minute, the memory of the keeper and of the server in megabytes, the server's load, how many
 milliseconds the worst block until then was late, and what is missing by its count: notes that didn't start, notes
-that didn't end, replies, and frames. The picture shows memory and lateness.
+that didn't end, replies, and frames. The picture shows memory and lateness. With `--window` a browser's place is taken
+by what reads all that the window tells; the log says in both cases how many blocks were late.
 """
 import array
+import http.client
 import os
 import socket
 import sys
 import tempfile
+import threading
 import time
 from pathlib import Path
 
@@ -146,12 +151,33 @@ def picture(rows, path):
     Path(path).write_text("\n".join(parts) + "\n")
 
 
-def soak(snova, minutes, path):
+def watch(port):
+    """Reads what the window tells, as an open page does, and comes back when it ends."""
+    while True:
+        link = http.client.HTTPConnection("127.0.0.1", port)
+        try:
+            link.request("GET", "/events")
+            reply = link.getresponse()
+            while reply.readline():
+                pass
+        except OSError:
+            pass
+        time.sleep(1)
+
+
+def window():
+    """The words for a session with a window, which is read from now on."""
+    port = lasting.free_port()
+    threading.Thread(target=watch, args=(port,), daemon=True).start()
+    return [f"window={port}"]
+
+
+def soak(snova, minutes, path, more):
     rows, command = [], f"{sys.executable} {Path(__file__).resolve()} --read"
     print("minute | " + " | ".join(COLUMNS), flush=True)
     with tempfile.TemporaryDirectory() as folder:
         counted = Path(folder) / "counted"
-        with lasting.Session(snova, folder, 1, f"{command} {counted}") as session:
+        with lasting.Session(snova, folder, 1, f"{command} {counted}", more) as session:
             session.ask("/d_recv", (sounds.DATA / "taken.scsyndef").read_bytes(), reply="/done")
             for minute in range(minutes):
                 notes = Notes(session.port, 1000 + minute * int(MINUTE / EACH))
@@ -168,7 +194,9 @@ def main():
     if sys.argv[1] == "--read":
         Player(sys.argv[2]).run()
         return
-    soak(sys.argv[1], max(1, round(float(sys.argv[2]) * 60)), sys.argv[3] if sys.argv[3:] else "soak.svg")
+    snova, hours, *rest = [word for word in sys.argv[1:] if word != "--window"]
+    more = window() if "--window" in sys.argv else []
+    soak(snova, max(1, round(float(hours) * 60)), rest[0] if rest else "soak.svg", more)
 
 
 if __name__ == "__main__":

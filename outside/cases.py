@@ -3,7 +3,7 @@
 A message is a tuple of its address and its arguments; at(block, ..) is a bundle due at a boundary, and tagged(tag, ..) one with a tag."""
 import struct
 import osc
-from texts import BAD, GOOD, HEARD, TEXTS
+from texts import BAD, EDGES, GOOD, HEARD, TEXTS, definition, shown
 
 CASES = []
 
@@ -194,8 +194,12 @@ for name, text in HEARD.items():
     node = 987654 if "oise" in name else 9
     case(f"unit {name}", ("/d_recv", text), ("/b_alloc", 5, 14, 3), ("/s_new", "unit", node, 0, 0), at(3), words=MONO)
 for rate in (44100, 96000):
-    for name in ("LFSaw", "Impulse", "Line", "Linen", "Lag", "DelayN", "CombN", "SinOsc"):
+    for name in ("LFSaw", "Impulse", "Line", "Linen", "Lag", "DelayN", "CombN", "SinOsc", "Sine", "Saw", "SVF", "LagUD", "Trig"):
         case(f"unit {name} at {rate}", ("/d_recv", HEARD[name]), ("/s_new", "unit", 9, 0, 0), at(4, rate=rate), words=MONO + (f"rate={rate}",))
+for name, lines in EDGES.items():
+    for rate in (44100, 48000, 96000):
+        case(f"edge: {name} at {rate}", ("/d_recv", shown("unit", *lines)), ("/s_new", "unit", 9, 0, 0), at(4, rate=rate), words=("channels=1", "bits=24", f"rate={rate}"))
+case("SVF has three outputs", ("/d_recv", definition("unit", "l b = SVF 0 0 0")), ("/s_new", "unit", 9, 0, 0))
 
 # Buffers that sound.
 case("a buffer is recorded, played and counted", ("/b_alloc", 0, 70), *recv("recorder", "player", "frames"), ("/notify", 1), ("/s_new", "recorder", 9, 1, 0), ("/s_new", "player", 10, 1, 0), ("/s_new", "frames", 11, 1, 0, "buf", 0), at(3, ("/b_getn", 0, 0, 70)), at(4), words=MONO)

@@ -43,6 +43,8 @@ SWEEP = "w = LFSaw 1000000 0"
 # One unit each, heard by 24 bits on bus 0.
 UNITS = {
     "LFSaw": ["y = LFSaw 12345678 1000000000"], "LFSaw_down": ["y = LFSaw -12345678 -1"],
+    "Saw": ["y = Saw 12345678 1000000000"], "Saw_down": ["y = Saw -12345678 -1"], "Saw_still": ["y = Saw 0 2147483647"],
+    "Saw_fast": ["y = Saw 23999000 0"], "Saw_swept": ["f = LFTri 3000000 0", "y = Saw f 0"],
     "LFPulse": ["y = LFPulse 5000000 -1000 0.3"], "LFTri": ["y = LFTri 777777 0"], "Impulse": ["y = Impulse 7000000"],
     "Impulse_down": ["y = Impulse -7000000"], "Impulse_still": ["y = Impulse 0"], "WhiteNoise": ["y = WhiteNoise"],
     "noise_3": ["a = WhiteNoise", "b = WhiteNoise", "y = Sub a b"],
@@ -57,17 +59,29 @@ UNITS = {
     "Min": [SWEEP, "y = Min w 0.1"], "Max": [SWEEP, "y = Max w 0.1"], "Clip": [SWEEP, "y = Clip w -0.25 0.5"],
     "Clip_turned": [SWEEP, "y = Clip w 0.5 -0.25"], "Gt": [SWEEP, "y = Gt w 0"], "Lt": [SWEEP, "y = Lt w 0"], "Gt_same": ["y = Gt 5 5"],
     "Pan2": [SWEEP, "y b = Pan2 0.8 w 0.9"], "Pan2_right": [SWEEP, "b y = Pan2 0.8 w 0.9"], "Pan2_out": ["y b = Pan2 0.8 3.5 -0.9"],
+    "Div": [SWEEP, "y = Div w 0.3"], "Div_below": [SWEEP, "y = Div w -0.3"], "Div_sweep": [SWEEP, "y = Div 0.3 w"], "Div_none": [SWEEP, "y = Div w 0"],
+    "Mod": [SWEEP, "y = Mod w 0.3"], "Mod_below": [SWEEP, "y = Mod w -0.3"], "Mod_sweep": [SWEEP, "y = Mod 0.9 w"], "Mod_none": [SWEEP, "y = Mod w 0"],
+    "Exp2": [SWEEP, "y = Exp2 w"], "Exp2_far": [SWEEP, "v = Mul w 30.0", "y = Exp2 v"], "Exp2_ends": [SWEEP, "v = Mul w 127.99999999", "y = Exp2 v"],
+    "Log2": [SWEEP, "y = Log2 w"], "Log2_near": [SWEEP, "v = Mul w 2", "y = Log2 v"], "Log2_far": [SWEEP, "v = Mul w 127.99999999", "y = Log2 v"],
+    "Exp2_noise": ["n = WhiteNoise", "v = Mul n 30.0", "y = Exp2 v"], "Log2_noise": ["n = WhiteNoise", "v = Mul n 100.0", "y = Log2 v"],
     "OnePole": [PULSE, "y = OnePole g 0.9"], "OnePole_down": [PULSE, "y = OnePole g -0.9"], "OnePole_far": [PULSE, "y = OnePole g 5.0"],
+    "LagUD": [PULSE, "y = LagUD g 0.9 0.99"], "LagUD_same": [SWEEP, "y = LagUD w 0 1.0"], "LagUD_far": [SWEEP, "f = Mul w 128.0", "y = LagUD f -1 1.5"],
+    "LagUD_ends": ["t = LFPulse 3000000 0 0.5", "f = MulAdd t -256.0 127.99999999", "y = LagUD f 0.5 0.25"],
     "Lag": [PULSE, "y = Lag g 1"], "Lag_none": [PULSE, "y = Lag g -1"], "Integrator": [PULSE, "y = Integrator g 0.99"],
     "Integrator_far": ["y = Integrator 9.0 1.5"], "Integrator_down": ["y = Integrator -9.0 1.0"], "Delay1": [SWEEP, "y = Delay1 w"],
     "DelayN": [SWEEP, "y = DelayN w 2 1"], "DelayN_none": [SWEEP, "y = DelayN w 0 5"], "DelayN_sweep": ["t = Phasor 0 1 -4 9 0", SWEEP, "y = DelayN w 2 t"],
     "CombN": [PULSE, "y = CombN g 2 1 -0.7"], "CombN_none": [PULSE, "y = CombN g 0 0 0.7"], "CombN_far": ["y = CombN 20.0 1 1 2.0"],
     "SOS": [PULSE, "y = SOS g 0.4 -0.2 0.1 0.6 -0.3"], "SOS_far": [PULSE, "y = SOS g 100.0 100.0 100.0 1.5 1.5"],
+    "SVF": [PULSE, "y b h = SVF g 1000000 1.41421356"], "SVF_band": [SWEEP, "r = Phasor 0 99 -50000 16777216 0", "l y h = SVF w 3000000 r"],
+    "SVF_high": [PULSE, "f = Phasor 0 999999 -5000000 30000000 0", "l b y = SVF g f 0.5"], "SVF_far": [PULSE, "l y h = SVF 127.9 750000 0"],
     "Latch": [SWEEP, PULSE, "y = Latch w g"], "Latch_first": ["y = Latch 0.7 1"], "Gate": [SWEEP, PULSE, "y = Gate w g"],
     "PulseCount": [PULSE, "r = Impulse 400000", "y = PulseCount g r"], "PulseCount_once": ["y = PulseCount 1 0"],
+    "Trig": [SWEEP, PULSE, "h = Mul g w", "y = Trig h 3000"], "Trig_frame": [PULSE, "y = Trig g -1"], "Trig_long": ["x = Impulse 1500000", "y = Trig x 0.002"],
+    "Trig_again": ["x = Impulse 12000000", "y = Trig x 3145"], "Trig_never": [SWEEP, "y = Trig w 127.9"],
     "Stepper": [PULSE, "r = Impulse 400000", "y = Stepper g r -3 11 4 100"], "Stepper_back": [PULSE, "y = Stepper g 0 -3 11 -4 0"],
     "Stepper_empty": [PULSE, "y = Stepper g 0 5 4 1 9"], "DetectSilence": [PULSE, "y = DetectSilence g 0.5 0 0"],
     "DetectSilence_long": ["x = Line 1.0 0 1 0", "y = DetectSilence x 0.5 1 0"], "BufFrames": ["y = BufFrames 5"],
+    "Sine": ["y = Sine 440000 0"], "Sine_turned": [SWEEP, "y = Sine -3000000 w"],
     "SinOsc": ["y = SinOsc 440000 0"], "SinOsc_turned": ["y = SinOsc -3000000 1073741824"],
 }
 HEARD = {name: shown("unit", *lines) for name, lines in UNITS.items()}
@@ -116,4 +130,22 @@ GOOD = {
     "512 elements": definition("good", *[f"array {'a' * 31 if k == 7 else f'a{k}'}{ZEROS}" for k in range(8)], "b = Neg " + "a" * 31 + ".63", version=2),
     "version 2": definition("good", "control a 1", "array b 2 3 4", "control c 5", "array d 6", "e = MulAdd a b.2 d", version=2),
     "name of 31": definition("a" * 31), "edges": definition("good", "control a -2147483648", "control b 2147483647", "control c -128.0", "a0 = DelayN a 60000 b"),
+}
+
+# Units at their edges: the lines before the output, whose last wire is y.
+EDGES = {
+    "SVF with rq below 0": ["g = LFPulse 3000000 0 0.5", "l b y = SVF g 1000000 -0.5"],
+    "SVF above half of the rate": ["g = LFPulse 3000000 0 0.5", "y b h = SVF g 30000000 0.5"],
+    "SVF driven to its bounds": ["p = LFPulse 23000000 0 0.5", "a = MulAdd p 127.5 -63.75", "x = Add a a",
+                                 "l b h = SVF x 23000000 0", "y = Mul l 131072"],
+    "LagUD between two samples": ["x = Impulse 0", "y = LagUD x 0 0.99"],
+    "LagUD with factors that move": ["x = LFPulse 900000 0 0.5", "f = LFTri 700000 0", "y = LagUD x f 0.9"],
+    "Saw at half of a turn": ["y = Saw 0 -2147483648"],
+    "Saw above half of the rate": ["y = Saw 25000000 0"],
+    "Trig just below a frame's edge": ["t = Impulse 300000", "y = Trig t 94720"],
+    "Trig just above a frame's edge": ["t = Impulse 900000", "y = Trig t 18873"],
+    "Trig over the end of a block": ["t = Impulse 700000", "y = Trig t 23069"],
+    "Trig with a time that moves": ["t = Impulse 6000000", "m = LFTri 700000 0", "s = Mul m 0.001", "y = Trig t s"],
+    "Exp2 of a fraction below 0": ["x = Exp2 -0.5", "y = Mul x 0.5"],
+    "Log2 just below 1.0": ["y = Log2 16777215"],
 }

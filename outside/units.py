@@ -51,8 +51,49 @@ def sin_osc(s, clock, freq, offset):
     return sine(phase(s, freq, offset, clock))
 
 
+def arc(u):
+    """The sine of an angle, of which 2^31 is a quarter turn, times 2^62."""
+    t = u * u >> 32
+    h = 324873
+    for coefficient in (10036036, 171131830, 1387196425, 3373259406):
+        h = coefficient - (t * h >> 30)
+    return min(1 << 62, u * h)
+
+
+def wave(m):
+    """The sine of any angle, of which 2^33 is a turn, times 2^62."""
+    r = m % (1 << 33)
+    h = r % (1 << 32)
+    height = arc(min(h, (1 << 32) - h))
+    return height if r < 1 << 32 else -height
+
+
+def fine_sine(s, clock, freq, offset):
+    w = wave(2 * phase(s, freq, offset, clock))
+    return w >> 38 if w >= 0 else -(-w >> 38)
+
+
 def lf_saw(s, clock, freq, offset):
     return signed(phase(s, freq, offset, clock)) >> 7
+
+
+def rounded(z, m):
+    """How far a rounded step is from its end, z / m frames after its middle."""
+    if z >= 2 * m:
+        return 0
+    t = z * ONE // m
+    if t < ONE:
+        a = t * t >> 24
+        return (12 * ONE - 16 * t + 8 * (t * a >> 24) - 3 * (a * a >> 24)) // 24
+    a = (2 * ONE - t) ** 2 >> 24
+    return a * a // (24 * ONE)
+
+
+def saw(s, clock, freq, offset):
+    g = step_of(freq, clock.rate)
+    m = min(g, (1 << 32) - g)
+    d = (phase(s, freq, offset, clock) + (1 << 31)) % (1 << 32)
+    return sat((d - (1 << 31)) // 128 + 2 * (rounded(d, m) - rounded((1 << 32) - d, m)))
 
 
 def lf_pulse(s, clock, freq, offset, width):
@@ -147,6 +188,14 @@ def lag(s, clock, x, time):
     return s["y"]
 
 
+def lag_ud(s, clock, x, up, down):
+    z = x << 16
+    d = s.get("s", z) - z
+    c = clip(up if d < 0 else down, 0, ONE)
+    s["s"] = z + (c * d >> 24)
+    return sat(s["s"] >> 16)
+
+
 def integrator(s, clock, x, c):
     s["y"] = sat(x + (c * s.get("y", 0) >> 24))
     return s["y"]
@@ -178,6 +227,20 @@ def sos(s, clock, x, a0, a1, a2, b1, b2):
     y = sat(a0 * x + a1 * x1 + a2 * x2 + b1 * y1 + b2 * y2 >> 24)
     s["past"] = (x, x1, y, y1)
     return y
+
+
+def svf(s, clock, x, freq, rq):
+    """The state-variable filter: low, band and high."""
+    i1, i2 = s.get("i", (0, 0))
+    h = max(0, min(1 << 30, freq * (1 << 31) // (1000 * clock.rate)))
+    sine, cosine = arc(2 * h) >> 31, arc((1 << 31) - 2 * h) >> 31
+    k = max(0, rq)
+    r = (1 << 61) // ((1 << 30) + 1 + (k * (sine * cosine >> 31) >> 25))
+    a1, a2, a3 = cosine * cosine * r >> 53, sine * cosine * r >> 53, sine * sine * r >> 53
+    v3 = x * 65536 - i2
+    v1, v2 = a1 * i1 + a2 * v3 >> 40, i2 + (a2 * i1 + a3 * v3 >> 40)
+    s["i"] = clip(2 * v1 - i1, -1 << 54, 1 << 54), clip(2 * v2 - i2, -1 << 54, 1 << 54)
+    return sat(v2 >> 16), sat(v1 >> 16), sat(x * 65536 - v2 - (k * v1 >> 24) >> 16)
 
 
 def latch(s, clock, x, trig):
@@ -212,6 +275,24 @@ def stepper(s, clock, trig, reset, low, high, step, to):
     return v
 
 
+def whole_frames(seconds, rate):
+    """The whole frames of a time in seconds; a place at most 1/256 of a frame before a frame is that frame."""
+    return (max(0, seconds) * rate + (1 << 16)) // ONE
+
+
+def trig_of(s, clock, trig, time):
+    left = s.get("left", 0)
+    rose = rises(s, "trig", trig)
+    if left > 0:
+        left -= 1
+    if left == 0:
+        s["value"] = 0
+        if rose:
+            left, s["value"] = max(1, whole_frames(time, clock.rate)), trig
+    s["left"] = left
+    return s["value"]
+
+
 def send_trig(s, clock, trig, ident, value):
     if rises(s, "trig", trig) and "told" not in s:
         s["told"] = (ident, value)
@@ -237,18 +318,52 @@ def pause_self(s, clock, x):
         ends(s, 1)
 
 
+def div(a, b):
+    if b == 0:
+        return MOST if a > 0 else LEAST if a < 0 else 0
+    return sat(a * ONE // b)
+
+
+def mod(a, b):
+    return a - b * (a // b) if b else 0
+
+
+def exp2(x):
+    n, f = x // ONE, x % ONE
+    if n >= 7 or n <= -25:
+        return MOST if n > 0 else 0
+    h = 59689807
+    for c in (341972226, 2660285941, 15251367701, 66033785798, 190530805471, 1 << 38):
+        h = c + (f * h >> 24)
+    return h >> (14 - n)
+
+
+def log2(x):
+    if x <= 0:
+        return LEAST
+    e = x.bit_length() - 1
+    u = (x << 30 - e) - (1 << 30)
+    h = 23944225
+    for c in (146096444, 418890942, 783600322, 1149166213, 1528342713, 2062659376, 3097977664, 6196323683):
+        h = c - (u * h >> 30)
+    return (e - 24) * ONE + (u * h >> 38)
+
+
 def plain(f):
     return lambda s, clock, *inputs: f(*inputs)
 
 
 FRAME = {
-    "SinOsc": sin_osc, "LFSaw": lf_saw, "LFPulse": lf_pulse, "LFTri": lf_tri, "Impulse": impulse, "WhiteNoise": white_noise,
+    "SinOsc": sin_osc, "Sine": fine_sine, "LFSaw": lf_saw, "Saw": saw, "LFPulse": lf_pulse, "LFTri": lf_tri,
+    "Impulse": impulse, "WhiteNoise": white_noise,
     "Phasor": phasor, "Line": line, "Linen": linen, "Add": plain(lambda a, b: sat(a + b)),
     "Sub": plain(lambda a, b: sat(a - b)), "Mul": plain(mul), "MulAdd": plain(lambda x, m, a: sat((x * m >> 24) + a)),
     "Neg": plain(lambda x: sat(-x)), "Abs": plain(lambda x: sat(abs(x))), "Min": plain(min), "Max": plain(max),
     "Clip": plain(clip), "Gt": plain(lambda a, b: ONE if a > b else 0), "Lt": plain(lambda a, b: ONE if a < b else 0),
-    "Pan2": pan2, "OnePole": one_pole, "Lag": lag, "Integrator": integrator, "Delay1": delay1, "DelayN": delay_n,
-    "CombN": comb_n, "SOS": sos, "Latch": latch, "Gate": gate_of, "PulseCount": pulse_count, "Stepper": stepper,
+    "Pan2": pan2, "Div": plain(div), "Mod": plain(mod), "Exp2": plain(exp2), "Log2": plain(log2),
+    "OnePole": one_pole, "Lag": lag, "LagUD": lag_ud,
+    "Integrator": integrator, "Delay1": delay1, "DelayN": delay_n, "CombN": comb_n, "SOS": sos, "SVF": svf,
+    "Latch": latch, "Gate": gate_of, "PulseCount": pulse_count, "Stepper": stepper, "Trig": trig_of,
     "SendTrig": send_trig, "DetectSilence": detect_silence, "FreeSelf": free_self, "PauseSelf": pause_self,
 }
 

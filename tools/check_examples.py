@@ -37,7 +37,7 @@ at 500ms
 /s_new tone 1000 0 0 "a4" c4
 """
 FAULTS = {
-    "SinOsc a4 0": ("Saw a4", "line 4: Unit: there is no unit Saw"), "0 wave wave": ("wave wave", "line 5: Index: "),
+    "SinOsc a4 0": ("Tri a4", "line 4: Unit: there is no unit Tri"), "0 wave wave": ("wave wave", "line 5: Index: "),
     "440Hz": ("440hz", "line 3: 440hz has none of the measures"), '"a4"': ("a4", "line 8: a4 is a pitch, and a name"),
     "500ms": ("0.5Hz", "line 7: 0.5Hz is no time in seconds"),
     "end\n": ("", "line 1: the definition has no line `end`"),

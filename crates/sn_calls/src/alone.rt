@@ -1,5 +1,6 @@
 //! Calls that neither rows nor scripts reach, each tried by a function of its own.
 use crate::line::Unanswered;
+use crate::packets::{decoded, framed_by_bytes, timed};
 use crate::texts::TONE;
 use crate::trees::{attached, attached_and_undone, walked, written_and_undone};
 use sn_def::{DefKind, Unread, print, read};
@@ -203,7 +204,7 @@ fn listed(alloc: Global) -> Result<bool, Unanswered> {
 }
 
 /// The calls, and whether each answers as it should.
-pub fn calls<H: Files>(rt: &H, alloc: Global) -> [(&'static str, Result<bool, Unanswered>); 15] {
+pub fn calls<H: Files>(rt: &H, alloc: Global) -> [(&'static str, Result<bool, Unanswered>); 18] {
     [
         ("show", shown(alloc)),
         ("into_inner of a sink", given_back(alloc)),
@@ -213,6 +214,9 @@ pub fn calls<H: Files>(rt: &H, alloc: Global) -> [(&'static str, Result<bool, Un
         ("read arrays", arrays_at_fault(alloc)),
         ("spellable", spelled(alloc)),
         ("frames_of", framed_stream(alloc)),
+        ("feed and next", framed_by_bytes(alloc)),
+        ("decode", Ok(decoded(alloc))),
+        ("due and at", Ok(timed())),
         ("clash", clashing(alloc)),
         ("PlainPort", plain_words(alloc)),
         ("into_vec of messages", listed(alloc)),

@@ -8,6 +8,7 @@ mod fixed;
 mod holding;
 mod line;
 mod machines;
+mod packets;
 mod pools;
 mod rounds;
 mod texts;

@@ -60,7 +60,9 @@ sending row = record row { sends = true }
 
 unfoldable pub row_of : Kind → UnitRow
 row_of kinds.SinOsc = unit_row families.Generator (codes "SinOsc") (Signal ∷ Signal ∷ []) 1 (Fixed 1)
+row_of kinds.Sine = unit_row families.Generator (codes "Sine") (Signal ∷ Signal ∷ []) 1 (Fixed 1)
 row_of kinds.LFSaw = unit_row families.Generator (codes "LFSaw") (Signal ∷ Signal ∷ []) 1 (Fixed 1)
+row_of kinds.Saw = unit_row families.Generator (codes "Saw") (Signal ∷ Signal ∷ []) 1 (Fixed 1)
 row_of kinds.LFPulse = unit_row families.Generator (codes "LFPulse") (Signal ∷ Signal ∷ Signal ∷ []) 1 (Fixed 1)
 row_of kinds.LFTri = unit_row families.Generator (codes "LFTri") (Signal ∷ Signal ∷ []) 1 (Fixed 1)
 row_of kinds.Impulse = unit_row families.Generator (codes "Impulse") (Signal ∷ []) 1 (Fixed 2)
@@ -80,17 +82,24 @@ row_of kinds.Clip = unit_row families.Arithmetic (codes "Clip") (Signal ∷ Sign
 row_of kinds.Gt = unit_row families.Arithmetic (codes "Gt") (Signal ∷ Signal ∷ []) 1 (Fixed 0)
 row_of kinds.Lt = unit_row families.Arithmetic (codes "Lt") (Signal ∷ Signal ∷ []) 1 (Fixed 0)
 row_of kinds.Pan2 = unit_row families.Arithmetic (codes "Pan2") (Signal ∷ Signal ∷ Signal ∷ []) 2 (Fixed 0)
+row_of kinds.Div = unit_row families.Arithmetic (codes "Div") (Signal ∷ Signal ∷ []) 1 (Fixed 0)
+row_of kinds.Mod = unit_row families.Arithmetic (codes "Mod") (Signal ∷ Signal ∷ []) 1 (Fixed 0)
+row_of kinds.Exp2 = unit_row families.Arithmetic (codes "Exp2") (Signal ∷ []) 1 (Fixed 0)
+row_of kinds.Log2 = unit_row families.Arithmetic (codes "Log2") (Signal ∷ []) 1 (Fixed 0)
 row_of kinds.OnePole = unit_row families.Filter (codes "OnePole") (Signal ∷ Signal ∷ []) 1 (Fixed 1)
 row_of kinds.Lag = unit_row families.Filter (codes "Lag") (Signal ∷ Signal ∷ []) 1 (Fixed 2)
+row_of kinds.LagUD = unit_row families.Filter (codes "LagUD") (Signal ∷ Signal ∷ Signal ∷ []) 1 (Fixed 2)
 row_of kinds.Integrator = unit_row families.Filter (codes "Integrator") (Signal ∷ Signal ∷ []) 1 (Fixed 1)
 row_of kinds.Delay1 = unit_row families.Filter (codes "Delay1") (Signal ∷ []) 1 (Fixed 1)
 row_of kinds.DelayN = unit_row families.Filter (codes "DelayN") (Signal ∷ Longest ∷ Signal ∷ []) 1 Delay
 row_of kinds.CombN = unit_row families.Filter (codes "CombN") (Signal ∷ Longest ∷ Signal ∷ Signal ∷ []) 1 Comb
 row_of kinds.SOS = unit_row families.Filter (codes "SOS") (Signal ∷ Signal ∷ Signal ∷ Signal ∷ Signal ∷ Signal ∷ []) 1 (Fixed 4)
+row_of kinds.SVF = unit_row families.Filter (codes "SVF") (Signal ∷ Signal ∷ Signal ∷ []) 3 (Fixed 2)
 row_of kinds.Latch = unit_row families.Filter (codes "Latch") (Signal ∷ Signal ∷ []) 1 (Fixed 2)
 row_of kinds.Gate = unit_row families.Filter (codes "Gate") (Signal ∷ Signal ∷ []) 1 (Fixed 1)
 row_of kinds.PulseCount = unit_row families.Filter (codes "PulseCount") (Signal ∷ Signal ∷ []) 1 (Fixed 3)
 row_of kinds.Stepper = unit_row families.Filter (codes "Stepper") (Signal ∷ Signal ∷ Signal ∷ Signal ∷ Signal ∷ Signal ∷ []) 1 (Fixed 4)
+row_of kinds.Trig = unit_row families.Filter (codes "Trig") (Signal ∷ Signal ∷ []) 1 (Fixed 3)
 row_of kinds.Inar = reading banks.Audio (unit_row families.Bus (codes "In.ar") (Index ∷ []) 1 (Fixed 0))
 row_of kinds.InFeedback = reading banks.Audio (unit_row families.Bus (codes "InFeedback") (Index ∷ []) 1 (Fixed 0))
 row_of kinds.Inkr = reading banks.Control (unit_row families.Bus (codes "In.kr") (Index ∷ []) 1 (Fixed 0))
@@ -110,12 +119,14 @@ row_of kinds.PauseSelf = ending (ends.Always (pos 1)) (unit_row families.Trigger
 -- all kinds, in the order of the table
 abbrev pub every_kind : List Kind
 every_kind =
-    kinds.SinOsc ∷ kinds.LFSaw ∷ kinds.LFPulse ∷ kinds.LFTri ∷ kinds.Impulse ∷ kinds.WhiteNoise ∷ kinds.Phasor ∷ kinds.Line ∷
-    kinds.Linen ∷ kinds.Add ∷ kinds.Sub ∷ kinds.Mul ∷ kinds.MulAdd ∷ kinds.Neg ∷ kinds.Abs ∷ kinds.Min ∷
-    kinds.Max ∷ kinds.Clip ∷ kinds.Gt ∷ kinds.Lt ∷ kinds.Pan2 ∷ kinds.OnePole ∷ kinds.Lag ∷ kinds.Integrator ∷
-    kinds.Delay1 ∷ kinds.DelayN ∷ kinds.CombN ∷ kinds.SOS ∷ kinds.Latch ∷ kinds.Gate ∷ kinds.PulseCount ∷ kinds.Stepper ∷
-    kinds.Inar ∷ kinds.InFeedback ∷ kinds.Inkr ∷ kinds.Outar ∷ kinds.ReplaceOut ∷ kinds.Outkr ∷ kinds.PlayBuf ∷ kinds.RecordBuf ∷
-    kinds.BufRd ∷ kinds.BufWr ∷ kinds.BufFrames ∷ kinds.SendTrig ∷ kinds.DetectSilence ∷ kinds.FreeSelf ∷ kinds.PauseSelf ∷ []
+    kinds.SinOsc ∷ kinds.Sine ∷ kinds.LFSaw ∷ kinds.Saw ∷ kinds.LFPulse ∷ kinds.LFTri ∷ kinds.Impulse ∷
+    kinds.WhiteNoise ∷ kinds.Phasor ∷ kinds.Line ∷ kinds.Linen ∷ kinds.Add ∷ kinds.Sub ∷ kinds.Mul ∷ kinds.MulAdd ∷
+    kinds.Neg ∷ kinds.Abs ∷ kinds.Min ∷ kinds.Max ∷ kinds.Clip ∷ kinds.Gt ∷ kinds.Lt ∷ kinds.Pan2 ∷ kinds.Div ∷
+    kinds.Mod ∷ kinds.Exp2 ∷ kinds.Log2 ∷ kinds.OnePole ∷ kinds.Lag ∷ kinds.LagUD ∷ kinds.Integrator ∷
+    kinds.Delay1 ∷ kinds.DelayN ∷ kinds.CombN ∷ kinds.SOS ∷ kinds.SVF ∷ kinds.Latch ∷ kinds.Gate ∷
+    kinds.PulseCount ∷ kinds.Stepper ∷ kinds.Trig ∷ kinds.Inar ∷ kinds.InFeedback ∷ kinds.Inkr ∷ kinds.Outar ∷
+    kinds.ReplaceOut ∷ kinds.Outkr ∷ kinds.PlayBuf ∷ kinds.RecordBuf ∷ kinds.BufRd ∷ kinds.BufWr ∷ kinds.BufFrames ∷
+    kinds.SendTrig ∷ kinds.DetectSilence ∷ kinds.FreeSelf ∷ kinds.PauseSelf ∷ []
 
 -- the kind of this name
 unfoldable pub kind_named : List ℕ → Option Kind

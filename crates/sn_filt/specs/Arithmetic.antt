@@ -8,6 +8,8 @@ use Rattle.sn_def.specs.declared.kind.Kind.{Kind}
 use Rattle.sn_def.specs.declared.kind.Kind.TheVariants as kinds
 use Rattle.sn_def.specs.declared.table.Family.TheVariants as families
 use Rattle.sn_def.specs.Facts.{is_of}
+use Rattle.sn_filt.specs.Ratios.{div, mod_of}
+use Rattle.sn_filt.specs.Powers.{exp2, log2}
 
 -- Add a b, Sub a b, Mul a b
 abbrev pub add : List (List ℤ) → ℕ → ℤ
@@ -80,4 +82,8 @@ arithmetic kinds.Clip inputs = table (clip inputs) block_frames ∷ []
 arithmetic kinds.Gt inputs = table (gt inputs) block_frames ∷ []
 arithmetic kinds.Lt inputs = table (lt inputs) block_frames ∷ []
 arithmetic kinds.Pan2 inputs = table (pan_left inputs) block_frames ∷ table (pan_right inputs) block_frames ∷ []
+arithmetic kinds.Div inputs = table (div inputs) block_frames ∷ []
+arithmetic kinds.Mod inputs = table (mod_of inputs) block_frames ∷ []
+arithmetic kinds.Exp2 inputs = table (exp2 inputs) block_frames ∷ []
+arithmetic kinds.Log2 inputs = table (log2 inputs) block_frames ∷ []
 arithmetic _ inputs = []

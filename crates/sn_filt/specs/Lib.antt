@@ -1,8 +1,15 @@
+pub mod Ratios
+pub mod Powers
 pub mod Arithmetic
 pub mod Lanes
 pub mod Poles
+pub mod Seconds
+pub mod Followers
+pub mod Pulses
 pub mod Sections
+pub mod StateVariable
 pub mod Held
 pub mod Rings
 pub mod Histories
 pub mod Filters
+pub mod Products

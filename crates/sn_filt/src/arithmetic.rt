@@ -3,48 +3,22 @@ ghost use Rattle.std.specs.Prelude.{◌≡◌, ◌≤◌, true, length};
 ghost use Rattle.sn_def.specs.Units.{row_of};
 ghost use Rattle.sn_filt.specs.Arithmetic.{is_arithmetic, arithmetic};
 
+use crate::blockwise::{
+    push_differences, push_negatives, push_product_sums, push_products, push_sums,
+};
+use crate::frames::push_frames;
 use crate::lanes::{
     Lanes, Lanewise, differences, equal, greatest, least, leftness, nearest, products, push_lanes,
     rightness, samples_at, scaled, scaled_products, sums, where_greater,
 };
+use crate::powers::{Exp2, Log2};
+use crate::ratios::{Div, Mod};
 use sn_def::Kind;
 use sn_mem::Blocks;
 
-/// Add a b
-#[derive(Clone, Copy)]
-struct Add;
-
-impl Lanewise for Add {
-    ghost use Rattle.sn_filt.specs.Arithmetic.{add};
-
-    ghost arity = { λ _. 2 };
-
-    ghost value = { λ _. add };
-
-    fn lanes(&self, inputs: &Blocks, frame: usize) -> Lanes {
-        nearest(sums(samples_at(inputs, 0, frame), samples_at(inputs, 1, frame)))
-    }
-}
-
-/// Sub a b
-#[derive(Clone, Copy)]
-struct Sub;
-
-impl Lanewise for Sub {
-    ghost use Rattle.sn_filt.specs.Arithmetic.{sub};
-
-    ghost arity = { λ _. 2 };
-
-    ghost value = { λ _. sub };
-
-    fn lanes(&self, inputs: &Blocks, frame: usize) -> Lanes {
-        nearest(differences(samples_at(inputs, 0, frame), samples_at(inputs, 1, frame)))
-    }
-}
-
 /// Mul a b
 #[derive(Clone, Copy)]
-struct Mul;
+pub(crate) struct Mul;
 
 impl Lanewise for Mul {
     ghost use Rattle.sn_filt.specs.Arithmetic.{mul};
@@ -60,7 +34,7 @@ impl Lanewise for Mul {
 
 /// MulAdd x m a
 #[derive(Clone, Copy)]
-struct MulAdd;
+pub(crate) struct MulAdd;
 
 impl Lanewise for MulAdd {
     ghost use Rattle.sn_filt.specs.Arithmetic.{mul_add};
@@ -72,22 +46,6 @@ impl Lanewise for MulAdd {
     fn lanes(&self, inputs: &Blocks, frame: usize) -> Lanes {
         let products = scaled(products(samples_at(inputs, 0, frame), samples_at(inputs, 1, frame)));
         nearest(sums(products, samples_at(inputs, 2, frame)))
-    }
-}
-
-/// Neg x
-#[derive(Clone, Copy)]
-struct Neg;
-
-impl Lanewise for Neg {
-    ghost use Rattle.sn_filt.specs.Arithmetic.{neg};
-
-    ghost arity = { λ _. 1 };
-
-    ghost value = { λ _. neg };
-
-    fn lanes(&self, inputs: &Blocks, frame: usize) -> Lanes {
-        nearest(differences(equal(0), samples_at(inputs, 0, frame)))
     }
 }
 
@@ -234,11 +192,11 @@ pub(crate) fn run_arithmetic(kind: Kind, inputs: &Blocks, outputs: &mut Blocks)
 {
     outputs.clear();
     match kind {
-        Kind::Add => push_lanes(&Add, inputs, outputs),
-        Kind::Sub => push_lanes(&Sub, inputs, outputs),
-        Kind::Mul => push_lanes(&Mul, inputs, outputs),
-        Kind::MulAdd => push_lanes(&MulAdd, inputs, outputs),
-        Kind::Neg => push_lanes(&Neg, inputs, outputs),
+        Kind::Add => push_sums(inputs, outputs),
+        Kind::Sub => push_differences(inputs, outputs),
+        Kind::Mul => push_products(inputs, outputs),
+        Kind::MulAdd => push_product_sums(inputs, outputs),
+        Kind::Neg => push_negatives(inputs, outputs),
         Kind::Abs => push_lanes(&Abs, inputs, outputs),
         Kind::Min => push_lanes(&Min, inputs, outputs),
         Kind::Max => push_lanes(&Max, inputs, outputs),
@@ -249,6 +207,10 @@ pub(crate) fn run_arithmetic(kind: Kind, inputs: &Blocks, outputs: &mut Blocks)
             push_lanes(&PanLeft, inputs, outputs);
             push_lanes(&PanRight, inputs, outputs);
         }
+        Kind::Div => push_frames(&Div, inputs, outputs),
+        Kind::Mod => push_frames(&Mod, inputs, outputs),
+        Kind::Exp2 => push_frames(&Exp2, inputs, outputs),
+        Kind::Log2 => push_frames(&Log2, inputs, outputs),
         _ => {}
     }
 }

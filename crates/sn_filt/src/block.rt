@@ -8,10 +8,14 @@ ghost use Rattle.sn_filt.specs.Filters.{is_filter, filter};
 ghost use Rattle.sn_filt.specs.Rings.{most_frames};
 
 use crate::arithmetic::run_arithmetic;
+use crate::followers::LagUD;
 use crate::held::{Gate, Latch, PulseCount, Stepper};
-use crate::poles::{Delay1, Integrator, Lag, OnePole};
+use crate::poles::{Delay1, Integrator, Lag};
+use crate::pulses::Trig;
 use crate::rings::{run_comb_n, run_delay_n};
 use crate::sections::SOS;
+use crate::state_variable::run_svf;
+use crate::steady::run_one_pole;
 use sn_def::{Kind, Now};
 use sn_fixed::TimeFrames;
 use sn_mem::{Blocks, Extent, Port, run_recurrence};
@@ -42,7 +46,7 @@ pub fn run<P: Port>(
     let rate = now.rate;
     let at = state.at;
     match kind {
-        Kind::OnePole => run_recurrence(&OnePole, port, at, inputs, outputs),
+        Kind::OnePole => run_one_pole(port, at, inputs, outputs),
         Kind::Lag => {
             let frames = TimeFrames::new(rate);
             run_recurrence(&Lag { frames }, port, at, inputs, outputs);
@@ -52,10 +56,13 @@ pub fn run<P: Port>(
         Kind::DelayN => run_delay_n(rate, port, state, inputs, outputs),
         Kind::CombN => run_comb_n(rate, port, state, inputs, outputs),
         Kind::SOS => run_recurrence(&SOS, port, at, inputs, outputs),
+        Kind::SVF => run_svf(rate, port, at, inputs, outputs),
         Kind::Latch => run_recurrence(&Latch, port, at, inputs, outputs),
         Kind::Gate => run_recurrence(&Gate, port, at, inputs, outputs),
         Kind::PulseCount => run_recurrence(&PulseCount, port, at, inputs, outputs),
         Kind::Stepper => run_recurrence(&Stepper, port, at, inputs, outputs),
+        Kind::LagUD => run_recurrence(&LagUD, port, at, inputs, outputs),
+        Kind::Trig => run_recurrence(&Trig { rate }, port, at, inputs, outputs),
         _ => run_arithmetic(kind, inputs, outputs),
     }
 }

@@ -3,12 +3,21 @@
 
 mod arithmetic;
 mod block;
+mod blockwise;
+mod followers;
+mod frames;
 mod held;
 mod lanes;
 mod laws;
 mod poles;
+mod powers;
+mod pulses;
+mod ratios;
 mod rings;
+mod seconds;
 mod sections;
+mod state_variable;
+mod steady;
 
 pub use block::run;
-pub use laws::{delayed_input, delayed_sum};
+pub use laws::{delayed_input, delayed_sum, highest_digit};

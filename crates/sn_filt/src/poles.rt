@@ -15,7 +15,7 @@ pub(crate) fn clipped(x: i32) -> i32
 }
 
 /// What `c` leaves of 1.0.
-fn rest(c: i32) -> i32
+pub(crate) fn rest(c: i32) -> i32
     requires low { negsuc 16777215 ≤ℤ c }
     requires high { c ≤ℤ pos 16777216 }
     ensures value { result ≡ pos 16777216 -ℤ pos (unsigned_abs c) }
@@ -26,7 +26,7 @@ fn rest(c: i32) -> i32
 
 /// The exact product of a weight of at most 1.0 and a sample.
 #[tactic(auto, using(crate::proofs::Shares::share_small))]
-fn share(weight: i32, x: i32) -> i64
+pub(crate) fn share(weight: i32, x: i32) -> i64
     requires { unsigned_abs weight ≤ 2 ^ 24 }
     ensures value { result ≡ weight *ℤ x }
     ensures bound { unsigned_abs result ≤ 2 ^ 55 }

@@ -30,12 +30,3 @@ guessed n d g some le lt = ⊎_elim
     (λ (k : g ≤ n / d). omega arith)
     (cases_lt (n / d) g))
     (cases_lt g (n / d))
-
--- the second half of the half wave is the first, backwards
-pub mirrored : (h : ℕ) → h ≤ 65536 → height (65536 - h) ≡ height h
-mirrored h le =
-    let k : ℕ = 65536 - h in
-    let e : 65536 - k ≡ h = omega arith in
-    let f : k * (65536 - k) ≡ k * h = ap (λ n. k * n) e in
-    let b : k * (65536 - k) ≡ h * (65536 - h) = omega arith in
-    ap (λ q. 16 * q * 16777216 / (5 * 4294967296 - 4 * q)) b

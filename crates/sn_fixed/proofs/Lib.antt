@@ -1,3 +1,4 @@
+pub mod ArcBounds
 pub mod Digits
 pub mod HalfWave
 pub mod LiteralBytes

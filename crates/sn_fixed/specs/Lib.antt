@@ -1,3 +1,4 @@
+pub mod Arcs
 pub mod Divisions
 pub mod Fixed
 pub mod Heights

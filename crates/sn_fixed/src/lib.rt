@@ -1,6 +1,7 @@
 //! Samples in Q8.24: arithmetic, phases, times and literals.
 #![tactic(auto)]
 
+mod arcs;
 mod arithmetic;
 mod division;
 mod durations;
@@ -14,6 +15,7 @@ mod ranges;
 mod slopes;
 mod triggers;
 
+pub use arcs::{arc, wave};
 pub use arithmetic::{
     ONE, add, added, mul, mul_add, products, sat, sat_wide, scaled, scaled_sample, sub, times,
     total, weighted,

@@ -33,13 +33,13 @@ within rate ins d f n a e some fits =
 ended_before : (d : ℕ) → d ≢ 0 → ended d ≡ d
 ended_before d ne = ap (λ b. cond b 1 d) (ne_eqb d 0 ne)
 
-ended_twice : (d : ℕ) → ended (ended d) ≡ ended d
+pub ended_twice : (d : ℕ) → ended (ended d) ≡ ended d
 ended_twice d = ⊎_elim
     (λ (e : d ≡ 0). subst (λ n. ended (ended n) ≡ ended n) (sym e) refl)
     (λ (ne : d ≢ 0). ap ended (ended_before d ne))
     (cases_eq d 0)
 
-equal_samples : (y : ℤ) (k : ℕ) → table (λ _. y) k ≡ replicate k y
+pub equal_samples : (y : ℤ) (k : ℕ) → table (λ _. y) k ≡ replicate k y
 unfolding table
 equal_samples y zero = refl
 equal_samples y (suc k) =

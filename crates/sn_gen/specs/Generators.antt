@@ -10,6 +10,8 @@ use Rattle.sn_def.specs.Histories.{one_output}
 use Rattle.sn_mem.specs.Blocks.{recurrence}
 use Rattle.sn_gen.specs.Phases.{phase_in, phase_words}
 use Rattle.sn_gen.specs.Oscillators.{sin_osc, lf_saw, lf_pulse, lf_tri}
+use Rattle.sn_gen.specs.Rounded.{saw_unit}
+use Rattle.sn_gen.specs.Sine.{sine}
 use Rattle.sn_gen.specs.Noise.{draws_in, draws_words, seed, white_noise}
 use Rattle.sn_gen.specs.Impulse.{beat_in, beat_words, impulse}
 use Rattle.sn_gen.specs.Phasor.{ramp_in, ramp_words, phasor}
@@ -25,6 +27,7 @@ oscillator step state inputs = one_output (recurrence phase_in phase_words step 
 
 unfoldable pub generator : Kind → Now → List ℕ → List (List ℤ) → List ℕ × List (List ℤ)
 generator kinds.SinOsc now state inputs = oscillator (sin_osc now.rate) state inputs
+generator kinds.Sine now state inputs = oscillator (sine now.rate) state inputs
 generator kinds.LFSaw now state inputs = oscillator (lf_saw now.rate) state inputs
 generator kinds.LFPulse now state inputs = oscillator (lf_pulse now.rate) state inputs
 generator kinds.LFTri now state inputs = oscillator (lf_tri now.rate) state inputs
@@ -33,4 +36,5 @@ generator kinds.WhiteNoise now state inputs = one_output (recurrence draws_in dr
 generator kinds.Phasor now state inputs = one_output (recurrence ramp_in ramp_words phasor state inputs)
 generator kinds.Line now state inputs = one_output (recurrence sweep_in sweep_words (line now.rate) state inputs)
 generator kinds.Linen now state inputs = one_output (recurrence envelope_in envelope_words (linen now.rate) state inputs)
+generator kinds.Saw now state inputs = oscillator (saw_unit now.rate) state inputs
 generator _ now state inputs = (state, [])

@@ -1,9 +1,14 @@
 pub mod Phases
 pub mod Oscillators
+pub mod Waves
+pub mod Sine
+pub mod Rounded
 pub mod Noise
 pub mod Impulse
 pub mod Phasor
 pub mod Line
+pub mod Points
 pub mod Linen
+pub mod Resting
 pub mod Generators
 pub mod LineHistories

@@ -8,13 +8,16 @@ ghost use Rattle.sn_gen.specs.Generators.{is_generator, generator};
 
 use crate::impulse::Impulse;
 use crate::line::run_line;
-use crate::linen::Linen;
+use crate::linen::run_linen;
 use crate::noise::{WhiteNoise, seed};
-use crate::oscillators::{LFPulse, LFSaw, LFTri, SinOsc};
+use crate::oscillators::{LFPulse, SawWave, SineWave, TriangleWave};
 use crate::phases::PhaseStep;
 use crate::phasor::Phasor;
+use crate::rounded::Saw;
+use crate::sine::Sine;
+use crate::waves::{Oscillator, run_wave};
 use sn_def::{Kind, Now};
-use sn_fixed::{Heights, Slope};
+use sn_fixed::Heights;
 use sn_mem::{Blocks, Extent, Port, run_recurrence};
 
 /// Runs a generator for a block of 64 frames, with its state in the words of `state`. Sines are taken from `heights`.
@@ -44,15 +47,37 @@ pub fn run<P: Port>(
     let phase_step = PhaseStep::new(rate);
     match kind {
         Kind::SinOsc => {
-            let unit = SinOsc {
-                phase_step,
-                heights,
-            };
-            run_recurrence(&unit, port, state.at, inputs, outputs);
+            let wave = SineWave { heights };
+            run_wave(
+                &Oscillator { phase_step, wave },
+                port,
+                state.at,
+                inputs,
+                outputs,
+            );
         }
-        Kind::LFSaw => run_recurrence(&LFSaw { phase_step }, port, state.at, inputs, outputs),
+        Kind::LFSaw => {
+            let wave = SawWave;
+            run_wave(
+                &Oscillator { phase_step, wave },
+                port,
+                state.at,
+                inputs,
+                outputs,
+            );
+        }
+        Kind::Sine => run_recurrence(&Sine { phase_step }, port, state.at, inputs, outputs),
         Kind::LFPulse => run_recurrence(&LFPulse { phase_step }, port, state.at, inputs, outputs),
-        Kind::LFTri => run_recurrence(&LFTri { phase_step }, port, state.at, inputs, outputs),
+        Kind::LFTri => {
+            let wave = TriangleWave;
+            run_wave(
+                &Oscillator { phase_step, wave },
+                port,
+                state.at,
+                inputs,
+                outputs,
+            );
+        }
         Kind::Impulse => run_recurrence(&Impulse { phase_step }, port, state.at, inputs, outputs),
         Kind::WhiteNoise => {
             let first = seed(now);
@@ -60,10 +85,8 @@ pub fn run<P: Port>(
         }
         Kind::Phasor => run_recurrence(&Phasor, port, state.at, inputs, outputs),
         Kind::Line => run_line(rate, port, state.at, inputs, outputs),
-        Kind::Linen => {
-            let slope = Slope::new();
-            run_recurrence(&Linen { rate, slope }, port, state.at, inputs, outputs);
-        }
+        Kind::Linen => run_linen(rate, port, state.at, inputs, outputs),
+        Kind::Saw => run_recurrence(&Saw { phase_step }, port, state.at, inputs, outputs),
         _ => {}
     }
 }

@@ -11,6 +11,9 @@ mod noise;
 mod oscillators;
 mod phases;
 mod phasor;
+mod rounded;
+mod sine;
+mod waves;
 
 pub use block::run;
 pub use laws::{ends_are_unseen, line_is_straight};

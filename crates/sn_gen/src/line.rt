@@ -5,16 +5,13 @@ ghost use Rattle.sn_mem.specs.Words.{MayWrite, SameButWords};
 ghost use Rattle.sn_mem.specs.Blocks.{recurred, scan};
 ghost use Rattle.sn_gen.specs.Line.{begun, swept, line, sweep_in, sweep_words};
 
-use crate::course::run_course;
+use crate::course::{FRAMES, run_course};
 use sn_fixed::{Slope, frames_of};
 use sn_mem::{
     Blocks, Port, Recurrence, Stored, ended, load_words, run_recurrence, sample_of, store_words,
     word_of,
 };
 use sn_ports::limits::BLOCK_FRAMES;
-
-/// The frames of a block.
-const FRAMES: u32 = BLOCK_FRAMES as u32;
 
 /// How far a line is.
 #[derive(Clone, Copy)]

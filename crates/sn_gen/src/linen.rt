@@ -1,10 +1,20 @@
 //! Envelopes that a gate opens and releases.
-ghost use Rattle.std.specs.Prelude.{◌≡◌, ◌<◌, ◌≤◌, length};
+ghost use Rattle.std.specs.Prelude.{◌≡◌, ◌<◌, ◌≤◌, ◌+◌, ◌∷◌, [], true, ℕ, ℤ, List, IfSome, length};
 ghost use Rattle.sn_ports.specs.Limits.{block_frames};
-ghost use Rattle.sn_gen.specs.Linen.{segment_in, segment_word, gated, height, done_at, passed};
+ghost use Rattle.sn_gen.specs.Linen.{segment_in, segment_word, gated, height, done_at, passed, envelope_in, envelope_words, linen};
+ghost use Rattle.sn_mem.specs.Words.{MayWrite, SameButWords};
+ghost use Rattle.sn_mem.specs.Blocks.{recurred, scan};
+ghost use Rattle.sn_gen.specs.declared.linen.Segment.TheVariants.{Open};
+ghost use Rattle.sn_gen.specs.Resting.{Leaves};
 
+use crate::course::{FRAMES, run_course};
+use crate::line::Sweep;
 use sn_fixed::{Slope, frames_of};
-use sn_mem::{Blocks, Recurrence, Stored, ended, sample_of, word_of};
+use sn_mem::{
+    Blocks, Port, Recurrence, Stored, ended, load_words, run_recurrence, sample_of, store_words,
+    word_of,
+};
+use sn_ports::limits::BLOCK_FRAMES;
 
 /// Where an envelope is.
 #[derive(Clone, Copy)]
@@ -122,6 +132,8 @@ fn gated(rate: u32, envelope: Envelope, inputs: &Blocks, frame: usize) -> Envelo
     }
 }
 
+/// The sample at a frame. It is inlined, so that a loop keeps the slope in registers.
+#[inline(always)]
 fn height(slope: &mut Slope, envelope: Envelope) -> i32
     ensures { result ≡ height envelope }
 {
@@ -187,5 +199,118 @@ impl Recurrence for Linen {
         let envelope = gated(self.rate, envelope, inputs, frame);
         let sample = height(&mut self.slope, envelope);
         (passed(envelope, sample), sample)
+    }
+}
+
+/// Whether the gate is known to leave a segment as it is through a block.
+fn leaves(segment: Segment, inputs: &Blocks) -> bool
+    requires { 1 ≤ length inputs.now }
+    ensures { result ≡ true → Leaves segment inputs.now }
+{
+    match (segment, inputs.same(0)) {
+        (Segment::Released, _) => true,
+        (Segment::Open, Some(gate)) => gate > 0,
+        (Segment::Waiting, Some(gate)) => gate <= 0,
+        _ => false,
+    }
+}
+
+/// A block after the segment's last frame, if the gate leaves the segment as it is. Returns the envelope after it.
+fn rested(envelope: Envelope, outputs: &mut Blocks) -> Envelope
+    requires { envelope.frames ≤ envelope.frame }
+    ensures envelope { (rate : ℕ) (inputs : List (List ℤ)) → Leaves envelope.segment inputs → result ≡ (scan (linen rate) envelope inputs block_frames).0 }
+    ensures outputs { (rate : ℕ) (inputs : List (List ℤ)) → Leaves envelope.segment inputs → outputs.new ≡ (scan (linen rate) envelope inputs block_frames).1 ∷ [] }
+{
+    let sample = height(&mut Slope::new(), envelope);
+    outputs.clear();
+    outputs.push_equal(sample);
+    Envelope {
+        done: done_at(envelope),
+        last: sample,
+        ..envelope
+    }
+}
+
+/// A block of an attack that goes on after it, if the gate stays open. Returns the envelope after it.
+fn risen(envelope: Envelope, outputs: &mut Blocks) -> Envelope
+    requires open { envelope.segment ≡ Open }
+    requires within { envelope.frame + block_frames ≤ envelope.frames }
+    ensures envelope { (rate : ℕ) (inputs : List (List ℤ)) → Leaves envelope.segment inputs → result ≡ (scan (linen rate) envelope inputs block_frames).0 }
+    ensures outputs { (rate : ℕ) (inputs : List (List ℤ)) → Leaves envelope.segment inputs → outputs.new ≡ (scan (linen rate) envelope inputs block_frames).1 ∷ [] }
+{
+    let attack = Sweep {
+        done: 0,
+        frame: envelope.frame,
+        start: 0,
+        end: envelope.level,
+        frames: envelope.frames,
+    };
+    let mut samples = [0i32; BLOCK_FRAMES];
+    let after = run_course(attack, &mut samples);
+    outputs.clear();
+    outputs.push(&samples);
+    Envelope {
+        frame: after.frame,
+        last: samples[BLOCK_FRAMES - 1],
+        ..envelope
+    }
+}
+
+/// A block in which an attack goes on, or that lies past the segment's last frame, if the gate leaves the segment as it
+/// is. Returns the envelope after it. Returns `None` for any other block, and then puts nothing out.
+fn followed(envelope: Envelope, outputs: &mut Blocks) -> Option<Envelope>
+    ensures envelope { IfSome result (λ after. (rate : ℕ) (inputs : List (List ℤ)) → Leaves envelope.segment inputs → after ≡ (scan (linen rate) envelope inputs block_frames).0) }
+    ensures outputs { IfSome result (λ _. (rate : ℕ) (inputs : List (List ℤ)) → Leaves envelope.segment inputs → outputs.new ≡ (scan (linen rate) envelope inputs block_frames).1 ∷ []) }
+{
+    if envelope.frames <= envelope.frame {
+        return Some(rested(envelope, outputs));
+    }
+    match envelope.segment {
+        Segment::Open if envelope.frames - envelope.frame >= FRAMES => {
+            Some(risen(envelope, outputs))
+        }
+        _ => None,
+    }
+}
+
+/// The same, if the gate is known to leave the segment as it is.
+fn left(envelope: Envelope, inputs: &Blocks, outputs: &mut Blocks) -> Option<Envelope>
+    requires { 1 ≤ length inputs.now }
+    ensures envelope { IfSome result (λ after. (rate : ℕ) → after ≡ (scan (linen rate) envelope inputs.now block_frames).0) }
+    ensures outputs { IfSome result (λ _. (rate : ℕ) → outputs.new ≡ (scan (linen rate) envelope inputs.now block_frames).1 ∷ []) }
+{
+    if leaves(envelope.segment, inputs) {
+        followed(envelope, outputs)
+    } else {
+        None
+    }
+}
+
+/// Runs Linen for a block, as `run_recurrence` does, which runs the blocks in which it begins, falls, or comes to
+/// its level.
+pub(crate) fn run_linen<P: Port>(
+    rate: u32,
+    port: &mut P,
+    at: u32,
+    inputs: &Blocks,
+    outputs: &mut Blocks,
+)
+    requires inputs { 5 ≤ length inputs.now }
+    requires state { MayWrite (P.foot port.old) at 7 }
+    ensures words { P.words port.new ≡ (recurred 7 envelope_in envelope_words (linen rate) (P.words port.old) at inputs.now).0 }
+    ensures outputs { outputs.new ≡ (recurred 7 envelope_in envelope_words (linen rate) (P.words port.old) at inputs.now).1 ∷ [] }
+    ensures port { SameButWords P.foot P.rest port.old port.new }
+{
+    let mut words = [0u64; 7];
+    load_words(port, at, &mut words);
+    match left(Envelope::load(&words), inputs, outputs) {
+        Some(envelope) => {
+            envelope.store(&mut words);
+            store_words(port, at, &words);
+        }
+        None => {
+            let slope = Slope::new();
+            run_recurrence(&Linen { rate, slope }, port, at, inputs, outputs);
+        }
     }
 }

@@ -4,6 +4,7 @@ ghost use Rattle.sn_fixed.specs.Fixed.{floor};
 ghost use Rattle.sn_gen.specs.Oscillators.{saw, pulse, triangle};
 
 use crate::phases::{PhaseStep, moved};
+use crate::waves::Wave;
 use sn_fixed::{Heights, ONE};
 use sn_mem::{Blocks, Recurrence};
 
@@ -29,7 +30,7 @@ fn sixty_fourth(x: i64) -> i32
     requires high { x ≤ℤ pos 2147483647 }
     ensures { result ≡ floor x 64 }
 {
-    x.div_euclid(64) as i32
+    (x as i32).div_euclid(64)
 }
 
 fn triangle(phase: u32) -> i32
@@ -45,52 +46,48 @@ fn triangle(phase: u32) -> i32
     }
 }
 
-/// SinOsc freq phase
+/// The wave of SinOsc freq phase
 #[derive(Clone, Copy)]
-pub(crate) struct SinOsc<'a> {
-    /// The step at the last frequency.
-    pub phase_step: PhaseStep,
+pub(crate) struct SineWave<'a> {
     /// The table from which sines are taken.
     pub heights: &'a Heights,
 }
 
-impl<'a> Recurrence for SinOsc<'a> {
-    ghost use Rattle.sn_gen.specs.Oscillators.{sin_osc};
+impl<'a> Wave for SineWave<'a> {
+    ghost use Rattle.sn_fixed.specs.Sine.{sine};
 
-    type State = u32;
+    ghost shape = { λ _. sine };
 
-    ghost arity = { λ _. 2 };
-
-    ghost step = { λ u. sin_osc u.phase_step.rate };
-
-    fn next(&mut self, phase: u32, inputs: &Blocks, frame: usize) -> (u32, i32) {
-        let q = moved(phase, inputs.at(1, frame));
-        (
-            self.phase_step.grown(phase, inputs.at(0, frame)),
-            self.heights.sine(q),
-        )
+    fn sample(&self, phase: u32) -> i32 {
+        self.heights.sine(phase)
     }
 }
 
-/// LFSaw freq phase
+/// The wave of LFSaw freq phase
 #[derive(Clone, Copy)]
-pub(crate) struct LFSaw {
-    /// The step at the last frequency.
-    pub phase_step: PhaseStep,
+pub(crate) struct SawWave;
+
+impl Wave for SawWave {
+    ghost use Rattle.sn_gen.specs.Oscillators.{saw};
+
+    ghost shape = { λ _. saw };
+
+    fn sample(&self, phase: u32) -> i32 {
+        saw(phase)
+    }
 }
 
-impl Recurrence for LFSaw {
-    ghost use Rattle.sn_gen.specs.Oscillators.{lf_saw};
+/// The wave of LFTri freq phase
+#[derive(Clone, Copy)]
+pub(crate) struct TriangleWave;
 
-    type State = u32;
+impl Wave for TriangleWave {
+    ghost use Rattle.sn_gen.specs.Oscillators.{triangle};
 
-    ghost arity = { λ _. 2 };
+    ghost shape = { λ _. triangle };
 
-    ghost step = { λ u. lf_saw u.phase_step.rate };
-
-    fn next(&mut self, phase: u32, inputs: &Blocks, frame: usize) -> (u32, i32) {
-        let q = moved(phase, inputs.at(1, frame));
-        (self.phase_step.grown(phase, inputs.at(0, frame)), saw(q))
+    fn sample(&self, phase: u32) -> i32 {
+        triangle(phase)
     }
 }
 
@@ -115,31 +112,6 @@ impl Recurrence for LFPulse {
         (
             self.phase_step.grown(phase, inputs.at(0, frame)),
             pulse(q, inputs.at(2, frame)),
-        )
-    }
-}
-
-/// LFTri freq phase
-#[derive(Clone, Copy)]
-pub(crate) struct LFTri {
-    /// The step at the last frequency.
-    pub phase_step: PhaseStep,
-}
-
-impl Recurrence for LFTri {
-    ghost use Rattle.sn_gen.specs.Oscillators.{lf_tri};
-
-    type State = u32;
-
-    ghost arity = { λ _. 2 };
-
-    ghost step = { λ u. lf_tri u.phase_step.rate };
-
-    fn next(&mut self, phase: u32, inputs: &Blocks, frame: usize) -> (u32, i32) {
-        let q = moved(phase, inputs.at(1, frame));
-        (
-            self.phase_step.grown(phase, inputs.at(0, frame)),
-            triangle(q),
         )
     }
 }

@@ -50,6 +50,21 @@ impl Ids {
         }
     }
 
+    /// The key under an id, as `get` gives it. The place `near` is looked at first, and then becomes the place after the
+    /// pair that was found: so ids that are asked for as they rise are found without a search. Whatever `near` is, the
+    /// key is the same.
+    pub fn get_near(&self, id: i32, near: &mut usize) -> Option<u32>
+        ensures { result ≡ key_for id self.now.pairs }
+    {
+        match self.search_near(id, *near) {
+            Ok(at) => {
+                *near = at + 1;
+                Some(self.pairs[at].1)
+            }
+            Err(_) => None,
+        }
+    }
+
     /// Makes room for so many more pairs.
     pub fn reserve(&mut self, additional: usize) -> Result<(), AllocError>
         ensures pairs { self.new.pairs ≡ self.old.pairs }
@@ -88,6 +103,17 @@ impl Ids {
             }
             Err(_) => {}
         }
+    }
+
+    // Where the pair of an id is, or where it would go. The place `near` is looked at first.
+    fn search_near(&self, id: i32, near: usize) -> Result<usize, usize>
+        ensures found { IfOk result (IsAt self.now.pairs id) }
+        ensures absent { IfErr result (IsGapFor self.now.pairs id) }
+    {
+        if near < self.pairs.len() && self.pairs[near].0 == id {
+            return Ok(near);
+        }
+        self.search(id)
     }
 
     // Where the pair of an id is, or where it would go.

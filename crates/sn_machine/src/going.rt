@@ -1,5 +1,5 @@
 //! Whether jobs, a script and words are such that a round of them may begin.
-ghost use Rattle.std.specs.Prelude.{◌≡◌, ◌<◌, ◌≤◌, ◌+◌, ℕ, true, IsTrue, length, slice_index};
+ghost use Rattle.std.specs.Prelude.{◌≡◌, ◌<◌, ◌≤◌, ◌+◌, ℕ, true, IsTrue, IfOk, false, length, slice_index, slice_index_or};
 ghost use Rattle.std.specs.List.{list_all};
 ghost use Rattle.sn_mem.specs.Words.{Clash, touches};
 ghost use Rattle.sn_round.specs.Jobs.{AreWithin, IsRaceFree, Ordered, foot_at, predecessors};
@@ -9,11 +9,15 @@ ghost use Rattle.sn_machine.specs.Calls.{ends_below};
 use crate::feet::agree_outside;
 use crate::lists::{Script, Words};
 use sn_mem::{Extent, Foot, clash};
+use sn_ports::NoMemory;
 use sn_round::Plan;
+use std::alloc::Global;
 
-/// Whether a job is ordered before another. It is before no lower one, so a lower predecessor is passed over.
-fn is_ordered(plan: &Plan, first: u32, second: u32) -> bool
-    requires { second < length plan.now }
+/// Whether a job is ordered before another. `later` says it of the jobs between the two.
+fn is_ordered(plan: &Plan, first: u32, second: u32, later: &[bool]) -> bool
+    requires second { second < length plan.now }
+    requires long { length later.now ≡ length plan.now }
+    requires between { (j : ℕ) → first < j → j < second → slice_index_or later.now j false ≡ true → Ordered plan.now first j }
     ensures { IsTrue result → Ordered plan.now first second }
 {
     plan.is_well_formed();
@@ -21,24 +25,25 @@ fn is_ordered(plan: &Plan, first: u32, second: u32) -> bool
         if *before == first {
             return true;
         }
-        if *before < first {
-            continue;
-        }
-        if is_ordered(plan, first, *before) {
+        if *before > first && later[*before as usize] {
             return true;
         }
     }
     false
 }
 
-/// Whether a job is ordered before each later one with which it clashes.
-fn comes_first(plan: &Plan, first: u32) -> bool
-    requires { first < length plan.now }
-    ensures { IsTrue result → (j : ℕ) → first < j → j < length plan.now → Clash (foot_at plan.now first) (foot_at plan.now j) → Ordered plan.now first j }
+/// Whether a job is ordered before each later one with which it clashes. What `later` holds for those jobs is replaced.
+fn comes_first(plan: &Plan, first: u32, later: &mut [bool]) -> bool
+    requires first { first < length plan.now }
+    requires long { length later.old ≡ length plan.now }
+    ensures long { length later.new ≡ length later.old }
+    ensures ordered { IsTrue result → (j : ℕ) → first < j → j < length plan.now → Clash (foot_at plan.now first) (foot_at plan.now j) → Ordered plan.now first j }
 {
     plan.is_well_formed();
     for second in first + 1..plan.jobs() {
-        if clash(plan.foot(first), plan.foot(second)) && !is_ordered(plan, first, second) {
+        let ordered = is_ordered(plan, first, second, later);
+        later[second as usize] = ordered;
+        if !ordered && clash(plan.foot(first), plan.foot(second)) {
             return false;
         }
     }
@@ -47,16 +52,17 @@ fn comes_first(plan: &Plan, first: u32) -> bool
 
 /// Whether of each two jobs that clash the lower is ordered before the higher.
 ///
-/// It looks at each pair of jobs, and for those that clash it may follow each path from one to the other.
-pub fn is_race_free(plan: &Plan) -> bool
-    ensures { IsTrue result → IsRaceFree plan.now }
+/// It looks at each pair of jobs, and for each job at each predecessor of those after it, with a flag a job as memory.
+pub fn is_race_free(alloc: Global, plan: &Plan) -> Result<bool, NoMemory>
+    ensures { IfOk result (λ free. IsTrue free → IsRaceFree plan.now) }
 {
+    let mut later = vec![in alloc; false; plan.jobs() as usize]?;
     for first in 0..plan.jobs() {
-        if !comes_first(plan, first) {
-            return false;
+        if !comes_first(plan, first, &mut later) {
+            return Ok(false);
         }
     }
-    true
+    Ok(true)
 }
 
 fn end_below(extents: &[Extent], size: u64) -> bool

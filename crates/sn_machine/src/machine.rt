@@ -91,7 +91,7 @@ impl Machine {
     pub fn go(&mut self, alloc: Global, plan: Plan, script: Script) -> Result<bool, NoMemory>
         ensures { IfOk result (λ done. Takes (state_of self.old) 0 (λ m. CanGo m plan script) (λ m. after_go (state_of self.old) m plan script) done (state_of self.new)) }
     {
-        if self.views.is_empty() || !self.views[0].may_go(&plan, &script) {
+        if self.views.is_empty() || !self.views[0].may_go(alloc, &plan, &script)? {
             return Ok(false);
         }
         let main = &mut self.views[0];

@@ -1,6 +1,6 @@
 //! The steps of main, on its view: whether each is allowed, and the view after it.
 ghost use Rattle.std.specs.Prelude.{◌≡◌, ◌<◌, ◌^◌, ◌-◌, ℕ, [], Contains, IsTrue, IfOk, OnOk, length};
-ghost use Rattle.sn_round.specs.Jobs.{AreJobs};
+ghost use Rattle.sn_round.specs.Jobs.{AreJobs, IsRaceFree};
 ghost use Rattle.sn_machine.specs.States.{IsIdle, no_main, no_worker, spent, jobs_in, script_in, counts_in, crew_in};
 ghost use Rattle.sn_machine.specs.Steps.{set_memory, set_count, CanGo, go_view, CanRest, ended_front, rested_view, CanSplit, split_main, split_worker};
 ghost use Rattle.sn_machine.specs.Calls.{set_memory_in, set_count_in, learned};
@@ -171,9 +171,9 @@ impl View {
             && self.main.phase.crew() < u64::MAX
     }
 
-    /// Whether main may begin a round of these jobs with this script.
-    pub fn may_go(&self, plan: &Plan, script: &Script) -> bool
-        ensures { IsTrue result → CanGo self.now plan.now script.now }
+    /// Whether no round runs, and these jobs and this script are those of a round over what main knows.
+    fn fits(&self, plan: &Plan, script: &Script) -> bool
+        ensures { IsTrue result → IsRaceFree plan.now → CanGo self.now plan.now script.now }
     {
         let Phase::Idle(memory, counts) = &self.main.phase else {
             return false;
@@ -184,7 +184,16 @@ impl View {
             && is_script(plan, memory.as_slice().len(), script)
             && script.list(0) == memory.as_slice()
             && are_armed(plan, counts)
-            && is_race_free(plan)
+    }
+
+    /// Whether main may begin a round of these jobs with this script.
+    pub fn may_go(&self, alloc: Global, plan: &Plan, script: &Script) -> Result<bool, NoMemory>
+        ensures { IfOk result (λ may. IsTrue may → CanGo self.now plan.now script.now) }
+    {
+        if !self.fits(plan, script) {
+            return Ok(false);
+        }
+        is_race_free(alloc, plan)
     }
 
     /// Whether main may rest.

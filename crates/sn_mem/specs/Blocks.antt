@@ -1,5 +1,5 @@
 -- Blocks of samples, and runs of words.
-use Rattle.std.specs.Prelude.{◌≡◌, ◌<◌, ℕ, zero, suc, ◌+◌, ◌%◌, List, [], ◌∷◌, ◌++◌, ℤ, pos, slice_index, slice_index_or, slice_set}
+use Rattle.std.specs.Prelude.{◌≡◌, ◌<◌, ℕ, zero, suc, ◌+◌, ◌%◌, List, [], ◌∷◌, ◌++◌, ℤ, pos, Bool, true, false, replicate, slice_index, slice_index_or, slice_set}
 use Rattle.std.specs.List.{All}
 use Rattle.std.specs.Int.{w32, cast_signed, cast_unsigned}
 use Rattle.sn_ports.specs.Limits.{block_frames}
@@ -17,6 +17,10 @@ IsSteady xs = (k : ℕ) → k < block_frames → slice_index_or xs k (pos 0) ≡
 
 abbrev pub AreSteady : List (List ℤ) → Type 0
 AreSteady bs = All IsSteady bs
+
+-- each block with a mark has equal samples
+abbrev pub AreMarked : List Bool → List (List ℤ) → Type 0
+AreMarked marks bs = (i : ℕ) → slice_index_or marks i false ≡ true → block bs i ≡ replicate block_frames (sample bs i 0)
 
 -- a sample lies in the low 32 bits of its word
 abbrev pub word_for : ℤ → ℕ

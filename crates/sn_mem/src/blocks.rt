@@ -1,7 +1,7 @@
 //! Blocks of samples.
-ghost use Rattle.std.specs.Prelude.{◌≡◌, ◌<◌, ◌≤◌, ◌+◌, ◌++◌, ◌∷◌, [], IfOk, length, replicate};
+ghost use Rattle.std.specs.Prelude.{◌≡◌, ◌<◌, ◌≤◌, ◌+◌, ◌++◌, ◌∷◌, [], true, IfOk, IfSome, length, replicate};
 ghost use Rattle.sn_ports.specs.Limits.{block_frames, most_wires};
-ghost use Rattle.sn_mem.specs.Blocks.{sample, block};
+ghost use Rattle.sn_mem.specs.Blocks.{sample, block, AreSteady};
 
 use sn_ports::NoMemory;
 use sn_ports::limits::{BLOCK_FRAMES, MOST_WIRES};
@@ -15,6 +15,8 @@ pub type Block = [i32; BLOCK_FRAMES];
 #[derive(Drop)]
 pub struct Blocks {
     items: Vec<Block>,
+    // Whether the block of the same number is known to be of equal samples.
+    marks: Vec<bool>,
     used: usize,
     // Whether each block is known to be of equal samples. It holds nothing that a clause sees.
     steady: bool,
@@ -23,13 +25,13 @@ pub struct Blocks {
 impl Model for Blocks {
     ghost use Rattle.std.specs.Prelude.{List, ℤ, take, true, ◌≡◌, ◌≤◌, vec_len};
     ghost use Rattle.sn_ports.specs.Limits.{most_wires};
-    ghost use Rattle.sn_mem.specs.Blocks.{AreSteady};
+    ghost use Rattle.sn_mem.specs.Blocks.{AreSteady, AreMarked};
 
     ghost Value = { List (List ℤ) };
 
     ghost view = { λ b. take b.used b.items.items };
 
-    ghost invariant = { λ b. (vec_len b.items ≡ most_wires) × (b.used ≤ most_wires) × (b.steady ≡ true → AreSteady (take b.used b.items.items)) };
+    ghost invariant = { λ b. (vec_len b.items ≡ most_wires) × (vec_len b.marks ≡ most_wires) × (b.used ≤ most_wires) × (b.steady ≡ true → AreSteady (take b.used b.items.items)) × AreMarked b.marks.items b.items.items };
 }
 
 impl Blocks {
@@ -38,8 +40,10 @@ impl Blocks {
         ensures { IfOk result (λ b. b ≡ []) }
     {
         let items = vec![in alloc; [0i32; BLOCK_FRAMES]; MOST_WIRES]?;
+        let marks = vec![in alloc; false; MOST_WIRES]?;
         Ok(Blocks {
             items,
+            marks,
             used: 0,
             steady: true,
         })
@@ -67,6 +71,7 @@ impl Blocks {
         ensures { self.new ≡ self.old ++ samples.now ∷ [] }
     {
         self.steady = false;
+        self.marks[self.used] = false;
         self.items[self.used] = *samples;
         self.used += 1;
     }
@@ -76,8 +81,21 @@ impl Blocks {
         requires { length self.old < most_wires }
         ensures { self.new ≡ self.old ++ replicate block_frames value ∷ [] }
     {
+        self.marks[self.used] = true;
         self.items[self.used] = [value; BLOCK_FRAMES];
         self.used += 1;
+    }
+
+    /// Appends a block of another list.
+    pub fn push_from(&mut self, other: &Blocks, number: usize)
+        requires number { number < length other.now }
+        requires room { length self.old < most_wires }
+        ensures { self.new ≡ self.old ++ block other.now number ∷ [] }
+    {
+        match other.same(number) {
+            Some(value) => self.push_equal(value),
+            None => self.push(other.block(number)),
+        }
     }
 
     /// Appends the blocks of another list.
@@ -86,7 +104,7 @@ impl Blocks {
         ensures { self.new ≡ self.old ++ other.now }
     {
         for number in 0..other.len() {
-            self.push(other.block(number));
+            self.push_from(other, number);
         }
     }
 
@@ -107,8 +125,23 @@ impl Blocks {
         &self.items[number]
     }
 
-    /// Whether each block is known to be of equal samples. Whatever it gives, `at` gives the same.
-    pub(crate) fn is_steady(&self) -> bool {
+    /// The value of a block that is known to have equal samples. `None` says nothing.
+    #[tactic(auto, using(crate::proofs::Steadies::equal_block))]
+    pub fn same(&self, number: usize) -> Option<i32>
+        requires { number < length self.now }
+        ensures { IfSome result (λ x. block self.now number ≡ replicate block_frames x) }
+    {
+        if self.marks[number] {
+            Some(self.items[number][0])
+        } else {
+            None
+        }
+    }
+
+    /// Whether each block is known to be of equal samples. `false` says nothing.
+    pub fn is_steady(&self) -> bool
+        ensures { result ≡ true → AreSteady self.now }
+    {
         self.steady
     }
 

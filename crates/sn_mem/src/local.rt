@@ -1,5 +1,5 @@
 //! A port with a plain copy of its first words.
-ghost use Rattle.std.specs.Prelude.{◌≡◌, ◌≤◌, ◌<◌, ◌+◌, ◌^◌, ℕ, true, min, length, slice_set};
+ghost use Rattle.std.specs.Prelude.{◌≡◌, ◌≤◌, ◌<◌, ◌+◌, ◌^◌, ℕ, true, min, length};
 ghost use Rattle.sn_ports.specs.Limits.{block_frames};
 ghost use Rattle.sn_mem.specs.Words.{has, covers, touches, writes, SameButWords};
 ghost use Rattle.sn_mem.specs.Blocks.{samples_at, window};
@@ -9,7 +9,7 @@ ghost use Rattle.sn_mem.specs.Copies.{IsCopied, covered_below, had_below, locali
 use crate::blocks::Block;
 use crate::extents::{Extent, Foot};
 use crate::port::Port;
-use crate::runs::copy_in;
+use crate::runs::{copy_in, put_word};
 use crate::samples::{put_samples, samples_in};
 use sn_ports::limits::BLOCK_FRAMES;
 use std::collections::LinkedList;
@@ -56,17 +56,6 @@ fn take_extent<P: Port>(port: &mut P, extent: Extent, copy: &mut [u64])
     let end = end_within(extent, copy.len() as u32);
     for at in extent.at..end {
         copy[at as usize] = port.load(at);
-    }
-}
-
-/// Puts a word at a place of a port, by a store only if another one stands there.
-fn put_word<P: Port>(port: &mut P, at: u32, word: u64)
-    requires { writes (P.foot port.old) at ≡ true }
-    ensures words { P.words port.new ≡ slice_set (P.words port.old) at word }
-    ensures port { SameButWords P.foot P.rest port.old port.new }
-{
-    if port.load(at) != word {
-        port.store(at, word);
     }
 }
 

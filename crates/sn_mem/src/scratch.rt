@@ -79,6 +79,8 @@ pub struct Scratch {
     pub heights: Arc<Heights, Global>,
     /// Room for a copy of the words of the buses.
     pub buses: Vec<u64>,
+    /// Where the next node is looked for first.
+    pub near: usize,
 }
 
 /// This many words.
@@ -107,6 +109,7 @@ impl Scratch {
             values: Values::new(alloc)?,
             heights,
             buses: some_words(alloc, BUS_WORDS)?,
+            near: 0,
         })
     }
 }

@@ -57,7 +57,7 @@ fn run_node<P: Port>(port: &mut P, stage: &Stage, block: u64, node: i32, scratch
     ensures words { P.words port.new ≡ held_words stage.now.rate block node stage.now.buffers (held_at stage.now node) (P.words port.old) }
     ensures port { SameButWords P.foot P.rest port.old port.new }
 {
-    match stage.tree.payload(node) {
+    match stage.tree.payload_near(node, &mut scratch.near) {
         Some(held) => run_held(port, stage, block, node, held, scratch),
         None => {}
     }

@@ -15,7 +15,7 @@ fn push_input(input: Input, values: &Values, wires: &Blocks, blocks: &mut Blocks
     match input {
         Input::Literal(value) => blocks.push_equal(value),
         Input::Control(number) => blocks.push_equal(values.at(number as usize)),
-        Input::Wire(number) => blocks.push(wires.block(number as usize)),
+        Input::Wire(number) => blocks.push_from(wires, number as usize),
     }
 }
 

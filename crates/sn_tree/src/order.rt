@@ -134,6 +134,21 @@ impl Order {
         Some(item.key)
     }
 
+    /// The same, where the node is looked for at place `near` of the index first.
+    pub fn key_near(&self, id: i32, near: &mut usize) -> Option<Option<usize>>
+        ensures { result ≡ option_map (λ l. l.payload) (label_of id self.now.now.attached) }
+    {
+        self.store.keys_differ();
+        self.store.is_sound();
+        let Some(key) = self.store.find_near(id, near) else {
+            return None;
+        };
+        let Some(item) = self.store.item(key) else {
+            return None;
+        };
+        Some(item.key)
+    }
+
     /// The walk over an attached node and all below it. If no such node is attached, it is at its end.
     pub fn cursor(&self, id: i32) -> Cursor<'_>
         ensures nodes { labels result ≡ subtree id self.now.now.attached }

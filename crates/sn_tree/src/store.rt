@@ -80,6 +80,16 @@ impl Store {
         }
     }
 
+    /// The key of an attached node, which is looked for at place `near` of the index first (`get_near` of `Ids`).
+    pub fn find_near(&self, id: i32, near: &mut usize) -> Option<usize>
+        ensures { MatchOption result (holds id (labels (front self.now)) ≡ false) (λ key. 1 ≤ named id key (front self.now)) }
+    {
+        match self.ids.get_near(id, near) {
+            Some(key) => Some(key as usize),
+            None => None,
+        }
+    }
+
     /// Whether no node is detached.
     fn is_whole(&self) -> bool
         ensures { result ≡ true → behind_tree self.now ≡ none }

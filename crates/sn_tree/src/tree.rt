@@ -275,6 +275,19 @@ impl<P: Drop> Tree<P> {
         }
     }
 
+    /// The payload of an attached node, as `payload` gives it. The node is looked for at place `near` of an index by ids
+    /// first, and `near` then becomes the place after it: so nodes whose ids rise are found without a search. Whatever
+    /// `near` is, the payload is the same.
+    pub fn payload_near(&self, id: i32, near: &mut usize) -> Option<&P>
+        ensures { option_copied result ≡ option_map (λ l. l.payload) (label_of id self.now.attached) }
+    {
+        match self.order.key_near(id, near) {
+            None => None,
+            Some(None) => Some(&self.root),
+            Some(Some(key)) => self.payloads.get(key),
+        }
+    }
+
     /// The payload of an attached node, for writing. What is written through it becomes that node's payload, and all
     /// else stays as it was.
     pub fn payload_mut(&mut self, id: i32) -> Option<&mut P>

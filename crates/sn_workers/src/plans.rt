@@ -1,5 +1,5 @@
 //! Rows of rounds whose jobs several threads share.
-ghost use Rattle.std.specs.Prelude.{◌≡◌, ◌<◌, ◌≤◌, IsTrue, length};
+ghost use Rattle.std.specs.Prelude.{◌≡◌, ◌<◌, ◌≤◌, IsTrue, IfOk, length};
 ghost use Rattle.sn_ports.specs.Limits.{most_workers};
 ghost use Rattle.sn_machine.specs.States.{IsIdle};
 ghost use Rattle.sn_round.specs.Jobs.{AreJobs, AreWithin, IsRaceFree};
@@ -151,12 +151,13 @@ fn play_crew(
 }
 
 /// Whether the jobs of a plan can share the words of a table.
-fn can_share(plan: &Plan) -> bool
-    ensures few { IsTrue result → length plan.now ≤ 200 }
-    ensures free { IsTrue result → IsRaceFree plan.now }
-    ensures within { IsTrue result → AreWithin 200 plan.now }
+fn can_share(alloc: Global, plan: &Plan) -> Result<bool, NoMemory>
+    ensures few { IfOk result (λ can. IsTrue can → length plan.now ≤ 200) }
+    ensures free { IfOk result (λ can. IsTrue can → IsRaceFree plan.now) }
+    ensures within { IfOk result (λ can. IsTrue can → AreWithin 200 plan.now) }
 {
-    plan.jobs() <= JOBS && is_race_free(plan) && are_within(plan, u64::from(JOBS))
+    let free = is_race_free(alloc, plan)?;
+    Ok(free && plan.jobs() <= JOBS && are_within(plan, u64::from(JOBS)))
 }
 
 /// Opens the words of a plan, if its jobs can share them, and plays rounds in `threads` threads.
@@ -169,7 +170,7 @@ pub fn mixed(
     let plan = mixing_plan(alloc)?;
     plan.is_well_formed();
     let mut hands = no_hands(alloc, threads)?;
-    if !can_share(&plan) || hands.is_empty() {
+    if !can_share(alloc, &plan)? || hands.is_empty() {
         return Ok(None);
     }
     let (shared, mut main) = Shared::open(alloc, JOBS, JOBS)?;
@@ -190,7 +191,7 @@ pub fn mixed_by_crew(
 {
     let plan = mixing_plan(alloc)?;
     plan.is_well_formed();
-    if !can_share(&plan) {
+    if !can_share(alloc, &plan)? {
         return Ok(None);
     }
     let (shared, mut main) = Shared::open(alloc, JOBS, JOBS)?;

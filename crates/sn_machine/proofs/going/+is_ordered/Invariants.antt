@@ -1,7 +1,0 @@
-use Rattle.sn_machine.proofs.going.+is_ordered.Given as goal
-
-abbrev pub decreases-is_ordered : goal.decreases-is_ordered
-decreases-is_ordered l = l.second
-
-abbrev pub invariant-loop-before : goal.invariant-loop-before
-invariant-loop-before l = Unit {0}

@@ -1,15 +1,13 @@
 """The table of commands on buffers, and what is remembered of a buffer."""
-from array import array
 from dataclasses import dataclass
 from typing import Optional
 
-from .commands import Asked, done_as, left_out, same, turned
-from .fills import CLEAR, PARTS, filled
+from .commands import left_out, same, turned
 from .measures import Refused, raw
 from .osc import Message
 
-# So many samples one message sets.
-MOST_SAMPLES = 13000
+# So many samples one message sets, and so many are asked for by one. No buffer has more than MOST_FILLED.
+MOST_SAMPLES, MOST_ASKED, MOST_FILLED = 13000, 8192, 2**24
 
 
 @dataclass
@@ -28,6 +26,16 @@ class Buffer:
     def size(self):
         return self.frames * self.channels
 
+    def all_samples(self):
+        """All samples, if they are known."""
+        return self.samples + [0.0] * (self.size - len(self.samples))
+
+    def put(self, begin, values):
+        """Samples are set. What lies outside of the buffer the server refuses."""
+        if self.samples is not None and 0 <= begin and begin + len(values) <= self.size:
+            self.samples += [0.0] * (begin - len(self.samples))
+            self.samples[begin:begin + len(values)] = values
+
 
 def buffer_of(session, number):
     """What is remembered of a buffer."""
@@ -42,6 +50,16 @@ def runs(buffer, begin, values):
     return [Message("/b_setn", [buffer, at, len(part), part]) for at, part in parts]
 
 
+def questions(buffer, begin, end):
+    """The commands that ask for samples from one on, up to another one."""
+    return [Message("/b_getn", [buffer, at, min(MOST_ASKED, end - at)]) for at in range(begin, end, MOST_ASKED)]
+
+
+def answered(replies):
+    """The samples that were asked for."""
+    return [each for reply in replies if reply.address == "/b_setn" for each in reply.arguments[3:]]
+
+
 # Samples one by one.
 
 def measure_of(session, buffer):
@@ -54,16 +72,24 @@ def measure_of(session, buffer):
 
 def sample_values(session, buffer, values):
     """What samples of a buffer are set to here."""
-    if buffer in session.buffers:
-        session.buffers[buffer].samples = None
     for value in values:
         session.slot("buffer", buffer).note(value)
     measure = measure_of(session, buffer)
     return [raw(value, measure) for value in values]
 
 
+def remember(session, buffer, begin, values):
+    """Keeps what samples are set to; a live session doesn't, since it can ask for them."""
+    if buffer in session.buffers and session.live:
+        session.buffers[buffer].samples = None
+    elif buffer in session.buffers:
+        session.buffers[buffer].put(begin, values)
+
+
 def b_set(session, buffer, pairs):
     values = sample_values(session, buffer, [value for _, value in pairs])
+    for at, value in pairs:
+        remember(session, buffer, at, [value])
     return [Message("/b_set", [buffer, *(each for (at, _), value in zip(pairs, values) for each in (at, value))])]
 
 
@@ -71,33 +97,16 @@ def b_setn(session, buffer, given):
     found = []
     for begin, values in given:
         found += [begin, len(values), *sample_values(session, buffer, values)]
+        remember(session, buffer, begin, values)
     return [Message("/b_setn", [buffer, *found])]
 
 
 def b_fill(session, buffer, triples):
     values = sample_values(session, buffer, [value for *_, value in triples])
+    for begin, count, value in triples:
+        remember(session, buffer, begin, [value] * max(0, min(count, MOST_FILLED)))
     found = [each for (begin, count, _), value in zip(triples, values) for each in (begin, count, value)]
     return [Message("/b_fill", [buffer, *found])]
-
-
-# Fills.
-
-def b_gen(session, number, kind, given):
-    """A wave fill. What is there already is known if it was zeros or a fill."""
-    if kind not in PARTS:
-        raise Refused(f"the fill {kind} isn't there: {', '.join(PARTS)} are")
-    if not given:
-        raise Refused("it has too few arguments")
-    flags, buffer = round(given[0]), buffer_of(session, number)
-    if buffer.channels != 1:
-        raise Refused(f"the buffer has {buffer.channels} channels, and those of one are filled")
-    if buffer.samples is None and not flags & CLEAR:
-        raise Refused("what is in the buffer isn't known, so it must be cleared: the flag 4")
-    before = [] if flags & CLEAR else buffer.samples
-    samples = filled(kind, flags, given[1:], before + [0.0] * (buffer.size - len(before)))
-    values = sample_values(session, number, samples)
-    buffer.samples = samples
-    return Asked(runs(number, 0, array("i", values)), done_as("/b_gen", number))
 
 
 # What is remembered.
@@ -127,7 +136,6 @@ BUFFERS = [
     turned("/b_set", 35, "buffer (int value)..", b_set),
     turned("/b_setn", 36, "buffer (int run)..", b_setn),
     turned("/b_fill", 37, "buffer (int int value)..", b_fill),
-    turned("/b_gen", 38, "buffer kind:text (value)..", b_gen, carries=True),
     same("/b_get", 42, "buffer (int).."),
     same("/b_getn", 43, "buffer (int count).."),
     same("/b_query", 47, "(buffer).."),

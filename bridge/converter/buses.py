@@ -12,12 +12,16 @@ WIDEST = 8
 
 
 class Place(NamedTuple):
-    """A control bus (`kind` is "bus") or a buffer that a unit reads or writes: `index`, and `offset` after it."""
+    """A control bus (`kind` is "bus") or a buffer that a unit reads or writes: `index`, and `offset` after it.
+
+    A buffer may be one whose samples the unit `changes`.
+    """
 
     kind: str
     index: Union[float, Control]
     offset: int
     slot: Slot
+    changes: bool = False
 
     def number(self, value_of):
         """Its number, with the values of controls."""
@@ -50,11 +54,19 @@ def read(graph, unit, bus, count):
     return found
 
 
+def split(bus):
+    """The bus of a unit at audio rate, and how many behind it are skipped: those of a control and a small number."""
+    control, number = getattr(bus, "parts", None) or (bus, 0)
+    return (control, int(number)) if number in range(WIDEST) else (index(bus), 0)
+
+
 def reading(unit=None):
     """A unit that reads buses; one at scalar rate does so once."""
     def build(graph, bus):
         rate = graph.unit.rate
-        found = read(graph, unit or ("In.ar" if rate == AUDIO else "In.kr"), index(bus), graph.unit.outputs)
+        bus, skipped = split(bus)
+        found = read(graph, unit or ("In.ar" if rate == AUDIO else "In.kr"), index(bus), graph.unit.outputs + skipped)
+        found = found[skipped:]
         return [first(graph, each) for each in found] if rate == SCALAR else found
     return build
 
@@ -68,7 +80,11 @@ def write(graph, unit, bus, signals):
 
 
 def add_out(graph, bus, signals):
-    return write(graph, "Out.ar" if graph.unit.rate == AUDIO else "Out.kr", index(bus), signals)
+    """Adds signals to buses; at audio rate nothing is added to those that are skipped."""
+    if graph.unit.rate != AUDIO:
+        return write(graph, "Out.kr", index(bus), signals)
+    bus, skipped = split(bus)
+    return write(graph, "Out.ar", index(bus), [0.0] * skipped + signals)
 
 
 def replace_out(graph, bus, signals):
@@ -87,10 +103,10 @@ def cross_out(graph, bus, part, signals):
     return write(graph, "ReplaceOut", index(bus), [graph.product(way, part, old) for way, old in zip(ways, there)])
 
 
-def buffer_slot(graph, buf):
+def buffer_slot(graph, buf, changes=False):
     """The measure of what stands in a buffer."""
     slot = Slot()
-    graph.places.append(Place("buffer", index(buf), 0, slot))
+    graph.places.append(Place("buffer", index(buf), 0, slot, changes))
     return slot
 
 
@@ -122,7 +138,7 @@ def frame_at(graph, at):
 
 
 def record_buf(graph, buf, level, run, loop, done, signals):
-    slot = buffer_slot(graph, buf)
+    slot = buffer_slot(graph, buf, True)
     check_width(len(signals))
     given = [(graph.product(signal, level), slot) for signal in signals]
     inputs = [(index(buf), Slot(NUMBER)), (run, Slot()), (loop, Slot()), (action(done), Slot(NUMBER))]
@@ -138,7 +154,7 @@ def buf_rd(graph, buf, at, between):
 
 
 def buf_wr(graph, buf, at, signals):
-    slot = buffer_slot(graph, buf)
+    slot = buffer_slot(graph, buf, True)
     check_width(len(signals))
     graph.line("BufWr", [(index(buf), Slot(NUMBER)), frame_at(graph, at), *((each, slot) for each in signals)])
     return [signals[0]]

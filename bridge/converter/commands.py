@@ -128,10 +128,14 @@ def carried(rest, grouped):
 
 
 class Asked(NamedTuple):
-    """Commands here whose replies become others: `answer` makes them, of the gateway, the client and the replies."""
+    """Commands here whose replies become others: `answer` makes them, of the gateway, the client and the replies.
+
+    If it `holds`, the answer sends more, and what comes after it waits until then.
+    """
 
     messages: list
     answer: Callable
+    holds: bool = False
 
 
 class Command(NamedTuple):

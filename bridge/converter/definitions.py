@@ -10,7 +10,7 @@ from .listeners import listeners
 from .measures import Refused, raw
 from .operators import BINARY, UNARY, operate
 from .scgf import RATES, Source
-from .units import UNITS
+from .units import row_of
 
 MOST_CONTROLS = 128
 # What lasts for ever there lasts so many seconds here.
@@ -91,9 +91,10 @@ class Definition:
             return lagged or controls
         if unit.name in OPERATORS:
             return operate(OPERATORS[unit.name], self.graph, unit.special, inputs)
-        if unit.name not in UNITS:
+        row = row_of(unit.name)
+        if row is None:
             raise Refused("there is no such unit here")
-        return UNITS[unit.name].outputs(self.graph, unit, inputs)
+        return row.outputs(self.graph, unit, inputs)
 
     def finish(self):
         """Settles the measures that are open, and writes the text."""

@@ -2,14 +2,18 @@
 import math
 
 from .functions import power_of_e
+from .further import has
 from .graph import Wire
 from .held import before
+from .logarithms import exp_2
 from .measures import SAMPLE, SECONDS
-from .rows import DELAY_1, Row
+from .ratios import divided, in_samples, side
+from .rows import DELAY_1, DIFFERENCE, SIZE, Row
 from .templates import constant, template
 
 DELAY = template("DelayN x:M max:longest time:seconds -> M")
 COMB = template("CombN x:M max:longest time:seconds c:sample -> M")
+SUM = template("Integrator x:M 1:sample -> M")
 NOT_BETWEEN = "nothing is read between two frames here"
 WHOLE = "a time that moves is in whole milliseconds"
 
@@ -31,8 +35,20 @@ def delay(graph, x, max, time):
     return outputs
 
 
+def fallen(graph, time, decay):
+    """What is left after a time of what falls to a thousandth in the decay time, below 0 for one that is."""
+    size = SIZE(graph, x=in_samples(graph, decay))[0] if isinstance(decay, Wire) else abs(decay)
+    way = divided(graph, graph.product(in_samples(graph, time), -math.log2(1000)), size)
+    found = exp_2(graph, way)
+    if not isinstance(decay, Wire):
+        return graph.product(found, math.copysign(1.0, decay))
+    return graph.product(found, side(graph, decay))
+
+
 def factor_of(graph, longest, time, decay):
     """What comes back of a comb: it falls to a thousandth in the decay time."""
+    if (isinstance(decay, Wire) or isinstance(time, Wire) and decay) and has("Div", "Exp2"):
+        return fallen(graph, time, decay)
     decay = constant(decay, "the decay time")
     if not decay:
         return 0.0
@@ -66,6 +82,12 @@ def allpass(graph, x, max, time, decay):
     return [graph.product(echo, left, graph.product(graph.product(x, factor), -1.0))]
 
 
+def last_sum(graph, x, count):
+    """The sum of the last inputs, so many."""
+    time = constant(count, "its number of inputs") / graph.rate
+    return SUM(graph, x=DIFFERENCE(graph, a=x, b=delay(graph, x, time, time)[0])[0])
+
+
 def of_buffer(build):
     """A delay whose samples stand in a buffer there."""
     def outputs(graph, buf, x, time, **decay):
@@ -79,6 +101,7 @@ OWN = "its samples don't stand in the buffer"
 
 UNITS = {
     "Delay1": Row("x", lambda graph, x: [before(graph, x)]),
+    "RunningSum": Row("x count", last_sum, frames=True),
     "Delay2": Row("x", lambda graph, x: DELAY_1(graph, x=DELAY_1(graph, x=x)[0]), frames=True),
     **{f"Delay{kind}": Row("x max time", delay, note=note) for kind, note in BETWEEN.items()},
     **{f"Comb{kind}": Row("x max time decay", comb, note=note) for kind, note in BETWEEN.items()},

@@ -1,13 +1,13 @@
 """The table of commands on sound files, which the bridge reads and writes itself."""
 from . import soundfiles
-from .buffers import NO_STREAMS, Buffer, buffer_of, measure_of, runs
+from .buffers import NO_STREAMS, Buffer, answered, buffer_of, measure_of, questions, remember, runs
 from .buses import WIDEST
 from .commands import Asked, done_as, turned
 from .measures import Refused
 from .osc import Message
 
-# So many words the server may have at most, and so many samples are asked for by one message.
-MOST_WORDS, MOST_ASKED = 2**24, 8192
+# So many words the server may have at most.
+MOST_WORDS = 2**24
 # A sample in a command takes its type tag and its bytes.
 SAMPLE_BYTES = 5
 
@@ -71,17 +71,25 @@ def check_memory(session, number, part):
                   f"{session.memory}: {way}")
 
 
+def put(session, number, begin, values):
+    """The commands that set samples of a file, which a score remembers."""
+    if not session.live:
+        scale = measure_of(session, number).scale
+        remember(session, number, begin, [each / scale for each in values])
+    return runs(number, begin, values)
+
+
 def read_new(address):
     """A buffer is made of a sound file."""
     def turn(session, number, path, start, count, channels=()):
         part = Part(path, start, count, channels)
         check_memory(session, number, part)
-        session.buffers[number] = Buffer(part.frames, part.width, part.header.rate, None)
+        session.buffers[number] = Buffer(part.frames, part.width, part.header.rate, None if session.live else [])
         if session.learns:
             return []
         values = part.numbers(session, number)
         made = Message("/b_alloc", [number, part.frames, part.width])
-        return Asked([made, *runs(number, 0, values)], done_as(address, number))
+        return Asked([made, *put(session, number, 0, values)], done_as(address, number))
     return turn
 
 
@@ -97,11 +105,11 @@ def read_into(address):
         if part.width != buffer.channels:
             raise Refused(f"{path}: {part.width} channels are read, and the buffer has {buffer.channels}")
         part.frames = min(part.frames, buffer.frames - begin)
-        buffer.rate, buffer.samples = part.header.rate, None
+        buffer.rate, buffer.samples = part.header.rate, None if session.live else buffer.samples
         if session.learns:
             return []
         values = part.numbers(session, number)
-        return Asked(runs(number, begin * part.width, values), done_as(address, number))
+        return Asked(put(session, number, begin * part.width, values), done_as(address, number))
     return turn
 
 
@@ -123,10 +131,9 @@ def b_write(session, number, path, *given):
     attempted(path, lambda _: soundfiles.written(words, 1, buffer.rate, []))
     frames = min(count, buffer.frames - start) if count >= 0 else buffer.frames - start
     first, end = start * buffer.channels, (start + frames) * buffer.channels
-    asked = [(at, min(MOST_ASKED, end - at)) for at in range(first, end, MOST_ASKED)]
 
     def answer(gateway, client, replies):
-        values = [each for reply in replies if reply.address == "/b_setn" for each in reply.arguments[3:]]
+        values = answered(replies)
         if len(values) == end - first:
             data = soundfiles.written(words, buffer.channels, buffer.rate, values)
             try:
@@ -135,7 +142,7 @@ def b_write(session, number, path, *given):
             except OSError as wrong:
                 return [Message("/fail", ["/b_write", f"{path}: {wrong.strerror}", number])]
         return done_as("/b_write", number)(gateway, client, replies)
-    return Asked([Message("/b_getn", [number, at, size]) for at, size in asked], answer)
+    return Asked(questions(number, first, end), answer)
 
 
 NEW, INTO = "buffer text start:int=0 count:int=0", "buffer text start:int=0 count:int=-1 begin:int=0 stays:int=0"

@@ -1,9 +1,11 @@
-"""The wave fills of `/b_gen`: sums of sines and of Chebyshev polynomials, as scsynth works them out."""
+"""The fills of `/b_gen` as scsynth works them out: sums of sines and of Chebyshev polynomials, and their levels."""
 import math
 
 from .measures import Refused
 
 NORMALIZE, WAVETABLE, CLEAR = 1, 2, 4
+# What is less than this is 0 but for rounding.
+SILENCE = 2.0**-26
 
 
 def sine_of(partial, amp, phase):
@@ -37,11 +39,11 @@ def wavetable(values):
     return [each for a, b in zip(values, values[1:]) for each in (2 * a - b, b - a)]
 
 
-def normalized(samples, is_wavetable):
-    """Samples whose greatest value is 1."""
-    values = [a + b for a, b in in_groups(samples, 2)] if is_wavetable else samples
+def normalized(samples, is_wavetable, most=1.0):
+    """Samples whose greatest value is `most`."""
+    values = [a + b for a, b in zip(samples[::2], samples[1::2])] if is_wavetable else samples
     peak = max(map(abs, values), default=0.0)
-    return [each / peak for each in samples] if peak else samples
+    return [each * most / peak for each in samples] if peak > SILENCE else samples
 
 
 def filled(kind, flags, values, samples):

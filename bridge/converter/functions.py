@@ -5,12 +5,12 @@ from .division import reciprocal
 from .graph import Wire
 from .measures import HERTZ, LOUDEST, NUMBER, SAMPLE, Refused
 from .rows import DIFFERENCE, GREATER, LESSER, MORE, SIZE
-from .shapes import exponential, steps
+from .shapes import STILL, exponent, exponential
 from .templates import constant, template
 
 CLIP = template("Clip x:M low:M high:M -> M")
 LIMIT = template("Clip x:sample -1:sample 1:sample -> sample")
-SINE_0 = template("SinOsc 0:hertz phase:radians -> sample")
+SINE_0 = STILL
 # What is greater isn't a number of steps that a sample could be.
 MOST_STEPS = 100.0
 # How loud a sound may be that is bent: louder ones are bent as if they were so loud.
@@ -85,7 +85,7 @@ def power_of_e(graph, x, scale, gain, least, most):
     top = most if scale > 0 else least
     depth = max(-abs(scale) * (most - least), -DEEPEST)
     bound, = CLIP(graph, x=x, low=least, high=most)
-    part = scale / 2 ** steps(depth)
+    part = scale * exponent(depth) / depth
     z = graph.product(bound, part, -top * part)
     z.slot.set(SAMPLE)
     return graph.product(exponential(graph, z, depth), gain * math.exp(scale * top))

@@ -4,6 +4,8 @@ Behind the commands of each packet the gateway asks for a `/sync` of its own. Wh
 `/synced` of that number, except notifications, answers that packet.
 """
 import sys
+from collections import deque
+from functools import partial
 from typing import Callable, NamedTuple, Optional
 
 from . import osc
@@ -29,7 +31,8 @@ MOST_REPORTED, LONGEST_LINE = 4096, 400
 class Question(NamedTuple):
     """What the answer to a packet, or to a part of it, needs: who asked, and which nodes were made.
 
-    It `is_own` if it acts at once, and its answer takes nothing of the server but that it has come so far.
+    It `is_own` if it acts at once, and its answer takes nothing of the server but that it has come so far. If it
+    `holds`, what comes from clients waits for its answer.
     """
 
     client: object
@@ -37,6 +40,7 @@ class Question(NamedTuple):
     quiet: bool
     made: list
     is_own: bool = False
+    holds: bool = False
 
 
 class Gateway:
@@ -52,7 +56,7 @@ class Gateway:
     def __init__(self, rate, most_clients, strict=False, memory=MEMORY):
         self.rate, self.memory, self.clients = rate, memory, Clients(most_clients)
         self.strict, self.is_over = strict, False
-        self.next, self.reported = 0, set()
+        self.next, self.reported, self.waiting, self.holds = 0, set(), deque(), False
         self.times, self.recall, self.use = lambda tag: tag, None, None
         self.serve(None)
 
@@ -64,9 +68,10 @@ class Gateway:
 
     def go_on(self, server, messages):
         """Goes on with a server that has nothing yet but is sent what counts, or with none."""
-        self.server, self.questions, self.held = server, {}, []
+        self.server, self.questions, self.held, self.holds = server, {}, [], False
         if server:
             self.ask(AT_ONCE, None, [Asked([Message("/notify", [1]), *messages], None)])
+        self.go_through()
 
     def lose_server(self):
         """The server is gone, and what it was sent is to be given to another one. Who waits for an answer gets none."""
@@ -86,8 +91,21 @@ class Gateway:
     # From clients.
 
     def take(self, client, data):
-        """Takes a packet of a client. Whatever it is, the gateway goes on."""
+        """Takes a packet of a client, at once or after what is waited for. Whatever it is, the gateway goes on."""
         self.clients.hear(client)
+        if not self.holds:
+            self.take_now(client, data)
+        elif len(self.waiting) < MOST_WAITING:
+            self.waiting.append(partial(self.take_now, client, data))
+        else:
+            self.refuse(client, "packet", "the server takes nothing")
+
+    def go_through(self):
+        """Takes what has waited, as long as nothing else is waited for."""
+        while self.waiting and not self.holds:
+            self.waiting.popleft()()
+
+    def take_now(self, client, data):
         try:
             self.act(client, osc.decoded(data))
         except osc.BadPacket as bad:
@@ -119,12 +137,30 @@ class Gateway:
                 continue
             made = session.asked(message)
             if session.is_quiet != quiet:
-                self.ask(tag, client, asked, quiet)
+                self.ask_in_order(tag, client, asked, quiet)
                 asked, quiet = [], session.is_quiet
             asked += made
             self.report_refusals(client)
             self.quits = self.quits or name_of(message.address) == "/quit"
-        self.ask(tag, client, asked, quiet)
+        self.ask_in_order(tag, client, asked, quiet)
+
+    def ask_in_order(self, tag, client, asked, quiet, made=()):
+        """Sends what is asked; what stands behind something that holds waits for its answer, if that acts at once."""
+        nodes = self.session.nodes
+        nodes.made = [*made, *nodes.made]
+        if self.server is None:
+            nodes.settle(nodes.made)
+            nodes.made, asked = [], []
+        at = next((at for at, each in enumerate(asked, 1) if each.holds and tag <= AT_ONCE), len(asked))
+        now, later, made = ([], asked, nodes.made) if self.holds else (asked[:at], asked[at:], nodes.made)
+        if later:
+            nodes.made = []
+            self.waiting.append(partial(self.ask_in_order, tag, client, later, quiet, made))
+        self.ask(tag, client, now, quiet)
+
+    def send(self, client, asked):
+        """Sends what follows from an answer."""
+        self.ask(AT_ONCE, client, asked)
 
     def ask(self, tag, client, asked, quiet=False):
         """Sends what is asked; what has an answer of its own is asked apart."""
@@ -132,9 +168,10 @@ class Gateway:
         made, self.session.nodes.made = self.session.nodes.made, []
         for each in asked:
             if each.answer:
-                is_own = tag <= AT_ONCE and not each.messages
+                is_own, holds = tag <= AT_ONCE and not each.messages, tag <= AT_ONCE and each.holds
+                self.holds = self.holds or holds
                 parts.append((plain, Question(client, None, quiet, [])))
-                parts.append((each.messages, Question(client, each.answer, quiet, [], is_own)))
+                parts.append((each.messages, Question(client, each.answer, quiet, [], is_own, holds)))
                 plain = []
             else:
                 plain += each.messages
@@ -168,7 +205,15 @@ class Gateway:
 
     def lose(self, number):
         """What was asked is never answered."""
-        self.session.nodes.settle(self.questions.pop(number).made)
+        question = self.questions.pop(number)
+        self.session.nodes.settle(question.made)
+        self.let_go(question)
+
+    def let_go(self, question):
+        """What waited for the answer to a question goes on."""
+        if question.holds:
+            self.holds = False
+            self.go_through()
 
     def report_refusals(self, client):
         """Reports what was refused and noted since the last time."""
@@ -236,6 +281,7 @@ class Gateway:
         for reply in replies:
             if reply.address != "/fail" or not question.quiet:
                 self.answer(question.client, reply)
+        self.let_go(question)
 
     def notified(self, message):
         """Follows a notification, and passes it on to all who are registered."""

@@ -1,8 +1,10 @@
 """Oscillators and ramps."""
 import math
 
+from . import ratios
 from .division import reciprocal
 from .functions import remainder
+from .further import has
 from .graph import Control, Wire
 from .held import hold
 from .measures import HERTZ, SAMPLE, Slot, phase_of
@@ -29,9 +31,10 @@ def oscillator(graph, unit, freq, phase, turn, *more):
 def sine(graph, freq, phase):
     """A sine. A phase that is worked out is kept within a turn, unless it stays there."""
     if isinstance(phase, Wire) and not isinstance(phase, Control) and phase.most > HALF_TURN:
-        turns, = remainder(graph, graph.sum(phase, math.pi), math.tau)
+        whole = ratios.remainder if has("Mod") else remainder
+        turns, = whole(graph, graph.sum(phase, math.pi), math.tau)
         phase = graph.product(turns, 1.0, -math.pi)
-    return [oscillator(graph, "SinOsc", freq, phase, math.tau)]
+    return [oscillator(graph, "Sine" if has("Sine") else "SinOsc", freq, phase, math.tau)]
 
 
 def steady_sine(graph, freq, phase):

@@ -1,6 +1,7 @@
 """A definition in the making: its units in order, and the measures of what flows between them."""
 import math
 
+from .further import is_absent
 from .measures import HERTZ, LOUDEST, SAMPLE, SECONDS, Refused, Slot, fraction_of, raw
 
 # What one unit multiplies by is below this; greater factors take several.
@@ -8,6 +9,10 @@ GREATEST = 128.0
 STEP = 64.0
 
 
+# Units that give the same for the same inputs, so that one of them serves for all.
+ALIKE = set("""Abs Add Clip CombN Delay1 DelayN Div Exp2 Gate Gt Impulse Integrator LFPulse LFSaw LFTri Lag LagUD Latch
+    Log2 Lt Max Min Mod Mul MulAdd Neg OnePole Pan2 Phasor PulseCount SOS SVF Saw SinOsc Sine Stepper Sub
+    Trig""".split())
 # What may come of a few sums of sounds.
 SOUND = 8.0
 # Units that end, and then may free or pause their synth.
@@ -17,8 +22,9 @@ ENDING = {"Line", "Linen", "PlayBuf", "DetectSilence"}
 class Wire:
     """An output of a unit, with the place of its measure."""
 
-    # Whether it stands still for a block, and how great its values are at most, if that is known.
-    held, most = False, math.inf
+    # Whether it stands still for a block, and how great its values are at most, if that is known; and the control and
+    # the number of which it is the sum.
+    held, most, parts = False, math.inf, None
 
     def __init__(self, slot=None):
         self.slot, self.name = slot or Slot(), None
@@ -152,6 +158,8 @@ class Product:
             self.choose(larger.slot)
         elif abs(self.fixed_factor()) > 8 and self.x.slot.bound < 16:
             self.x.slot.set(SAMPLE)
+        elif self.output.slot.measure == SAMPLE and not SAMPLE.holds(max(self.x.slot.bound, self.x.size)):
+            self.x.slot.set(HERTZ)
         else:
             self.x.slot.join(self.output.slot)
         return True
@@ -248,11 +256,16 @@ class Graph:
 
     def line(self, unit, inputs, outputs=()):
         """Adds a unit. Its inputs are pairs of an operand and a slot; it has one output for each slot of `outputs`."""
+        if is_absent(unit):
+            raise Refused(f"there is no unit {unit} here")
         for given, slot in inputs:
             if not isinstance(given, Wire):
                 slot.note(given)
         inputs = [(self.heard(given, slot, inputs), slot) for given, slot in inputs]
         wires = [Wire(slot) for slot in outputs]
+        for wire in wires:
+            wire.size = max((given.size for given, slot in inputs if isinstance(given, Wire)
+                             and slot.root() is wire.slot.root()), default=0.0)
         self.items.append(Line(self.origin, unit, inputs, wires))
         return wires
 
@@ -305,6 +318,8 @@ class Graph:
         slot = Slot()
         found, = self.line("Add", [(a, slot), (b, slot)], [slot])
         found.most = most_of(a) + most_of(b)
+        if isinstance(a, Control) != isinstance(b, Control) and not (isinstance(a, Wire) and isinstance(b, Wire)):
+            found.parts = (a, b) if isinstance(a, Control) else (b, a)
         return found
 
     def with_origin(self, item, act):
@@ -341,9 +356,11 @@ class Writer:
     """Writes the units of a solved graph as lines of a definition text."""
 
     MOST_UNITS, MOST_WIRES = 256, 512
+    # With more units it isn't tried whether some are alike.
+    MOST_TRIED = 2048
 
     def __init__(self, graph, taken):
-        self.graph, self.taken, self.text, self.wires = graph, set(taken), [], 0
+        self.graph, self.taken, self.text, self.wires, self.written = graph, set(taken), [], 0, {}
 
     def fresh(self):
         """A name for a wire."""
@@ -360,8 +377,13 @@ class Writer:
 
     def item_lines(self, item):
         for unit, inputs, outputs in item.lines(self):
-            for wire in outputs:
-                wire.name = self.fresh()
+            names = self.written.get((unit, *inputs))
+            for wire, name in zip(outputs, names or [self.fresh() for _ in outputs]):
+                wire.name = name
+            if names:
+                continue
+            if unit in ALIKE:
+                self.written[unit, *inputs] = [wire.name for wire in outputs]
             head = " ".join(wire.name for wire in outputs)
             self.text.append(" ".join(filter(None, [head and head + " =", unit, *inputs])))
 
@@ -374,13 +396,13 @@ class Writer:
                 wanted.update(each for each in item.hears() if isinstance(each, Wire))
         return reversed(found)
 
-    def check_units(self, count):
-        if count > self.MOST_UNITS:
+    def check_units(self, count, most=MOST_UNITS):
+        if count > most:
             raise Refused(f"it takes {count} units here, and there may be {self.MOST_UNITS}")
 
     def check_heard(self):
-        """Refuses what is too long, whatever its measures are: products aside, each item is a line."""
-        self.check_units(sum(isinstance(item, Line) for item in self.heard()))
+        """Refuses what is far too long, whatever its measures are: products aside, each item is a line."""
+        self.check_units(sum(isinstance(item, Line) for item in self.heard()), self.MOST_TRIED)
 
     def lines(self):
         for item in self.heard():

@@ -3,7 +3,7 @@ import math
 
 from .measures import Refused
 from .rows import Row
-from .shapes import exponential, steps
+from .shapes import exponent, exponential
 from .templates import constant, template
 
 LINE = template("Line start:M end:M dur:seconds done:action -> M")
@@ -18,7 +18,7 @@ def exponential_line(graph, start, end, dur, done):
     if start == end:
         return LINE(graph, start=start, end=end, dur=dur, done=done)
     depth = -abs(math.log(end / start))
-    part = depth / 2 ** steps(depth)
+    part = exponent(depth)
     low, high = (0.0, part) if abs(end) < abs(start) else (part, 0.0)
     z, = LINE(graph, start=low, end=high, dur=dur, done=done)
     return [graph.product(exponential(graph, z, depth), max(start, end, key=abs))]

@@ -234,7 +234,7 @@ NODES = [
     each_same("/g_tail", 23, "(node node)..", put(TAIL)),
     each_same("/g_freeAll", 24, "(node)..", emptied(False)),
     turned("/n_mapn", 48, "node (control bus count)..", n_mapn),
-    left_out("/s_noid", 49, "a synth keeps its id here"),
+    left_out("/s_noid", 49, "a synth keeps its id until it ends here"),
     each_same("/g_deepFree", 50, "(node)..", emptied(True)),
     left_out("/s_newargs", 59, "the Server Command Reference doesn't say what it does"),
     turned("/n_mapa", 60, "node (control int)..", n_mapa),

@@ -4,8 +4,8 @@ import math
 from .generators import IMPULSE, oscillator, ramp
 from .graph import Wire
 from .held import hold
-from .measures import HERTZ
 from .random_numbers import NOISE, drawn_at, number
+from .ratios import in_hertz
 from .rows import BLOCK, DELAY_1, DIFFERENCE, LATCH, MORE, SUMMING, Row, start
 from .scgf import AUDIO
 from .templates import template
@@ -54,9 +54,7 @@ def dust(both):
     """Impulses at random, above 0 or on both sides."""
     def build(graph, density):
         frames = 1 if graph.unit.rate == AUDIO else BLOCK
-        if isinstance(density, Wire):
-            density.slot.set(HERTZ)
-        limit = graph.product(density, -2 * frames / graph.rate, 1.0)
+        limit = graph.product(in_hertz(graph, density), -2 * frames / graph.rate, 1.0)
         on, size = MORE(graph, a=white(graph), b=limit)[0], white(graph)
         if frames == BLOCK and graph.listeners & SUMMING:
             on = graph.product(on, graph.block_start)

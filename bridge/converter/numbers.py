@@ -4,7 +4,7 @@ import math
 from .buses import FRAMES, LONGEST
 from .graph import CHANNELS, RATE, Control, Wire
 from .measures import NUMBER
-from .rows import Row, counted
+from .rows import Row, counted, same
 from .templates import index
 
 # The channels of the server if it isn't told otherwise, and the buses behind them that sclang keeps for inputs.
@@ -60,6 +60,8 @@ UNITS = {
     "ControlDur": Row("", of_rate(lambda rate: 64 / rate)),
     "RadiansPerSample": Row("", of_rate(lambda rate: math.tau / rate)),
     "SubsampleOffset": Row("", number(0)),
+    "CheckBadValues": Row("x id? post?", lambda graph, x: [0.0], note="all numbers here are good"),
+    "Sanitize": Row("x other?", same),
     "NumOutputBuses": Row("", number(OUTPUTS), note=FEW),
     "NumInputBuses": Row("", number(OUTPUTS), note="no sound comes in: it is that of the buses behind the outputs"),
     "NumAudioBuses": Row("", number(128)),

@@ -2,20 +2,31 @@
 import math
 from typing import Callable, NamedTuple, Optional
 
-from . import functions
+from . import functions, logarithms, ratios
 from .functions import exponential_of, folded, to_both_sides, wrapped
+from .further import has
 from .generators import sine
 from .graph import Wire
+from .logarithms import logarithm_of
 from .measures import Refused
 from .templates import template
 
 
 class Operator(NamedTuple):
-    """Its name there, what builds it here of `a` and `b`, and its value for two constants."""
+    """Its name there, what builds it here of `a` and `b`, and its value for two constants.
+
+    `further` builds it in place of `build` where what it `needs` is here, of the units that the server has got last.
+    """
 
     name: str
     build: Optional[Callable] = None
     fold: Optional[Callable] = None
+    needs: str = ""
+    further: Optional[Callable] = None
+
+    def best(self):
+        """What builds it here, or None."""
+        return self.further if self.further and has(*self.needs.split()) else self.build
 
 
 def product(graph, a, b):
@@ -77,10 +88,15 @@ def of_sine(offset):
     return lambda graph, a: sine(graph, 0.0, graph.sum(a, offset))
 
 
+def tangent(graph, a):
+    return [ratios.divided(graph, of_sine(0.0)(graph, a)[0], of_sine(math.pi / 2)(graph, a)[0])]
+
+
 def truth(compare):
     return lambda a, b: 1.0 if compare(a, b) else 0.0
 
 
+POWERS = "Div Exp2 Log2"
 LOWER, UPPER = template("Min a:M 0:M -> M"), template("Max a:M 0:M -> M")
 LESS_THAN = template("Lt a:M b:M -> sample")
 LESS = "less = Lt a:M b:M -> sample"
@@ -91,7 +107,7 @@ BINARY = {
     0: Operator("+", lambda graph, a, b: [graph.sum(a, b)], lambda a, b: a + b),
     1: Operator("-", template("Sub a:M b:M -> M"), lambda a, b: a - b),
     2: Operator("*", product, lambda a, b: a * b),
-    4: Operator("/", quotient, lambda a, b: a / b),
+    4: Operator("/", quotient, lambda a, b: a / b, "Div", ratios.quotient),
     6: Operator("==", template(LESS, MORE, OTHER, "Sub 1:sample other:sample -> sample"), truth(lambda a, b: a == b)),
     7: Operator("!=", template(LESS, MORE, OTHER), truth(lambda a, b: a != b)),
     8: Operator("<", template(LESS), truth(lambda a, b: a < b)),
@@ -100,12 +116,15 @@ BINARY = {
     11: Operator(">=", template(LESS, "Sub 1:sample less:sample -> sample"), truth(lambda a, b: a >= b)),
     12: Operator("min", template("Min a:M b:M -> M"), min),
     13: Operator("max", template("Max a:M b:M -> M"), max),
-    5: Operator("mod", functions.remainder, lambda a, b: a - b * math.floor(a / b) if b else 0.0),
-    19: Operator("round", functions.rounded, lambda a, b: math.floor(a / b + 0.5) * b if b else a),
-    20: Operator("roundUp", functions.rounded_up, lambda a, b: math.ceil(a / b) * b if b else a),
-    21: Operator("trunc", functions.truncated, lambda a, b: math.floor(a / b) * b if b else a),
-    23: Operator("hypot", None, math.hypot),
-    25: Operator("pow", functions.power, lambda a, b: math.copysign(abs(a) ** b, a)),
+    5: Operator("mod", functions.remainder, lambda a, b: a - b * math.floor(a / b) if b else 0.0, "Mod",
+                ratios.remainder),
+    19: Operator("round", functions.rounded, lambda a, b: math.floor(a / b + 0.5) * b if b else a, "Mod",
+                 ratios.rounded),
+    20: Operator("roundUp", functions.rounded_up, lambda a, b: math.ceil(a / b) * b if b else a, "Mod",
+                 ratios.rounded_up),
+    21: Operator("trunc", functions.truncated, lambda a, b: math.floor(a / b) * b if b else a, "Mod", ratios.truncated),
+    23: Operator("hypot", None, math.hypot, POWERS, logarithms.distance),
+    25: Operator("pow", functions.power, lambda a, b: math.copysign(abs(a) ** b, a), POWERS, logarithms.power),
     30: Operator("ring1", ring(lambda graph, p, a, b: graph.sum(p, a)), lambda a, b: a * b + a),
     31: Operator("ring2", ring(lambda graph, p, a, b: graph.sum(graph.sum(p, a), b)), lambda a, b: a * b + a + b),
     32: Operator("ring3", ring(lambda graph, p, a, b: graph.product(p, a)), lambda a, b: a * a * b),
@@ -123,8 +142,10 @@ BINARY = {
     42: Operator("clip2", template("low = Neg b:M -> M", "Clip a:M low:M b:M -> M"), lambda a, b: max(-b, min(a, b))),
     43: Operator("excess", template("low = Neg b:M -> M", "near = Clip a:M low:M b:M -> M", "Sub a:M near:M -> M"),
                  lambda a, b: a - max(-b, min(a, b))),
-    44: Operator("fold2", to_both_sides(folded), lambda a, b: b - abs((a - b) % (4 * b) - 2 * b) if b else 0.0),
-    45: Operator("wrap2", to_both_sides(wrapped), lambda a, b: (a + b) % (2 * b) - b if b else 0.0),
+    44: Operator("fold2", to_both_sides(folded), lambda a, b: b - abs((a - b) % (4 * b) - 2 * b) if b else 0.0,
+                 "Mod", ratios.to_both_sides(ratios.folded)),
+    45: Operator("wrap2", to_both_sides(wrapped), lambda a, b: (a + b) % (2 * b) - b if b else 0.0, "Mod",
+                 ratios.to_both_sides(ratios.wrapped)),
     46: Operator("firstArg", lambda graph, a, b: [a], lambda a, b: a),
 }
 
@@ -136,32 +157,41 @@ UNARY = {
     11: Operator("sign", template("more = Gt a:M 0:M -> sample", "less = Lt a:M 0:M -> sample",
                                   "Sub more:sample less:sample -> sample"), lambda a: float((a > 0) - (a < 0))),
     6: Operator("asFloat", lambda graph, a: [a], lambda a: a),
-    8: Operator("ceil", lambda graph, a: functions.rounded_up(graph, a, 1.0), math.ceil),
-    9: Operator("floor", lambda graph, a: functions.truncated(graph, a, 1.0), math.floor),
-    10: Operator("frac", lambda graph, a: functions.remainder(graph, a, 1.0), lambda a: a - math.floor(a)),
+    8: Operator("ceil", lambda graph, a: functions.rounded_up(graph, a, 1.0), math.ceil, "Mod",
+                ratios.by_one(ratios.rounded_up)),
+    9: Operator("floor", lambda graph, a: functions.truncated(graph, a, 1.0), math.floor, "Mod",
+                ratios.by_one(ratios.truncated)),
+    10: Operator("frac", lambda graph, a: functions.remainder(graph, a, 1.0), lambda a: a - math.floor(a), "Mod",
+                 ratios.by_one(ratios.remainder)),
     12: Operator("squared", squared, lambda a: a * a),
     13: Operator("cubed", cubed, lambda a: a * a * a),
-    14: Operator("sqrt", None, lambda a: math.copysign(math.sqrt(abs(a)), a)),
-    15: Operator("exp", exponential_of(1.0, 1.0, -16.0, 4.8), math.exp),
-    16: Operator("reciprocal", None, lambda a: 1 / a),
+    14: Operator("sqrt", None, lambda a: math.copysign(math.sqrt(abs(a)), a), POWERS, logarithms.root),
+    15: Operator("exp", exponential_of(1.0, 1.0, -16.0, 4.8), math.exp, "Exp2",
+                 logarithms.exponential_of(math.log2(math.e))),
+    16: Operator("reciprocal", None, lambda a: 1 / a, "Div", ratios.reciprocal),
     17: Operator("midicps", exponential_of(math.log(2) / 12, 440 * 2 ** (-69 / 12), 0.0, 127.0),
-                 lambda a: 440 * 2 ** ((a - 69) / 12)),
-    18: Operator("cpsmidi", None, lambda a: 69 + 12 * math.log2(a / 440)),
-    19: Operator("midiratio", exponential_of(math.log(2) / 12, 1.0, -60.0, 60.0), lambda a: 2 ** (a / 12)),
-    20: Operator("ratiomidi", None, lambda a: 12 * math.log2(a)),
-    21: Operator("dbamp", exponential_of(math.log(10) / 20, 1.0, -100.0, 40.0), lambda a: 10 ** (a / 20)),
-    22: Operator("ampdb", None, lambda a: 20 * math.log10(a)),
-    23: Operator("octcps", exponential_of(math.log(2), 440 * 2 ** -4.75, 0.0, 10.0), lambda a: 440 * 2 ** (a - 4.75)),
-    24: Operator("cpsoct", None, lambda a: math.log2(a / 440) + 4.75),
-    25: Operator("log", None, math.log),
-    26: Operator("log2", None, math.log2),
-    27: Operator("log10", None, math.log10),
+                 lambda a: 440 * 2 ** ((a - 69) / 12), "Exp2", logarithms.exponential_of(1 / 12, 440.0, -69 / 12)),
+    18: Operator("cpsmidi", None, lambda a: 69 + 12 * math.log2(a / 440), POWERS,
+                 logarithm_of(12.0, 69 - 12 * math.log2(440))),
+    19: Operator("midiratio", exponential_of(math.log(2) / 12, 1.0, -60.0, 60.0), lambda a: 2 ** (a / 12), "Exp2",
+                 logarithms.exponential_of(1 / 12)),
+    20: Operator("ratiomidi", None, lambda a: 12 * math.log2(a), POWERS, logarithm_of(12.0)),
+    21: Operator("dbamp", exponential_of(math.log(10) / 20, 1.0, -100.0, 40.0), lambda a: 10 ** (a / 20), "Exp2",
+                 logarithms.exponential_of(math.log2(10) / 20)),
+    22: Operator("ampdb", None, lambda a: 20 * math.log10(a), POWERS, logarithm_of(20 * math.log10(2))),
+    23: Operator("octcps", exponential_of(math.log(2), 440 * 2 ** -4.75, 0.0, 10.0), lambda a: 440 * 2 ** (a - 4.75),
+                 "Exp2", logarithms.exponential_of(1.0, 440.0, -4.75)),
+    24: Operator("cpsoct", None, lambda a: math.log2(a / 440) + 4.75, POWERS, logarithm_of(1.0, 4.75 - math.log2(440))),
+    25: Operator("log", None, math.log, POWERS, logarithm_of(math.log(2))),
+    26: Operator("log2", None, math.log2, POWERS, logarithm_of(1.0)),
+    27: Operator("log10", None, math.log10, POWERS, logarithm_of(math.log10(2))),
     28: Operator("sin", of_sine(0.0), math.sin),
     29: Operator("cos", of_sine(math.pi / 2), math.cos),
-    30: Operator("tan", None, math.tan),
-    36: Operator("tanh", functions.tanh, math.tanh),
-    42: Operator("distort", functions.distort, lambda a: a / (1 + abs(a))),
-    43: Operator("softclip", functions.softclip, lambda a: a if abs(a) <= 0.5 else (abs(a) - 0.25) / a),
+    30: Operator("tan", None, math.tan, "Div", tangent),
+    36: Operator("tanh", functions.tanh, math.tanh, "Div Exp2", logarithms.tanh),
+    42: Operator("distort", functions.distort, lambda a: a / (1 + abs(a)), "Div", ratios.distort),
+    43: Operator("softclip", functions.softclip, lambda a: a if abs(a) <= 0.5 else (abs(a) - 0.25) / a, "Div",
+                 ratios.softclip),
     48: Operator("rectWindow", functions.inside, lambda a: 1.0 if 0 <= a <= 1 else 0.0),
     49: Operator("hanWindow", functions.raised_cosine, lambda a: 0.5 - 0.5 * math.cos(math.tau * a)),
     50: Operator("welWindow", functions.half_sine, lambda a: math.sin(math.pi * a)),
@@ -178,6 +208,7 @@ def operate(table, graph, number, operands):
         raise Refused(f"its operator {number} isn't there")
     if not any(isinstance(each, Wire) for each in operands):
         return [found.fold(*operands)]
-    if found.build is None:
+    build = found.best()
+    if build is None:
         raise Refused(f"{found.name} of a signal isn't there")
-    return found.build(graph, **dict(zip("ab", operands)))
+    return build(graph, **dict(zip("ab", operands)))

@@ -3,6 +3,7 @@ import math
 
 from .functions import LIMIT, SINE_0
 from .graph import Wire
+from .ratios import divided
 from .rows import DIFFERENCE, GREATER, LESSER, SIZE, Row
 from .templates import constant, template
 
@@ -99,10 +100,11 @@ def far_apart(graph, pos, place):
 def pan_circle(graph, x, pos, level, width, orientation):
     """A circle of channels, of which those near the position are heard."""
     count, found = graph.unit.outputs, []
-    x, width = graph.product(x, level), constant(width, "its width")
+    x = graph.product(x, level)
+    slope = divided(graph, -math.pi * count / 2, width) if isinstance(width, Wire) else -math.pi * count / 2 / width
     for channel in range(count):
         off = far_apart(graph, pos, 2 * (channel - constant(orientation, "its orientation")) / count)
-        turn = graph.product(off, -math.pi * count / 2 / width, math.pi / 2)
+        turn = graph.product(off, slope, math.pi / 2)
         near = GREATER(graph, a=turn, b=0.0)[0] if isinstance(turn, Wire) else max(0.0, turn)
         found.append(graph.product(x, sine_of(graph, near)))
     return found

@@ -5,10 +5,12 @@ chain of them from the first one.
 """
 import math
 
+from .further import has
 from .graph import Wire
+from .logarithms import between as between_ends
 from .measures import NUMBER, SAMPLE, Refused
 from .rows import GREATER, LATCH, LESS, LESSER, Row, counted, start
-from .shapes import exponential, steps
+from .shapes import exponent, exponential
 from .templates import constant, template
 
 NOISE = template("WhiteNoise -> sample")
@@ -42,13 +44,15 @@ def between(graph, r, low, high):
 
 def between_by_ratios(graph, r, low, high):
     """The same, by e to a line of r."""
+    if has("Div", "Exp2", "Log2"):
+        return between_ends(graph, graph.product(r, 0.5, 0.5), low, high)
     low, high = constant(low, "its start"), constant(high, "its end")
     if low * high <= 0:
         raise Refused("its start and its end must have one sign, and none may be 0")
     if low == high:
         return low
     depth, most = -abs(math.log(high / low)), max(low, high, key=abs)
-    half = depth / 2 ** steps(depth) / 2
+    half = exponent(depth) / 2
     z = graph.product(r, half if most == low else -half, half)
     if isinstance(z, Wire):
         z.slot.set(SAMPLE)

@@ -10,12 +10,13 @@ class Row:
 
     A parameter `name=value` must be that constant; `name?` isn't used here. The last one may be `name*`: all further
     inputs. A unit that counts frames (`frames`) is refused at control rate, where a frame there is a block. `note` says
-    what differs. A `stand_in` is a unit that is left out here, or has another one in its place; its note says so.
+    what differs. A `stand_in` is a unit that is left out here, or has another one in its place; its note says so. What
+    it `needs` are units of those that the server has got last.
     """
 
-    def __init__(self, parameters, build, frames=False, note=None, stand_in=False):
+    def __init__(self, parameters, build, frames=False, note=None, stand_in=False, needs=""):
         self.parameters, self.build, self.frames = parameters.split(), build, frames
-        self.note, self.stand_in = note, stand_in
+        self.note, self.stand_in, self.needs = note, stand_in, needs.split()
 
     def arguments(self, inputs):
         """The inputs by name."""

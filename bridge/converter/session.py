@@ -74,15 +74,26 @@ class Session:
         found = []
         for place in node.definition.graph.places:
             if controls is None or place.index in controls:
-                found += self.connect(place.kind, place.number(node.value_of), place.slot)
+                number = place.number(node.value_of)
+                found += self.connect(place.kind, number, place.slot)
+                if place.changes and number in self.buffers:
+                    self.buffers[number].samples = None
         return found
+
+    def uses(self, kind, number):
+        """The places of synths for a bus or a buffer."""
+        for node in self.nodes.by_id.values():
+            for place in node.definition.graph.places if node.definition else []:
+                if place.kind == kind and place.number(node.value_of) == number:
+                    yield place
+
+    def changes(self, number):
+        """Whether a synth changes the samples of a buffer."""
+        return any(place.changes for place in self.uses("buffer", number))
 
     def let_go(self, kind, number):
         """Forgets the measure of a bus or a buffer if no synth uses it; a score knows it from its start."""
-        synths = [node for node in self.nodes.by_id.values() if node.definition]
-        used = any(place.kind == kind and place.number(node.value_of) == number
-                   for node in synths for place in node.definition.graph.places)
-        if self.live and not used:
+        if self.live and not any(self.uses(kind, number)):
             self.slots.pop((kind, number), None)
 
     # Definitions.

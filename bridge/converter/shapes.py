@@ -1,10 +1,11 @@
 """How a segment of an envelope bends: what goes from 0 to 1 while a ramp goes from one end to the other.
 
-A curve puts its part of the ramp through an exponential, which is worked out by a short series and squarings.
+A curve puts its part of the ramp through an exponential: a power of 2, or a short series and squarings.
 """
 import math
 from typing import NamedTuple, Optional, Union
 
+from .further import has, preferred
 from .graph import Wire
 from .measures import SAMPLE, Refused
 from .templates import template
@@ -13,7 +14,9 @@ STEP, LINEAR, EXPONENTIAL, SINE, WELCH, CURVE, SQUARED, CUBED, HOLD = range(9)
 # A curve that is flatter is a line.
 FLAT = 0.001
 
-STILL = template("SinOsc 0:hertz phase:radians -> sample")
+EXP_2 = template("Exp2 x:sample -> sample")
+STILL = preferred("Sine", template("Sine 0:hertz phase:radians -> sample"),
+                  template("SinOsc 0:hertz phase:radians -> sample"))
 ABOVE = template("Gt x:sample limit:sample -> sample")
 
 
@@ -44,9 +47,16 @@ class Part(NamedTuple):
         return graph.product(self.x, slope, start - slope * self.low)
 
 
+def exponent(depth):
+    """The end of the wire that `exponential` takes for e^z with z from `depth` to 0."""
+    return depth * math.log2(math.e) if has("Exp2") else depth / 2 ** steps(depth)
+
+
 def exponential(graph, z, depth):
-    """e^z for a wire z from `depth`, below 0, to 0, which is given divided by 2^steps(depth)."""
+    """e^z for a wire from `exponent(depth)`, below 0, to 0."""
     z.slot.set(SAMPLE)
+    if has("Exp2"):
+        return EXP_2(graph, x=z)[0]
     a = graph.product(z, 1 / 3, 1.0)
     b = graph.product(z, graph.product(a, 0.5), 1.0)
     found = graph.product(z, b, 1.0)
@@ -69,7 +79,7 @@ def over(graph, x, limit):
 def curved(graph, part, curve):
     """By e to a line; from the larger end the other one is reached by what falls."""
     depth = -abs(curve)
-    end = depth / 2 ** steps(depth)
+    end = exponent(depth)
     z = part.line(graph, 0.0, end) if curve < 0 else part.line(graph, end, 0.0)
     found, foot = exponential(graph, z, depth), math.exp(depth)
     if curve < 0:

@@ -1,6 +1,7 @@
 """The table of all commands of the Server Command Reference, by their addresses and by their numbers."""
 from .buffers import BUFFERS
 from .bus_commands import CONTROL_BUSES
+from .changes import CHANGES
 from .file_commands import SOUND_FILES
 from .measures import Refused
 from .node_commands import NODES
@@ -8,7 +9,7 @@ from .node_queries import QUERIES
 from .server_commands import SERVER
 
 COMMANDS = {command.address: command
-            for command in [*SERVER, *NODES, *QUERIES, *CONTROL_BUSES, *BUFFERS, *SOUND_FILES]}
+            for command in [*SERVER, *NODES, *QUERIES, *CONTROL_BUSES, *BUFFERS, *CHANGES, *SOUND_FILES]}
 NUMBERS = {command.number: command for command in COMMANDS.values() if command.number is not None}
 
 

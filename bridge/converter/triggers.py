@@ -2,6 +2,7 @@
 from .delays import delay
 from .graph import Wire
 from .measures import NUMBER, SECONDS, Slot
+from .ratios import in_samples
 from .rows import DELAY_1, DIFFERENCE, GREATER, LATCH, LESS, MORE, SIZE, Row, counted, start
 from .templates import constant, template
 
@@ -18,6 +19,7 @@ SINCE = template("keep = Sub 1:sample rise:sample -> sample", "never = Min start
                  "Integrator step:number keep:sample -> number")
 # Frames since the first frame or the last trigger.
 FRAMES_SINCE = template("Phasor trig:any 1:number 0:number 2147483647:number 0:number -> number")
+TRIG = template("Trig trig:M time:sample -> M")
 LONGER = "a trigger while it is on makes it last longer"
 
 
@@ -65,6 +67,19 @@ def trig(graph, trig, time):
     if not isinstance(trig, Wire):
         return [0.0]
     return [graph.product(for_a_while(graph, trig, time)[0], LATCH(graph, x=trig, trig=trig)[0])]
+
+
+def at_its_height(graph, trig, time):
+    """What the trigger was, for a time, in which another one does nothing."""
+    trig = begun(graph, trig)
+    if not isinstance(trig, Wire):
+        return [0.0]
+    return TRIG(graph, trig=trig, time=in_samples(graph, time))
+
+
+def on_for_a_while(graph, trig, time):
+    found, = at_its_height(graph, trig, time)
+    return MORE(graph, a=found, b=0.0) if isinstance(found, Wire) else [0.0]
 
 
 def delayed(graph, trig, time):
@@ -115,6 +130,10 @@ def nothing(graph, rest):
     return [0.0]
 
 
+FURTHER = {
+    "Trig": Row("trig time", at_its_height, needs="Trig"),
+    "Trig1": Row("trig time", on_for_a_while, needs="Trig"),
+}
 UNITS = {
     "Latch": Row("x trig", template("Latch x:M trig:any -> M")),
     "Gate": Row("x trig", template("Gate x:M trig:any -> M")),

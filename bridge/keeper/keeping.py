@@ -1,6 +1,7 @@
 """The keeper: the gateway, a server that it starts, and the way of its sound; it comes back when one of them ends."""
 import os
 import signal
+import socket
 import sys
 import time
 from pathlib import Path
@@ -9,7 +10,7 @@ from converter import osc
 from converter.commands import Asked
 from converter.gateway import AT_ONCE, Gateway
 from converter.links import Stream
-from converter.live import MOST_WAITING, Live
+from converter.live import HOST, MOST_WAITING, Live
 from converter.osc import Message
 
 from .load import Load
@@ -19,6 +20,8 @@ from .server import NoServer, Server
 from .sinks import BLOCK
 from .sound import Sound
 from .timing import SECOND, Frames, ServerTime, tag_of
+from .window.feed import Feed
+from .window.watch import Watched
 
 # Seconds before a server is started again that ran less than `STEADY`, or that couldn't be started.
 STEADY, SHORT_PAUSE, LONG_PAUSE = 5.0, 1.0, 10.0
@@ -38,17 +41,20 @@ def words_of(settings):
 class Keeper(Live):
     """What clients of a session meet, whatever becomes of its server and its player."""
 
-    def __init__(self, settings):
+    def __init__(self, settings, listener=None):
+        """`listener` is where the window is served, if there is to be one."""
         self.settings, self.log = settings, Log(settings.log)
         gateway = Gateway(settings.rate, settings.clients, memory=settings.memory)
         super().__init__(settings.port, None, gateway)
         self.sound = Sound(settings, Frames(settings.rate, time.monotonic()), self.log.report)
         self.load = Load(self.sound, self.log.report)
         gateway.report, gateway.times, gateway.use = self.log.count, self.server_time, self.load.use
-        gateway.recall = Recall(lambda: tag_of(time.time()), settings.memory)
+        gateway.recall = (Watched if listener else Recall)(lambda: tag_of(time.time()), settings.memory)
         self.process, self.times, self.restarts, self.missed = None, None, 0, 0
+        self.since, self.last_restart = time.time(), None
         self.next_start = self.next_spell = 0.0
         self.known = set()
+        self.window = Feed(self, listener) if listener else None
 
     def run(self):
         """Keeps the session until it is quit."""
@@ -64,6 +70,8 @@ class Keeper(Live):
                 if time.monotonic() >= self.next_spell:
                     self.next_spell = time.monotonic() + SPELL
                     self.look_around()
+                if self.window:
+                    self.window.look()
         finally:
             self.close()
 
@@ -96,6 +104,8 @@ class Keeper(Live):
         self.started = time.monotonic()
         self.server = Stream(self.ready, self.process.link, self.gateway.hear, self.server_closed)
         self.server.most = MOST_WAITING
+        if self.window:
+            self.window.sound_starts()
         self.sound.start(self.process.pipe)
         first = start + (lost * BLOCK - self.sound.taken) * SECOND // self.settings.rate
         self.times = ServerTime(self.settings.rate, first)
@@ -166,7 +176,7 @@ class Keeper(Live):
         self.is_over = self.gateway.quits
         if self.is_over:
             return
-        self.restarts += 1
+        self.restarts, self.last_restart = self.restarts + 1, time.time()
         self.gateway.lose_server()
         steady = time.monotonic() - self.started > STEADY
         self.next_start = time.monotonic() + (0 if steady else SHORT_PAUSE)
@@ -194,6 +204,8 @@ class Keeper(Live):
             self.sound.pause()
             self.process.stop()
         self.sound.stop()
+        if self.window:
+            self.window.close()
         self.log.report("the session has ended")
 
 
@@ -203,10 +215,13 @@ def keep(settings):
         if path and not os.access(path, wanted):
             print(f"{path}: it isn't there, or may not be used", file=sys.stderr)
             return 2
+    port = settings.window
     try:
-        Keeper(settings).run()
+        listener = socket.create_server((HOST, port)) if port else None
+        port = settings.port
+        Keeper(settings, listener).run()
     except OSError as wrong:
-        print(f"port {settings.port}: {wrong.strerror}", file=sys.stderr)
+        print(f"port {port}: {wrong.strerror}", file=sys.stderr)
         return 2
     except KeyboardInterrupt:
         pass

@@ -6,6 +6,8 @@ from converter.osc import Double
 
 # Seconds between two lines of the log: on late blocks, if there are any, and on all.
 LATE, REPORT = 10.0, 600.0
+# So many measures are kept: those of an hour.
+MOST_KEPT = 360
 
 
 class Load:
@@ -16,6 +18,9 @@ class Load:
         self.lately, self.late, self.worst = deque([0.0], maxlen=60), 0, 0.0
         self.last, self.used = time.monotonic(), 0.0
         self.next_late, self.next_report = self.last, self.last + REPORT
+        # Of each ten seconds: when they ended, how many blocks were late, by how many milliseconds the worst one, and
+        # the load.
+        self.history = deque(maxlen=MOST_KEPT)
 
     def start(self, process):
         """A server was started."""
@@ -36,6 +41,7 @@ class Load:
 
     def report_late(self, count, worst):
         self.late, self.worst = self.late + count, max(self.worst, worst)
+        self.history.append((time.time(), count, 1000 * worst, self.lately[-1]))
         if count:
             self.report(f"{count} blocks were late, the worst one by {1000 * worst:.1f} ms")
 

@@ -13,20 +13,28 @@ class Log:
     def __init__(self, path=""):
         self.file = open(path, "a", encoding="utf-8", buffering=1) if path else sys.stderr
         self.lock, self.since, self.counts = threading.Lock(), time.monotonic(), {}
+        # What is told of each line and its time, if anything is; it must return at once.
+        self.hears = None
 
     def report(self, line):
         """Writes a line."""
+        self.tell(line)
         with self.lock:
             self.write(line)
 
     def count(self, line):
         """Writes a line that may come often: how often it comes again is written once in a while."""
+        self.tell(line)
         with self.lock:
             self.sum_up()
             if line in self.counts or len(self.counts) < MOST_LINES:
                 self.counts[line] = self.counts.get(line, 0) + 1
             if self.counts.get(line) == 1:
                 self.write(line)
+
+    def tell(self, line):
+        if self.hears:
+            self.hears(time.time(), line)
 
     def sum_up(self):
         """Once in a while, writes how often lines came again."""

@@ -55,8 +55,10 @@ class Server:
         """`words` are the program and its words, with `PORT` and `SOUND` for those that are chosen here; a frame has
         `wide` bytes."""
         port, self.link, self.program = free_port(), None, None
-        self.pipe, writing, self.held = small_pipe()
+        self.pipe, writing, size = small_pipe()
         self.block = BLOCK * wide
+        # A block goes into the pipe as a whole, so it is full when no further one fits.
+        self.held = size // self.block * self.block
         names = {"PORT": str(port), "SOUND": f"/dev/fd/{writing}"}
         try:
             self.program = subprocess.Popen([names.get(word, word) for word in words], pass_fds=[writing],
@@ -103,7 +105,7 @@ class Server:
             if time.monotonic() > until or self.program.poll() is not None:
                 raise NoServer("it doesn't answer")
             if standing(self.pipe) >= self.block:
-                read += len(os.read(self.pipe, self.held // self.block * self.block))
+                read += len(os.read(self.pipe, self.held))
 
     def settle(self, until):
         """Waits until the pipe is full."""

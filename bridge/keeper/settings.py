@@ -52,6 +52,7 @@ KEYS = {
     "synths": Key(one_of("keep", "drop"), "keep", "whether synths are made again when the server is started again"),
     "clients": Key(number(1, 16), 8, "how many clients may be registered for notifications"),
     "score": Key(text, "", "a command file that is played first"),
+    "window": Key(number(0, 65535), 0, "a port of this machine for a page that shows the session"),
     "log": Key(text, "", "a file for what happens, a line an event; without one it is the standard error"),
 }
 

@@ -9,7 +9,7 @@ from converter.osc import Message
 RUN = 8192
 # So many definitions are kept; of more the oldest go.
 MOST_DEFINITIONS = 4096
-NAME, CONTROL = re.compile(r"^def (\S+)", re.M), re.compile(r"^control (\S+)", re.M)
+NAME, CONTROL = re.compile(r"^def (\S+)", re.M), re.compile(r"^(control|array) (\S+) (.*)", re.M)
 
 
 def flat(arguments):
@@ -31,6 +31,14 @@ def in_runs(arguments):
         at += 2 + max(0, count)
 
 
+def controls_of(text):
+    """The names of the controls of a definition; those of an array are NAME, NAME.1, NAME.2 and so on."""
+    for kind, name, values in CONTROL.findall(text):
+        if kind == "control" or text.startswith("snova 2"):
+            yield name
+            yield from (f"{name}.{at}" for at in range(1, len(values.split()) if kind == "array" else 1))
+
+
 class Definitions:
     """The texts of definitions by name, and the names of their controls."""
 
@@ -42,7 +50,7 @@ class Definitions:
         found = NAME.search(text)
         if found:
             self.texts.pop(found[1], None)
-            self.texts[found[1]], self.controls[found[1]] = data, CONTROL.findall(text)
+            self.texts[found[1]], self.controls[found[1]] = data, list(controls_of(text))
         if len(self.texts) > MOST_DEFINITIONS:
             self.free(next(iter(self.texts)))
 

@@ -6,8 +6,8 @@
 It is run by hand, where Debian's `supercollider-server` is installed. Without a program the model of outside/ renders
 in its place. The difference is that of the first second after the first block, in decibels of the sound of scsynth,
 and the level that of the tenth of a second in which the loudness lies farthest apart, in decibels of one another; of
-`sine` also that between the sound here and the formula of the sine, worked out in floats. `--keep` writes the
-first 20 blocks of scsynth's sound, for `run.py`.
+`sine` also that between the sound here and a sine that is worked out in floats. `--keep` writes the first 20 blocks of
+scsynth's sound, for `run.py`.
 """
 import argparse
 import math
@@ -40,16 +40,8 @@ def by_snova(program, score, folder):
     return sounds.read(folder / "here.wav")
 
 
-def formula(frames, freq, level):
-    """The sine's formula of a true phase."""
-    found = []
-    for frame in range(frames):
-        turn = frame * freq / SECOND % 1
-        half = 2 * turn % 1
-        parabola = half * (1 - half)
-        value = 16 * parabola / (5 - 4 * parabola)
-        found.append(level * (value if turn < 0.5 else -value))
-    return found
+def true_sine(frames, freq, level):
+    return [level * math.sin(math.tau * (frame * freq / SECOND % 1)) for frame in range(frames)]
 
 
 def line(name, there, here):
@@ -69,7 +61,7 @@ def options():
 
 def main():
     given = options()
-    for name in given.names or sorted(path.stem for path in DATA.glob("*.osc")):
+    for name in given.names or sorted(path.stem for path in DATA.glob("*.osc") if path.stem != "handshake"):
         with tempfile.TemporaryDirectory() as folder:
             there = by_scsynth(DATA / f"{name}.osc", Path(folder))
             if given.keep:
@@ -78,7 +70,7 @@ def main():
             here = by_snova(given.snova, DATA / f"{name}.osc", Path(folder))
         print(line(name, there, here), flush=True)
         if name == "sine":
-            print(line("its formula", [formula(len(here[0]), 441.3, 0.5)], here), flush=True)
+            print(line("a true sine", [true_sine(len(here[0]), 441.3, 0.5)], here), flush=True)
     return 0
 
 

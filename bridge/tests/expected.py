@@ -175,3 +175,9 @@ SOUNDS = {
     "filters": -60, "rings": -30, "allpass": -80, "around": -55, "whole": -80, "power": -80, "held": -80,
     "triggers": -50,
 }
+# The same of what takes units that the server has got last. A frequency that moves at control rate stands still there
+# for a block, and what jumps does so a frame later.
+FURTHER_SOUNDS = {
+    "sweeps": -38, "resonances": -30, "quotients": -47, "exponents": -80, "bent": -85, "followers": -30, "limits": -17,
+    "harmonics": -20,
+}

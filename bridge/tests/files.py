@@ -265,26 +265,70 @@ def filled():
             yield f"{words}: {apart} apart"
 
 
+# After a buffer of four frames: fills, copies and levels as a score has them. Of the last two samples aren't known.
+HALF, QUARTER = ONE // 2, [0, ONE, 0, -ONE]
+KINDS_TOLD = "sine1, sine2, sine3, cheby, copy, normalize, wnormalize are"
+FILLS = [
+    (["/b_gen", 3, "sine1", 4, 1.0], [["/b_setn", 3, 0, 4, *QUARTER]]),
+    (["/b_gen", 3, "sine2", 0, 1, 1], [["/b_setn", 3, 0, 4, *(2 * each for each in QUARTER)]]),
+    (["/b_gen", 3, "sine3", 5, 1, 0.5, math.pi / 2], [["/b_setn", 3, 0, 4, ONE, 0, -ONE, 0]]),
+    (["/b_gen", 3, "cheby", 4, 1], [["/b_setn", 3, 0, 4, -ONE, -HALF, 0, HALF]]),
+    (["/b_gen", 3, "sine2", 4, 1.0], "/b_gen 3: its partials don't come in groups of 2 numbers"),
+    (["/b_gen", 3, "square", 1], f"/b_gen 3: the fill square isn't there: {KINDS_TOLD}"),
+    (["/b_gen", 4, "sine1", 7, 1.0], "/b_gen 4: no buffer 4 was made"),
+    (["/b_set", 3, 0, 0.5], [["/b_set", 3, 0, HALF]]),
+    (["/b_setn", 3, 2, 2, -0.25, 0.0], [["/b_setn", 3, 2, 2, -ONE // 4, 0]]),
+    (["/b_fill", 3, 3, 1, 0.25], [["/b_fill", 3, 3, 1, ONE // 4]]),
+    (["/b_gen", 3, "normalize"], [["/b_setn", 3, 0, 4, ONE, -ONE, -HALF, HALF]]),
+    (["/b_gen", 3, "wnormalize", 0.25], [["/b_setn", 3, 0, 4, ONE, -ONE, -HALF, HALF]]),
+    (["/b_alloc", 5, 3, 1, 0], [["/b_alloc", 5, 3, 1]]),
+    (["/b_gen", 5, "copy", 1, 3, 0, -1], [["/b_setn", 5, 1, 2, ONE, -ONE]]),
+    (["/b_gen", 5, "copy", 0, 3, 2, 1], [["/b_setn", 5, 0, 1, -HALF]]),
+    (["/b_gen", 5, "copy", 0, 5, 1, 9], [["/b_setn", 5, 0, 2, ONE, -ONE]]),
+    (["/b_gen", 5, "copy", 0, 5, 0, 0], []),
+    (["/b_gen", 5, "copy", 0, 5], "/b_gen 5: it takes a place, a buffer, a place in it, and a count of frames"),
+    (["/b_alloc", 6, 3, 2], [["/b_alloc", 6, 3, 2]]),
+    (["/b_gen", 5, "copy", 0, 6, 0, -1], "/b_gen 5: buffer 6 has 2 channels, and this one has 1"),
+]
+
+
 def filling():
-    """A fill becomes a run of samples; over a fill or zeros the samples need no flag to clear them."""
-    quarter = [0, ONE, 0, -ONE]
+    """A fill, a copy or a level becomes a run of samples, if it is known what is in the buffer."""
     with tempfile.TemporaryDirectory() as folder:
         played = Played(folder)
         played.sent("/b_alloc", 3, 4)
-        cases = [
-            (["/b_gen", 3, "sine1", 4, 1.0], [["/b_setn", 3, 0, 4, *quarter]]),
-            (["/b_gen", 3, "sine2", 0, 1, 1], [["/b_setn", 3, 0, 4, *(2 * each for each in quarter)]]),
-            (["/b_gen", 3, "sine3", 5, 1, 0.5, math.pi / 2], [["/b_setn", 3, 0, 4, ONE, 0, -ONE, 0]]),
-            (["/b_gen", 3, "cheby", 4, 1], [["/b_setn", 3, 0, 4, -ONE, -ONE // 2, 0, ONE // 2]]),
-            (["/b_gen", 3, "sine2", 4, 1.0], "/b_gen 3: its partials don't come in groups of 2 numbers"),
-            (["/b_gen", 3, "copy", 0, 1, 0, -1], "/b_gen 3: the fill copy isn't there: sine1, sine2, sine3, cheby are"),
-            (["/b_gen", 4, "sine1", 7, 1.0], "/b_gen 4: no buffer 4 was made"),
-            (["/b_set", 3, 0, 0.5], [["/b_set", 3, 0, ONE // 2]]),
-            (["/b_gen", 3, "sine1", 0, 1.0],
-             "/b_gen 3: what is in the buffer isn't known, so it must be cleared: the flag 4"),
-        ]
-        for there, wanted in cases:
+        for there, wanted in FILLS:
             yield from compare(there, wanted, played.sent(*there))
+        played.session.buffers[3].samples = None
+        yield from compare("unknown", "/b_gen 3: what is in buffer 3 isn't known, and a score can't ask for it",
+                           played.sent("/b_gen", 3, "normalize"))
+
+
+def asking():
+    """What a live session doesn't know it asks for, and what comes meanwhile waits for what is made of it."""
+    opened, server = gateway()
+    client, late = Client(), []
+    for there in (["/b_alloc", 1, 4], ["/b_alloc", 2, 4], ["/b_setn", 1, 0, 4, 0.25, 0.5, 0.0, 0.0]):
+        opened.take(client, osc.encoded(Message(there[0], there[1:])))
+    client.taken()
+    server.came.clear()
+    server.hear = late.append
+    server.tree = {"/b_getn": Message("/b_setn", [1, 0, 4, ONE // 4, HALF, 0, 0])}
+    for there in (["/b_gen", 1, "normalize", 1.0], ["/b_zero", 1], ["/sync", 9]):
+        opened.take(client, osc.encoded(Message(there[0], there[1:])))
+    yield from compare("what is asked for first", [Message("/b_getn", [1, 0, 4])], server.came)
+    while late:
+        opened.hear(osc.encoded(late.pop(0)))
+    yield from compare("what follows", [["/b_getn", 1, 0, 4], ["/b_setn", 1, 0, 4, HALF, ONE, 0, 0], ["/b_zero", 1]],
+                       plain(server.came))
+    found = [osc.decoded(data) for data in client.taken()]
+    yield from compare("the answers", [Message("/done", ["/b_gen", 1]), Message("/synced", [9])], found)
+    for there in (["/b_set", 1, 0, 0.5], ["/b_gen", 2, "copy", 0, 1, 0, -1], ["/sync", 10]):
+        opened.take(client, osc.encoded(Message(there[0], there[1:])))
+    with contextlib.redirect_stderr(io.StringIO()):
+        opened.ends()
+    yield from compare("a server that ends", Message("/fail", ["/sync", "there is no server yet"]),
+                       osc.decoded(client.taken()[-1]))
 
 
 def long_runs():
@@ -299,4 +343,4 @@ def long_runs():
         yield from compare("their sizes", True, all(len(osc.encoded(osc.Bundle(1, [each]))) < 65537 for each in made))
 
 
-CHECKS = [forms, parts, variants, answers, written, filled, filling, long_runs]
+CHECKS = [forms, parts, variants, answers, written, filled, filling, asking, long_runs]

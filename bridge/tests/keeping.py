@@ -143,6 +143,15 @@ def restored():
     yield from compare("synths that are lost", [(1000, 1), (1001, 1), (1002, 2)], lost)
 
 
+def arrays():
+    """Elements of an array are controls of their own."""
+    found = Recall(lambda: NOW, MEMORY)
+    text = b"snova 2\ndef bank\narray amp 1 2 3\ncontrol out 0\nOut.ar out amp\nend\n"
+    for message in (("/d_recv", text), ("/s_new", "bank", 9, 0, 0, "amp.1", 5, 2, 6, 3, 7)):
+        found.sent(1, None, [Asked(message)], False, [])
+    yield from compare("elements", {"amp.1": 5, "amp.2": 6, "out": 7}, found.tree.asked[9].values)
+
+
 def waiting():
     """Bundles that wait are kept in their order until their time, and those that were dropped aren't."""
     time = [NOW]
@@ -192,7 +201,8 @@ def words():
             pass
 
 
-CHECKS = [clock, first_seconds, comings, registrations, restored, waiting, loss, words]
+CHECKS = [clock, first_seconds, comings, registrations, restored, arrays, waiting, loss,
+          words]
 
 
 def main():

@@ -3,11 +3,13 @@
 
     python3 bridge/tests/lasting.py SNOVA [--timed SECONDS]
 
-Players and servers are killed and stopped, and the sound must go on without a gap in it. With `--timed` it says for
-readers 20 % slow and 20 % fast how far bundles that were 0.2 s ahead sounded from their times, which is for a machine
-with nothing else at work on it.
+Players and servers are killed and stopped, and the sound must go on without a gap in it; a node is freed from the
+window. With `--timed` it says for readers 20 % slow and 20 % fast how far bundles that were 0.2 s ahead sounded from
+their times, which is for a machine with nothing else at work on it.
 """
+import http.client
 import os
+import re
 import signal
 import socket
 import struct
@@ -16,6 +18,7 @@ import sys
 import tempfile
 import time
 from pathlib import Path
+from urllib.parse import urlencode
 
 import sounds
 
@@ -36,13 +39,14 @@ PATIENCE = 60.0
 class Session:
     """A keeper, its log, and a client."""
 
-    def __init__(self, snova, folder, speed, player=""):
+    def __init__(self, snova, folder, speed, player="", more=()):
         self.folder, self.port = Path(folder), free_port()
         self.score, self.log = self.folder / "score.osc", self.folder / "log"
         messages = [Message("/d_recv", [RAMP]), Message("/s_new", ["ramp", 99, 0, 0])]
         self.score.write_bytes(osc.sized(osc.encoded(Bundle(1, messages))))
         player = player or f"{sys.executable} -S -E {READER} {speed} {self.folder / 'sound'}"
-        words = [f"snova={snova}", f"port={self.port}", f"player={player}", f"score={self.score}", f"log={self.log}"]
+        words = [f"snova={snova}", f"port={self.port}", f"player={player}", f"score={self.score}", f"log={self.log}",
+                 *more]
         self.program = subprocess.Popen([sys.executable, LIVE, *words])
         self.link = socket.socket(socket.AF_INET, socket.SOCK_DGRAM)
         self.link.settimeout(PATIENCE)
@@ -188,6 +192,42 @@ def servers(snova):
         session.logged("1 bundles that wait")
 
 
+def formats(snova):
+    """A server starts also where whole blocks don't fill its pipe."""
+    for more in ["bits=24"], ["channels=3"], ["bits=24", "channels=8"]:
+        with tempfile.TemporaryDirectory() as folder, Session(snova, folder, 1, more=more):
+            yield from ()
+
+
+def fetched(port, method, path, fields=None):
+    """The status and the text of a page of the window; a form is sent as from the page itself."""
+    link, place = http.client.HTTPConnection("127.0.0.1", port, timeout=PATIENCE), f"127.0.0.1:{port}"
+    lines = {"Origin": f"http://{place}", "Content-Type": "application/x-www-form-urlencoded"} if fields else {}
+    link.request(method, path, urlencode(fields) if fields else None, lines)
+    reply = link.getresponse()
+    return reply.status, reply.read().decode()
+
+
+def window(snova):
+    """The page shows what plays, and a node that is freed from it ends; a page that ended comes back."""
+    port = free_port()
+    with tempfile.TemporaryDirectory() as folder, Session(snova, folder, 1, more=[f"window={port}"]) as session:
+        session.played(1)
+        session.ask("/notify", 1, reply="/done")
+        until, page = time.monotonic() + PATIENCE, ""
+        while "99 ramp" not in page and time.monotonic() < until:
+            time.sleep(0.1)
+            page = fetched(port, "GET", "/list")[1]
+        token = re.search(r'name=token value="([^"]+)"', page)[1]
+        yield from compare("a stranger", 403, fetched(port, "POST", "/do", {"token": "a", "what": "free", "node": 99})[0])
+        done = fetched(port, "POST", "/do", {"token": token, "what": "free", "node": 99})
+        yield from compare("what is answered", (200, True), (done[0], "/n_end 99 0 -1 -1 0" in done[1]))
+        yield from compare("what clients are told", [99, 0, -1, -1, 0], session.answer("/n_end"))
+        os.kill(session.child("keeper.window"), signal.SIGKILL)
+        session.logged("the window has ended")
+        yield from compare("the page again", 200, fetched(port, "GET", "/")[0])
+
+
 # By hand.
 
 def taken_at(path, frame):
@@ -227,7 +267,7 @@ def timed(snova, seconds):
                   f"{len(gaps(path))} gaps")
 
 
-CHECKS = [readers, players, servers]
+CHECKS = [readers, players, servers, formats, window]
 
 
 def main():

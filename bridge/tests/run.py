@@ -3,6 +3,7 @@
 
     python3 bridge/tests/run.py
 """
+import contextlib
 import re
 import struct
 import subprocess
@@ -15,27 +16,41 @@ import keeping
 import live_checks
 import page
 import sounds
-from expected import BY_NUMBER, COMMANDS, NUMBERED, REFUSED, REPLIES, SOUNDS
+import window
+from expected import BY_NUMBER, COMMANDS, FURTHER_SOUNDS, NUMBERED, REFUSED, REPLIES, SOUNDS
 
 import convert
 import definitions as model_definitions
-from converter import osc, scgf
+from converter import further, osc, scgf
 from converter.definitions import CONTROLS, OPERATORS, Definition
 from converter.osc import Message
 from converter.replies import back
 from converter.session import Session
 from converter.table import COMMANDS as TABLE
 from converter.table import NUMBERS
-from converter.units import UNITS
+from converter.units import converted
 
 DATA = sounds.DATA
 CONVERT = Path(__file__).resolve().parent.parent / "convert.py"
-TAKEN, REFUSED_FILE = DATA / "taken.scsyndef", DATA / "refused.scsyndef"
+TAKEN, REFUSED_FILE, FURTHER_FILE = (DATA / f"{name}.scsyndef" for name in ("taken", "refused", "further"))
 
 
 def compare(what, wanted, found):
     if wanted != found:
         yield f"{what}: wanted {wanted}, got {found}"
+
+
+@contextlib.contextmanager
+def here(units):
+    """These units are here, of those that the server has got last."""
+    kept = set(further.HERE)
+    further.HERE.clear()
+    further.HERE.update(units)
+    try:
+        yield
+    finally:
+        further.HERE.clear()
+        further.HERE.update(kept)
 
 
 def text_of(source):
@@ -49,18 +64,54 @@ def text_of(source):
 
 def definitions():
     """Each definition becomes the text that is wanted, which the model reads; others are refused for the reason."""
-    texts = (DATA / "taken.txt").read_text().replace("end\n\n", "end\n\0").split("\0")
+    texts = texts_of(DATA / "taken.txt")
     sources = scgf.read(TAKEN.read_bytes())
     yield from compare("how many definitions", len(texts), len(sources))
     for source, text in zip(sources, texts):
         found = text_of(source)
-        yield from compare(source.name, text.rstrip("\n"), found.rstrip("\n"))
+        yield from compare(source.name, text, found.rstrip("\n"))
         try:
             model_definitions.read(found.encode())
         except model_definitions.BadLine as bad:
             yield f"{source.name}: line {bad} is none"
     found = {source.name: text_of(source) for source in scgf.read(REFUSED_FILE.read_bytes())}
     yield from compare("refused", REFUSED, found)
+
+
+def texts_of(path):
+    """The texts of a file, without the ends of their last lines."""
+    return [text.rstrip("\n") for text in path.read_text().replace("end\n\n", "end\n\0").split("\0")]
+
+
+def further_texts():
+    """With all units that the server has got last the definitions become other texts."""
+    sources, texts = scgf.read(FURTHER_FILE.read_bytes()), texts_of(DATA / "further.txt")
+    yield from compare("how many definitions", len(texts), len(sources))
+    with here(further.FURTHER):
+        for source, text in zip(sources, texts):
+            yield from compare(source.name, text, text_of(source).rstrip("\n"))
+
+
+def by_sections():
+    """Without the state-variable filter, filters whose frequency moves become sections."""
+    sources = {source.name: source for source in scgf.read(FURTHER_FILE.read_bytes())}
+    with here(further.FURTHER - {"SVF"}):
+        yield from compare("swept by sections", (DATA / "swept.txt").read_text(), text_of(sources["swept"]))
+
+
+def without_each():
+    """Without one of these units no text has it; what then can't be said is refused."""
+    for unit in further.FURTHER:
+        with here(further.FURTHER - {unit}):
+            for source in scgf.read(FURTHER_FILE.read_bytes()):
+                found = text_of(source)
+                wrong = found.startswith("snova") and unit in found.split()
+                yield from compare(f"{source.name} without {unit}", False, wrong)
+
+
+def units_here():
+    """The units that are taken to be here are those that the model knows."""
+    yield from compare("units that aren't here", set(), further.HERE - set(model_definitions.UNITS))
 
 
 def many():
@@ -115,7 +166,7 @@ def table():
     """The tables of docs/FROM-SUPERCOLLIDER.md name each unit and each command, and no other, and what is refused."""
     text_of_page = (sounds.TOP / "docs/FROM-SUPERCOLLIDER.md").read_text()
     units = named(text_of_page, "| Unit there |", "## The commands that the bridge takes")
-    yield from compare("the table of units", sorted([*UNITS, *CONTROLS, *OPERATORS]), sorted(units))
+    yield from compare("the table of units", sorted({*converted(), *CONTROLS, *OPERATORS}), sorted(units))
     commands_there = named(text_of_page, "| Command there |", "## How much of it plays")
     yield from compare("the table of commands", sorted(set(TABLE) - {"/none"}), sorted(commands_there))
     refused = sorted(name for name, what in commands_there.items() if what.startswith("refused"))
@@ -130,6 +181,8 @@ def all_units():
     yield from compare("the table of all units", True, "\n".join(found) + "\n\n" in text)
     for unit, names in page.operators():
         yield from compare(f"the operators of {unit}", True, f"| {unit} | {names} |" in text)
+    read_me = (sounds.TOP / "bridge/README.md").read_text()
+    yield from compare("the table of what is needed", True, "\n".join([*page.NEEDED, *page.needing()]) in read_me)
     yield from compare("what sclang writes with others", True, ", ".join(others) + "." in re.sub(r"\s+", " ", text))
 
 
@@ -228,15 +281,19 @@ def packets():
             pass
 
 
-def heard():
+def heard(wanted=SOUNDS):
     """The begin of each score, rendered by the model, is that of scsynth within some decibels."""
-    for name, most in SOUNDS.items():
+    for name, most in wanted.items():
         there = sounds.kept_sound(DATA / f"{name}.raw")
         here = sounds.by_model(sounds.turned(DATA / f"{name}.osc"), sounds.KEPT_FRAMES // 64)
         for channel, (a, b) in enumerate(zip(there, here)):
             apart = sounds.decibels(a[64:], b[64:]) if any(a) else -200
             if apart > most:
                 yield f"{name}, channel {channel}: {apart:.1f} dB apart, and at most {most} are wanted"
+
+
+def further_sounds():
+    return heard(FURTHER_SOUNDS)
 
 
 def random():
@@ -259,16 +316,21 @@ def strictness():
             yield from compare(f"written {words}", written, target.exists())
             first = "refused: /d_recv lowpass: MoogFF.ar: there is no such unit here"
             yield from compare(f"told {words}", first, done.stderr.splitlines()[0])
-        wanted = osc.sized(osc.encoded(osc.Bundle(0, [Message("/c_set", [0, 8388608])])))
-        yield from compare("what is left", wanted, target.read_bytes())
+        last = osc.messages_of(osc.decoded(osc.whole_packets(target.read_bytes())[0][-1]))[-1]
+        yield from compare("what is left", Message("/c_set", [0, 8388608]), last)
 
 
-CHECKS = [table, all_units, numbers, packets, versions, definitions, reasons, reported, commands, own_controls, heard,
-          random, strictness, *files.CHECKS, *live_checks.CHECKS, *keeping.CHECKS]
+# With the units that are here, and without those that the server has got last.
+WITH = [table, all_units, units_here, further_texts, by_sections, without_each, heard, further_sounds,
+        random]
+WITHOUT = [numbers, packets, versions, definitions, reasons, reported, commands, own_controls, heard, random,
+           strictness, *files.CHECKS, *live_checks.CHECKS, *keeping.CHECKS, *window.CHECKS]
 
 
 def main():
-    wrong = [line for check in CHECKS for line in check()]
+    wrong = [line for check in WITH for line in check()]
+    with here(()):
+        wrong += [line for check in WITHOUT for line in check()]
     for line in wrong:
         print(line)
     return 1 if wrong else 0

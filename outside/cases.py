@@ -3,7 +3,7 @@
 A message is a tuple of its address and its arguments; at(block, ..) is a bundle due at a boundary, and tagged(tag, ..) one with a tag."""
 import struct
 import osc
-from texts import BAD, EDGES, GOOD, HEARD, TEXTS, definition, shown
+from texts import BAD, EDGES, GOOD, HEARD, READS, TEXTS, definition, shown
 
 CASES = []
 
@@ -194,14 +194,25 @@ for name, text in HEARD.items():
     node = 987654 if "oise" in name else 9
     case(f"unit {name}", ("/d_recv", text), ("/b_alloc", 5, 14, 3), ("/s_new", "unit", node, 0, 0), at(3), words=MONO)
 for rate in (44100, 96000):
-    for name in ("LFSaw", "Impulse", "Line", "Linen", "Lag", "DelayN", "CombN", "SinOsc", "Sine", "Saw", "SVF", "LagUD", "Trig"):
+    for name in ("LFSaw", "Impulse", "Line", "Linen", "Lag", "DelayN", "CombN", "SinOsc", "Sine", "Saw", "SVF", "LagUD", "Trig", "Blip", "PinkNoise", "DelayL", "CombL", "CombL_allpass", "CombL_damped"):
         case(f"unit {name} at {rate}", ("/d_recv", HEARD[name]), ("/s_new", "unit", 9, 0, 0), at(4, rate=rate), words=MONO + (f"rate={rate}",))
 for name, lines in EDGES.items():
     for rate in (44100, 48000, 96000):
-        case(f"edge: {name} at {rate}", ("/d_recv", shown("unit", *lines)), ("/s_new", "unit", 9, 0, 0), at(4, rate=rate), words=("channels=1", "bits=24", f"rate={rate}"))
+        case(f"edge: {name} at {rate}", ("/d_recv", shown("unit", *lines)), ("/s_new", "unit", 9, 0, 0), at(6, rate=rate), words=("channels=1", "bits=24", f"rate={rate}"))
 case("SVF has three outputs", ("/d_recv", definition("unit", "l b = SVF 0 0 0")), ("/s_new", "unit", 9, 0, 0))
 
+case("CombL has two outputs", ("/d_recv", definition("unit", "l = CombL 0 0 0 0 0")), ("/s_new", "unit", 9, 0, 0))
+case("pink noise after its count of 65536", ("/d_recv", HEARD["PinkNoise"]), ("/s_new", "unit", 987654, 0, 0), at(1026), words=MONO)
+
 # Buffers that sound.
+READ_BUFFERS = [("/b_alloc", 1, 1), ("/b_set", 1, 0, -7000001), ("/b_alloc", 2, 7), ("/b_setn", 2, 0, 7, 1000, -2000001, 16777216, -2147483648, 2147483647, -16777216, 333333),
+                ("/b_alloc", 3, 5, 2), ("/b_setn", 3, 0, 10, *range(-5000000, 5000000, 1000001))]
+for name, lines in READS.items():
+    case(f"read: {name}", ("/notify", 1), *READ_BUFFERS, ("/d_recv", shown("unit", *lines)), ("/s_new", "unit", 9, 0, 0), at(4), words=MONO)
+SLIDE = [at(1, ("/n_set", 10, "trig", 1, "start", 4)), at(2, ("/n_set", 10, "trig", 0, "step", -20000000)), at(3, ("/n_set", 10, "loop", 1)), at(4, ("/n_set", 10, "trig", 1, "start", 1000, "step", 2147483647)), at(5, ("/b_free", 0), ("/n_set", 10, "trig", 0)), at(6, ("/n_set", 10, "trig", 1, "start", 2)), at(7, ("/b_alloc", 0, 9), ("/b_setn", 0, 0, 9, *range(10, 100, 10))), at(8, ("/b_alloc", 0, 9, 2)), at(9, ("/b_alloc", 0, 2), ("/n_set", 10, "step", 1, "loop", 0)), at(10)]
+case("a buffer is played between its frames, from many places", ("/b_alloc", 0, 200), ("/b_setn", 0, 0, 200, *range(0, 20000, 100)), *recv("between", "dc"), ("/notify", 1), ("/s_new", "between", 10, 1, 0, "loop", 1, "start", 190), ("/s_new", "between", 11, 1, 0, "step", 3 << 24, "start", 3), *SLIDE, words=MONO)
+case("a table is read between its frames", ("/b_alloc", 0, 5, 2), ("/b_setn", 0, 0, 10, *range(1000, 1000001, 111000)), *recv("table"), ("/s_new", "table", 9, 0, 0), at(1, ("/n_set", 9, "scale", -3000000)), at(2, ("/n_set", 9, "loop", 0)), at(3, ("/n_set", 9, "buf", 1)), at(4, ("/n_set", 9, "buf", 0, "scale", 2147483647)), at(5), words=("bits=24",))
+case("members read one buffer between its frames", *recv("between", "table", "writer"), ("/b_alloc", 0, 6), ("/p_new", 1, 0, 0), ("/s_new", "between", 10, 1, 1, "loop", 1), ("/s_new", "table", 11, 1, 1), at(1, ("/s_new", "writer", 12, 1, 1)), at(2, ("/n_free", 12)), at(3), words=MONO)
 case("a buffer is recorded, played and counted", ("/b_alloc", 0, 70), *recv("recorder", "player", "frames"), ("/notify", 1), ("/s_new", "recorder", 9, 1, 0), ("/s_new", "player", 10, 1, 0), ("/s_new", "frames", 11, 1, 0, "buf", 0), at(3, ("/b_getn", 0, 0, 70)), at(4), words=MONO)
 PLAY = [at(1, ("/n_set", 10, "trig", 1, "start", 4)), at(2, ("/n_set", 10, "trig", 0, "step", -3)), at(3, ("/n_set", 10, "loop", 1)), at(4, ("/n_set", 10, "trig", 1, "start", 1000, "step", 2147483647)), at(5, ("/b_free", 0)), at(6, ("/b_alloc", 0, 9), ("/b_setn", 0, 0, 9, *range(10, 100, 10))), at(7, ("/b_alloc", 0, 9, 2)), at(8)]
 case("a buffer is played from many places", ("/b_alloc", 0, 200), ("/b_setn", 0, 0, 200, *range(0, 20000, 100)), *recv("player", "dc"), ("/notify", 1), ("/s_new", "player", 10, 1, 0, "loop", 1, "start", 190), ("/s_new", "player", 11, 1, 0, "step", 3, "start", 3), *PLAY, words=MONO)

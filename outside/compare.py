@@ -1,4 +1,4 @@
-"""Runs a binary on all cases, and compares each with the model: python3 compare.py BINARY [-k WORD] [--random N] [--damage N] [--texts N] [--connections N] [--seed N]."""
+"""Runs a binary on all cases, and compares each with the model: python3 compare.py BINARY [-k WORD] [--random N] [--lanes N] [--damage N] [--texts N] [--connections N] [--seed N]."""
 import argparse
 import itertools
 import os
@@ -16,7 +16,7 @@ import serving
 import shelf
 from cases import CASES
 from damage import damaged_case, damaged_connection, damaged_text
-from random_cases import random_case
+from random_cases import laned_case, random_case
 from words import BAD_WORDS, CONNECTIONS
 
 
@@ -93,6 +93,7 @@ def main():
     parser.add_argument("binary", help="the program, with words before it where a loader runs it")
     parser.add_argument("-k", default="", help="only cases whose name has this word")
     parser.add_argument("--random", type=int, default=0, help="so many random streams beside the table")
+    parser.add_argument("--lanes", type=int, default=0, help="so many streams of members with lanes beside the table")
     parser.add_argument("--damage", type=int, default=0, help="so many damaged streams beside the table")
     parser.add_argument("--texts", type=int, default=0, help="so many damaged texts that are scored, and damaged streams that are dumped")
     parser.add_argument("--connections", type=int, default=0, help="so many connections over which damaged packets and streams come")
@@ -100,8 +101,8 @@ def main():
     given = parser.parse_args()
     # Some runs have a folder of their own.
     binary = [os.path.abspath(word) if os.path.exists(word) else word for word in given.binary.split()]
-    seeds = range(given.seed, given.seed + max(given.random, given.damage))
-    drawn = (make(seed) for make, count in ((random_case, given.random), (damaged_case, given.damage)) for seed in seeds[:count])
+    seeds = range(given.seed, given.seed + max(given.random, given.lanes, given.damage))
+    drawn = (make(seed) for make, count in ((random_case, given.random), (laned_case, given.lanes), (damaged_case, given.damage)) for seed in seeds[:count])
     count = wrong = 0
     with tempfile.TemporaryDirectory() as folder:
         for name, words, stream in itertools.chain(CASES, drawn):

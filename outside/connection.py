@@ -1,5 +1,6 @@
 """A connection: bytes and ticks in the order in which they come, what is sent, and the sound."""
 import struct
+import commands
 import osc
 import server
 
@@ -9,7 +10,7 @@ MOST_WAITING = 65536
 class Connection(server.Run):
     def __init__(self, settings, base):
         super().__init__(settings, [])
-        self.base, self.rate, self.kept, self.frames = base, settings["rate"], b"", 0
+        self.base, self.rate, self.kept, self.frames, self.client = base, settings["rate"], b"", 0, 0
 
     def time_of(self, block):
         """The time of a boundary."""
@@ -26,7 +27,9 @@ class Connection(server.Run):
         place = len(self.waiting)
         while place > 0 and self.waiting[place - 1].key > key:
             place -= 1
-        self.waiting.insert(place, server.Entry(key, due, messages))
+        entry = server.Entry(key, due, messages)
+        entry.client = self.client
+        self.waiting.insert(place, entry)
 
     def offer(self, packet):
         if isinstance(packet, osc.Message):
@@ -78,20 +81,73 @@ def serve(settings, base, events):
     return line, sound, b"".join(osc.frame(osc.message(*reply)) for reply in connection.replies)
 
 
+# Replies that are not told to the sender of a command: those of the first kind go to each client that asked for them.
+NOTIFICATIONS = ("/n_go", "/n_end", "/n_off", "/n_on", "/n_move", "/tr")
+
+
+class Session(Connection):
+    """Several clients of one world. Each entry and each reply has its client."""
+
+    def __init__(self, settings, count):
+        super().__init__(settings, 0)
+        self.registered = set()
+        self.sent = [[] for _ in range(count)]
+
+    def give(self):
+        """Hands out the replies since it was last called."""
+        for reply in self.replies:
+            if reply[0] == "/p_clash":
+                to = range(len(self.sent))
+            elif reply[0] in NOTIFICATIONS:
+                to = self.registered
+            else:
+                to = [self.client]
+            for client in to:
+                self.sent[client].append(reply)
+        self.replies = []
+
+    def act(self, message, block):
+        while message:
+            self.world, told, message, accepted = commands.command(self.world, message)
+            self.replies += told
+            self.give()
+            if accepted == "/clearSched":
+                self.waiting = [entry for entry in self.waiting if entry.due <= block]
+            elif accepted == "/notify":
+                (self.registered.add if self.world.notify else self.registered.discard)(self.client)
+            self.world.notify = bool(self.registered)
+
+    def boundary(self, block):
+        while self.waiting and self.waiting[0].due <= block:
+            entry = self.waiting.pop(0)
+            self.client = entry.client
+            for message in entry.messages:
+                self.act(message, block)
+        self.replies += self.world.new_clashes()
+        self.give()
+
+    def block(self):
+        super().block()
+        self.give()
+
+    def offer_stream(self, client, stream):
+        """Takes all that a client sends, and tells how its stream ends."""
+        self.client, self.kept = client, b""
+        size = self.take(stream)
+        self.give()
+        return f"bad frame size {size}" if size is not None else f"cut after {len(self.kept)} bytes" if self.kept else "closed"
+
+
 def together(settings, numbers, streams):
-    """A session of several clients, each played by itself: no client's commands may change what another is told, and nothing may sound.
+    """A session of several clients, whose streams come at its begin, client 0's first: no case may depend on when they come.
 
     The line of its end, the sound, and what is sent, client 0's first."""
-    turns, ends, sent, sound = len(numbers), [], b"", b""
-    for stream in streams:
-        client = Connection(settings, 0)
-        size = client.take(stream)
-        ends.append(f"bad frame size {size}" if size is not None else f"cut after {len(client.kept)} bytes" if client.kept else "closed")
-        turns += client.frames
-        for _ in range(sum(numbers)):
-            client.boundary(client.world.block)
-            client.block()
-        client.boundary(client.world.block)
-        sound = b"".join(server.pcm(sample, settings["bits"]) for sample in client.sound)
-        sent += b"".join(osc.frame(osc.message(*reply)) for reply in client.replies)
-    return ", ".join(["over", f"{turns} turns", *ends]), sound, sent
+    session = Session(settings, len(streams))
+    ends = [session.offer_stream(client, stream) for client, stream in enumerate(streams)]
+    for _ in range(sum(numbers)):
+        session.boundary(session.world.block)
+        session.block()
+    session.boundary(session.world.block)
+    sound = b"".join(server.pcm(sample, settings["bits"]) for sample in session.sound)
+    sent = b"".join(osc.frame(osc.message(*reply)) for replies in session.sent for reply in replies)
+    return ", ".join(["over", f"{len(numbers) + session.frames} turns", *ends]), sound, sent

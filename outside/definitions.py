@@ -10,27 +10,31 @@ MOST_ELEMENTS = 64
 
 # The inputs of each unit: s a signal, # an index, ! a constant, and + 1 to 8 signals; then its outputs: a number, or + for 1 to 8.
 UNITS = {
-    "SinOsc": ("ss", 1), "Sine": ("ss", 1), "LFSaw": ("ss", 1), "Saw": ("ss", 1), "LFPulse": ("sss", 1),
-    "LFTri": ("ss", 1), "Impulse": ("s", 1),
-    "WhiteNoise": ("", 1), "Phasor": ("sssss", 1), "Line": ("sss!", 1), "Linen": ("ssss!", 1),
+    "SinOsc": ("ss", 1), "Sine": ("ss", 1), "LFSaw": ("ss", 1), "Saw": ("ss", 1), "Blip": ("sss", 1),
+    "LFPulse": ("sss", 1), "LFTri": ("ss", 1), "Impulse": ("s", 1),
+    "WhiteNoise": ("", 1), "PinkNoise": ("", 1), "Phasor": ("sssss", 1), "Line": ("sss!", 1), "Linen": ("ssss!", 1),
     "Add": ("ss", 1), "Sub": ("ss", 1), "Mul": ("ss", 1), "MulAdd": ("sss", 1), "Neg": ("s", 1), "Abs": ("s", 1),
     "Min": ("ss", 1), "Max": ("ss", 1), "Clip": ("sss", 1), "Gt": ("ss", 1), "Lt": ("ss", 1), "Pan2": ("sss", 2),
     "Div": ("ss", 1), "Mod": ("ss", 1), "Exp2": ("s", 1), "Log2": ("s", 1),
     "OnePole": ("ss", 1), "Lag": ("ss", 1), "LagUD": ("sss", 1), "Integrator": ("ss", 1), "Delay1": ("s", 1),
-    "DelayN": ("s!s", 1), "CombN": ("s!ss", 1), "SOS": ("ssssss", 1), "SVF": ("sss", 3), "Latch": ("ss", 1),
-    "Gate": ("ss", 1), "PulseCount": ("ss", 1), "Stepper": ("ssssss", 1), "Trig": ("ss", 1), "In.ar": ("#", "+"),
-    "InFeedback": ("#", "+"), "In.kr": ("#", "+"), "Out.ar": ("#+", 0),
-    "ReplaceOut": ("#+", 0), "Out.kr": ("#+", 0), "PlayBuf": ("#ssss!", "+"), "RecordBuf": ("#ss!+", 0),
-    "BufRd": ("#s", "+"), "BufWr": ("#s+", 0), "BufFrames": ("#", 1), "SendTrig": ("sss", 0),
+    "DelayN": ("s!s", 1), "DelayL": ("s!s", 1), "CombN": ("s!ss", 1), "CombL": ("s!sss", 2), "SOS": ("ssssss", 1),
+    "SVF": ("sss", 3), "Latch": ("ss", 1), "Gate": ("ss", 1), "PulseCount": ("ss", 1), "Stepper": ("ssssss", 1),
+    "Trig": ("ss", 1), "In.ar": ("#", "+"), "InFeedback": ("#", "+"), "In.kr": ("#", "+"), "Out.ar": ("#+", 0),
+    "ReplaceOut": ("#+", 0), "Out.kr": ("#+", 0), "PlayBuf": ("#ssss!", "+"), "PlayBufL": ("#ssss!", "+"),
+    "RecordBuf": ("#ss!+", 0), "BufRd": ("#s", "+"), "BufRdL": ("#sss", "+"), "BufWr": ("#s+", 0),
+    "BufFrames": ("#", 1), "SendTrig": ("sss", 0),
     "DetectSilence": ("sss!", 1), "FreeSelf": ("s", 0), "PauseSelf": ("s", 0),
 }
 
 WORDS = {
-    "SinOsc": 1, "Sine": 1, "LFSaw": 1, "Saw": 1, "LFPulse": 1, "LFTri": 1, "Impulse": 2, "WhiteNoise": 1, "Phasor": 3,
-    "Line": 5, "Linen": 7, "OnePole": 1, "Lag": 2, "LagUD": 2, "Integrator": 1, "Delay1": 1, "SOS": 4, "SVF": 2,
-    "Latch": 2, "Gate": 1, "PulseCount": 3, "Stepper": 4, "Trig": 3,
-    "PlayBuf": 4, "RecordBuf": 2, "SendTrig": 4, "DetectSilence": 2, "FreeSelf": 1, "PauseSelf": 1,
+    "SinOsc": 1, "Sine": 1, "LFSaw": 1, "Saw": 1, "Blip": 1, "LFPulse": 1, "LFTri": 1, "Impulse": 2, "WhiteNoise": 1,
+    "PinkNoise": 19, "Phasor": 3, "Line": 5, "Linen": 7, "OnePole": 1, "Lag": 2, "LagUD": 2, "Integrator": 1,
+    "Delay1": 1, "SOS": 4, "SVF": 2, "Latch": 2, "Gate": 1, "PulseCount": 3, "Stepper": 4, "Trig": 3,
+    "PlayBuf": 4, "PlayBufL": 4, "RecordBuf": 2, "SendTrig": 4, "DetectSilence": 2, "FreeSelf": 1, "PauseSelf": 1,
 }
+
+# Of units whose second input is their longest time: its least frames, and how many words more they have.
+DELAYS = {"DelayN": (0, 2), "DelayL": (0, 2), "CombN": (1, 2), "CombL": (1, 3)}
 
 
 class BadLine(Exception):
@@ -72,10 +76,9 @@ class Unit:
         self.name, self.inputs, self.outputs = name, inputs, outputs
 
     def words(self, rate):
-        if self.name == "DelayN":
-            return frames_of(self.inputs[1][1], rate) + 2
-        if self.name == "CombN":
-            return max(1, frames_of(self.inputs[1][1], rate)) + 2
+        if self.name in DELAYS:
+            least, more = DELAYS[self.name]
+            return max(least, frames_of(self.inputs[1][1], rate)) + more
         return WORDS.get(self.name, 0)
 
 
@@ -152,7 +155,7 @@ class Definition:
         after, self.names = self.names, before
         given = [self.input(kind, word) for kind, word in zip(inputs, fields[1:])]
         self.names = after
-        if fields[0] in ("DelayN", "CombN"):
+        if fields[0] in DELAYS:
             want(0 <= given[1][1] <= 60000, "Constant", fields[2])
         self.units.append(Unit(fields[0], given, len(outputs)))
 

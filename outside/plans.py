@@ -14,7 +14,7 @@ import tempfile
 import cases
 import random_cases
 import server
-from cases import at, recv, stream
+from cases import at, recv, stream, tagged
 from texts import TEXTS
 
 LETTERS = "acb"
@@ -159,14 +159,18 @@ ROWS = [
      "synths 1 units 1 cost 1\nnode 10 units 1 reads - writes - mixes a0\nchain 10\n"),
     ("a mapped control", stream(("/d_recv", TEXTS["dc"]), new("dc", 10, 1, 0), ("/n_map", 10, "amp", 7)),
      "synths 1 units 1 cost 1\nnode 10 units 1 reads c7 writes - mixes a0\nchain 10\n"),
-    ("four tones beside each other, and one that hears the first",
-     stream(*recv("tone"), ("/d_recv", copies("three", 16, 0, 1)), ("/p_new", 1, 0, 0), *[new("tone", 10 + i, 1, 1) + ("out", 16 + i) for i in range(4)], new("three", 20, 1, 0)),
+    ("four tones beside each other, and one that hears the first, at time 0",
+     stream(tagged(0, *recv("tone", "mix"), ("/p_new", 1, 0, 0), *[new("tone", 10 + i, 1, 1) + ("out", 16 + i) for i in range(4)], new("mix", 20, 1, 0)), tagged(1 << 32)),
      "synths 5 units 11 cost 5\n" + "".join(f"node {10 + i} units 2 reads - writes - mixes a{16 + i}\n" for i in range(4))
      + "node 20 units 3 reads a16 writes - mixes a0\nchain 10 20\n"),
-    ("three that mix one bus, each onto its lane, and one that hears them",
-     stream(("/d_recv", TEXTS["dc"]), ("/d_recv", copies("three", 16, 0, 1)), ("/p_new", 1, 0, 0), *[new("dc", 10 + i, 1, 1) + ("out", 16) for i in range(3)], new("three", 20, 1, 0)),
+    ("three that mix one bus, each onto its lane, and one that hears them, at time 0",
+     stream(tagged(0, *recv("dc", "mix"), ("/p_new", 1, 0, 0), *[new("dc", 10 + i, 1, 1) + ("out", 16, "amp", amp) for i, amp in enumerate((1677721600, 1677721600, -1677721600))],
+                   new("mix", 20, 1, 0)), tagged(11453247)),
      "synths 4 units 6 cost 4\n" + "".join(f"node {10 + i} units 1 reads - writes - mixes a16\n" for i in range(3))
      + "node 20 units 3 reads a16 writes - mixes a0\nchain 10 20\n"),
+    ("three tones beside each other, at time 0",
+     stream(tagged(0, *recv("tone"), ("/p_new", 1, 0, 0), *[new("tone", 10 + i, 1, 1) + ("out", 16 + i) for i in range(3)]), tagged(1 << 32)),
+     "synths 3 units 6 cost 2\n" + "".join(f"node {10 + i} units 2 reads - writes - mixes a{16 + i}\n" for i in range(3)) + "chain 10\n"),
     ("the last boundary acts", stream(*TWO, new("out0", 10, 1, 0), at(1, new("out1", 11, 1, 0))),
      "synths 2 units 2 cost 2\nnode 10 units 1 reads - writes - mixes a0\nnode 11 units 1 reads - writes - mixes a1\nchain 10 11\n"),
 ]

@@ -1,14 +1,14 @@
-"""Streams by chance: nodes, controls, buses, buffers, units, texts at fault and bytes at fault. A seed gives one stream."""
+"""Streams by chance: nodes, controls, buses, buffers, units, texts at fault, bytes at fault, and members with lanes. A seed gives one stream."""
 import random
 import osc
 from cases import at, stream, tagged
 from definitions import UNITS
 from server import entries_of
-from texts import HEARD, TEXTS
+from texts import HEARD, TEXTS, definition
 
-NAMES = ["dc", "wide", "mix", "ear", "swap", "link", "two", "ticks", "gone", "player", "stereo", "recorder", "reader", "writer", "hush", "ramp", "r0", "r1"]
+NAMES = ["dc", "wide", "mix", "ear", "swap", "link", "two", "ticks", "gone", "player", "stereo", "recorder", "reader", "writer", "between", "table", "hush", "ramp", "r0", "r1"]
 VALUES = [0, 1, -1, 2, 3, 7, 63, 64, 65, 1000, -1000, 440000, 3000000, -5000000, 1 << 22, 1 << 23, 1 << 24, -(1 << 24), 3 << 24, 1 << 30, -(1 << 30), (1 << 31) - 1, -(1 << 31)]
-CONTROLS = ["out", "amp", "in", "a", "b", "c", "freq", "gone", "still", "buf", "step", "trig", "start", "loop", "run", "x", "dur", "c0", "i0", "none", 0, 1, 2, 3, 9, -1]
+CONTROLS = ["out", "amp", "in", "a", "b", "c", "freq", "gone", "still", "buf", "step", "trig", "start", "loop", "scale", "run", "x", "dur", "c0", "i0", "none", 0, 1, 2, 3, 9, -1]
 
 
 class Chance(random.Random):
@@ -210,3 +210,47 @@ def random_case(seed):
     if kind == "packets":
         return f"random {seed}, bytes at fault", words, packets(chance)
     return f"random {seed}, texts at fault", words, stream(*[("/d_recv", faulty_text(chance)) for _ in range(40)], ("/status",))
+
+
+# Members with lanes: a plan for several workers has lanes if the synths that run have 128 units or more together, the first ten of each not counted.
+
+def heavy(name, source, count, *controls):
+    """A definition of 30 units whose last `count` add one wire to as many buses."""
+    wires = ["amp", *[f"m{i}" for i in range(30)]]
+    ones = [f"{wire} = Mul {before} 1.0" for before, wire in zip(wires, wires[1:])][:30 - count - len(source)]
+    return definition(name, *controls, *(source or ["control amp 0"]), *ones, *[f"Out.ar {bus} m{len(ones) - 1}" for bus in ("out", "other")[:count]])
+
+
+HEAVY = {"one": heavy("one", [], 1, "control out 0"), "both": heavy("both", [], 2, "control out 0", "control other 1"),
+         "hears": heavy("hears", ["amp = In.ar in"], 1, "control in 20", "control out 0")}
+LANED_BUSES = [0, 0, 0, 1, 1, 2, 16, 17]
+
+
+def heavy_synth(chance, ident, group):
+    name = chance.choice(["one"] * 8 + ["both"] * 3 + ["hears"])
+    amp = chance.choice((-1, 1)) * chance.randrange(1 << 24, 1 << 31)
+    pairs = {"one": ["amp", amp], "both": ["other", chance.choice(LANED_BUSES), "amp", amp], "hears": ["in", chance.choice([18, 18, 19, 19, 16])]}[name]
+    return ("/s_new", name, ident, 1, group, "out", chance.choice(LANED_BUSES), *pairs)
+
+
+def change(chance, idents, groups):
+    """A command that may change which members have lanes."""
+    ident = chance.choice(idents)
+    return chance.choice([("/n_set", ident, "out", chance.choice(LANED_BUSES)), ("/n_set", ident, "amp", chance.randrange(-1 << 31, 1 << 31)), ("/n_run", ident, chance.randint(0, 1)),
+                          ("/n_run", chance.choice(groups), chance.choice((0, 1, 1))), ("/n_before", ident, chance.choice(idents)), ("/g_tail", chance.choice(groups), ident),
+                          ("/n_free", ident), heavy_synth(chance, ident, chance.choice(groups))])
+
+
+def laned_case(seed):
+    chance = Chance(f"lanes {seed}")
+    groups, elements = [0], [("/d_recv", text) for text in HEAVY.values()]
+    for ident in range(1, chance.randint(2, 8)):
+        elements.append((chance.choice(("/p_new", "/p_new", "/p_new", "/g_new")), ident, 1, chance.choice(groups)))
+        groups.append(ident)
+    idents = list(range(100, 100 + chance.randint(8, 40)))
+    elements += [heavy_synth(chance, ident, chance.choice(groups[1:])) for ident in idents]
+    last = chance.randint(2, 6)
+    for block in range(1, last):
+        elements.append(at(block, *[change(chance, idents, groups) for _ in range(chance.randint(0, 4))]))
+    words = ("channels=3", "bits=24", f"workers={chance.choice([2, 3, 4, 8, 16])}", "memory=65536")
+    return f"members with lanes {seed}", words, stream(tagged(0, *elements[:len(groups) + 2]), *elements[len(groups) + 2:], at(last))

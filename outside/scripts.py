@@ -196,6 +196,9 @@ def differences(case, made):
         found.append(told("replies", case.replies, replies))
     if case.sum is not None and case.sum != fnv(sound):
         found.append(f"  sum: model {fnv(sound):016x}")
+    # A sink that fails takes a part alone, and a case may tell how much at most.
+    if case.ending == "sound fault" and samples.startswith(case.sound):
+        return found
     if case.sum is None and case.sound != samples:
         found.append(told("sound", case.sound, samples))
     return found

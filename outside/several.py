@@ -12,6 +12,7 @@ import time
 
 import serving
 from clients import BLOCK, all_of, answers, framed, many_groups, takes_little, wrong_end
+from texts import definition
 
 QUIT, OVER = ("quit", 0), ("over", 0)
 
@@ -40,6 +41,17 @@ def play_in_turn(links):
     links[0].sendall(framed("/g_new", 5, 0, 0))
     told = framed("/n_go", 5, 0, -1, -1, 1, -1, -1)
     for link in links:
+        found.append((answers(serving.received(link, len(told))), answers(told)))
+    return found + all_close(links)
+
+
+def one_makes_a_clash(links):
+    """Each is told of it, and the others of nothing else."""
+    links[0].sendall(framed("/d_recv", definition("put", "ReplaceOut 16 0.5")) + framed("/p_new", 1, 0, 0) + framed("/s_new", "put", 10, 1, 1) + framed("/s_new", "put", 11, 1, 1))
+    clash = framed("/p_clash", 1, 10, 11, "audio", 16)
+    found = []
+    for number, link in enumerate(links):
+        told = (b"" if number else framed("/done", "/d_recv")) + clash
         found.append((answers(serving.received(link, len(told))), answers(told)))
     return found + all_close(links)
 
@@ -75,6 +87,7 @@ def one_never_reads(links):
 SESSIONS = [
     ("two play in turn", 2, play_in_turn, OVER, 0, 5),
     ("four play in turn", 4, play_in_turn, OVER, 0, 5),
+    ("one of three makes a clash that each is told of in turn", 3, one_makes_a_clash, OVER, 0, 5),
     ("one of two is killed", 2, one_is_killed, OVER, 0, 5),
     ("one of three is killed", 3, one_is_killed, OVER, 0, 5),
     ("one of three quits", 3, one_quits, QUIT, 0, 5),

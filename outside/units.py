@@ -28,6 +28,17 @@ def step_of(freq, rate):
     return (freq * (1 << 32) // (1000 * rate)) % (1 << 32)
 
 
+def span(seconds, rate):
+    """A time in seconds in parts of a frame, of which ONE is a frame."""
+    return max(0, seconds) * rate
+
+
+def frame_and_part(p):
+    """The whole frames of a place, and the part after them: none within 1/256 of a frame of a whole number."""
+    n, g = divmod(p + (1 << 16), ONE)
+    return n, 0 if g < 1 << 17 else g - (1 << 16)
+
+
 class Clock:
     """What a unit knows of its synth and its block."""
 
@@ -96,6 +107,17 @@ def saw(s, clock, freq, offset):
     return sat((d - (1 << 31)) // 128 + 2 * (rounded(d, m) - rounded((1 << 32) - d, m)))
 
 
+def blip(s, clock, freq, harmonics, offset):
+    """The sum of the cosines of the first harmonics, over their number."""
+    g = step_of(freq, clock.rate)
+    n = max(1, min(harmonics, (1 << 31) // max(1, min(g, (1 << 32) - g))))
+    q = phase(s, freq, offset, clock)
+    d = arc(min(q, (1 << 32) - q))
+    if d == 0:
+        return ONE
+    return sat((wave((2 * n + 1) * q) * ONE // d - ONE) // (2 * n))
+
+
 def lf_pulse(s, clock, freq, offset, width):
     return ONE if phase(s, freq, offset, clock) >> 8 < width else 0
 
@@ -116,10 +138,25 @@ def impulse(s, clock, freq):
     return ONE if due else 0
 
 
-def white_noise(s, clock):
+def drawn(s, clock):
+    """The next number of a generator of noise, from -2^31 to 2^31 - 1."""
     r = s.get("r", (clock.node * 2654435761 + clock.unit) % (1 << 32))
     s["r"] = (r * 1664525 + 1013904223) % (1 << 32)
-    return signed(s["r"]) >> 7
+    return signed(s["r"])
+
+
+def white_noise(s, clock):
+    return drawn(s, clock) >> 7
+
+
+def pink_noise(s, clock):
+    """The sum of 16 dice, of which one is thrown at each frame, and of a number that is drawn at each."""
+    dice = s.setdefault("dice", [0] * 16)
+    s["count"] = (s.get("count", 0) + 1) % (1 << 16)
+    j = next(j for j in range(16) if s["count"] >> j & 1 or j == 15)
+    before, dice[j] = dice[j], drawn(s, clock) >> 11
+    s["total"] = sat(s.get("total", 0) + dice[j] - before)
+    return sat(s["total"] + (drawn(s, clock) >> 11))
 
 
 def phasor(s, clock, trig, step, start, end, reset):
@@ -176,9 +213,13 @@ def pan2(s, clock, x, pos, level):
     return mul(v, ONE - r), mul(v, r)
 
 
-def one_pole(s, clock, x, c):
+def damped(last, x, c):
     c = clip(c, -ONE, ONE)
-    s["y"] = sat((ONE - abs(c)) * x + c * s.get("y", 0) >> 24)
+    return sat((ONE - abs(c)) * x + c * last >> 24)
+
+
+def one_pole(s, clock, x, c):
+    s["y"] = damped(s.get("y", 0), x, c)
     return s["y"]
 
 
@@ -220,6 +261,34 @@ def comb_n(s, clock, x, longest, time, c):
     y = past[-n] if n <= len(past) else 0
     past.append(sat(x + (c * y >> 24)))
     return y
+
+
+def between(a, b, f):
+    """The sample at the part f of the way from a to b."""
+    return a + ((b - a) * f >> 24)
+
+
+def ago(past, n):
+    """What was appended n frames ago, where the last one was appended 0 frames ago; 0 before the first."""
+    return past[-1 - n] if n < len(past) else 0
+
+
+def delay_l(s, clock, x, longest, time):
+    n, f = frame_and_part(min(span(time, clock.rate), frames_of(longest, clock.rate) * ONE))
+    past = s.setdefault("past", [])
+    past.append(x)
+    return between(ago(past, n), ago(past, n + 1), f)
+
+
+def comb_l(s, clock, x, longest, time, c, damp):
+    """The comb and the allpass."""
+    longest_span = max(1, frames_of(longest, clock.rate)) * ONE
+    n, f = frame_and_part(max(ONE, min(span(time, clock.rate), longest_span)))
+    past = s.setdefault("past", [])
+    y = between(ago(past, n - 1), ago(past, n), f)
+    s["last"] = damped(s.get("last", 0), y, damp)
+    past.append(sat(x + (c * s["last"] >> 24)))
+    return y, sat(y - (c * past[-1] >> 24))
 
 
 def sos(s, clock, x, a0, a1, a2, b1, b2):
@@ -275,11 +344,6 @@ def stepper(s, clock, trig, reset, low, high, step, to):
     return v
 
 
-def whole_frames(seconds, rate):
-    """The whole frames of a time in seconds; a place at most 1/256 of a frame before a frame is that frame."""
-    return (max(0, seconds) * rate + (1 << 16)) // ONE
-
-
 def trig_of(s, clock, trig, time):
     left = s.get("left", 0)
     rose = rises(s, "trig", trig)
@@ -288,7 +352,7 @@ def trig_of(s, clock, trig, time):
     if left == 0:
         s["value"] = 0
         if rose:
-            left, s["value"] = max(1, whole_frames(time, clock.rate)), trig
+            left, s["value"] = max(1, frame_and_part(span(time, clock.rate))[0]), trig
     s["left"] = left
     return s["value"]
 
@@ -354,16 +418,17 @@ def plain(f):
 
 
 FRAME = {
-    "SinOsc": sin_osc, "Sine": fine_sine, "LFSaw": lf_saw, "Saw": saw, "LFPulse": lf_pulse, "LFTri": lf_tri,
-    "Impulse": impulse, "WhiteNoise": white_noise,
+    "SinOsc": sin_osc, "Sine": fine_sine, "LFSaw": lf_saw, "Saw": saw, "Blip": blip, "LFPulse": lf_pulse,
+    "LFTri": lf_tri, "Impulse": impulse, "WhiteNoise": white_noise, "PinkNoise": pink_noise,
     "Phasor": phasor, "Line": line, "Linen": linen, "Add": plain(lambda a, b: sat(a + b)),
     "Sub": plain(lambda a, b: sat(a - b)), "Mul": plain(mul), "MulAdd": plain(lambda x, m, a: sat((x * m >> 24) + a)),
     "Neg": plain(lambda x: sat(-x)), "Abs": plain(lambda x: sat(abs(x))), "Min": plain(min), "Max": plain(max),
     "Clip": plain(clip), "Gt": plain(lambda a, b: ONE if a > b else 0), "Lt": plain(lambda a, b: ONE if a < b else 0),
     "Pan2": pan2, "Div": plain(div), "Mod": plain(mod), "Exp2": plain(exp2), "Log2": plain(log2),
     "OnePole": one_pole, "Lag": lag, "LagUD": lag_ud,
-    "Integrator": integrator, "Delay1": delay1, "DelayN": delay_n, "CombN": comb_n, "SOS": sos, "SVF": svf,
-    "Latch": latch, "Gate": gate_of, "PulseCount": pulse_count, "Stepper": stepper, "Trig": trig_of,
+    "Integrator": integrator, "Delay1": delay1, "DelayN": delay_n, "DelayL": delay_l, "CombN": comb_n, "CombL": comb_l,
+    "SOS": sos, "SVF": svf, "Latch": latch, "Gate": gate_of, "PulseCount": pulse_count, "Stepper": stepper,
+    "Trig": trig_of,
     "SendTrig": send_trig, "DetectSilence": detect_silence, "FreeSelf": free_self, "PauseSelf": pause_self,
 }
 
@@ -383,6 +448,30 @@ def play_position(s, frames, usable, step, trig, start, loop, done):
         ends(s, done)
     s["pos"] = sat(pos + step)
     return given
+
+
+def line_place(s, frames, usable, step, trig, start, loop, done):
+    """The place that PlayBufL reads, of which ONE is a frame, or None."""
+    s.setdefault("place", start * ONE)
+    rose = rises(s, "trig", trig)
+    if not usable:
+        return None
+    place, given = start * ONE if rose else s["place"], None
+    if not 0 <= place < frames * ONE and loop > 0:
+        place %= frames * ONE
+    if 0 <= place < frames * ONE:
+        given = place
+    else:
+        ends(s, done)
+    s["place"] = clip(place + step, -1 << 62, 1 << 62)
+    return given
+
+
+def index_place(frames, index, scale, loop):
+    """The place that BufRdL reads."""
+    if loop > 0:
+        return index * scale % (frames * ONE)
+    return clip(index * scale, 0, (frames - 1) * ONE)
 
 
 def record_position(s, frames, usable, run, loop, done):

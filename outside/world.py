@@ -1,6 +1,6 @@
 """The nodes, buses, buffers and definitions of a server, and what a block makes of them."""
 import units
-from definitions import UNITS
+from definitions import ONE, UNITS
 from units import FRAMES, sat
 
 
@@ -224,6 +224,22 @@ class World:
             return [0] * channels
         return buffer.samples[frame * channels:(frame + 1) * channels]
 
+    def unit_PlayBufL(self, unit, state, inputs):
+        buffer, outputs = self.usable(inputs[0][0], unit.outputs), []
+        for row in zip(*inputs[1:]):
+            place = units.line_place(state, buffer.frames if buffer else 0, buffer, *row)
+            outputs.append(self.samples_between(buffer, place, row[3], unit.outputs))
+        return [list(wire) for wire in zip(*outputs)]
+
+    def samples_between(self, buffer, place, loop, channels):
+        """What lies at a place of a buffer, of which ONE is a frame."""
+        if buffer is None or place is None:
+            return [0] * channels
+        n, f = divmod(place, ONE)
+        following = n + 1 if n + 1 < buffer.frames else 0 if loop > 0 else n
+        rows = [self.samples_at(buffer, frame, channels) for frame in (n, following)]
+        return [units.between(a, b, f) for a, b in zip(*rows)]
+
     def unit_RecordBuf(self, unit, state, inputs):
         signals = inputs[4:]
         buffer = self.usable(inputs[0][0], len(signals))
@@ -240,6 +256,13 @@ class World:
         buffer = self.usable(inputs[0][0], unit.outputs)
         rows = [self.samples_at(buffer, at, unit.outputs) for at in inputs[1]]
         return [list(wire) for wire in zip(*rows)]
+
+    def unit_BufRdL(self, unit, state, inputs):
+        buffer, outputs = self.usable(inputs[0][0], unit.outputs), []
+        for index, scale, loop in zip(*inputs[1:]):
+            place = units.index_place(buffer.frames, index, scale, loop) if buffer else None
+            outputs.append(self.samples_between(buffer, place, loop, unit.outputs))
+        return [list(wire) for wire in zip(*outputs)]
 
     def unit_BufWr(self, unit, state, inputs):
         buffer = self.usable(inputs[0][0], len(inputs) - 2)

@@ -77,7 +77,7 @@ def units_of_code():
         yield name, {
             "inputs": marks, "signals": 8 if use and use[1] == "writing" else 0,
             "outputs": "1 to 8" if use and use[1] == "reading" else outputs,
-            "words": count or {"Delay": "D + 2", "Comb": "E + 2"}[words],
+            "words": count or {"Delay": "D + 2", "Comb": "E + 2", "DampedComb": "E + 3"}[words],
             "bank": use[2].lower() if use else "buffer" if "Index" in marks else None, "done": int(done[1]) if done else None,
         }
 

@@ -21,7 +21,7 @@ from pathlib import Path
 ROOT = Path(__file__).resolve().parent.parent
 PROGRAM = "crates/snova/out/snova"
 PACKED = ["README.md", "CHANGELOG.md", "LICENSE-APACHE", "LICENSE-MIT", "bench/README.md", "bench/speedup.png",
-          "bridge", "docs", "examples", "outside"]
+          "bridge", "crates/*/README.md", "docs", "examples", "outside"]
 
 
 def said(*words):

@@ -1,3 +1,4 @@
+-- workings
 pub mod Setting
 pub mod Refusing
 pub mod Census

@@ -1,2 +1,3 @@
+-- workings
 pub mod Holding
 pub mod Ready

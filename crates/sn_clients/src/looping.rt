@@ -305,7 +305,8 @@ impl Desk {
         unreachable!()
     }
 
-    /// The same, and then tells the readers to stop, and hangs up, unless it ended at the 0 of the pulse.
+    /// The same, and then tells the readers to stop, and the watcher that the session ended, unless it ended at the 0
+    /// of the pulse.
     pub(crate) fn play<H: Threads + Wait + Sync, R: Sink, T: Pulse, O: Sink, G: Gate, U: Watcher>(
         &mut self,
         rt: &H,

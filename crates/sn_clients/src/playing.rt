@@ -18,7 +18,7 @@ use sn_ports::{Failed, Gate, NoMemory, Sink};
 use std::alloc::Global;
 use std::thread::Threads;
 
-/// Why the loop of a session ended before the pulse gave 0.
+/// Why a session ended before it was over.
 #[derive(Clone, Copy, Debug, PartialEq, Eq)]
 pub(crate) enum Halt {
     /// `/quit` was accepted.

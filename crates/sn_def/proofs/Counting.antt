@@ -7,7 +7,7 @@ use Rattle.sn_fixed.specs.Fixed.{frames_of}
 use Rattle.sn_def.specs.declared.table.Mark.{Mark}
 use Rattle.sn_def.specs.declared.table.Mark.TheVariants.{Signal, Index, Constant, Longest}
 use Rattle.sn_def.specs.declared.table.StateSize.{StateSize}
-use Rattle.sn_def.specs.declared.table.StateSize.TheVariants.{Fixed, Delay, Comb}
+use Rattle.sn_def.specs.declared.table.StateSize.TheVariants.{Fixed, Delay, Comb, DampedComb}
 use Rattle.sn_def.specs.declared.unit.Input.{Input}
 use Rattle.sn_def.specs.declared.unit.Input.TheVariants.{Literal, Control, Wire}
 use Rattle.sn_def.specs.declared.unit.Unit.{Unit as UnitLine}
@@ -28,10 +28,11 @@ frames_few (pos ms) rate h r =
     omega arith
 frames_few (negsuc n) rate h r = zero-le
 
-few_words : (words : StateSize) (frames : ℕ) → frames ≤ 5760000 → words_of words 0 ≤ 7 → words_of words frames ≤ 5760002
+few_words : (words : StateSize) (frames : ℕ) → frames ≤ 5760000 → words_of words 0 ≤ 19 → words_of words frames ≤ 5760003
 few_words (Fixed n) frames h i = omega arith
 few_words Delay frames h i = omega arith
 few_words Comb frames h i = omega arith
+few_words DampedComb frames h i = omega arith
 
 -- the input that a delay takes
 value_few : (c w : ℕ) (o : Option Input) → IfSome o (IsAllowed Longest c w) → literal_value o ≤ℤ pos 60000
@@ -60,24 +61,24 @@ longest_few marks xs c w (Some k) is h =
     value_few c w (slice_get xs k) (subst (λ (m : Mark). IfSome (slice_get xs k) (IsAllowed m c w)) (place_marked marks k is) at)
 longest_few marks xs c w None is h = omega (arith, ints)
 
-unit_few : (rate c w : ℕ) (u : UnitLine) → rate ≤ 96000 → UnitFits c w u → unit_words rate u ≤ 5760002
+unit_few : (rate c w : ℕ) (u : UnitLine) → rate ≤ 96000 → UnitFits c w u → unit_words rate u ≤ 5760003
 unfolding unit_words
 unit_few rate c w u r h =
     few_words (row_of u.kind).words (frames_of (longest (row_of u.kind).inputs u.inputs) rate)
     (frames_few (longest (row_of u.kind).inputs u.inputs) rate (longest_few (row_of u.kind).inputs u.inputs c w (position is_longest (row_of u.kind).inputs) refl h.inputs) r) (few_fixed u.kind)
 
-units_few : (rate c w : ℕ) (us : List UnitLine) → rate ≤ 96000 → UnitsFit c w us → units_words rate us ≤ 5760002 * length us
+units_few : (rate c w : ℕ) (us : List UnitLine) → rate ≤ 96000 → UnitsFit c w us → units_words rate us ≤ 5760003 * length us
 units_few rate c w [] r h = lit≤ tt
 units_few rate c w (u ∷ us) r h =
     let one = unit_few rate c w u r h.0 in
     let more = units_few rate c (w + u.outputs) us r h.1 in
     omega arith
 
--- at most 256 units of at most 5760002 words
-pub few : (rate : ℕ) (d : Definition) → rate ≤ 96000 → ∥ IsWritten d ∥₁ → state_words rate d ≤ 1474560512
+-- at most 256 units of at most 5760003 words
+pub few : (rate : ℕ) (d : Definition) → rate ≤ 96000 → ∥ IsWritten d ∥₁ → state_words rate d ≤ 1474560768
 few rate d r w =
     let ok = formed d w in
-    let all : units_words rate d.units ≤ 5760002 * length d.units = units_few rate (length d.controls) 0 d.units r ok.fit in
+    let all : units_words rate d.units ≤ 5760003 * length d.units = units_few rate (length d.controls) 0 d.units r ok.fit in
     let units : length d.units ≤ 256 = ok.units in
     omega arith
 

@@ -8,7 +8,7 @@ use Rattle.sn_def.specs.declared.kind.Kind.TheVariants as kinds
 use Rattle.sn_def.specs.declared.table.Mark.{Mark}
 use Rattle.sn_def.specs.declared.table.Mark.TheVariants.{Signal, Index, Constant, Longest}
 use Rattle.sn_def.specs.declared.table.StateSize.{StateSize}
-use Rattle.sn_def.specs.declared.table.StateSize.TheVariants.{Fixed, Delay, Comb}
+use Rattle.sn_def.specs.declared.table.StateSize.TheVariants.{Fixed, Delay, Comb, DampedComb}
 use Rattle.sn_def.specs.declared.table.Family.{Family}
 use Rattle.sn_def.specs.declared.table.Family.TheVariants as families
 use Rattle.sn_def.specs.declared.table.Access.{Access}
@@ -95,6 +95,7 @@ fixed_or_delay : (w : StateSize) (f : Family) (marks : List Mark) (xs : List Inp
 fixed_or_delay (Fixed n) f marks xs h = inl (n, refl)
 fixed_or_delay Delay f marks xs h = inr (delay_second f marks xs h)
 fixed_or_delay Comb f marks xs h = inr (delay_second f marks xs h)
+fixed_or_delay DampedComb f marks xs h = inr (delay_second f marks xs h)
 
 -- a unit has a fixed number of words, or a delay
 pub words_or_delay : (k : Kind) (xs : List Input) → ((n : ℕ) × ((row_of k).words ≡ Fixed n)) ⊎ HasDelay (row_of k).inputs xs
@@ -108,18 +109,20 @@ fixed : (w : StateSize) (f : Family) (marks : List Mark) (frames len : ℕ) → 
 fixed (Fixed n) f marks frames len other h e = ap Fixed e
 fixed Delay f marks frames len other h e = absurd (no_delay f marks other h)
 fixed Comb f marks frames len other h e = absurd (no_delay f marks other h)
+fixed DampedComb f marks frames len other h e = absurd (no_delay f marks other h)
 
 -- a unit that is no filter has a fixed number of words
 pub fixed_words : (k : Kind) (frames len : ℕ) → is_of families.Filter k ≡ false → words_of (row_of k).words frames ≡ len → (row_of k).words ≡ Fixed len
 fixed_words k frames len other e = fixed (row_of k).words (row_of k).family (row_of k).inputs frames len other (row_fits k).words e
 
-pub few_fixed : (k : Kind) → words_of (row_of k).words 0 ≤ 7
-few_fixed k = leb-true _ 7 (row_fits k).few
+pub few_fixed : (k : Kind) → words_of (row_of k).words 0 ≤ 19
+few_fixed k = leb-true _ 19 (row_fits k).few
 
 least : (w : StateSize) (frames n : ℕ) → n ≤ words_of w 0 → n ≤ words_of w frames
 least (Fixed m) frames n h = h
 least Delay frames n h = omega arith
 least Comb frames n h = omega arith
+least DampedComb frames n h = omega arith
 
 implied : (b c : Bool) → (not b || c) ≡ true → b ≡ true → c ≡ true
 implied true c h is = h

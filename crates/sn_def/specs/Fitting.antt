@@ -64,7 +64,7 @@ pub record RowFits (row : UnitRow) : Type 0 where
   pub index : index_fits row.family row.inputs ≡ true
   pub uses : use_fits row.uses row.family ≡ true
   pub words : words_fit row.words row.family row.inputs ≡ true
-  pub few : nat_le (least_words row) 7 ≡ true
+  pub few : nat_le (least_words row) 19 ≡ true
   pub action : action_fits row.ends row.inputs ≡ true
   -- a unit that ends has a done word, and one that sends three words for what it sends
   pub done : (not (does_end row.ends) || nat_le 1 (least_words row)) ≡ true

@@ -4,7 +4,7 @@ use Rattle.sn_fixed.specs.Fixed.{frames_of}
 use Rattle.sn_def.specs.declared.table.Mark.{Mark}
 use Rattle.sn_def.specs.declared.table.Mark.TheVariants.{Longest}
 use Rattle.sn_def.specs.declared.table.StateSize.{StateSize}
-use Rattle.sn_def.specs.declared.table.StateSize.TheVariants.{Fixed, Delay, Comb}
+use Rattle.sn_def.specs.declared.table.StateSize.TheVariants.{Fixed, Delay, Comb, DampedComb}
 use Rattle.sn_def.specs.declared.unit.Input.{Input}
 use Rattle.sn_def.specs.declared.unit.Input.TheVariants.{Literal}
 use Rattle.sn_def.specs.declared.unit.Unit.{Unit as UnitLine}
@@ -33,6 +33,7 @@ abbrev pub words_of : StateSize → ℕ → ℕ
 words_of (Fixed n) frames = n
 words_of Delay frames = frames + 2
 words_of Comb frames = max 1 frames + 2
+words_of DampedComb frames = max 1 frames + 3
 
 -- the words of a unit at a rate of so many frames a second
 unfoldable pub unit_words : ℕ → UnitLine → ℕ

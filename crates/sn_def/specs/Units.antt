@@ -7,7 +7,7 @@ use Rattle.sn_def.specs.declared.kind.Kind.TheVariants as kinds
 use Rattle.sn_def.specs.declared.table.Mark.{Mark}
 use Rattle.sn_def.specs.declared.table.Mark.TheVariants.{Signal, Index, Constant, Longest}
 use Rattle.sn_def.specs.declared.table.StateSize.{StateSize}
-use Rattle.sn_def.specs.declared.table.StateSize.TheVariants.{Fixed, Delay, Comb}
+use Rattle.sn_def.specs.declared.table.StateSize.TheVariants.{Fixed, Delay, Comb, DampedComb}
 use Rattle.sn_def.specs.declared.table.Family.{Family}
 use Rattle.sn_def.specs.declared.table.Family.TheVariants as families
 use Rattle.sn_def.specs.declared.table.Access.TheVariants as accesses
@@ -63,10 +63,12 @@ row_of kinds.SinOsc = unit_row families.Generator (codes "SinOsc") (Signal ∷ S
 row_of kinds.Sine = unit_row families.Generator (codes "Sine") (Signal ∷ Signal ∷ []) 1 (Fixed 1)
 row_of kinds.LFSaw = unit_row families.Generator (codes "LFSaw") (Signal ∷ Signal ∷ []) 1 (Fixed 1)
 row_of kinds.Saw = unit_row families.Generator (codes "Saw") (Signal ∷ Signal ∷ []) 1 (Fixed 1)
+row_of kinds.Blip = unit_row families.Generator (codes "Blip") (Signal ∷ Signal ∷ Signal ∷ []) 1 (Fixed 1)
 row_of kinds.LFPulse = unit_row families.Generator (codes "LFPulse") (Signal ∷ Signal ∷ Signal ∷ []) 1 (Fixed 1)
 row_of kinds.LFTri = unit_row families.Generator (codes "LFTri") (Signal ∷ Signal ∷ []) 1 (Fixed 1)
 row_of kinds.Impulse = unit_row families.Generator (codes "Impulse") (Signal ∷ []) 1 (Fixed 2)
 row_of kinds.WhiteNoise = unit_row families.Generator (codes "WhiteNoise") [] 1 (Fixed 1)
+row_of kinds.PinkNoise = unit_row families.Generator (codes "PinkNoise") [] 1 (Fixed 19)
 row_of kinds.Phasor = unit_row families.Generator (codes "Phasor") (Signal ∷ Signal ∷ Signal ∷ Signal ∷ Signal ∷ []) 1 (Fixed 3)
 row_of kinds.Line = ending (ends.Input 3) (unit_row families.Generator (codes "Line") (Signal ∷ Signal ∷ Signal ∷ Constant ∷ []) 1 (Fixed 5))
 row_of kinds.Linen = ending (ends.Input 4) (unit_row families.Generator (codes "Linen") (Signal ∷ Signal ∷ Signal ∷ Signal ∷ Constant ∷ []) 1 (Fixed 7))
@@ -92,7 +94,9 @@ row_of kinds.LagUD = unit_row families.Filter (codes "LagUD") (Signal ∷ Signal
 row_of kinds.Integrator = unit_row families.Filter (codes "Integrator") (Signal ∷ Signal ∷ []) 1 (Fixed 1)
 row_of kinds.Delay1 = unit_row families.Filter (codes "Delay1") (Signal ∷ []) 1 (Fixed 1)
 row_of kinds.DelayN = unit_row families.Filter (codes "DelayN") (Signal ∷ Longest ∷ Signal ∷ []) 1 Delay
+row_of kinds.DelayL = unit_row families.Filter (codes "DelayL") (Signal ∷ Longest ∷ Signal ∷ []) 1 Delay
 row_of kinds.CombN = unit_row families.Filter (codes "CombN") (Signal ∷ Longest ∷ Signal ∷ Signal ∷ []) 1 Comb
+row_of kinds.CombL = unit_row families.Filter (codes "CombL") (Signal ∷ Longest ∷ Signal ∷ Signal ∷ Signal ∷ []) 2 DampedComb
 row_of kinds.SOS = unit_row families.Filter (codes "SOS") (Signal ∷ Signal ∷ Signal ∷ Signal ∷ Signal ∷ Signal ∷ []) 1 (Fixed 4)
 row_of kinds.SVF = unit_row families.Filter (codes "SVF") (Signal ∷ Signal ∷ Signal ∷ []) 3 (Fixed 2)
 row_of kinds.Latch = unit_row families.Filter (codes "Latch") (Signal ∷ Signal ∷ []) 1 (Fixed 2)
@@ -107,8 +111,10 @@ row_of kinds.Outar = writing banks.Audio (unit_row families.Bus (codes "Out.ar")
 row_of kinds.ReplaceOut = writing banks.Audio (unit_row families.Bus (codes "ReplaceOut") (Index ∷ []) 0 (Fixed 0))
 row_of kinds.Outkr = writing banks.Control (unit_row families.Bus (codes "Out.kr") (Index ∷ []) 0 (Fixed 0))
 row_of kinds.PlayBuf = ending (ends.Input 5) (reading banks.Buffer (unit_row families.Buffer (codes "PlayBuf") (Index ∷ Signal ∷ Signal ∷ Signal ∷ Signal ∷ Constant ∷ []) 1 (Fixed 4)))
+row_of kinds.PlayBufL = ending (ends.Input 5) (reading banks.Buffer (unit_row families.Buffer (codes "PlayBufL") (Index ∷ Signal ∷ Signal ∷ Signal ∷ Signal ∷ Constant ∷ []) 1 (Fixed 4)))
 row_of kinds.RecordBuf = ending (ends.Input 3) (writing banks.Buffer (unit_row families.Buffer (codes "RecordBuf") (Index ∷ Signal ∷ Signal ∷ Constant ∷ []) 0 (Fixed 2)))
 row_of kinds.BufRd = reading banks.Buffer (unit_row families.Buffer (codes "BufRd") (Index ∷ Signal ∷ []) 1 (Fixed 0))
+row_of kinds.BufRdL = reading banks.Buffer (unit_row families.Buffer (codes "BufRdL") (Index ∷ Signal ∷ Signal ∷ Signal ∷ []) 1 (Fixed 0))
 row_of kinds.BufWr = writing banks.Buffer (unit_row families.Buffer (codes "BufWr") (Index ∷ Signal ∷ []) 0 (Fixed 0))
 row_of kinds.BufFrames = unit_row families.Buffer (codes "BufFrames") (Index ∷ []) 1 (Fixed 0)
 row_of kinds.SendTrig = sending (unit_row families.Trigger (codes "SendTrig") (Signal ∷ Signal ∷ Signal ∷ []) 0 (Fixed 4))
@@ -119,14 +125,15 @@ row_of kinds.PauseSelf = ending (ends.Always (pos 1)) (unit_row families.Trigger
 -- all kinds, in the order of the table
 abbrev pub every_kind : List Kind
 every_kind =
-    kinds.SinOsc ∷ kinds.Sine ∷ kinds.LFSaw ∷ kinds.Saw ∷ kinds.LFPulse ∷ kinds.LFTri ∷ kinds.Impulse ∷
-    kinds.WhiteNoise ∷ kinds.Phasor ∷ kinds.Line ∷ kinds.Linen ∷ kinds.Add ∷ kinds.Sub ∷ kinds.Mul ∷ kinds.MulAdd ∷
-    kinds.Neg ∷ kinds.Abs ∷ kinds.Min ∷ kinds.Max ∷ kinds.Clip ∷ kinds.Gt ∷ kinds.Lt ∷ kinds.Pan2 ∷ kinds.Div ∷
-    kinds.Mod ∷ kinds.Exp2 ∷ kinds.Log2 ∷ kinds.OnePole ∷ kinds.Lag ∷ kinds.LagUD ∷ kinds.Integrator ∷
-    kinds.Delay1 ∷ kinds.DelayN ∷ kinds.CombN ∷ kinds.SOS ∷ kinds.SVF ∷ kinds.Latch ∷ kinds.Gate ∷
-    kinds.PulseCount ∷ kinds.Stepper ∷ kinds.Trig ∷ kinds.Inar ∷ kinds.InFeedback ∷ kinds.Inkr ∷ kinds.Outar ∷
-    kinds.ReplaceOut ∷ kinds.Outkr ∷ kinds.PlayBuf ∷ kinds.RecordBuf ∷ kinds.BufRd ∷ kinds.BufWr ∷ kinds.BufFrames ∷
-    kinds.SendTrig ∷ kinds.DetectSilence ∷ kinds.FreeSelf ∷ kinds.PauseSelf ∷ []
+    kinds.SinOsc ∷ kinds.Sine ∷ kinds.LFSaw ∷ kinds.Saw ∷ kinds.Blip ∷ kinds.LFPulse ∷ kinds.LFTri ∷
+    kinds.Impulse ∷ kinds.WhiteNoise ∷ kinds.PinkNoise ∷ kinds.Phasor ∷ kinds.Line ∷ kinds.Linen ∷ kinds.Add ∷
+    kinds.Sub ∷ kinds.Mul ∷ kinds.MulAdd ∷ kinds.Neg ∷ kinds.Abs ∷ kinds.Min ∷ kinds.Max ∷ kinds.Clip ∷
+    kinds.Gt ∷ kinds.Lt ∷ kinds.Pan2 ∷ kinds.Div ∷ kinds.Mod ∷ kinds.Exp2 ∷ kinds.Log2 ∷ kinds.OnePole ∷
+    kinds.Lag ∷ kinds.LagUD ∷ kinds.Integrator ∷ kinds.Delay1 ∷ kinds.DelayN ∷ kinds.DelayL ∷ kinds.CombN ∷
+    kinds.CombL ∷ kinds.SOS ∷ kinds.SVF ∷ kinds.Latch ∷ kinds.Gate ∷ kinds.PulseCount ∷ kinds.Stepper ∷
+    kinds.Trig ∷ kinds.Inar ∷ kinds.InFeedback ∷ kinds.Inkr ∷ kinds.Outar ∷ kinds.ReplaceOut ∷ kinds.Outkr ∷
+    kinds.PlayBuf ∷ kinds.PlayBufL ∷ kinds.RecordBuf ∷ kinds.BufRd ∷ kinds.BufRdL ∷ kinds.BufWr ∷
+    kinds.BufFrames ∷ kinds.SendTrig ∷ kinds.DetectSilence ∷ kinds.FreeSelf ∷ kinds.PauseSelf ∷ []
 
 -- the kind of this name
 unfoldable pub kind_named : List ℕ → Option Kind

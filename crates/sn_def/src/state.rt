@@ -49,6 +49,7 @@ fn words_of(words: StateSize, frames: u32) -> u32
         StateSize::Fixed(count) => count,
         StateSize::Delay => frames + 2,
         StateSize::Comb => frames.max(1) + 2,
+        StateSize::DampedComb => frames.max(1) + 3,
     }
 }
 
@@ -81,7 +82,7 @@ impl Def {
     pub fn state_words(&self, rate: u32) -> u32
         requires { rate ≤ high_rate }
         ensures words { result ≡ state_words rate (definition_of self.now) }
-        ensures bound { result ≤ 1474560512 }
+        ensures bound { result ≤ 1474560768 }
     {
         total_words(self.units.as_slice(), rate)
     }

@@ -27,6 +27,8 @@ pub enum StateSize {
     Delay,
     /// The frames of its `Longest` input, at least 1, and 2 more.
     Comb,
+    /// The frames of its `Longest` input, at least 1, and 3 more.
+    DampedComb,
 }
 
 /// The families of units.
@@ -113,15 +115,17 @@ pub struct Row {
 }
 
 /// All kinds, in the order of the table.
-pub(crate) const KINDS: [Kind; 56] = [
+pub(crate) const KINDS: [Kind; 62] = [
     Kind::SinOsc,
     Kind::Sine,
     Kind::LFSaw,
     Kind::Saw,
+    Kind::Blip,
     Kind::LFPulse,
     Kind::LFTri,
     Kind::Impulse,
     Kind::WhiteNoise,
+    Kind::PinkNoise,
     Kind::Phasor,
     Kind::Line,
     Kind::Linen,
@@ -147,7 +151,9 @@ pub(crate) const KINDS: [Kind; 56] = [
     Kind::Integrator,
     Kind::Delay1,
     Kind::DelayN,
+    Kind::DelayL,
     Kind::CombN,
+    Kind::CombL,
     Kind::SOS,
     Kind::SVF,
     Kind::Latch,
@@ -162,8 +168,10 @@ pub(crate) const KINDS: [Kind; 56] = [
     Kind::ReplaceOut,
     Kind::Outkr,
     Kind::PlayBuf,
+    Kind::PlayBufL,
     Kind::RecordBuf,
     Kind::BufRd,
+    Kind::BufRdL,
     Kind::BufWr,
     Kind::BufFrames,
     Kind::SendTrig,
@@ -228,15 +236,17 @@ macro_rules! sending {
 
 /// The rows in the order of the kinds: a unit's family, name and inputs => outputs, words of state; and
 /// what it reads or writes, its done action, and whether it sends triggers.
-static ROWS: [Row; 56] = [
+static ROWS: [Row; 62] = [
     row!(Generator b"SinOsc" [Signal, Signal] => 1, Fixed(1)),
     row!(Generator b"Sine" [Signal, Signal] => 1, Fixed(1)),
     row!(Generator b"LFSaw" [Signal, Signal] => 1, Fixed(1)),
     row!(Generator b"Saw" [Signal, Signal] => 1, Fixed(1)),
+    row!(Generator b"Blip" [Signal, Signal, Signal] => 1, Fixed(1)),
     row!(Generator b"LFPulse" [Signal, Signal, Signal] => 1, Fixed(1)),
     row!(Generator b"LFTri" [Signal, Signal] => 1, Fixed(1)),
     row!(Generator b"Impulse" [Signal] => 1, Fixed(2)),
     row!(Generator b"WhiteNoise" [] => 1, Fixed(1)),
+    row!(Generator b"PinkNoise" [] => 1, Fixed(19)),
     row!(Generator b"Phasor" [Signal, Signal, Signal, Signal, Signal] => 1, Fixed(3)),
     ending!(
         Input(3),
@@ -268,7 +278,9 @@ static ROWS: [Row; 56] = [
     row!(Filter b"Integrator" [Signal, Signal] => 1, Fixed(1)),
     row!(Filter b"Delay1" [Signal] => 1, Fixed(1)),
     row!(Filter b"DelayN" [Signal, Longest, Signal] => 1, Delay),
+    row!(Filter b"DelayL" [Signal, Longest, Signal] => 1, Delay),
     row!(Filter b"CombN" [Signal, Longest, Signal, Signal] => 1, Comb),
+    row!(Filter b"CombL" [Signal, Longest, Signal, Signal, Signal] => 2, DampedComb),
     row!(Filter b"SOS" [Signal, Signal, Signal, Signal, Signal, Signal] => 1, Fixed(4)),
     row!(Filter b"SVF" [Signal, Signal, Signal] => 3, Fixed(2)),
     row!(Filter b"Latch" [Signal, Signal] => 1, Fixed(2)),
@@ -290,6 +302,13 @@ static ROWS: [Row; 56] = [
         )
     ),
     ending!(
+        Input(5),
+        reading!(
+            Buffer,
+            row!(Buffer b"PlayBufL" [Index, Signal, Signal, Signal, Signal, Constant] => 1, Fixed(4))
+        )
+    ),
+    ending!(
         Input(3),
         writing!(
             Buffer,
@@ -297,6 +316,10 @@ static ROWS: [Row; 56] = [
         )
     ),
     reading!(Buffer, row!(Buffer b"BufRd" [Index, Signal] => 1, Fixed(0))),
+    reading!(
+        Buffer,
+        row!(Buffer b"BufRdL" [Index, Signal, Signal, Signal] => 1, Fixed(0))
+    ),
     writing!(Buffer, row!(Buffer b"BufWr" [Index, Signal] => 0, Fixed(0))),
     row!(Buffer b"BufFrames" [Index] => 1, Fixed(0)),
     sending!(row!(Trigger b"SendTrig" [Signal, Signal, Signal] => 0, Fixed(4))),

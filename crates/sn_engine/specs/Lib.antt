@@ -1,15 +1,17 @@
+-- what a reader believes
 pub mod Entries
-pub mod Stacks
-pub mod Answerable
 pub mod Boundary
 pub mod Outputs
-pub mod Hearing
 pub mod Running
-pub mod Histories
-pub mod Keeping
 pub mod Arriving
 pub mod Refusing
 pub mod Clashing
+-- workings
+pub mod Stacks
+pub mod Answerable
+pub mod Hearing
+pub mod Histories
+pub mod Keeping
 pub mod Seeking
 pub mod Holding
 pub mod Remembered

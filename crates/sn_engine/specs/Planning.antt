@@ -1,4 +1,3 @@
--- Planning
 -- Plans of a stage, kept from one boundary to the next.
 use Rattle.std.specs.Prelude.{◌≡◌, ◌≤◌, ◌<◌, ◌+◌, ◌-◌, ℕ, Bool, true, false, if◌then◌else◌, List, length, ◌*◌}
 use Rattle.std.specs.List.{All, list_any}

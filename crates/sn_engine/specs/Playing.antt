@@ -1,4 +1,3 @@
--- Playing
 -- What an engine plays, and what its rounds were.
 use Rattle.std.specs.Prelude.{◌≡◌, ℕ, List, []}
 use Rattle.sn_round.specs.declared.jobs.Job.{Job}

@@ -1,4 +1,3 @@
--- Remembered
 -- What the memory holds between two rounds.
 use Rattle.std.specs.Prelude.{ℕ, List}
 use Rattle.sn_machine.specs.declared.views.Rested.{Rested}

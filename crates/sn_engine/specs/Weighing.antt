@@ -17,8 +17,7 @@ abbrev pub all_more : Nodes Content → ℕ
 all_more none = 0
 all_more (node label below after) = (if label.running then units_more label.payload + all_more below else 0) + all_more after
 
--- A plan for so many workers has lanes if there are several, and the synths that run have 128 such units: for so many a
--- round of 32 blocks starts a thread.
+-- A plan for so many workers has lanes if there are several, and the synths that run have 128 such units together.
 abbrev pub has_lanes : ℕ → World → Bool
 has_lanes workers w = nat_le 2 workers && nat_le 128 (all_more w.nodes)
 

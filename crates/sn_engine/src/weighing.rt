@@ -24,7 +24,7 @@ const UNITS_FOR_A_LANE: u32 = 2;
 /// and the lane is added to its bus.
 const UNITS_ON_A_LANE: usize = 10;
 
-/// For so many units a round of the most blocks starts one more thread.
+/// Lanes pay if the synths that run have so many units more than they would need for lanes of their own.
 const UNITS_IN_MANY_BLOCKS: usize = 128;
 
 /// To share so few jobs takes next to nothing.

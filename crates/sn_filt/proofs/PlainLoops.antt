@@ -1,12 +1,12 @@
 -- Sums and products frame by frame.
-use Rattle.std.proofs.Common.{◌≡◌, ◌<◌, ◌≤◌, inl, inr, ℕ, ◌+◌, ◌*◌, List, ℤ, pos, ◌+ℤ◌, ◌*ℤ◌, get_or, replicate, unsigned_abs, FitsSigned, SFits, to_z, of_z, arith, sym, ap, ◌∙◌, subst}
+use Rattle.std.proofs.Common.{◌≡◌, ◌<◌, ◌≤◌, inl, inr, ℕ, ◌*◌, List, ℤ, pos, ◌+ℤ◌, ◌*ℤ◌, get_or, replicate, unsigned_abs, FitsSigned, SFits, to_z, of_z, arith, sym, ap, ◌∙◌, subst}
 use Rattle.std.specs.Int.{w32, w64}
 use Rattle.std.proofs.lemmas.Int.{ints, to_z-of_z, unsigned_abs-mul}
 use Rattle.std.proofs.lemmas.Nat.{mul-le}
 use Rattle.sn_fixed.specs.Fixed.{floor, sat, mul}
 use Rattle.sn_mem.specs.Blocks.{block, sample}
 use Rattle.sn_filt.specs.Products.{IsSmall}
-use Rattle.sn_filt.proofs.LaneLaws.{half_word, product_fits}
+use Rattle.sn_filt.proofs.Widths.{half_word, product_fits}
 use Rattle.sn_filt.proofs.SteadyPoles.{weight_at}
 use Rattle.sn_filt.proofs.Unlimited.{in_scale, sat_same}
 

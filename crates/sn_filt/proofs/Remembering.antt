@@ -32,7 +32,7 @@ after_low places place low = grind (arith, nat_tests)
 ago_first : (f : ℕ → ℤ) (t : ℕ) → ago f 1 (t + 1) ≡ f t
 ago_first f t = grind (arith, nat_tests)
 
-ago_later : (f : ℕ → ℤ) (n t : ℕ) → ago f (n + 1) (t + 1) ≡ ago f n t
+pub ago_later : (f : ℕ → ℤ) (n t : ℕ) → ago f (n + 1) (t + 1) ≡ ago f n t
 ago_later f n t = grind (arith, nat_tests)
 
 pub ago_none : (f : ℕ → ℤ) (t : ℕ) → ago f 0 t ≡ f t
@@ -61,7 +61,7 @@ holds_at_first places f ws some e =
           ∙ (ap sample_in (get_or-replicate (places + 1) (1 + before places (get_or ws 0 0 % places) n) 0 0 (omega (arith, low))) ∙ sym (ago_start f n some));
     }
 
-past_more : (places : ℕ) (f : ℕ → ℤ) (t place : ℕ) (ws : List ℕ) (v : ℤ) → Holds places f t place ws → FitsSigned w32 v → v ≡ f t
+pub past_more : (places : ℕ) (f : ℕ → ℤ) (t place : ℕ) (ws : List ℕ) (v : ℤ) → Holds places f t place ws → FitsSigned w32 v → v ≡ f t
     → (n : ℕ) → 0 < n → n ≤ places → sample_in (get_or (set ws (1 + place) (word_for v)) (1 + before places (after places place) n) 0) ≡ ago f n (t + 1)
 past_more places f t place ws v h fits e n some few = ⊎_elim
     (λ (one : n ≡ 1).
@@ -81,7 +81,7 @@ past_more places f t place ws v h fits e n some few = ⊎_elim
     ∙ (h.past m pos_m (omega (arith, few_m)) ∙ (sym (ago_later f m t) ∙ ap (λ n. ago f n (t + 1)) (sym is)))))
     (cases_eq n 1)
 
-holds_more : (places : ℕ) (f : ℕ → ℤ) (t place : ℕ) (ws : List ℕ) (v : ℤ) → Holds places f t place ws → FitsSigned w32 v → v ≡ f t → Holds places f (t + 1) (after places place) (set ws (1 + place) (word_for v))
+pub holds_more : (places : ℕ) (f : ℕ → ℤ) (t place : ℕ) (ws : List ℕ) (v : ℤ) → Holds places f t place ws → FitsSigned w32 v → v ≡ f t → Holds places f (t + 1) (after places place) (set ws (1 + place) (word_for v))
 holds_more places f t place ws v h fits e = record {
   long = length-set ws (1 + place) (word_for v) ∙ h.long;
   low = after_low places place h.low;
@@ -123,7 +123,7 @@ scan_at next s ins (suc n) k lt = ⊎_elim
     (cases_eq k n)
 
 -- the next place is stored
-stored_place : (places : ℕ) (f : ℕ → ℤ) (t place : ℕ) (ws : List ℕ) → Holds places f t place ws → Holds places f t (get_or (set ws 0 place) 0 0 % places) (set ws 0 place)
+pub stored_place : (places : ℕ) (f : ℕ → ℤ) (t place : ℕ) (ws : List ℕ) → Holds places f t place ws → Holds places f t (get_or (set ws 0 place) 0 0 % places) (set ws 0 place)
 stored_place places f t place ws h =
     let first : get_or (set ws 0 place) 0 0 % places ≡ place = ap (λ n. n % places) (get_or-set_same ws 0 place 0 (omega (arith, h.long))) ∙ mod-eq_of_lt h.low in
     let P : ℕ → Type 0 = λ p. Holds places f t p (set ws 0 place) in

@@ -20,7 +20,7 @@ before_low places place n low few = grind (arith, nat_tests)
 
 -- ---- one frame
 
-window_set : (ws : List ℕ) (at len p x : ℕ) → p < len → at + len ≤ length ws → window (set ws (at + p) x) at len ≡ set (window ws at len) p x
+pub window_set : (ws : List ℕ) (at len p x : ℕ) → p < len → at + len ≤ length ws → window (set ws (at + p) x) at len ≡ set (window ws at len) p x
 unfolding put
 window_set ws at len p x low inside = window_put ws at len p (x ∷ []) (omega arith) inside
 
@@ -58,7 +58,7 @@ apart_more at len p x ws us vs low high a e = record {
 }
 
 -- the words are those before, with the state put there
-put_there : (at len : ℕ) (ws us : List ℕ) → at + len ≤ length ws → Apart at len ws us → us ≡ put ws at (window us at len)
+pub put_there : (at len : ℕ) (ws us : List ℕ) → at + len ≤ length ws → Apart at len ws us → us ≡ put ws at (window us at len)
 put_there at len ws us inside a =
     let wide : length (window us at len) ≡ len = length-window us at len in
     ext_get_or 0 us (put ws at (window us at len)) (a.long ∙ sym (length-put ws at (window us at len)))

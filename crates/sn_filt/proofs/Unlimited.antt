@@ -5,7 +5,7 @@ use Rattle.std.proofs.lemmas.Int.{ints, clamps, to_z-of_z}
 use Rattle.std.proofs.Math.Nat.{mul-le-mul_left}
 use Rattle.sn_fixed.specs.Fixed.{floor, sat}
 use Rattle.sn_filt.specs.Poles.{pole}
-use Rattle.sn_filt.proofs.LaneLaws.{in_64}
+use Rattle.sn_filt.proofs.Widths.{in_64}
 
 pub in_scale : (z : ℤ) → pos 0 ≤ℤ (z +ℤ pos 36028797018963968) → z ≤ℤ pos 36028797018963967 → FitsSigned w32 (floor z 16777216)
 in_scale (pos a) low high = record { sfits = omega (arith, ints, high) }

@@ -15,6 +15,7 @@ use Rattle.sn_filt.specs.Pulses.{pulse_in, pulse_words, trig}
 use Rattle.sn_filt.specs.Sections.{section_in, section_words, sos}
 use Rattle.sn_filt.specs.StateVariable.{svf_block}
 use Rattle.sn_filt.specs.Rings.{delay_n, comb_n}
+use Rattle.sn_filt.specs.Lines.{delay_l, comb_l}
 use Rattle.sn_filt.specs.Held.{latched_in, latched_words, latch, gate, count_in, count_words, pulse_count, steps_in, steps_words, stepper}
 
 abbrev pub is_filter : Kind → Bool
@@ -30,7 +31,9 @@ filter kinds.Lag now state inputs = one_output (recurrence lagged_in lagged_word
 filter kinds.Integrator now state inputs = of_sample integrator state inputs
 filter kinds.Delay1 now state inputs = of_sample delay1 state inputs
 filter kinds.DelayN now state inputs = one_output (delay_n now.rate state inputs)
+filter kinds.DelayL now state inputs = one_output (delay_l now.rate state inputs)
 filter kinds.CombN now state inputs = one_output (comb_n now.rate state inputs)
+filter kinds.CombL now state inputs = comb_l now.rate state inputs
 filter kinds.SOS now state inputs = one_output (recurrence section_in section_words sos state inputs)
 filter kinds.SVF now state inputs = svf_block now.rate state inputs
 filter kinds.Latch now state inputs = one_output (recurrence latched_in latched_words latch state inputs)

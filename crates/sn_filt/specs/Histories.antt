@@ -1,9 +1,11 @@
 -- Delay lines over whole runs: the output is what was kept some frames ago.
-use Rattle.std.specs.Prelude.{◌≡◌, ◌+◌, ◌-◌, ℕ, nat_lt, min, max, List, ℤ, pos, ◌+ℤ◌, ◌*ℤ◌, cond, FitsSigned}
+use Rattle.std.specs.Prelude.{◌≡◌, ◌+◌, ◌-◌, ◌*◌, ℕ, nat_lt, min, max, List, ℤ, pos, ◌+ℤ◌, ◌*ℤ◌, cond, FitsSigned}
 use Rattle.std.specs.Int.{w32}
 use Rattle.sn_fixed.specs.Fixed.{floor, sat, frames_of}
 use Rattle.sn_def.specs.Histories.{heard, given}
 use Rattle.sn_filt.specs.Rings.{most_frames, delay_n, comb_n}
+use Rattle.sn_filt.specs.Seconds.{span, whole_frames, frame_part}
+use Rattle.sn_filt.specs.Lines.{between, delay_l}
 
 -- a signal n frames before frame t; before the first frame it is 0
 abbrev pub ago : (ℕ → ℤ) → ℕ → ℕ → ℤ
@@ -21,6 +23,13 @@ HasSamples run = (t : ℕ) → FitsSigned w32 (heard run 0 t)
 abbrev pub IsInputAgo : ℕ → ℕ → (ℕ → List (List ℤ)) → Type 0
 IsInputAgo rate most run =
     (t : ℕ) → given (delay_n rate) (most + 2) run t ≡ ago (heard run 0) (min (frames_of (heard run 2 t) rate) most) t
+
+-- DelayL: the output lies between the input n frames ago and n + 1 frames ago, by the time at this frame.
+abbrev pub IsInputBetween : ℕ → ℕ → (ℕ → List (List ℤ)) → Type 0
+IsInputBetween rate most run =
+    (t : ℕ) → (let reach = min (span (heard run 2 t) rate) (most * 16777216) in
+    let n = whole_frames reach in
+    given (delay_l rate) (most + 2) run t ≡ between (ago (heard run 0) n t) (ago (heard run 0) (n + 1) t) (frame_part reach))
 
 -- what CombN keeps, by its output: the input and the part of the output that is fed back
 abbrev pub fed_back : (ℕ → List (List ℤ)) → (ℕ → ℤ) → ℕ → ℤ

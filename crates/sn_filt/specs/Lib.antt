@@ -1,7 +1,6 @@
 pub mod Ratios
 pub mod Powers
 pub mod Arithmetic
-pub mod Lanes
 pub mod Poles
 pub mod Seconds
 pub mod Followers
@@ -10,6 +9,8 @@ pub mod Sections
 pub mod StateVariable
 pub mod Held
 pub mod Rings
+pub mod Lines
 pub mod Histories
 pub mod Filters
 pub mod Products
+pub mod Frames

@@ -3,184 +3,287 @@ ghost use Rattle.std.specs.Prelude.{◌≡◌, ◌≤◌, true, length};
 ghost use Rattle.sn_def.specs.Units.{row_of};
 ghost use Rattle.sn_filt.specs.Arithmetic.{is_arithmetic, arithmetic};
 
-use crate::blockwise::{
-    push_differences, push_negatives, push_product_sums, push_products, push_sums,
-};
-use crate::frames::push_frames;
-use crate::lanes::{
-    Lanes, Lanewise, differences, equal, greatest, least, leftness, nearest, products, push_lanes,
-    rightness, samples_at, scaled, scaled_products, sums, where_greater,
-};
-use crate::powers::{Exp2, Log2};
+use crate::blockwise::{push_product_sums, push_products};
+use crate::frames::{Framewise, push_frames, sample_at};
+use crate::powers::{Exp2, push_logarithms};
 use crate::ratios::{Div, Mod};
+use crate::samples::{leftness, limited_product, one_if_less, part, rightness};
 use sn_def::Kind;
+use sn_fixed::{add, mul_add, sat, sub};
 use sn_mem::Blocks;
+
+/// Add a b
+#[derive(Clone, Copy)]
+struct Add;
+
+impl Framewise for Add {
+    ghost use Rattle.std.specs.Prelude.{◌+ℤ◌};
+    ghost use Rattle.sn_fixed.specs.Fixed.{sat};
+    ghost use Rattle.sn_filt.specs.Arithmetic.{add};
+    ghost use Rattle.sn_filt.specs.Frames.{of_two};
+
+    ghost arity = { λ _. 2 };
+
+    ghost value = { λ _. add };
+
+    fn sample(&self, inputs: &Blocks, frame: usize) -> i32 {
+        add(sample_at(inputs, 0, frame), sample_at(inputs, 1, frame))
+    }
+
+    ghost steady = { λ _. of_two (λ x y. sat (x +ℤ y)) };
+}
+
+/// Sub a b
+#[derive(Clone, Copy)]
+struct Sub;
+
+impl Framewise for Sub {
+    ghost use Rattle.std.specs.Prelude.{◌-ℤ◌};
+    ghost use Rattle.sn_fixed.specs.Fixed.{sat};
+    ghost use Rattle.sn_filt.specs.Arithmetic.{sub};
+    ghost use Rattle.sn_filt.specs.Frames.{of_two};
+
+    ghost arity = { λ _. 2 };
+
+    ghost value = { λ _. sub };
+
+    fn sample(&self, inputs: &Blocks, frame: usize) -> i32 {
+        sub(sample_at(inputs, 0, frame), sample_at(inputs, 1, frame))
+    }
+
+    ghost steady = { λ _. of_two (λ x y. sat (x -ℤ y)) };
+}
 
 /// Mul a b
 #[derive(Clone, Copy)]
 pub(crate) struct Mul;
 
-impl Lanewise for Mul {
+impl Framewise for Mul {
+    ghost use Rattle.sn_fixed.specs.Fixed.{mul as product};
     ghost use Rattle.sn_filt.specs.Arithmetic.{mul};
+    ghost use Rattle.sn_filt.specs.Frames.{of_two};
 
     ghost arity = { λ _. 2 };
 
     ghost value = { λ _. mul };
 
-    fn lanes(&self, inputs: &Blocks, frame: usize) -> Lanes {
-        scaled_products(samples_at(inputs, 0, frame), samples_at(inputs, 1, frame))
+    fn sample(&self, inputs: &Blocks, frame: usize) -> i32 {
+        limited_product(sample_at(inputs, 0, frame), sample_at(inputs, 1, frame))
     }
+
+    ghost steady = { λ _. of_two product };
 }
 
 /// MulAdd x m a
 #[derive(Clone, Copy)]
 pub(crate) struct MulAdd;
 
-impl Lanewise for MulAdd {
+impl Framewise for MulAdd {
+    ghost use Rattle.std.specs.Prelude.{◌+ℤ◌, ◌*ℤ◌};
+    ghost use Rattle.sn_fixed.specs.Fixed.{floor, sat};
     ghost use Rattle.sn_filt.specs.Arithmetic.{mul_add};
+    ghost use Rattle.sn_filt.specs.Frames.{of_three};
 
     ghost arity = { λ _. 3 };
 
     ghost value = { λ _. mul_add };
 
-    fn lanes(&self, inputs: &Blocks, frame: usize) -> Lanes {
-        let products = scaled(products(samples_at(inputs, 0, frame), samples_at(inputs, 1, frame)));
-        nearest(sums(products, samples_at(inputs, 2, frame)))
+    fn sample(&self, inputs: &Blocks, frame: usize) -> i32 {
+        mul_add(
+            sample_at(inputs, 0, frame),
+            sample_at(inputs, 1, frame),
+            sample_at(inputs, 2, frame),
+        )
     }
+
+    ghost steady = { λ _. of_three (λ x y z. sat (floor (x *ℤ y) 16777216 +ℤ z)) };
+}
+
+/// Neg x
+#[derive(Clone, Copy)]
+struct Neg;
+
+impl Framewise for Neg {
+    ghost use Rattle.std.specs.Prelude.{neg_ℤ};
+    ghost use Rattle.sn_fixed.specs.Fixed.{sat};
+    ghost use Rattle.sn_filt.specs.Arithmetic.{neg};
+    ghost use Rattle.sn_filt.specs.Frames.{of_one};
+
+    ghost arity = { λ _. 1 };
+
+    ghost value = { λ _. neg };
+
+    fn sample(&self, inputs: &Blocks, frame: usize) -> i32 {
+        sat(-i64::from(sample_at(inputs, 0, frame)))
+    }
+
+    ghost steady = { λ _. of_one (λ x. sat (neg_ℤ x)) };
 }
 
 /// Abs x
 #[derive(Clone, Copy)]
 struct Abs;
 
-impl Lanewise for Abs {
+impl Framewise for Abs {
+    ghost use Rattle.std.specs.Prelude.{pos, unsigned_abs};
+    ghost use Rattle.sn_fixed.specs.Fixed.{sat};
     ghost use Rattle.sn_filt.specs.Arithmetic.{abs};
+    ghost use Rattle.sn_filt.specs.Frames.{of_one};
 
     ghost arity = { λ _. 1 };
 
     ghost value = { λ _. abs };
 
-    fn lanes(&self, inputs: &Blocks, frame: usize) -> Lanes {
-        let samples = samples_at(inputs, 0, frame);
-        nearest(greatest(samples, differences(equal(0), samples)))
+    fn sample(&self, inputs: &Blocks, frame: usize) -> i32 {
+        sat(i64::from(sample_at(inputs, 0, frame).unsigned_abs()))
     }
+
+    ghost steady = { λ _. of_one (λ x. sat (pos (unsigned_abs x))) };
 }
 
 /// Min a b
 #[derive(Clone, Copy)]
 struct Min;
 
-impl Lanewise for Min {
+impl Framewise for Min {
+    ghost use Rattle.std.specs.Int.{int_min};
     ghost use Rattle.sn_filt.specs.Arithmetic.{min};
+    ghost use Rattle.sn_filt.specs.Frames.{of_two};
 
     ghost arity = { λ _. 2 };
 
     ghost value = { λ _. min };
 
-    fn lanes(&self, inputs: &Blocks, frame: usize) -> Lanes {
-        least(samples_at(inputs, 0, frame), samples_at(inputs, 1, frame))
+    fn sample(&self, inputs: &Blocks, frame: usize) -> i32 {
+        sample_at(inputs, 0, frame).min(sample_at(inputs, 1, frame))
     }
+
+    ghost steady = { λ _. of_two int_min };
 }
 
 /// Max a b
 #[derive(Clone, Copy)]
 struct Max;
 
-impl Lanewise for Max {
+impl Framewise for Max {
+    ghost use Rattle.std.specs.Int.{int_max};
     ghost use Rattle.sn_filt.specs.Arithmetic.{max};
+    ghost use Rattle.sn_filt.specs.Frames.{of_two};
 
     ghost arity = { λ _. 2 };
 
     ghost value = { λ _. max };
 
-    fn lanes(&self, inputs: &Blocks, frame: usize) -> Lanes {
-        greatest(samples_at(inputs, 0, frame), samples_at(inputs, 1, frame))
+    fn sample(&self, inputs: &Blocks, frame: usize) -> i32 {
+        sample_at(inputs, 0, frame).max(sample_at(inputs, 1, frame))
     }
+
+    ghost steady = { λ _. of_two int_max };
 }
 
 /// Clip x lo hi
 #[derive(Clone, Copy)]
 struct Clip;
 
-impl Lanewise for Clip {
+impl Framewise for Clip {
+    ghost use Rattle.std.specs.Int.{int_min, int_max};
     ghost use Rattle.sn_filt.specs.Arithmetic.{clip};
+    ghost use Rattle.sn_filt.specs.Frames.{of_three};
 
     ghost arity = { λ _. 3 };
 
     ghost value = { λ _. clip };
 
-    fn lanes(&self, inputs: &Blocks, frame: usize) -> Lanes {
-        least(
-            greatest(samples_at(inputs, 0, frame), samples_at(inputs, 1, frame)),
-            samples_at(inputs, 2, frame),
-        )
+    fn sample(&self, inputs: &Blocks, frame: usize) -> i32 {
+        sample_at(inputs, 0, frame)
+            .max(sample_at(inputs, 1, frame))
+            .min(sample_at(inputs, 2, frame))
     }
+
+    ghost steady = { λ _. of_three (λ x y z. int_min (int_max x y) z) };
 }
 
 /// Gt a b
 #[derive(Clone, Copy)]
 struct Gt;
 
-impl Lanewise for Gt {
+impl Framewise for Gt {
+    ghost use Rattle.std.specs.Prelude.{pos, cond, int_lt};
     ghost use Rattle.sn_filt.specs.Arithmetic.{gt};
+    ghost use Rattle.sn_filt.specs.Frames.{of_two};
 
     ghost arity = { λ _. 2 };
 
     ghost value = { λ _. gt };
 
-    fn lanes(&self, inputs: &Blocks, frame: usize) -> Lanes {
-        where_greater(samples_at(inputs, 0, frame), samples_at(inputs, 1, frame))
+    fn sample(&self, inputs: &Blocks, frame: usize) -> i32 {
+        one_if_less(sample_at(inputs, 1, frame), sample_at(inputs, 0, frame))
     }
+
+    ghost steady = { λ _. of_two (λ x y. cond (int_lt y x) (pos 16777216) (pos 0)) };
 }
 
 /// Lt a b
 #[derive(Clone, Copy)]
 struct Lt;
 
-impl Lanewise for Lt {
+impl Framewise for Lt {
+    ghost use Rattle.std.specs.Prelude.{pos, cond, int_lt};
     ghost use Rattle.sn_filt.specs.Arithmetic.{lt};
+    ghost use Rattle.sn_filt.specs.Frames.{of_two};
 
     ghost arity = { λ _. 2 };
 
     ghost value = { λ _. lt };
 
-    fn lanes(&self, inputs: &Blocks, frame: usize) -> Lanes {
-        where_greater(samples_at(inputs, 1, frame), samples_at(inputs, 0, frame))
+    fn sample(&self, inputs: &Blocks, frame: usize) -> i32 {
+        one_if_less(sample_at(inputs, 0, frame), sample_at(inputs, 1, frame))
     }
+
+    ghost steady = { λ _. of_two (λ x y. cond (int_lt x y) (pos 16777216) (pos 0)) };
 }
 
 /// The left output of Pan2 x pos level
 #[derive(Clone, Copy)]
 struct PanLeft;
 
-impl Lanewise for PanLeft {
-    ghost use Rattle.sn_filt.specs.Arithmetic.{pan_left};
+impl Framewise for PanLeft {
+    ghost use Rattle.std.specs.Prelude.{◌-ℤ◌, pos};
+    ghost use Rattle.sn_fixed.specs.Fixed.{mul as product};
+    ghost use Rattle.sn_filt.specs.Arithmetic.{pan_left, rightness};
+    ghost use Rattle.sn_filt.specs.Frames.{of_three};
 
     ghost arity = { λ _. 3 };
 
     ghost value = { λ _. pan_left };
 
-    fn lanes(&self, inputs: &Blocks, frame: usize) -> Lanes {
-        let level = scaled_products(samples_at(inputs, 0, frame), samples_at(inputs, 2, frame));
-        scaled_products(level, leftness(samples_at(inputs, 1, frame)))
+    fn sample(&self, inputs: &Blocks, frame: usize) -> i32 {
+        let level = limited_product(sample_at(inputs, 0, frame), sample_at(inputs, 2, frame));
+        part(level, leftness(sample_at(inputs, 1, frame)))
     }
+
+    ghost steady = { λ _. of_three (λ x y z. product (product x z) (pos 16777216 -ℤ rightness y)) };
 }
 
 /// The right output of Pan2 x pos level
 #[derive(Clone, Copy)]
 struct PanRight;
 
-impl Lanewise for PanRight {
-    ghost use Rattle.sn_filt.specs.Arithmetic.{pan_right};
+impl Framewise for PanRight {
+    ghost use Rattle.sn_fixed.specs.Fixed.{mul as product};
+    ghost use Rattle.sn_filt.specs.Arithmetic.{pan_right, rightness};
+    ghost use Rattle.sn_filt.specs.Frames.{of_three};
 
     ghost arity = { λ _. 3 };
 
     ghost value = { λ _. pan_right };
 
-    fn lanes(&self, inputs: &Blocks, frame: usize) -> Lanes {
-        let level = scaled_products(samples_at(inputs, 0, frame), samples_at(inputs, 2, frame));
-        scaled_products(level, rightness(samples_at(inputs, 1, frame)))
+    fn sample(&self, inputs: &Blocks, frame: usize) -> i32 {
+        let level = limited_product(sample_at(inputs, 0, frame), sample_at(inputs, 2, frame));
+        part(level, rightness(sample_at(inputs, 1, frame)))
     }
+
+    ghost steady = { λ _. of_three (λ x y z. product (product x z) (rightness y)) };
 }
 
 /// The output blocks of a unit without a state.
@@ -192,25 +295,25 @@ pub(crate) fn run_arithmetic(kind: Kind, inputs: &Blocks, outputs: &mut Blocks)
 {
     outputs.clear();
     match kind {
-        Kind::Add => push_sums(inputs, outputs),
-        Kind::Sub => push_differences(inputs, outputs),
+        Kind::Add => push_frames(&Add, inputs, outputs),
+        Kind::Sub => push_frames(&Sub, inputs, outputs),
         Kind::Mul => push_products(inputs, outputs),
         Kind::MulAdd => push_product_sums(inputs, outputs),
-        Kind::Neg => push_negatives(inputs, outputs),
-        Kind::Abs => push_lanes(&Abs, inputs, outputs),
-        Kind::Min => push_lanes(&Min, inputs, outputs),
-        Kind::Max => push_lanes(&Max, inputs, outputs),
-        Kind::Clip => push_lanes(&Clip, inputs, outputs),
-        Kind::Gt => push_lanes(&Gt, inputs, outputs),
-        Kind::Lt => push_lanes(&Lt, inputs, outputs),
+        Kind::Neg => push_frames(&Neg, inputs, outputs),
+        Kind::Abs => push_frames(&Abs, inputs, outputs),
+        Kind::Min => push_frames(&Min, inputs, outputs),
+        Kind::Max => push_frames(&Max, inputs, outputs),
+        Kind::Clip => push_frames(&Clip, inputs, outputs),
+        Kind::Gt => push_frames(&Gt, inputs, outputs),
+        Kind::Lt => push_frames(&Lt, inputs, outputs),
         Kind::Pan2 => {
-            push_lanes(&PanLeft, inputs, outputs);
-            push_lanes(&PanRight, inputs, outputs);
+            push_frames(&PanLeft, inputs, outputs);
+            push_frames(&PanRight, inputs, outputs);
         }
         Kind::Div => push_frames(&Div, inputs, outputs),
         Kind::Mod => push_frames(&Mod, inputs, outputs),
         Kind::Exp2 => push_frames(&Exp2, inputs, outputs),
-        Kind::Log2 => push_frames(&Log2, inputs, outputs),
+        Kind::Log2 => push_logarithms(inputs, outputs),
         _ => {}
     }
 }

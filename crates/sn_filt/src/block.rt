@@ -10,6 +10,7 @@ ghost use Rattle.sn_filt.specs.Rings.{most_frames};
 use crate::arithmetic::run_arithmetic;
 use crate::followers::LagUD;
 use crate::held::{Gate, Latch, PulseCount, Stepper};
+use crate::lines::{run_comb_l, run_delay_l};
 use crate::poles::{Delay1, Integrator, Lag};
 use crate::pulses::Trig;
 use crate::rings::{run_comb_n, run_delay_n};
@@ -54,7 +55,9 @@ pub fn run<P: Port>(
         Kind::Integrator => run_recurrence(&Integrator, port, at, inputs, outputs),
         Kind::Delay1 => run_recurrence(&Delay1, port, at, inputs, outputs),
         Kind::DelayN => run_delay_n(rate, port, state, inputs, outputs),
+        Kind::DelayL => run_delay_l(rate, port, state, inputs, outputs),
         Kind::CombN => run_comb_n(rate, port, state, inputs, outputs),
+        Kind::CombL => run_comb_l(rate, port, state, inputs, outputs),
         Kind::SOS => run_recurrence(&SOS, port, at, inputs, outputs),
         Kind::SVF => run_svf(rate, port, at, inputs, outputs),
         Kind::Latch => run_recurrence(&Latch, port, at, inputs, outputs),

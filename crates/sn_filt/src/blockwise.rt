@@ -1,71 +1,17 @@
-//! Sums, differences and products frame by frame, in plain loops over the samples of blocks.
-//!
-//! A compiler makes vectors of these loops, as there is no branch in them and no product that needs a limit. `Lanewise`
-//! does the rest.
-ghost use Rattle.std.specs.Prelude.{◌≡◌, ◌<◌, ◌≤◌, ◌*◌, ◌++◌, ◌∷◌, [], ◌*ℤ◌, neg_ℤ, pos, true, nat_lt, ℕ, length, slice_index_or, unsigned_abs};
+//! Products of the samples of blocks that need no limit, in plain loops that a compiler makes vectors of.
+ghost use Rattle.std.specs.Prelude.{◌≡◌, ◌<◌, ◌≤◌, ◌*◌, ◌++◌, ◌∷◌, [], ◌*ℤ◌, pos, true, nat_lt, ℕ, length, slice_index_or, unsigned_abs};
 ghost use Rattle.sn_ports.specs.Limits.{block_frames, most_wires};
-ghost use Rattle.sn_fixed.specs.Fixed.{floor, sat, mul};
+ghost use Rattle.sn_fixed.specs.Fixed.{floor, mul};
 ghost use Rattle.sn_mem.specs.Blocks.{sample, table};
-ghost use Rattle.sn_filt.specs.Arithmetic.{add as sum, sub as difference, neg as negative, mul as product, mul_add as product_sum};
+ghost use Rattle.sn_filt.specs.Arithmetic.{mul as product, mul_add as product_sum};
 ghost use Rattle.sn_filt.specs.Products.{IsSmall, AreSmall};
 
 use crate::arithmetic::{Mul, MulAdd};
-use crate::lanes::push_lanes;
+use crate::frames::push_frames;
 use crate::steady::scaled_down;
-use sn_fixed::{add, sat, sub, times};
+use sn_fixed::{add, times};
 use sn_mem::{Block, Blocks};
 use sn_ports::limits::BLOCK_FRAMES;
-
-/// Appends the sums of the first two inputs.
-pub(crate) fn push_sums(inputs: &Blocks, outputs: &mut Blocks)
-    requires inputs { 2 ≤ length inputs.now }
-    requires outputs { length outputs.old < most_wires }
-    ensures { outputs.new ≡ outputs.old ++ table (sum inputs.now) block_frames ∷ [] }
-{
-    let a = inputs.block(0);
-    let b = inputs.block(1);
-    let mut samples = [0i32; BLOCK_FRAMES];
-    for frame in 0..BLOCK_FRAMES {
-        samples[frame] = add(a[frame], b[frame]);
-    }
-    outputs.push(&samples);
-}
-
-/// Appends the differences of the first two inputs.
-pub(crate) fn push_differences(inputs: &Blocks, outputs: &mut Blocks)
-    requires inputs { 2 ≤ length inputs.now }
-    requires outputs { length outputs.old < most_wires }
-    ensures { outputs.new ≡ outputs.old ++ table (difference inputs.now) block_frames ∷ [] }
-{
-    let a = inputs.block(0);
-    let b = inputs.block(1);
-    let mut samples = [0i32; BLOCK_FRAMES];
-    for frame in 0..BLOCK_FRAMES {
-        samples[frame] = sub(a[frame], b[frame]);
-    }
-    outputs.push(&samples);
-}
-
-/// The sample nearest to the negative of a sample.
-fn negated(x: i32) -> i32
-    ensures { result ≡ sat (neg_ℤ x) }
-{
-    sat(-i64::from(x))
-}
-
-/// Appends the negatives of the first input.
-pub(crate) fn push_negatives(inputs: &Blocks, outputs: &mut Blocks)
-    requires inputs { 1 ≤ length inputs.now }
-    requires outputs { length outputs.old < most_wires }
-    ensures { outputs.new ≡ outputs.old ++ table (negative inputs.now) block_frames ∷ [] }
-{
-    let x = inputs.block(0);
-    let mut samples = [0i32; BLOCK_FRAMES];
-    for frame in 0..BLOCK_FRAMES {
-        samples[frame] = negated(x[frame]);
-    }
-    outputs.push(&samples);
-}
 
 /// A bound of the sizes of a block's samples.
 fn block_size(samples: &Block) -> u32
@@ -142,10 +88,10 @@ pub(crate) fn push_products(inputs: &Blocks, outputs: &mut Blocks)
     requires outputs { length outputs.old < most_wires }
     ensures { outputs.new ≡ outputs.old ++ table (product inputs.now) block_frames ∷ [] }
 {
-    if are_small(inputs) {
+    if !inputs.is_steady() && are_small(inputs) {
         push_small_products(inputs, outputs);
     } else {
-        push_lanes(&Mul, inputs, outputs);
+        push_frames(&Mul, inputs, outputs);
     }
 }
 
@@ -173,9 +119,9 @@ pub(crate) fn push_product_sums(inputs: &Blocks, outputs: &mut Blocks)
     requires outputs { length outputs.old < most_wires }
     ensures { outputs.new ≡ outputs.old ++ table (product_sum inputs.now) block_frames ∷ [] }
 {
-    if are_small(inputs) {
+    if !inputs.is_steady() && are_small(inputs) {
         push_small_product_sums(inputs, outputs);
     } else {
-        push_lanes(&MulAdd, inputs, outputs);
+        push_frames(&MulAdd, inputs, outputs);
     }
 }

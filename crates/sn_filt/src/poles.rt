@@ -43,7 +43,8 @@ fn mean(a: i64, b: i64) -> i32
     sat(scaled(a + b))
 }
 
-fn pole(last: i32, x: i32, c: i32) -> i32
+/// The next output of a pole.
+pub(crate) fn pole(last: i32, x: i32, c: i32) -> i32
     requires low { negsuc 16777215 ≤ℤ c }
     requires high { c ≤ℤ pos 16777216 }
     ensures { result ≡ pole last x c }

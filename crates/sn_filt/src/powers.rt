@@ -1,9 +1,11 @@
 //! Powers of two and logarithms, by polynomials.
-ghost use Rattle.std.specs.Prelude.{◌≡◌, ◌<◌, ◌≤◌, ◌≤ℤ◌, ◌+◌, ◌-◌, ◌/◌, ◌^◌, ℤ, pos, negsuc, ◌+ℤ◌, ◌-ℤ◌, ◌*ℤ◌, unsigned_abs};
+ghost use Rattle.std.specs.Prelude.{◌≡◌, ◌<◌, ◌≤◌, ◌≤ℤ◌, ◌+◌, ◌-◌, ◌/◌, ◌^◌, ℤ, pos, negsuc, ◌+ℤ◌, ◌-ℤ◌, ◌*ℤ◌, unsigned_abs, ◌++◌, ◌∷◌, [], length};
+ghost use Rattle.sn_ports.specs.Limits.{block_frames, most_wires};
 ghost use Rattle.sn_fixed.specs.Fixed.{floor};
-ghost use Rattle.sn_filt.specs.Powers.{mantissa, power, power_of, slope, highest, logarithm, logarithm_of};
+ghost use Rattle.sn_mem.specs.Blocks.{table};
+ghost use Rattle.sn_filt.specs.Powers.{mantissa, power, power_of, slope, highest, logarithm, logarithm_of, log2};
 
-use crate::frames::Framewise;
+use crate::frames::{Framewise, push_moving_frames};
 use sn_fixed::ONE;
 use sn_mem::Blocks;
 
@@ -186,7 +188,8 @@ fn logarithm_of(x: i32) -> i32
 pub(crate) struct Exp2;
 
 impl Framewise for Exp2 {
-    ghost use Rattle.sn_filt.specs.Powers.{exp2};
+    ghost use Rattle.sn_filt.specs.Powers.{power_of, exp2};
+    ghost use Rattle.sn_filt.specs.Frames.{of_one};
 
     ghost arity = { λ _. 1 };
 
@@ -195,14 +198,17 @@ impl Framewise for Exp2 {
     fn sample(&self, inputs: &Blocks, frame: usize) -> i32 {
         power_of(inputs.at(0, frame))
     }
+
+    ghost steady = { λ _. of_one power_of };
 }
 
 /// Log2 x
 #[derive(Clone, Copy)]
-pub(crate) struct Log2;
+struct Log2;
 
 impl Framewise for Log2 {
-    ghost use Rattle.sn_filt.specs.Powers.{log2};
+    ghost use Rattle.sn_filt.specs.Powers.{logarithm_of, log2};
+    ghost use Rattle.sn_filt.specs.Frames.{of_one};
 
     ghost arity = { λ _. 1 };
 
@@ -210,5 +216,19 @@ impl Framewise for Log2 {
 
     fn sample(&self, inputs: &Blocks, frame: usize) -> i32 {
         logarithm_of(inputs.at(0, frame))
+    }
+
+    ghost steady = { λ _. of_one logarithm_of };
+}
+
+/// Appends the logarithms of a block's samples. Whether they stay the same is asked of the input alone.
+pub(crate) fn push_logarithms(inputs: &Blocks, outputs: &mut Blocks)
+    requires inputs { 1 ≤ length inputs.now }
+    requires outputs { length outputs.old < most_wires }
+    ensures { outputs.new ≡ outputs.old ++ table (log2 inputs.now) block_frames ∷ [] }
+{
+    match inputs.same(0) {
+        Some(x) => outputs.push_equal(logarithm_of(x)),
+        None => push_moving_frames(&Log2, inputs, outputs),
     }
 }

@@ -84,7 +84,8 @@ fn modulo(a: i32, b: i32) -> i32
 pub(crate) struct Div;
 
 impl Framewise for Div {
-    ghost use Rattle.sn_filt.specs.Ratios.{div};
+    ghost use Rattle.sn_filt.specs.Ratios.{ratio, div};
+    ghost use Rattle.sn_filt.specs.Frames.{of_two};
 
     ghost arity = { λ _. 2 };
 
@@ -93,6 +94,8 @@ impl Framewise for Div {
     fn sample(&self, inputs: &Blocks, frame: usize) -> i32 {
         ratio(inputs.at(0, frame), inputs.at(1, frame))
     }
+
+    ghost steady = { λ _. of_two ratio };
 }
 
 /// Mod a b
@@ -100,7 +103,8 @@ impl Framewise for Div {
 pub(crate) struct Mod;
 
 impl Framewise for Mod {
-    ghost use Rattle.sn_filt.specs.Ratios.{mod_of};
+    ghost use Rattle.sn_filt.specs.Ratios.{modulo, mod_of};
+    ghost use Rattle.sn_filt.specs.Frames.{of_two};
 
     ghost arity = { λ _. 2 };
 
@@ -109,4 +113,6 @@ impl Framewise for Mod {
     fn sample(&self, inputs: &Blocks, frame: usize) -> i32 {
         modulo(inputs.at(0, frame), inputs.at(1, frame))
     }
+
+    ghost steady = { λ _. of_two modulo };
 }

@@ -44,9 +44,9 @@ trait Echo {
 }
 
 /// The place some frames before `place`, of `places` in a ring.
-fn before(places: u32, place: u32, frames: u32) -> u32
+pub(crate) fn before(places: u32, place: u32, frames: u32) -> u32
     requires place { place < places }
-    requires frames { frames < places }
+    requires frames { frames ≤ places }
     ensures value { result ≡ before places place frames }
     ensures bound { result < places }
 {
@@ -58,7 +58,7 @@ fn before(places: u32, place: u32, frames: u32) -> u32
 }
 
 /// The place after `place`, of `places` in a ring.
-fn after(places: u32, place: u32) -> u32
+pub(crate) fn after(places: u32, place: u32) -> u32
     requires { place < places }
     ensures value { result ≡ after places place }
     ensures bound { result < places }

@@ -1,6 +1,8 @@
 -- What a list of uses says of resources once each use was judged.
-use Rattle.std.proofs.Common.{◌≡◌, ◌≤◌, ◌<◌, ◌⊎◌, ⊎_elim, ℕ, ◌+◌, ◌==◌, Bool, true, false, not, ◌&&◌, ◌||◌, if◌then◌else◌, List, [], ◌∷◌, ◌++◌, sym, refl, ap, ◌∙◌, subst, arith, length, length-set, true≢false}
+use Rattle.std.proofs.Common.{◌≡◌, ◌≤◌, ◌<◌, ⊎_elim, ℕ, zero, suc, ◌+◌, ◌==◌, Bool, true, false, not, ◌&&◌, ◌||◌, if◌then◌else◌, List, [], ◌∷◌, ◌++◌, sym, refl, ap, ◌∙◌, subst, arith, length, get_or, length-set, true≢false}
 use Rattle.std.specs.Prelude.{nat_lt, slice_index_or, slice_set}
+use Rattle.std.specs.List.{count_by}
+use Rattle.std.proofs.lemmas.List.Recursion.{is_sum_by}
 use Rattle.std.proofs.lemmas.Bool.{cases_eq, cases_lt, cond-false, cond-true, eq-eqb, le-ltb, lt-ltb, ne_eqb}
 use Rattle.std.proofs.lemmas.List.{get_or-set_other, get_or-set_same, get_or_past}
 use Rattle.sn_foot.specs.declared.resource.Resource.{Resource}
@@ -120,6 +122,49 @@ test_is own counts long once (Buffer n) = refl
 pub judged_same : (f g : Resource → Bool) → ((r : Resource) → f r ≡ g r) → (us : List Use) → judged f us ≡ judged g us
 judged_same f g same [] = refl
 judged_same f g same (u ∷ us) = λ i. (record { role = role_if (same u.resource i) u.role; resource = u.resource }) ∷ judged_same f g same us i
+
+-- how many of some uses name a resource
+pub times_counts : (r : Resource) (us : List Use) → times us r ≡ count_by (λ (u : Use). is_same u.resource r) us
+times_counts r us = is_sum_by (λ (vs : List Use). times vs r) (λ (u : Use). if is_same u.resource r then 1 else 0) refl (λ u vs. refl) us
+
+-- ---- uses of which the first ones are judged
+
+abbrev pub begun : (Resource → Bool) → ℕ → List Use → List Use
+begun f zero us = us
+begun f (suc n) [] = []
+begun f (suc n) (u ∷ us) = judged_one f u ∷ begun f n us
+
+pub all_begun : (f : Resource → Bool) (n : ℕ) (us : List Use) → length us ≤ n → begun f n us ≡ judged f us
+all_begun f zero [] le = refl
+all_begun f zero (u ∷ us) le = absurd (omega (arith, le))
+all_begun f (suc n) [] le = refl
+all_begun f (suc n) (u ∷ us) le = ap (λ (vs : List Use). judged_one f u ∷ vs) (all_begun f n us (omega (arith, le)))
+
+times_begun : (f : Resource → Bool) (n : ℕ) (us : List Use) (r : Resource) → times (begun f n us) r ≡ times us r
+times_begun f zero us r = refl
+times_begun f (suc n) [] r = refl
+times_begun f (suc n) (u ∷ us) r = ap (λ k. (if is_same u.resource r then 1 else 0) + k) (times_begun f n us r)
+
+alone_begun : (f : Resource → Bool) (n : ℕ) (us : List Use) (r : Resource) → is_alone (begun f n us) r ≡ is_alone us r
+alone_begun f n us (Audio m) = ap (λ k. nat_lt m 1024 && (k == 1)) (times_begun f n us (Audio m))
+alone_begun f n us (Control m) = refl
+alone_begun f n us (Buffer m) = refl
+
+set_next : (f : Resource → Bool) (n : ℕ) (us : List Use) (d : Use) → n < length us → slice_set (begun f n us) n (judged_one f (get_or (begun f n us) n d)) ≡ begun f (suc n) us
+set_next f n [] d lt = absurd (omega (arith, lt))
+set_next f zero (u ∷ us) d lt = refl
+set_next f (suc n) (u ∷ us) d lt = ap (λ (vs : List Use). judged_one f u ∷ vs) (set_next f n us d (omega (arith, lt)))
+
+pub next_begun : (us own : List Use) (n : ℕ) (d new : Use) → n < length us → own ≡ begun (is_alone us) n us → new ≡ judged_one (is_alone own) (get_or own n d) → slice_set own n new ≡ begun (is_alone us) (n + 1) us
+next_begun us own n d new lt is e =
+    let f : Resource → Bool = is_alone us in
+    let u : Use = get_or own n d in
+    let next : n + 1 ≡ suc n = omega arith in
+    let alone : is_alone own u.resource ≡ f u.resource = ap (λ (vs : List Use). is_alone vs u.resource) is ∙ alone_begun f n us u.resource in
+    ap (λ (v : Use). slice_set own n v) (e ∙ ap {B = Use} (λ (a : Bool). record { role = role_if a u.role; resource = u.resource }) alone)
+    ∙ ap (λ (vs : List Use). slice_set vs n (judged_one f (get_or vs n d))) is
+    ∙ set_next f n us d lt
+    ∙ ap (λ k. begun f k us) (sym next)
 
 -- ---- a loop's step
 

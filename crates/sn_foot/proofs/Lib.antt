@@ -2,6 +2,7 @@ pub mod Runs
 pub mod Sameness
 pub mod Judged
 pub mod Putting
+pub mod Behind
 pub mod Finding
 pub mod Placing
 pub mod Containing

@@ -1,8 +1,10 @@
-pub mod Reaches
+-- what a reader believes
 pub mod Mixers
 pub mod Canonical
 pub mod Footprints
-pub mod Putting
 pub mod Uses
+-- workings
+pub mod Reaches
+pub mod Putting
 pub mod Judging
 pub mod Suffices

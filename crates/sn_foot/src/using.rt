@@ -8,7 +8,7 @@ ghost use Rattle.sn_foot.specs.Judging.{is_alone, judged};
 ghost use Rattle.sn_foot.specs.Putting.{number_at, put_controls, put_held, put_nodes, put_number, put_span, put_units, put_used, role_in};
 ghost use Rattle.sn_foot.specs.Uses.{PutsUses};
 
-use crate::judging::push_judged;
+use crate::judging::judge;
 use crate::mixers::mixes_audio;
 use crate::resource::Resource;
 use crate::units::{index_of, span};
@@ -124,16 +124,6 @@ fn push_controls(uses: &mut Vec<Use>, controls: &[SynthControl]) -> Result<(), N
     Ok(())
 }
 
-/// What the controls and units of a synth use, one by one.
-fn own_uses(alloc: Global, controls: &[SynthControl], units: &[Unit]) -> Result<Vec<Use>, NoMemory>
-    ensures { IfOk result (λ own. own.items ≡ put_units controls.now units.now (put_controls controls.now [])) }
-{
-    let mut own = Vec::new(alloc);
-    push_controls(&mut own, controls)?;
-    push_units(&mut own, controls, units)?;
-    Ok(own)
-}
-
 /// Appends what a synth uses.
 fn push_synth(
     alloc: Global,
@@ -143,8 +133,10 @@ fn push_synth(
 ) -> Result<(), NoMemory>
     ensures { let own = put_units controls.now units.now (put_controls controls.now []) in OnOk result (uses.new.items ≡ uses.old.items ++ judged (is_alone own) own) }
 {
-    let own = own_uses(alloc, controls, units)?;
-    push_judged(alloc, uses, &own)
+    let first = uses.len();
+    push_controls(uses, controls)?;
+    push_units(uses, controls, units)?;
+    judge(alloc, uses, first)
 }
 
 /// Appends what a node uses by itself, as the rows of its units say.

@@ -5,3 +5,4 @@ mod Sweeping
 mod Turning
 pub mod Unseen
 pub mod Products
+pub mod Rolling

@@ -12,7 +12,9 @@ use Rattle.sn_gen.specs.Phases.{phase_in, phase_words}
 use Rattle.sn_gen.specs.Oscillators.{sin_osc, lf_saw, lf_pulse, lf_tri}
 use Rattle.sn_gen.specs.Rounded.{saw_unit}
 use Rattle.sn_gen.specs.Sine.{sine}
+use Rattle.sn_gen.specs.Harmonics.{blip}
 use Rattle.sn_gen.specs.Noise.{draws_in, draws_words, seed, white_noise}
+use Rattle.sn_gen.specs.Pink.{dice_in, dice_words, pink_noise}
 use Rattle.sn_gen.specs.Impulse.{beat_in, beat_words, impulse}
 use Rattle.sn_gen.specs.Phasor.{ramp_in, ramp_words, phasor}
 use Rattle.sn_gen.specs.Line.{sweep_in, sweep_words, line}
@@ -37,4 +39,6 @@ generator kinds.Phasor now state inputs = one_output (recurrence ramp_in ramp_wo
 generator kinds.Line now state inputs = one_output (recurrence sweep_in sweep_words (line now.rate) state inputs)
 generator kinds.Linen now state inputs = one_output (recurrence envelope_in envelope_words (linen now.rate) state inputs)
 generator kinds.Saw now state inputs = oscillator (saw_unit now.rate) state inputs
+generator kinds.Blip now state inputs = oscillator (blip now.rate) state inputs
+generator kinds.PinkNoise now state inputs = one_output (recurrence dice_in dice_words (pink_noise (seed now)) state inputs)
 generator _ now state inputs = (state, [])

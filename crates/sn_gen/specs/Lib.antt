@@ -3,7 +3,9 @@ pub mod Oscillators
 pub mod Waves
 pub mod Sine
 pub mod Rounded
+pub mod Harmonics
 pub mod Noise
+pub mod Pink
 pub mod Impulse
 pub mod Phasor
 pub mod Line

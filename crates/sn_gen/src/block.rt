@@ -6,6 +6,7 @@ ghost use Rattle.sn_mem.specs.Words.{MayWrite, SameButWords};
 ghost use Rattle.sn_mem.specs.Blocks.{window, put};
 ghost use Rattle.sn_gen.specs.Generators.{is_generator, generator};
 
+use crate::harmonics::Blip;
 use crate::impulse::Impulse;
 use crate::line::run_line;
 use crate::linen::run_linen;
@@ -13,6 +14,7 @@ use crate::noise::{WhiteNoise, seed};
 use crate::oscillators::{LFPulse, SawWave, SineWave, TriangleWave};
 use crate::phases::PhaseStep;
 use crate::phasor::Phasor;
+use crate::pink::run_pink_noise;
 use crate::rounded::Saw;
 use crate::sine::Sine;
 use crate::waves::{Oscillator, run_wave};
@@ -48,35 +50,20 @@ pub fn run<P: Port>(
     match kind {
         Kind::SinOsc => {
             let wave = SineWave { heights };
-            run_wave(
-                &Oscillator { phase_step, wave },
-                port,
-                state.at,
-                inputs,
-                outputs,
-            );
+            let oscillator = Oscillator { phase_step, wave };
+            run_wave(&oscillator, port, state.at, inputs, outputs);
         }
         Kind::LFSaw => {
             let wave = SawWave;
-            run_wave(
-                &Oscillator { phase_step, wave },
-                port,
-                state.at,
-                inputs,
-                outputs,
-            );
+            let oscillator = Oscillator { phase_step, wave };
+            run_wave(&oscillator, port, state.at, inputs, outputs);
         }
         Kind::Sine => run_recurrence(&Sine { phase_step }, port, state.at, inputs, outputs),
         Kind::LFPulse => run_recurrence(&LFPulse { phase_step }, port, state.at, inputs, outputs),
         Kind::LFTri => {
             let wave = TriangleWave;
-            run_wave(
-                &Oscillator { phase_step, wave },
-                port,
-                state.at,
-                inputs,
-                outputs,
-            );
+            let oscillator = Oscillator { phase_step, wave };
+            run_wave(&oscillator, port, state.at, inputs, outputs);
         }
         Kind::Impulse => run_recurrence(&Impulse { phase_step }, port, state.at, inputs, outputs),
         Kind::WhiteNoise => {
@@ -87,6 +74,8 @@ pub fn run<P: Port>(
         Kind::Line => run_line(rate, port, state.at, inputs, outputs),
         Kind::Linen => run_linen(rate, port, state.at, inputs, outputs),
         Kind::Saw => run_recurrence(&Saw { phase_step }, port, state.at, inputs, outputs),
+        Kind::Blip => run_recurrence(&Blip { phase_step }, port, state.at, inputs, outputs),
+        Kind::PinkNoise => run_pink_noise(seed(now), port, state.at, outputs),
         _ => {}
     }
 }

@@ -3,6 +3,7 @@
 
 mod block;
 mod course;
+mod harmonics;
 mod impulse;
 mod laws;
 mod line;
@@ -11,6 +12,7 @@ mod noise;
 mod oscillators;
 mod phases;
 mod phasor;
+mod pink;
 mod rounded;
 mod sine;
 mod waves;

@@ -82,7 +82,7 @@ fn rounded(z: u64, m: u64) -> i64
 }
 
 /// How far a phase goes in a frame, whichever way.
-fn pace(growth: u32) -> u64
+pub(crate) fn pace(growth: u32) -> u64
     ensures value { result ≡ pace growth }
     ensures bound { result ≤ 2147483648 }
 {

@@ -1,7 +1,7 @@
 -- The walk's nodes, put together from its end on, are the nodes that run.
-use Rattle.std.proofs.Common.{◌≡◌, ◌≤◌, ℕ, zero, suc, ◌+◌, ℤ, Bool, true, false, if◌then◌else◌, List, [], ◌∷◌, ◌++◌, map, take, drop, length, Option, sym, refl, ap, ◌∙◌, append_assoc, arith}
-use Rattle.std.proofs.lemmas.Bool.{cond-true, cond-false}
-use Rattle.std.proofs.lemmas.List.{append-nil, length-reverse, length-map, take_all}
+use Rattle.std.proofs.Common.{◌≡◌, ◌≤◌, ◌<◌, ℕ, ◌-◌, ℤ, Bool, true, false, if◌then◌else◌, List, [], ◌∷◌, ◌++◌, map, take, drop, length, reverse, Option, sym, refl, ap, ◌∙◌, append_assoc, ⊎_elim, arith}
+use Rattle.std.proofs.lemmas.Bool.{cases_lt}
+use Rattle.std.proofs.lemmas.List.{append-nil, drop-map, drop_all, length-drop, length-map, length-reverse, map-append, reverse-append, take-append-drop, take-map, take_all}
 use Rattle.std.proofs.Math.Seq.{take-append_seam, drop-append_seam}
 use Rattle.sn_mem.specs.declared.buffers.BufferPlace.{BufferPlace}
 use Rattle.sn_tree.specs.declared.node.NodeKind.{NodeKind}
@@ -10,29 +10,16 @@ use Rattle.sn_tree.specs.Trees as trees
 use Rattle.sn_tree.specs.Trees.{Label, Nodes}
 use Rattle.sn_tree.specs.Members.{tops, members}
 use Rattle.sn_world.specs.declared.stage.Held.{Held}
-use Rattle.sn_graph.specs.declared.nodes.Voice.{Voice}
 use Rattle.sn_graph.specs.declared.parts.Part.{Part}
 use Rattle.sn_graph.specs.Voices.{HeardNodes, none, synth, group}
-use Rattle.sn_graph.specs.Stages.{may_split, voice_of, with_group, with_node, running_of}
-use Rattle.sn_graph.specs.Pieces.{Piece, nothing, voice, group_piece, piece_of, pieces, before, linked, running_piece, piece, with_member, built}
+use Rattle.sn_graph.specs.Stages.{may_split, with_group, with_node, running_of}
+use Rattle.sn_graph.specs.Pieces.{Piece, nothing, group_piece, piece_of, pieces, before, linked, running_piece, piece, with_member, built}
 
 -- ---- the list of the kept ones
 
 pub linked-snoc : (ps : List Piece) (p : Piece) (rest : HeardNodes) → linked (ps ++ p ∷ []) rest ≡ linked ps (before p rest)
 linked-snoc [] p rest = refl
 linked-snoc (q ∷ ps) p rest = ap (before q) (linked-snoc ps p rest)
-
-pub take_one : {A : Type 0} (n : ℕ) (xs : List A) → take n xs ++ take 1 (drop n xs) ≡ take (n + 1) xs
-take_one zero [] = refl
-take_one zero (x ∷ xs) = refl
-take_one {A} (suc n) [] = let e : suc n + 1 ≡ suc (n + 1) = omega arith in ap (λ (k : ℕ). take {A = A} k []) (sym e)
-take_one (suc n) (x ∷ xs) = let e : suc n + 1 ≡ suc (n + 1) = omega arith in ap (λ ys. x ∷ ys) (take_one n xs) ∙ ap (λ k. take k (x ∷ xs)) (sym e)
-
-pub drop_one : {A : Type 0} (n : ℕ) (xs : List A) → drop 1 (drop n xs) ≡ drop (n + 1) xs
-drop_one zero [] = refl
-drop_one zero (x ∷ xs) = refl
-drop_one {A} (suc n) [] = let e : suc n + 1 ≡ suc (n + 1) = omega arith in ap (λ (k : ℕ). drop {A = A} k []) (sym e)
-drop_one (suc n) (x ∷ xs) = let e : suc n + 1 ≡ suc (n + 1) = omega arith in drop_one n xs ∙ ap (λ k. drop k (x ∷ xs)) (sym e)
 
 -- ---- one node
 
@@ -42,26 +29,6 @@ before_group flag (synth v rest) after = refl
 before_group flag (group f deeper rest) after = refl
 
 module _ (buffers : List (Option BufferPlace)) (clashing : List ℤ) where
-  abbrev labelled : ℤ → NodeKind → Bool → Held → Label Held
-  labelled id kind running held = record { id = id; kind = kind; running = running; payload = held }
-
-  pub piece_paused : (id : ℤ) (kind : NodeKind) (running : Bool) (held : Held) (inner : HeardNodes) → running ≡ false → nothing ≡ piece buffers clashing (labelled id kind running held) inner
-  piece_paused id kind running held inner h = sym (cond-false running (running_piece buffers clashing kind (labelled id kind running held) inner) nothing h)
-
-  running_is : (id : ℤ) (kind other : NodeKind) (running : Bool) (held : Held) (inner : HeardNodes) (p : Piece) → running ≡ true → kind ≡ other → p ≡ running_piece buffers clashing other (labelled id kind running held) inner → p ≡ piece buffers clashing (labelled id kind running held) inner
-  running_is id kind other running held inner p h e is =
-      is ∙ ap (λ k. running_piece buffers clashing k (labelled id kind running held) inner) (sym e)
-      ∙ sym (cond-true running (running_piece buffers clashing kind (labelled id kind running held) inner) nothing h)
-
-  pub piece_synth : (id : ℤ) (kind : NodeKind) (running : Bool) (held : Held) (inner : HeardNodes) (v : Voice) → running ≡ true → kind ≡ kinds.Synth → v ≡ voice_of buffers id held → voice v ≡ piece buffers clashing (labelled id kind running held) inner
-  piece_synth id kind running held inner v h e is = running_is id kind kinds.Synth running held inner (voice v) h e (ap voice is)
-
-  pub piece_group : (id : ℤ) (kind : NodeKind) (running : Bool) (held : Held) (inner : HeardNodes) → running ≡ true → kind ≡ kinds.Group → group_piece false inner ≡ piece buffers clashing (labelled id kind running held) inner
-  piece_group id kind running held inner h e = running_is id kind kinds.Group running held inner (group_piece false inner) h e refl
-
-  pub piece_parallel : (id : ℤ) (kind : NodeKind) (running : Bool) (held : Held) (inner : HeardNodes) (b : Bool) → running ≡ true → kind ≡ kinds.Parallel → b ≡ may_split clashing id → group_piece b inner ≡ piece buffers clashing (labelled id kind running held) inner
-  piece_parallel id kind running held inner b h e is = running_is id kind kinds.Parallel running held inner (group_piece b inner) h e (ap (λ c. group_piece c inner) is)
-
   -- ---- all nodes
 
   pub built-snoc : (ms : List (Label Held × ℕ)) (m : Label Held × ℕ) (ps : List Piece) → built buffers clashing (ms ++ m ∷ []) ps ≡ built buffers clashing ms (with_member buffers clashing m ps)
@@ -113,3 +80,51 @@ module _ (buffers : List (Option BufferPlace)) (clashing : List ℤ) where
 
 pub length-pieces : (ps : List Part) → length (pieces ps) ≡ length ps
 length-pieces ps = length-reverse (map piece_of ps) ∙ length-map ps piece_of
+
+-- ---- the first ones, which were put last
+
+reverse_split : {A : Type 0} (k : ℕ) (xs : List A) → reverse xs ≡ reverse (drop k xs) ++ reverse (take k xs)
+reverse_split k xs = ap reverse (sym (take-append-drop k xs)) ∙ reverse-append (take k xs) (drop k xs)
+
+last_length : {A : Type 0} (n : ℕ) (xs : List A) → n < length xs → length (reverse (drop (length xs - n) xs)) ≡ n
+last_length n xs l = omega (arith, l, length-reverse (drop (length xs - n) xs), length-drop (length xs - n) xs)
+
+drop_last : {A : Type 0} (n : ℕ) (xs : List A) → reverse (take (length xs - n) xs) ≡ drop n (reverse xs)
+drop_last n xs =
+    let k : ℕ = length xs - n in
+    ⊎_elim
+    (λ (l : n < length xs).
+    sym (drop-append_seam (reverse (drop k xs)) (reverse (take k xs)))
+    ∙ ap (λ m. drop m (reverse (drop k xs) ++ reverse (take k xs))) (last_length n xs l)
+    ∙ ap (drop n) (sym (reverse_split k xs)))
+    (λ (g : length xs ≤ n). let none_left : k ≡ 0 = omega (arith, g) in
+    ap (λ m. reverse (take m xs)) none_left ∙ sym (drop_all n (reverse xs) (omega (arith, g, length-reverse xs))))
+    (cases_lt n (length xs))
+
+take_last : {A : Type 0} (n : ℕ) (xs : List A) → reverse (drop (length xs - n) xs) ≡ take n (reverse xs)
+take_last n xs =
+    let k : ℕ = length xs - n in
+    ⊎_elim
+    (λ (l : n < length xs).
+    sym (take-append_seam (reverse (drop k xs)) (reverse (take k xs)))
+    ∙ ap (λ m. take m (reverse (drop k xs) ++ reverse (take k xs))) (last_length n xs l)
+    ∙ ap (take n) (sym (reverse_split k xs)))
+    (λ (g : length xs ≤ n). let none_left : k ≡ 0 = omega (arith, g) in
+    ap (λ m. reverse (drop m xs)) none_left ∙ sym (take_all n (reverse xs) (omega (arith, g, length-reverse xs))))
+    (cases_lt n (length xs))
+
+pub drop_pieces : (n : ℕ) (ps : List Part) → pieces (take (length ps - n) ps) ≡ drop n (pieces ps)
+drop_pieces n ps =
+    ap reverse (sym (take-map piece_of (length ps - n) ps))
+    ∙ ap (λ m. reverse (take (m - n) (map piece_of ps))) (sym (length-map ps piece_of))
+    ∙ drop_last n (map piece_of ps)
+
+pub take_pieces : (n : ℕ) (ps : List Part) → pieces (drop (length ps - n) ps) ≡ take n (pieces ps)
+take_pieces n ps =
+    ap reverse (sym (drop-map piece_of (length ps - n) ps))
+    ∙ ap (λ m. reverse (drop (m - n) (map piece_of ps))) (sym (length-map ps piece_of))
+    ∙ take_last n (map piece_of ps)
+
+pub map_reverse : {A B : Type 0} (f : A → B) (xs : List A) → map f (reverse xs) ≡ reverse (map f xs)
+map_reverse f [] = refl
+map_reverse f (x ∷ xs) = ap (map f) (reverse-append (x ∷ []) xs) ∙ map-append f (reverse xs) (x ∷ []) ∙ ap (λ ys. ys ++ f x ∷ []) (map_reverse f xs) ∙ sym (reverse-append (f x ∷ []) (map f xs))

@@ -21,7 +21,7 @@ pub data Piece : Type 0 where
 abbrev pub piece_of : Part → Piece
 piece_of given.Nothing = nothing
 piece_of (given.Synth v) = voice v
-piece_of (given.Group flag inner) = below flag (nodes_of inner)
+piece_of (given.Group flag inner) = below flag (nodes_of inner.value)
 
 -- those that were put, of which the first one was put last
 abbrev pub pieces : List Part → List Piece

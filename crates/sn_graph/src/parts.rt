@@ -28,7 +28,7 @@ pub enum Part {
     /// A synth.
     Synth(Voice),
     /// A group, whether it may be split, and those below it.
-    Group(bool, Linked),
+    Group(bool, Box<Linked>),
 }
 
 /// Puts a node before others.
@@ -38,7 +38,7 @@ fn before(alloc: Global, part: Part, rest: Linked) -> Result<Linked, NoMemory>
     match part {
         Part::Nothing => Ok(rest),
         Part::Synth(voice) => rest.after_synth(alloc, voice),
-        Part::Group(split, inner) => rest.after_group(alloc, split, inner),
+        Part::Group(split, inner) => rest.after_group(alloc, split, Box::into_inner(inner)),
     }
 }
 
@@ -54,29 +54,14 @@ fn linked(alloc: Global, parts: Vec<Part>) -> Result<Linked, NoMemory>
     Ok(nodes)
 }
 
-/// Moves the first node, if there is one.
-fn move_first(parts: &mut Vec<Part>, taken: &mut Vec<Part>) -> Result<(), NoMemory>
-    ensures taken { OnOk result (map piece_of taken.new.items ≡ map piece_of taken.old.items ++ take 1 (pieces parts.old.items)) }
-    ensures left { OnOk result (pieces parts.new.items ≡ drop 1 (pieces parts.old.items)) }
-{
-    match parts.pop() {
-        None => Ok(()),
-        Some(part) => {
-            taken.push(part)?;
-            Ok(())
-        }
-    }
-}
-
 /// Takes the first `count` nodes, in order.
 pub fn take_nodes(alloc: Global, parts: &mut Vec<Part>, count: usize) -> Result<Linked, NoMemory>
     ensures nodes { IfOk result (λ nodes. nodes_of nodes ≡ linked (take count (pieces parts.old.items)) none) }
     ensures left { OnOk result (pieces parts.new.items ≡ drop count (pieces parts.old.items)) }
 {
-    let mut taken = Vec::new(alloc);
-    for _ in 0..count {
-        move_first(parts, &mut taken)?;
-    }
+    let kept = parts.len().saturating_sub(count);
+    let mut taken = parts.split_off(kept)?;
+    taken.reverse();
     linked(alloc, taken)
 }
 
@@ -94,16 +79,6 @@ fn voice_of(alloc: Global, buffers: &Buffers, member: &Member<'_, Held>) -> Resu
     })
 }
 
-/// A group with these below it. Without any it is left out.
-fn group_of(split: bool, inner: Linked) -> Part
-    ensures { piece_of result ≡ group_piece split (nodes_of inner) }
-{
-    if inner.is_none() {
-        return Part::Nothing;
-    }
-    Part::Group(split, inner)
-}
-
 /// Whether a parallel group may be split: no two of its members clash.
 fn may_split(clashing: &NamedGroups<'_>, id: &i32) -> bool
     ensures { result ≡ may_split clashing.now id.now }
@@ -111,27 +86,58 @@ fn may_split(clashing: &NamedGroups<'_>, id: &i32) -> bool
     !clashing.has(id)
 }
 
-/// A node with these below it.
+/// Drops the first `count` nodes.
+fn drop_nodes(parts: &mut Vec<Part>, count: usize)
+    ensures { pieces parts.new.items ≡ drop count (pieces parts.old.items) }
+{
+    let kept = parts.len().saturating_sub(count);
+    parts.truncate(kept);
+}
+
+/// A group of the first `count` nodes. Without any it is left out.
+fn group_of(
+    alloc: Global,
+    parts: &mut Vec<Part>,
+    count: usize,
+    split: bool,
+) -> Result<Part, NoMemory>
+    ensures part { IfOk result (λ part. piece_of part ≡ group_piece split (linked (take count (pieces parts.old.items)) none)) }
+    ensures left { OnOk result (pieces parts.new.items ≡ drop count (pieces parts.old.items)) }
+{
+    let inner = take_nodes(alloc, parts, count)?;
+    if inner.is_none() {
+        return Ok(Part::Nothing);
+    }
+    Ok(Part::Group(split, Box::new(alloc, inner)?))
+}
+
+/// A node, which takes those just below it. Only a group that runs puts them together.
 fn part_of(
     alloc: Global,
     buffers: &Buffers,
     clashing: &NamedGroups<'_>,
+    parts: &mut Vec<Part>,
     member: &Member<'_, Held>,
-    inner: Linked,
 ) -> Result<Part, NoMemory>
     requires buffers { All Ends (live_places buffers.now) }
     requires state { All Ends (states_of (member.now.payload.now ∷ [])) }
-    ensures { IfOk result (λ part. piece_of part ≡ piece buffers.now clashing.now (row_of member.now).0 (nodes_of inner)) }
+    ensures part { IfOk result (λ part. piece_of part ≡ piece buffers.now clashing.now (row_of member.now).0 (linked (take (row_of member.now).1 (pieces parts.old.items)) none)) }
+    ensures left { OnOk result (pieces parts.new.items ≡ drop (row_of member.now).1 (pieces parts.old.items)) }
 {
+    let count = member.children as usize;
     if !member.running {
+        drop_nodes(parts, count);
         return Ok(Part::Nothing);
     }
     match member.kind {
-        NodeKind::Synth => Ok(Part::Synth(voice_of(alloc, buffers, member)?)),
-        NodeKind::Group => Ok(group_of(false, inner)),
+        NodeKind::Synth => {
+            drop_nodes(parts, count);
+            Ok(Part::Synth(voice_of(alloc, buffers, member)?))
+        }
+        NodeKind::Group => group_of(alloc, parts, count, false),
         NodeKind::Parallel => {
             let split = may_split(clashing, &member.id);
-            Ok(group_of(split, inner))
+            group_of(alloc, parts, count, split)
         }
     }
 }
@@ -148,8 +154,7 @@ pub fn put_part(
     requires state { All Ends (states_of (member.now.payload.now ∷ [])) }
     ensures { OnOk result (pieces parts.new.items ≡ with_member buffers.now clashing.now (row_of member.now) (pieces parts.old.items)) }
 {
-    let inner = take_nodes(alloc, parts, member.children as usize)?;
-    let part = part_of(alloc, buffers, clashing, member, inner)?;
+    let part = part_of(alloc, buffers, clashing, parts, member)?;
     parts.push(part)?;
     Ok(())
 }

@@ -12,9 +12,11 @@ use Rattle.sn_mem.specs.Words.{MayWrite, touches}
 use Rattle.sn_mem.specs.Blocks.{window, put, sample, word_for}
 use Rattle.sn_mem.specs.Buffers.{Buffer, buffer_of}
 use Rattle.sn_mem.proofs.Feet.{may_touch, may_read}
+use Rattle.sn_io.specs.declared.between.Point.{Point}
 use Rattle.sn_io.specs.Positions.{indexed}
-use Rattle.sn_io.specs.BufferUnits.{chosen, usable, gathered, set_frame, set_at, scattered, signals_from, play_frames, record_frames}
-use Rattle.sn_io.specs.BuffersOverWords.{usable_place, place_frames, set_word, onto_buffer, gathered_from, buffer_unit_over}
+use Rattle.sn_io.specs.Between.{play_points, scaled_points}
+use Rattle.sn_io.specs.BufferUnits.{chosen, usable, gathered, gathered_between, set_frame, set_at, scattered, signals_from, play_frames, record_frames}
+use Rattle.sn_io.specs.BuffersOverWords.{usable_place, place_frames, set_word, onto_buffer, gathered_from, between_from, buffer_unit_over}
 use Rattle.sn_io.specs.Conditions.{MayReadBuffer, MayReachBuffer}
 use Rattle.sn_io.specs.ByFoot.{Agree, BlocksAgree}
 use Rattle.sn_io.proofs.Agreeing.{agree_set, agree_put, agree_window}
@@ -35,6 +37,12 @@ gathered_same : (f : Foot) (us ws : List ℕ) (n : ℕ) (inputs : List (List ℤ
 gathered_same f us ws n inputs places os rs e may a =
     ap (λ (os : List (Option ℕ)). gathered_from us (usable_place n inputs places) os n) e
     ∙ ap (λ (b : Option Buffer). gathered b rs n) (usable_same f us ws n (chosen inputs places) may a)
+
+between_same : (f : Foot) (us ws : List ℕ) (n : ℕ) (inputs : List (List ℤ)) (places : List (Option BufferPlace)) (os rs : List (Option Point)) → os ≡ rs → MayReadBuffer f (chosen inputs places) → Agree (touches f) us ws
+    → between_from us (usable_place n inputs places) os n ≡ between_from ws (usable_place n inputs places) rs n
+between_same f us ws n inputs places os rs e may a =
+    ap (λ (os : List (Option Point)). between_from us (usable_place n inputs places) os n) e
+    ∙ ap (λ (b : Option Buffer). gathered_between b rs n) (usable_same f us ws n (chosen inputs places) may a)
 
 -- ---- writing
 
@@ -78,6 +86,15 @@ buffer_unit_by_foot kinds.PlayBuf now f n places us ws at len inputs state may a
       words = words;
       outputs = gathered_same f (put us at xs) (put ws at ys) n inputs places (play_frames o (window us at len) inputs).1 (play_frames o (window ws at len) inputs).1 (ap (λ (st : List ℕ). (play_frames o st inputs).1) e) (may.reads refl) words;
     }
+buffer_unit_by_foot kinds.PlayBufL now f n places us ws at len inputs state may a =
+    let o : Option ℕ = place_frames (usable_place n inputs places) in
+    let e : window us at len ≡ window ws at len = state_same f us ws at len state a in
+    let xs : List ℕ = (play_points o (window us at len) inputs).0 in
+    let ys : List ℕ = (play_points o (window ws at len) inputs).0 in
+    let words : Agree (touches f) (put us at xs) (put ws at ys) = agree_put (touches f) us ws at xs ys (ap (λ (st : List ℕ). (play_points o st inputs).0) e) a in record {
+      words = words;
+      outputs = between_same f (put us at xs) (put ws at ys) n inputs places (play_points o (window us at len) inputs).1 (play_points o (window ws at len) inputs).1 (ap (λ (st : List ℕ). (play_points o st inputs).1) e) (may.reads refl) words;
+    }
 buffer_unit_by_foot kinds.RecordBuf now f n places us ws at len inputs state may a =
     let p : Option BufferPlace = usable_place (signals_from 4 inputs) inputs places in
     let o : Option ℕ = place_frames p in
@@ -92,6 +109,11 @@ buffer_unit_by_foot kinds.BufRd now f n places us ws at len inputs state may a =
     let os : List (Option ℕ) = indexed (place_frames (usable_place n inputs places)) inputs in record {
       words = a;
       outputs = gathered_same f us ws n inputs places os os refl (may.reads refl) a;
+    }
+buffer_unit_by_foot kinds.BufRdL now f n places us ws at len inputs state may a =
+    let os : List (Option Point) = scaled_points (place_frames (usable_place n inputs places)) inputs in record {
+      words = a;
+      outputs = between_same f us ws n inputs places os os refl (may.reads refl) a;
     }
 buffer_unit_by_foot kinds.BufWr now f n places us ws at len inputs state may a =
     let p : Option BufferPlace = usable_place (signals_from 2 inputs) inputs places in record {

@@ -13,6 +13,7 @@ use Rattle.sn_mem.specs.Blocks.{window, put, sample, word_for}
 use Rattle.sn_mem.proofs.Steps.{length-put}
 use Rattle.sn_mem.proofs.Windows.{apart_put}
 use Rattle.sn_io.specs.Positions.{indexed}
+use Rattle.sn_io.specs.Between.{play_points}
 use Rattle.sn_io.specs.BufferUnits.{chosen, usable, set_frame, set_at, scattered, signals_from, play_frames, record_frames}
 use Rattle.sn_io.specs.BuffersOverWords.{usable_place, place_frames, set_word, onto_buffer, buffer_unit_over}
 use Rattle.sn_io.specs.Conditions.{IsWholeIfSome, MayWriteBuffer, MayReachBuffer, AreWithin}
@@ -43,10 +44,12 @@ onto_long inputs first os (Some p) ws = scattered_long p.extent.at inputs first 
 pub buffer_unit_long : (k : Kind) (now : Now) (n : ℕ) (places : List (Option BufferPlace)) (ws : List ℕ) (at len : ℕ) (inputs : List (List ℤ)) → length (buffer_unit_over k now n places ws at len inputs).0 ≡ length ws
 unfolding buffer_unit_over
 buffer_unit_long kinds.PlayBuf now n places ws at len inputs = length-put ws at (play_frames (place_frames (usable_place n inputs places)) (window ws at len) inputs).0
+buffer_unit_long kinds.PlayBufL now n places ws at len inputs = length-put ws at (play_points (place_frames (usable_place n inputs places)) (window ws at len) inputs).0
 buffer_unit_long kinds.RecordBuf now n places ws at len inputs =
     let r = record_frames (place_frames (usable_place (signals_from 4 inputs) inputs places)) (window ws at len) inputs in
     onto_long inputs 4 r.1 (usable_place (signals_from 4 inputs) inputs places) (put ws at r.0) ∙ length-put ws at r.0
 buffer_unit_long kinds.BufRd now n places ws at len inputs = refl
+buffer_unit_long kinds.BufRdL now n places ws at len inputs = refl
 buffer_unit_long kinds.BufWr now n places ws at len inputs = onto_long inputs 2 (indexed (place_frames (usable_place (signals_from 2 inputs) inputs places)) inputs) (usable_place (signals_from 2 inputs) inputs places) ws
 buffer_unit_long kinds.BufFrames now n places ws at len inputs = refl
 buffer_unit_long _ now n places ws at len inputs = refl
@@ -75,6 +78,7 @@ pub buffer_unit_keeps : (k : Kind) (now : Now) (f : Foot) (n : ℕ) (places : Li
     → get_or (buffer_unit_over k now n places ws at len inputs).0 j 0 ≡ get_or ws j 0
 unfolding row_of buffer_unit_over
 buffer_unit_keeps kinds.PlayBuf now f n places ws at len frames inputs j state size may off = state_keeps f ws at len (play_frames (place_frames (usable_place n inputs places)) (window ws at len) inputs).0 j size state off
+buffer_unit_keeps kinds.PlayBufL now f n places ws at len frames inputs j state size may off = state_keeps f ws at len (play_points (place_frames (usable_place n inputs places)) (window ws at len) inputs).0 j size state off
 buffer_unit_keeps kinds.RecordBuf now f n places ws at len frames inputs j state size may off =
     let count : ℕ = signals_from 4 inputs in
     let o : Option ℕ = place_frames (usable_place count inputs places) in
@@ -83,6 +87,7 @@ buffer_unit_keeps kinds.RecordBuf now f n places ws at len frames inputs j state
     onto_keeps f inputs 4 count os (chosen inputs places) (put ws at (record_frames o st inputs).0) j may.whole (may.writes refl) (record_within o o st inputs os refl refl) off
     ∙ state_keeps f ws at len (record_frames o st inputs).0 j size state off
 buffer_unit_keeps kinds.BufRd now f n places ws at len frames inputs j state size may off = refl
+buffer_unit_keeps kinds.BufRdL now f n places ws at len frames inputs j state size may off = refl
 buffer_unit_keeps kinds.BufWr now f n places ws at len frames inputs j state size may off =
     let count : ℕ = signals_from 2 inputs in
     let o : Option ℕ = place_frames (usable_place count inputs places) in

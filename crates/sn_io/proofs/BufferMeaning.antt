@@ -19,7 +19,8 @@ use Rattle.sn_mem.proofs.Steps.{length-put}
 use Rattle.sn_mem.proofs.Windows.{window_put, window_same, apart_put}
 use Rattle.sn_mem.proofs.BusLaws.{sample_in-word_for}
 use Rattle.sn_io.specs.Positions.{indexed}
-use Rattle.sn_io.specs.BufferUnits.{BufferBlock, is_buffer_unit, writes_buffer, buffer_number, numbered, chosen, usable, usable_buffer, frames_in, gathered, set_frame, set_at, scattered, set_sample, written, signals_from, replaced_at, rewritten, length_in, play_frames, record_frames, buffer_unit}
+use Rattle.sn_io.specs.Between.{play_points, scaled_points}
+use Rattle.sn_io.specs.BufferUnits.{BufferBlock, is_buffer_unit, writes_buffer, buffer_number, numbered, chosen, usable, usable_buffer, frames_in, gathered, gathered_between, set_frame, set_at, scattered, set_sample, written, signals_from, replaced_at, rewritten, length_in, play_frames, record_frames, buffer_unit}
 use Rattle.sn_io.specs.BuffersOverWords.{usable_place, place_frames, set_word, onto_buffer, buffer_unit_over}
 use Rattle.sn_io.specs.Conditions.{AreWithin}
 use Rattle.sn_io.proofs.Samples.{sat_fits}
@@ -248,6 +249,25 @@ play_means now n at len places ws inputs size stand =
       others = λ j off no. h.others j off;
     }
 
+placing_means : (now : Now) (n at len : ℕ) (places : List (Option BufferPlace)) (ws : List ℕ) (inputs : List (List ℤ)) → 4 ≡ len → Stand at len (length ws) places None
+    → BufferMeans at len places ws (buffer_unit_over kinds.PlayBufL now n places ws at len inputs).0 (buffer_unit_over kinds.PlayBufL now n places ws at len inputs).1 (buffer_unit kinds.PlayBufL now n (window ws at len) inputs (buffers_of ws places))
+unfolding buffer_unit_over buffer_unit
+placing_means now n at len places ws inputs size stand =
+    let st : List ℕ = window ws at len in
+    let o : Option ℕ = place_frames (usable_place n inputs places) in
+    let o' : Option ℕ = frames_in (usable_buffer n inputs (buffers_of ws places)) in
+    let same : o ≡ o' = sym (frames_there ws n inputs places) in
+    let xs : List ℕ = (play_points o st inputs).0 in
+    let us : List ℕ = put ws at xs in
+    let h = state_put at len places None ws xs size stand in record {
+      buffers = h.buffers;
+      state = h.state ∙ ap (λ (o : Option ℕ). (play_points o st inputs).0) same;
+      gives = ap (λ (b : Option Buffer). gathered_between b (play_points o st inputs).1 n) (sym (usable_there us n inputs places) ∙ ap (usable_buffer n inputs) h.buffers)
+          ∙ ap (λ (o : Option ℕ). gathered_between (usable_buffer n inputs (buffers_of ws places)) (play_points o st inputs).1 n) same;
+      long = h.long;
+      others = λ j off no. h.others j off;
+    }
+
 record_means : (now : Now) (n at len : ℕ) (places : List (Option BufferPlace)) (ws : List ℕ) (inputs : List (List ℤ)) → 2 ≡ len → Stand at len (length ws) places (buffer_number inputs)
     → BufferMeans at len places ws (buffer_unit_over kinds.RecordBuf now n places ws at len inputs).0 (buffer_unit_over kinds.RecordBuf now n places ws at len inputs).1 (buffer_unit kinds.RecordBuf now n (window ws at len) inputs (buffers_of ws places))
 unfolding buffer_unit_over buffer_unit
@@ -278,6 +298,18 @@ read_means now n at len places ws inputs = record {
   state = refl;
   gives = ap (λ (b : Option Buffer). gathered b (indexed (place_frames (usable_place n inputs places)) inputs) n) (sym (usable_there ws n inputs places))
       ∙ ap (λ (o : Option ℕ). gathered (usable_buffer n inputs (buffers_of ws places)) (indexed o inputs) n) (sym (frames_there ws n inputs places));
+  long = refl;
+  others = λ j off no. refl;
+}
+
+scaled_means : (now : Now) (n at len : ℕ) (places : List (Option BufferPlace)) (ws : List ℕ) (inputs : List (List ℤ))
+    → BufferMeans at len places ws (buffer_unit_over kinds.BufRdL now n places ws at len inputs).0 (buffer_unit_over kinds.BufRdL now n places ws at len inputs).1 (buffer_unit kinds.BufRdL now n (window ws at len) inputs (buffers_of ws places))
+unfolding buffer_unit_over buffer_unit
+scaled_means now n at len places ws inputs = record {
+  buffers = refl;
+  state = refl;
+  gives = ap (λ (b : Option Buffer). gathered_between b (scaled_points (place_frames (usable_place n inputs places)) inputs) n) (sym (usable_there ws n inputs places))
+      ∙ ap (λ (o : Option ℕ). gathered_between (usable_buffer n inputs (buffers_of ws places)) (scaled_points o inputs) n) (sym (frames_there ws n inputs places));
   long = refl;
   others = λ j off no. refl;
 }
@@ -317,8 +349,10 @@ pub buffer_unit_means : (k : Kind) (now : Now) (n at len frames : ℕ) (places :
     → BufferMeans at len places ws (buffer_unit_over k now n places ws at len inputs).0 (buffer_unit_over k now n places ws at len inputs).1 (buffer_unit k now n (window ws at len) inputs (buffers_of ws places))
 unfolding row_of
 buffer_unit_means kinds.PlayBuf now n at len frames places ws inputs is size stand = play_means now n at len places ws inputs size stand
+buffer_unit_means kinds.PlayBufL now n at len frames places ws inputs is size stand = placing_means now n at len places ws inputs size stand
 buffer_unit_means kinds.RecordBuf now n at len frames places ws inputs is size stand = record_means now n at len places ws inputs size stand
 buffer_unit_means kinds.BufRd now n at len frames places ws inputs is size stand = read_means now n at len places ws inputs
+buffer_unit_means kinds.BufRdL now n at len frames places ws inputs is size stand = scaled_means now n at len places ws inputs
 buffer_unit_means kinds.BufWr now n at len frames places ws inputs is size stand = write_means now n at len places ws inputs stand
 buffer_unit_means kinds.BufFrames now n at len frames places ws inputs is size stand = count_means now n at len places ws inputs
 buffer_unit_means _ now n at len frames places ws inputs is size stand = absurd cc

@@ -15,7 +15,10 @@ use Rattle.sn_io.specs.declared.playing.Playing.{Playing}
 use Rattle.sn_io.specs.declared.recording.Recording.{Recording}
 use Rattle.sn_io.specs.Triggers.{quiet_in, quiet_words, counted, is_quiet, is_silent, detect_silence, ending_in, ending_words, end_self, trigger_block}
 use Rattle.sn_io.specs.Positions.{walk, walked, frame_at, playing_in, playing_words, begun_at, started, looped, play_buf, recording_in, recording_words, records, record_buf}
-use Rattle.sn_io.specs.BufferUnits.{frames_in, usable_buffer, signals_from, gathered, rewritten, buffer_unit}
+use Rattle.sn_io.specs.declared.between.Point.{Point}
+use Rattle.sn_io.specs.declared.placing.Placed.{Placed}
+use Rattle.sn_io.specs.Between.{point_at, placed_in, placed_words, first_place, started_place, looped_place, next_place, play_buf_l}
+use Rattle.sn_io.specs.BufferUnits.{frames_in, usable_buffer, signals_from, gathered, gathered_between, rewritten, buffer_unit}
 
 -- ---- DetectSilence
 
@@ -81,20 +84,20 @@ pause_unseen now inputs = unseen_then (λ ws. recurrence ending_in ending_words 
 
 -- ---- a recurrence that gives frames
 
-walk_alike : {S : Type 0} (settle : S → S) (step : S → List (List ℤ) → ℕ → S × Option ℕ) → StepsAlike settle step → (s t : S) (inputs : List (List ℤ)) (n : ℕ) → settle s ≡ settle t
+walk_alike : {S A : Type 0} (settle : S → S) (step : S → List (List ℤ) → ℕ → S × A) → StepsAlike settle step → (s t : S) (inputs : List (List ℤ)) (n : ℕ) → settle s ≡ settle t
     → (settle (walk step s inputs n).0 ≡ settle (walk step t inputs n).0) × ((walk step s inputs n).1 ≡ (walk step t inputs n).1)
 unfolding walk
 walk_alike settle step h s t inputs zero e = (e, refl)
-walk_alike {S} settle step h s t inputs (suc k) e =
+walk_alike {S} {A} settle step h s t inputs (suc k) e =
     let r = walk_alike settle step h s t inputs k e in
     let a : S = (walk step s inputs k).0 in
     let b : S = (walk step t inputs k).0 in (
       sym (h.states a inputs k) ∙ (ap (λ (c : S). settle (step c inputs k).0) r.0 ∙ h.states b inputs k),
-      ap (λ (xs : List (Option ℕ)). xs ++ (step a inputs k).1 ∷ []) r.1
-          ∙ ap (λ (y : Option ℕ). (walk step t inputs k).1 ++ y ∷ []) (sym (h.given a inputs k) ∙ (ap (λ (c : S). (step c inputs k).1) r.0 ∙ h.given b inputs k)),
+      ap (λ (xs : List A). xs ++ (step a inputs k).1 ∷ []) r.1
+          ∙ ap (λ (y : A). (walk step t inputs k).1 ++ y ∷ []) (sym (h.given a inputs k) ∙ (ap (λ (c : S). (step c inputs k).1) r.0 ∙ h.given b inputs k)),
     )
 
-walked_unseen : {S : Type 0} (settle : S → S) (loaded : List ℕ → S) (stored : S → List ℕ) (step : S → List (List ℤ) → ℕ → S × Option ℕ) (inputs : List (List ℤ)) → StepsAlike settle step → HoldsDone settle loaded stored
+walked_unseen : {S A : Type 0} (settle : S → S) (loaded : List ℕ → S) (stored : S → List ℕ) (step : S → List (List ℤ) → ℕ → S × A) (inputs : List (List ℤ)) → StepsAlike settle step → HoldsDone settle loaded stored
     → IsUnseen (λ ws. walked loaded stored step ws inputs)
 walked_unseen {S} settle loaded stored step inputs h holds = record {
   words = λ ws.
@@ -129,6 +132,33 @@ playing_holds = record { loads = loads; stores = λ p. refl }
     loads : (ws : List ℕ) → settle_playing (playing_in (settled_first ws)) ≡ settle_playing (playing_in ws)
     loads [] = refl
     loads (d ∷ ws) = let p : Playing = playing_in (d ∷ ws) in ap (λ n. record { done = n; trigger = p.trigger; position = p.position; begun = p.begun }) (twice d)
+
+-- ---- PlayBufL
+
+settle_placed : Placed → Placed
+settle_placed p = record { done = settled_word p.done; trigger = p.trigger; place = p.place; begun = p.begun }
+
+placing_steps : (frames : Option ℕ) → StepsAlike settle_placed (play_buf_l frames)
+unfolding settle_placed
+placing_steps None = record {
+  states = λ p inputs k. ap (λ d. record { done = d; trigger = sample inputs 2 k; place = first_place p (sample inputs 3 k); begun = true }) (twice p.done);
+  given = λ p inputs k. refl;
+}
+placing_steps (Some frames) = record {
+  states = λ p inputs k.
+      let loop : ℤ = sample inputs 4 k in
+      let x : ℤ = looped_place frames loop (started_place p (sample inputs 2 k) (sample inputs 3 k)) in
+      ap (λ d. record { done = d; trigger = sample inputs 2 k; place = next_place x (sample inputs 1 k); begun = true }) (ended_unless (is_some (point_at frames loop x)) p.done);
+  given = λ p inputs k. refl;
+}
+
+placing_holds : HoldsDone settle_placed placed_in placed_words
+unfolding settle_placed
+placing_holds = record { loads = loads; stores = λ p. refl }
+  where
+    loads : (ws : List ℕ) → settle_placed (placed_in (settled_first ws)) ≡ settle_placed (placed_in ws)
+    loads [] = refl
+    loads (d ∷ ws) = let p : Placed = placed_in (d ∷ ws) in ap (λ n. record { done = n; trigger = p.trigger; place = p.place; begun = p.begun }) (twice d)
 
 -- ---- RecordBuf
 
@@ -176,6 +206,13 @@ playing_unseen now n inputs buffers =
     let b : Option Buffer = usable_buffer n inputs buffers in
     unseen_then {B = List (List ℤ) × List (Option Buffer)} (λ ws. walked playing_in playing_words (play_buf (frames_in b)) ws inputs) (λ (frames : List (Option ℕ)). (gathered b frames n, buffers))
     (walked_unseen settle_playing playing_in playing_words (play_buf (frames_in b)) inputs (playing_steps (frames_in b)) playing_holds)
+
+pub placing_unseen : (now : Now) (n : ℕ) (inputs : List (List ℤ)) (buffers : List (Option Buffer)) → IsUnseen {A = List (List ℤ) × List (Option Buffer)} (λ ws. let r = buffer_unit kinds.PlayBufL now n ws inputs buffers in (r.state, (r.outputs, r.buffers)))
+unfolding buffer_unit
+placing_unseen now n inputs buffers =
+    let b : Option Buffer = usable_buffer n inputs buffers in
+    unseen_then {B = List (List ℤ) × List (Option Buffer)} (λ ws. walked placed_in placed_words (play_buf_l (frames_in b)) ws inputs) (λ (points : List (Option Point)). (gathered_between b points n, buffers))
+    (walked_unseen settle_placed placed_in placed_words (play_buf_l (frames_in b)) inputs (placing_steps (frames_in b)) placing_holds)
 
 pub recording_unseen : (now : Now) (n : ℕ) (inputs : List (List ℤ)) (buffers : List (Option Buffer)) → IsUnseen {A = List (List ℤ) × List (Option Buffer)} (λ ws. let r = buffer_unit kinds.RecordBuf now n ws inputs buffers in (r.state, (r.outputs, r.buffers)))
 unfolding buffer_unit

@@ -7,19 +7,19 @@ use Rattle.sn_mem.proofs.Tables.{table_more}
 use Rattle.sn_io.specs.Positions.{walk}
 use Rattle.sn_io.specs.BufferUnits.{set_frame, set_at, scattered}
 
-pub walk_none : {S : Type 0} (step : S → List (List ℤ) → ℕ → S × Option ℕ) (s : S) (inputs : List (List ℤ)) → walk step s inputs 0 ≡ (s, [])
+pub walk_none : {S A : Type 0} (step : S → List (List ℤ) → ℕ → S × A) (s : S) (inputs : List (List ℤ)) → walk step s inputs 0 ≡ (s, [])
 unfolding walk
 walk_none step s inputs = refl
 
-pub walk_more : {S : Type 0} (step : S → List (List ℤ) → ℕ → S × Option ℕ) (s : S) (inputs : List (List ℤ)) (k : ℕ) → ◌≡◌ {A = S × List (Option ℕ)} (walk step s inputs (k + 1)) (let r = walk step s inputs k in ((step r.0 inputs k).0, r.1 ++ (step r.0 inputs k).1 ∷ []))
+pub walk_more : {S A : Type 0} (step : S → List (List ℤ) → ℕ → S × A) (s : S) (inputs : List (List ℤ)) (k : ℕ) → ◌≡◌ {A = S × List A} (walk step s inputs (k + 1)) (let r = walk step s inputs k in ((step r.0 inputs k).0, r.1 ++ (step r.0 inputs k).1 ∷ []))
 unfolding walk
 walk_more step s inputs k = rw add-one refl
 
-pub walk_step : {S : Type 0} (step : S → List (List ℤ) → ℕ → S × Option ℕ) (s t u : S) (y : Option ℕ) (inputs : List (List ℤ)) (k : ℕ) (ys : List (Option ℕ)) → k < length ys → ◌≡◌ {A = S × List (Option ℕ)} (t, take k ys) (walk step s inputs k) → ◌≡◌ {A = S × Option ℕ} (u, y) (step t inputs k) → ◌≡◌ {A = S × List (Option ℕ)} (u, take (k + 1) (set ys k y)) (walk step s inputs (k + 1))
-walk_step {S} step s t u y inputs k ys lt e f =
-    let a : ◌≡◌ {A = S × List (Option ℕ)} (u, take (k + 1) (set ys k y)) (u, take k ys ++ y ∷ []) = ap (λ (zs : List (Option ℕ)). (u, zs)) (take_more_set ys k y lt) in
-    let b : ◌≡◌ {A = S × List (Option ℕ)} (u, take k ys ++ y ∷ []) ((step t inputs k).0, take k ys ++ (step t inputs k).1 ∷ []) = ap (λ (q : S × Option ℕ). (q.0, take k ys ++ q.1 ∷ [])) f in
-    let d : ◌≡◌ {A = S × List (Option ℕ)} ((step t inputs k).0, take k ys ++ (step t inputs k).1 ∷ []) (walk step s inputs (k + 1)) = ap (λ (r : S × List (Option ℕ)). ((step r.0 inputs k).0, r.1 ++ (step r.0 inputs k).1 ∷ [])) e ∙ sym (walk_more step s inputs k) in
+pub walk_step : {S A : Type 0} (step : S → List (List ℤ) → ℕ → S × A) (s t u : S) (y : A) (inputs : List (List ℤ)) (k : ℕ) (ys : List A) → k < length ys → ◌≡◌ {A = S × List A} (t, take k ys) (walk step s inputs k) → ◌≡◌ {A = S × A} (u, y) (step t inputs k) → ◌≡◌ {A = S × List A} (u, take (k + 1) (set ys k y)) (walk step s inputs (k + 1))
+walk_step {S} {A} step s t u y inputs k ys lt e f =
+    let a : ◌≡◌ {A = S × List A} (u, take (k + 1) (set ys k y)) (u, take k ys ++ y ∷ []) = ap (λ (zs : List A). (u, zs)) (take_more_set ys k y lt) in
+    let b : ◌≡◌ {A = S × List A} (u, take k ys ++ y ∷ []) ((step t inputs k).0, take k ys ++ (step t inputs k).1 ∷ []) = ap (λ (q : S × A). (q.0, take k ys ++ q.1 ∷ [])) f in
+    let d : ◌≡◌ {A = S × List A} ((step t inputs k).0, take k ys ++ (step t inputs k).1 ∷ []) (walk step s inputs (k + 1)) = ap (λ (r : S × List A). ((step r.0 inputs k).0, r.1 ++ (step r.0 inputs k).1 ∷ [])) e ∙ sym (walk_more step s inputs k) in
     a ∙ (b ∙ d)
 
 pub long_set : {A : Type 0} (ys : List A) (k : ℕ) (y : A) (n : ℕ) → length ys ≡ n → length (set ys k y) ≡ n

@@ -14,6 +14,8 @@ use Rattle.sn_mem.specs.Blocks.{sample, table}
 use Rattle.sn_mem.specs.Buffers.{Buffer}
 use Rattle.sn_io.specs.Channels.{control_number}
 use Rattle.sn_io.specs.Positions.{walked, playing_in, playing_words, play_buf, recording_in, recording_words, record_buf, indexed}
+use Rattle.sn_io.specs.declared.between.Point.{Point}
+use Rattle.sn_io.specs.Between.{between, play_points, scaled_points}
 
 -- after a unit's block: its state words, the blocks that it gives, and the buffers
 pub record BufferBlock : Type 0 where
@@ -66,6 +68,16 @@ sample_at (Some b) (Some frame) channel = slice_index_or b.samples (frame * b.ch
 -- the channels of a buffer at the frames of these numbers
 abbrev pub gathered : Option Buffer → List (Option ℕ) → ℕ → List (List ℤ)
 gathered buffer frames n = table (λ c. table (λ k. sample_at buffer (slice_index_or frames k None) c) block_frames) n
+
+-- the sample of a channel at a point between two frames, 0 if there is no point
+abbrev pub sample_between : Option Buffer → Option Point → ℕ → ℤ
+sample_between None point channel = pos 0
+sample_between (Some b) None channel = pos 0
+sample_between (Some b) (Some p) channel = between (sample_at (Some b) (Some p.frame) channel) (sample_at (Some b) (Some p.next) channel) p.part
+
+-- the channels of a buffer at these points
+abbrev pub gathered_between : Option Buffer → List (Option Point) → ℕ → List (List ℤ)
+gathered_between buffer points n = table (λ c. table (λ k. sample_between buffer (slice_index_or points k None) c) block_frames) n
 
 -- ---- writing
 
@@ -123,12 +135,19 @@ buffer_unit kinds.PlayBuf now n state inputs buffers =
     let b = usable_buffer n inputs buffers in
     let r = play_frames (frames_in b) state inputs in
     record { state = r.0; outputs = gathered b r.1 n; buffers = buffers }
+buffer_unit kinds.PlayBufL now n state inputs buffers =
+    let b = usable_buffer n inputs buffers in
+    let r = play_points (frames_in b) state inputs in
+    record { state = r.0; outputs = gathered_between b r.1 n; buffers = buffers }
 buffer_unit kinds.RecordBuf now n state inputs buffers =
     let r = record_frames (frames_in (usable_buffer (signals_from 4 inputs) inputs buffers)) state inputs in
     record { state = r.0; outputs = []; buffers = rewritten inputs 4 r.1 buffers }
 buffer_unit kinds.BufRd now n state inputs buffers =
     let b = usable_buffer n inputs buffers in
     record { state = state; outputs = gathered b (indexed (frames_in b) inputs) n; buffers = buffers }
+buffer_unit kinds.BufRdL now n state inputs buffers =
+    let b = usable_buffer n inputs buffers in
+    record { state = state; outputs = gathered_between b (scaled_points (frames_in b) inputs) n; buffers = buffers }
 buffer_unit kinds.BufWr now n state inputs buffers =
     record { state = state; outputs = []; buffers = rewritten inputs 2 (indexed (frames_in (usable_buffer (signals_from 2 inputs) inputs buffers)) inputs) buffers }
 buffer_unit kinds.BufFrames now n state inputs buffers = record { state = state; outputs = replicate block_frames (pos (length_in (frames_in (chosen inputs buffers)))) ∷ []; buffers = buffers }

@@ -9,8 +9,10 @@ use Rattle.sn_def.specs.declared.control.Now.{Now}
 use Rattle.sn_mem.specs.declared.buffers.BufferPlace.{BufferPlace}
 use Rattle.sn_mem.specs.Blocks.{window, put, word_for}
 use Rattle.sn_mem.specs.Buffers.{buffer_of}
+use Rattle.sn_io.specs.declared.between.Point.{Point}
 use Rattle.sn_io.specs.Positions.{indexed}
-use Rattle.sn_io.specs.BufferUnits.{chosen, usable, gathered, scattered, signals_from, length_in, play_frames, record_frames}
+use Rattle.sn_io.specs.Between.{play_points, scaled_points}
+use Rattle.sn_io.specs.BufferUnits.{chosen, usable, gathered, gathered_between, scattered, signals_from, length_in, play_frames, record_frames}
 
 abbrev pub usable_place : ℕ → List (List ℤ) → List (Option BufferPlace) → Option BufferPlace
 usable_place n inputs places = usable (λ p. p.channels) n (chosen inputs places)
@@ -29,9 +31,16 @@ onto_buffer inputs first frames (Some p) ws = scattered (set_word p.extent.at) i
 abbrev pub gathered_from : List ℕ → Option BufferPlace → List (Option ℕ) → ℕ → List (List ℤ)
 gathered_from ws place frames n = gathered (option_map (buffer_of ws) place) frames n
 
+abbrev pub between_from : List ℕ → Option BufferPlace → List (Option Point) → ℕ → List (List ℤ)
+between_from ws place points n = gathered_between (option_map (buffer_of ws) place) points n
+
 -- what PlayBuf makes of its state words, `len` from `at` on, and the frames that it reads
 abbrev pub played_from : List ℕ → ℕ → ℕ → Option BufferPlace → List (List ℤ) → List ℕ × List (Option ℕ)
 played_from ws at len place inputs = play_frames (place_frames place) (window ws at len) inputs
+
+-- the same of PlayBufL
+abbrev pub placed_from : List ℕ → ℕ → ℕ → Option BufferPlace → List (List ℤ) → List ℕ × List (Option Point)
+placed_from ws at len place inputs = play_points (place_frames place) (window ws at len) inputs
 
 -- the words after RecordBuf, whose state words are `len` from `at` on
 abbrev pub recorded_over : List ℕ → ℕ → ℕ → Option BufferPlace → List (List ℤ) → List ℕ
@@ -46,11 +55,19 @@ buffer_unit_over kinds.PlayBuf now n places ws at len inputs =
     let r = played_from ws at len p inputs in
     let us = put ws at r.0 in
     (us, gathered_from us p r.1 n)
+buffer_unit_over kinds.PlayBufL now n places ws at len inputs =
+    let p = usable_place n inputs places in
+    let r = placed_from ws at len p inputs in
+    let us = put ws at r.0 in
+    (us, between_from us p r.1 n)
 buffer_unit_over kinds.RecordBuf now n places ws at len inputs =
     (recorded_over ws at len (usable_place (signals_from 4 inputs) inputs places) inputs, [])
 buffer_unit_over kinds.BufRd now n places ws at len inputs =
     let p = usable_place n inputs places in
     (ws, gathered_from ws p (indexed (place_frames p) inputs) n)
+buffer_unit_over kinds.BufRdL now n places ws at len inputs =
+    let p = usable_place n inputs places in
+    (ws, between_from ws p (scaled_points (place_frames p) inputs) n)
 buffer_unit_over kinds.BufWr now n places ws at len inputs =
     let p = usable_place (signals_from 2 inputs) inputs places in
     (onto_buffer inputs 2 (indexed (place_frames p) inputs) p ws, [])

@@ -6,6 +6,7 @@ use Rattle.sn_mem.specs.declared.extents.Foot.{Foot}
 use Rattle.sn_mem.specs.Words.{MayWrite, MayRead}
 use Rattle.sn_mem.specs.Layout.{audio_place, control_place}
 use Rattle.sn_io.specs.Channels.{audio_channel, control_channel}
+use Rattle.sn_io.specs.declared.between.Point.{Point}
 use Rattle.sn_io.specs.BusUnits.{reads_audio, reads_control, writes_audio, writes_control}
 use Rattle.sn_io.specs.BufferUnits.{chosen, reads_buffer, writes_buffer}
 
@@ -64,3 +65,14 @@ pub record MayReachBuffer (kind : Kind) (f : Foot) (inputs : List (List ℤ)) (p
 abbrev pub AreWithin : Option ℕ → List (Option ℕ) → Type 0
 AreWithin None frames = Unit {0}
 AreWithin (Some n) frames = (k : ℕ) → IfSome (slice_index_or frames k None) (λ i. i < n)
+
+-- a point lies between frames of a buffer with so many
+pub record LiesWithin (frames : ℕ) (p : Point) : Type 0 where
+  pub frame : p.frame < frames
+  pub next : p.next < frames
+  pub part : p.part < 16777216
+
+-- and so does each of some points
+abbrev pub AreBetween : Option ℕ → List (Option Point) → Type 0
+AreBetween None points = Unit {0}
+AreBetween (Some n) points = (k : ℕ) → IfSome (slice_index_or points k None) (LiesWithin n)

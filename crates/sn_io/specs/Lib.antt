@@ -6,6 +6,7 @@ pub mod BusUnits
 pub mod OverWords
 pub mod Joints
 pub mod Positions
+pub mod Between
 pub mod BufferUnits
 pub mod BuffersOverWords
 pub mod Conditions

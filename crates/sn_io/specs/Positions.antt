@@ -19,15 +19,15 @@ abbrev pub frame_in : Option ℕ → ℤ → Option ℕ
 frame_in None x = None
 frame_in (Some frames) x = frame_at frames x
 
--- ---- a recurrence that gives a frame at each frame of a block
+-- ---- a recurrence that gives a frame of a buffer, or what else is read there, at each frame of a block
 
 -- over the first n frames: the state after them, and what it gave
-unfoldable pub walk : {S : Type 0} → (S → List (List ℤ) → ℕ → S × Option ℕ) → S → List (List ℤ) → ℕ → S × List (Option ℕ)
+unfoldable pub walk : {S A : Type 0} → (S → List (List ℤ) → ℕ → S × A) → S → List (List ℤ) → ℕ → S × List A
 walk step s inputs zero = (s, [])
 walk step s inputs (suc k) = let r = walk step s inputs k in let t = step r.0 inputs k in (t.0, r.1 ++ t.1 ∷ [])
 
 -- over a block, from the words that hold its state
-abbrev pub walked : {S : Type 0} → (List ℕ → S) → (S → List ℕ) → (S → List (List ℤ) → ℕ → S × Option ℕ) → List ℕ → List (List ℤ) → List ℕ × List (Option ℕ)
+abbrev pub walked : {S A : Type 0} → (List ℕ → S) → (S → List ℕ) → (S → List (List ℤ) → ℕ → S × A) → List ℕ → List (List ℤ) → List ℕ × List A
 walked loaded stored step state inputs = let r = walk step (loaded state) inputs block_frames in (stored r.0, r.1)
 
 -- ---- PlayBuf

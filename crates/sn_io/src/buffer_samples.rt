@@ -5,10 +5,11 @@ ghost use Rattle.sn_ports.specs.Limits.{block_frames};
 ghost use Rattle.sn_mem.specs.Words.{MayRead, MayWrite, SameButWords};
 ghost use Rattle.sn_mem.specs.Blocks.{table};
 ghost use Rattle.sn_mem.specs.Buffers.{buffer_of};
-ghost use Rattle.sn_io.specs.BufferUnits.{sample_at, set_frame, set_at, scattered};
-ghost use Rattle.sn_io.specs.BuffersOverWords.{set_word, onto_buffer, gathered_from, place_frames};
-ghost use Rattle.sn_io.specs.Conditions.{IsWhole, IsWholeIfSome, MayReadBuffer, MayWriteBuffer, AreWithin};
+ghost use Rattle.sn_io.specs.BufferUnits.{sample_at, sample_between, set_frame, set_at, scattered};
+ghost use Rattle.sn_io.specs.BuffersOverWords.{set_word, onto_buffer, gathered_from, between_from, place_frames};
+ghost use Rattle.sn_io.specs.Conditions.{IsWhole, IsWholeIfSome, MayReadBuffer, MayWriteBuffer, AreWithin, LiesWithin, AreBetween};
 
+use crate::between::{Point, Points, between};
 use crate::positions::Frames;
 use sn_mem::{Block, Blocks, BufferPlace, Port, sample_of, word_of};
 use sn_ports::limits::BLOCK_FRAMES;
@@ -108,6 +109,96 @@ pub(crate) fn gather<P: Port>(
     outputs.clear();
     for channel in 0..count {
         let samples = channel_at(port, place, frames, channel as u32);
+        outputs.push(&samples);
+    }
+}
+
+/// The sample of a channel at a point between two frames, or 0 if there is none.
+fn sample_between<P: Port>(
+    port: &mut P,
+    place: BufferPlace,
+    point: Option<Point>,
+    channel: u32,
+) -> i32
+    requires whole { IsWhole place }
+    requires reads { MayRead (P.foot port.old) place.extent.at place.extent.len }
+    requires channel { channel < place.channels }
+    requires point { IfSome point (LiesWithin place.frames) }
+    ensures value { result ≡ sample_between (Some (buffer_of (P.words port.old) place)) point channel }
+    ensures words { P.words port.new ≡ P.words port.old }
+    ensures port { SameButWords P.foot P.rest port.old port.new }
+{
+    match point {
+        Some(point) => {
+            let before = sample_at(port, place, Some(point.frame), channel);
+            let after = sample_at(port, place, Some(point.next), channel);
+            between(before, after, point.part)
+        }
+        None => 0,
+    }
+}
+
+/// A channel of a buffer at a block of points.
+fn gather_channel_between<P: Port>(
+    port: &mut P,
+    place: BufferPlace,
+    points: &Points,
+    channel: u32,
+) -> Block
+    requires whole { IsWhole place }
+    requires reads { MayRead (P.foot port.old) place.extent.at place.extent.len }
+    requires channel { channel < place.channels }
+    requires points { AreBetween (Some place.frames) points.now }
+    ensures value { result ≡ table (λ k. sample_between (Some (buffer_of (P.words port.old) place)) (slice_index_or points.now k None) channel) block_frames }
+    ensures words { P.words port.new ≡ P.words port.old }
+    ensures port { SameButWords P.foot P.rest port.old port.new }
+{
+    let mut samples = [0i32; BLOCK_FRAMES];
+    for frame in 0..BLOCK_FRAMES {
+        samples[frame] = sample_between(port, place, points[frame], channel);
+    }
+    samples
+}
+
+fn channel_between<P: Port>(
+    port: &mut P,
+    place: Option<BufferPlace>,
+    points: &Points,
+    channel: u32,
+) -> Block
+    requires whole { IsWholeIfSome place }
+    requires reads { MayReadBuffer (P.foot port.old) place }
+    requires channel { IfSome place (λ p. channel < p.channels) }
+    requires points { AreBetween (place_frames place) points.now }
+    ensures value { result ≡ table (λ k. sample_between (option_map (buffer_of (P.words port.old)) place) (slice_index_or points.now k None) channel) block_frames }
+    ensures words { P.words port.new ≡ P.words port.old }
+    ensures port { SameButWords P.foot P.rest port.old port.new }
+{
+    match place {
+        Some(place) => gather_channel_between(port, place, points, channel),
+        None => silence(),
+    }
+}
+
+/// The channels of a buffer at a block of points, as many as `outputs` has blocks, and 0 if there is no buffer.
+pub(crate) fn gather_between<P: Port>(
+    port: &mut P,
+    place: Option<BufferPlace>,
+    points: &Points,
+    outputs: &mut Blocks,
+)
+    requires whole { IsWholeIfSome place }
+    requires reads { MayReadBuffer (P.foot port.old) place }
+    requires channels { IfSome place (λ p. p.channels ≡ length outputs.old) }
+    requires points { AreBetween (place_frames place) points.now }
+    ensures outputs { outputs.new ≡ between_from (P.words port.old) place points.now (length outputs.old) }
+    ensures words { P.words port.new ≡ P.words port.old }
+    ensures port { SameButWords P.foot P.rest port.old port.new }
+{
+    let count = outputs.len();
+    outputs.clear();
+    for channel in 0..count {
+        let samples = channel_between(port, place, points, channel as u32);
         outputs.push(&samples);
     }
 }

@@ -7,12 +7,15 @@ ghost use Rattle.sn_mem.specs.Words.{MayWrite, writes, SameButWords};
 ghost use Rattle.sn_mem.specs.Blocks.{put, window};
 ghost use Rattle.sn_mem.specs.Buffers.{AreApart, buffers_of, live_places, overlaps};
 ghost use Rattle.sn_io.specs.Positions.{indexed};
+ghost use Rattle.sn_io.specs.Between.{scaled_points};
 ghost use Rattle.sn_io.specs.BufferUnits.{is_buffer_unit, chosen, usable, signals_from, length_in, buffer_unit};
-ghost use Rattle.sn_io.specs.BuffersOverWords.{usable_place, place_frames, onto_buffer, gathered_from, played_from, recorded_over, buffer_unit_over};
+ghost use Rattle.sn_io.specs.BuffersOverWords.{usable_place, place_frames, onto_buffer, gathered_from, between_from, played_from, placed_from, recorded_over, buffer_unit_over};
 ghost use Rattle.sn_io.specs.Conditions.{IsWholeIfSome, MayReadBuffer, MayWriteBuffer, MayReachBuffer};
 
-use crate::buffer_samples::{gather, scatter};
+use crate::between::scaled_points;
+use crate::buffer_samples::{gather, gather_between, scatter};
 use crate::channels::control_number;
+use crate::placing::play_points;
 use crate::playing::PlayBuf;
 use crate::positions::{indexed, walk_frames};
 use crate::recording::RecordBuf;
@@ -73,6 +76,27 @@ fn play<P: Port>(buffers: &Buffers, port: &mut P, at: u32, inputs: &Blocks, outp
     gather(port, place, &frames, outputs);
 }
 
+/// PlayBufL buf# step trig start loop done!
+fn play_between<P: Port>(
+    buffers: &Buffers,
+    port: &mut P,
+    at: u32,
+    inputs: &Blocks,
+    outputs: &mut Blocks,
+)
+    requires inputs { 6 ≤ length inputs.now }
+    requires whole { IsWholeIfSome (chosen inputs.now buffers.now) }
+    requires reads { MayReadBuffer (P.foot port.old) (chosen inputs.now buffers.now) }
+    requires state { MayWrite (P.foot port.old) at 4 }
+    ensures words { P.words port.new ≡ put (P.words port.old) at (placed_from (P.words port.old) at 4 (usable_place (length outputs.old) inputs.now buffers.now) inputs.now).0 }
+    ensures outputs { outputs.new ≡ between_from (P.words port.new) (usable_place (length outputs.old) inputs.now buffers.now) (placed_from (P.words port.old) at 4 (usable_place (length outputs.old) inputs.now buffers.now) inputs.now).1 (length outputs.old) }
+    ensures port { SameButWords P.foot P.rest port.old port.new }
+{
+    let place = usable(chosen(buffers, inputs), outputs.len());
+    let points = play_points(frames_in(place), port, at, inputs);
+    gather_between(port, place, &points, outputs);
+}
+
 /// RecordBuf buf# run loop done! signals
 fn record<P: Port>(buffers: &Buffers, port: &mut P, at: u32, inputs: &Blocks)
     requires inputs { 4 ≤ length inputs.now }
@@ -102,6 +126,20 @@ fn read<P: Port>(buffers: &Buffers, port: &mut P, inputs: &Blocks, outputs: &mut
     let place = usable(chosen(buffers, inputs), outputs.len());
     let frames = indexed(frames_in(place), inputs);
     gather(port, place, &frames, outputs);
+}
+
+/// BufRdL buf# index scale loop
+fn read_between<P: Port>(buffers: &Buffers, port: &mut P, inputs: &Blocks, outputs: &mut Blocks)
+    requires inputs { 4 ≤ length inputs.now }
+    requires whole { IsWholeIfSome (chosen inputs.now buffers.now) }
+    requires reads { MayReadBuffer (P.foot port.old) (chosen inputs.now buffers.now) }
+    ensures outputs { outputs.new ≡ between_from (P.words port.old) (usable_place (length outputs.old) inputs.now buffers.now) (scaled_points (place_frames (usable_place (length outputs.old) inputs.now buffers.now)) inputs.now) (length outputs.old) }
+    ensures words { P.words port.new ≡ P.words port.old }
+    ensures port { SameButWords P.foot P.rest port.old port.new }
+{
+    let place = usable(chosen(buffers, inputs), outputs.len());
+    let points = scaled_points(frames_in(place), inputs);
+    gather_between(port, place, &points, outputs);
 }
 
 /// BufWr buf# index signals
@@ -158,11 +196,13 @@ fn run_kind<P: Port>(
     let at = state.at;
     match kind {
         Kind::PlayBuf => play(buffers, port, at, inputs, outputs),
+        Kind::PlayBufL => play_between(buffers, port, at, inputs, outputs),
         Kind::RecordBuf => {
             outputs.clear();
             record(buffers, port, at, inputs);
         }
         Kind::BufRd => read(buffers, port, inputs, outputs),
+        Kind::BufRdL => read_between(buffers, port, inputs, outputs),
         Kind::BufWr => {
             outputs.clear();
             write(buffers, port, inputs);
@@ -172,7 +212,8 @@ fn run_kind<P: Port>(
     }
 }
 
-/// Runs PlayBuf, RecordBuf, BufRd, BufWr or BufFrames for a block of 64 frames, with its state in the words of `state`.
+/// Runs PlayBuf, PlayBufL, RecordBuf, BufRd, BufRdL, BufWr or BufFrames for a block of 64 frames, with its state in the
+/// words of `state`.
 ///
 /// The inputs are those of its row in their order. `outputs` comes with as many blocks as the unit has outputs, and
 /// these take the place of what it held. If the state and the buffers are apart, it changes no word but those of its

@@ -71,5 +71,6 @@ pub fn ends_are_unseen()
     ensures free { (now : Now) (inputs : List (List ℤ)) → IsUnseen (λ ws. trigger_block kinds.FreeSelf now ws inputs) }
     ensures pause { (now : Now) (inputs : List (List ℤ)) → IsUnseen (λ ws. trigger_block kinds.PauseSelf now ws inputs) }
     ensures playing { (now : Now) (n : ℕ) (inputs : List (List ℤ)) (buffers : List (Option Buffer)) → IsUnseen {A = List (List ℤ) × List (Option Buffer)} (λ ws. let r = buffer_unit kinds.PlayBuf now n ws inputs buffers in (r.state, (r.outputs, r.buffers))) }
+    ensures placing { (now : Now) (n : ℕ) (inputs : List (List ℤ)) (buffers : List (Option Buffer)) → IsUnseen {A = List (List ℤ) × List (Option Buffer)} (λ ws. let r = buffer_unit kinds.PlayBufL now n ws inputs buffers in (r.state, (r.outputs, r.buffers))) }
     ensures recording { (now : Now) (n : ℕ) (inputs : List (List ℤ)) (buffers : List (Option Buffer)) → IsUnseen {A = List (List ℤ) × List (Option Buffer)} (λ ws. let r = buffer_unit kinds.RecordBuf now n ws inputs buffers in (r.state, (r.outputs, r.buffers))) }
 {}

@@ -1,6 +1,7 @@
 //! Units on buses, units on buffers, and triggers.
 #![tactic(auto)]
 
+mod between;
 mod block;
 mod buffer_samples;
 mod buffers;
@@ -9,6 +10,7 @@ mod inputs;
 mod joints;
 mod laws;
 mod outputs;
+mod placing;
 mod playing;
 mod positions;
 mod recording;

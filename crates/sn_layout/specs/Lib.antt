@@ -1,3 +1,4 @@
+-- workings
 pub mod Layout
 pub mod Leaving
 pub mod Reading

@@ -1,3 +1,4 @@
+-- workings
 pub mod Asking
 pub mod Setting
 pub mod Faults

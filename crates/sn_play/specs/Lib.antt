@@ -1,3 +1,4 @@
+-- workings
 pub mod Synths
 pub mod Named
 pub mod Steps

@@ -23,7 +23,7 @@ use Rattle.sn_gen.proofs.Unseen.{line_unseen, linen_unseen}
 use Rattle.sn_io.specs.Triggers.{trigger_block}
 use Rattle.sn_io.specs.BusUnits.{bus_unit}
 use Rattle.sn_io.specs.BufferUnits.{buffer_unit}
-use Rattle.sn_io.proofs.Unseen.{silence_unseen, free_unseen, pause_unseen, playing_unseen, recording_unseen}
+use Rattle.sn_io.proofs.Unseen.{silence_unseen, free_unseen, pause_unseen, playing_unseen, placing_unseen, recording_unseen}
 use Rattle.sn_synth.specs.UnitBlocks.{inner, unit_block}
 use Rattle.sn_done.specs.Done.{settled_word, settled_first, IsUnseen}
 use Rattle.sn_done.proofs.Settling.{unseen_then}
@@ -46,6 +46,8 @@ unit_unseen kinds.FreeSelf inputs action is now n blocks r = unseen_then (λ ws.
 unit_unseen kinds.PauseSelf inputs action is now n blocks r = unseen_then (λ ws. trigger_block kinds.PauseSelf now ws blocks) (with_buffers r) (pause_unseen now blocks)
 unit_unseen kinds.PlayBuf inputs action is now n blocks r =
     unseen_then {A = List (List ℤ) × List (Option Buffer)} {B = List (List ℤ) × Resources} (λ ws. let e = buffer_unit kinds.PlayBuf now n ws blocks r.buffers in (e.state, (e.outputs, e.buffers))) (λ (o : List (List ℤ) × List (Option Buffer)). (o.0, record { buses = r.buses; buffers = o.1 })) (playing_unseen now n blocks r.buffers)
+unit_unseen kinds.PlayBufL inputs action is now n blocks r =
+    unseen_then {A = List (List ℤ) × List (Option Buffer)} {B = List (List ℤ) × Resources} (λ ws. let e = buffer_unit kinds.PlayBufL now n ws blocks r.buffers in (e.state, (e.outputs, e.buffers))) (λ (o : List (List ℤ) × List (Option Buffer)). (o.0, record { buses = r.buses; buffers = o.1 })) (placing_unseen now n blocks r.buffers)
 unit_unseen kinds.RecordBuf inputs action is now n blocks r =
     unseen_then {A = List (List ℤ) × List (Option Buffer)} {B = List (List ℤ) × Resources} (λ ws. let e = buffer_unit kinds.RecordBuf now n ws blocks r.buffers in (e.state, (e.outputs, e.buffers))) (λ (o : List (List ℤ) × List (Option Buffer)). (o.0, record { buses = r.buses; buffers = o.1 })) (recording_unseen now n blocks r.buffers)
 unit_unseen _ inputs action is now n blocks r = absurd cc

@@ -1,2 +1,3 @@
+-- workings
 pub mod Quiet
 pub mod Walks

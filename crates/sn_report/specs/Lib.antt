@@ -1,8 +1,10 @@
+-- what a reader believes
 pub mod Costs
-pub mod Certificates
-pub mod Tracing
 pub mod Mixing
 pub mod Weights
 pub mod Reports
-pub mod Visits
 pub mod Lines
+-- workings
+pub mod Certificates
+pub mod Tracing
+pub mod Visits

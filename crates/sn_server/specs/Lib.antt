@@ -1,4 +1,6 @@
+-- what a reader believes
 pub mod PlayEvents
 pub mod Served
-pub mod Serving
 pub mod Statuses
+-- workings
+pub mod Serving

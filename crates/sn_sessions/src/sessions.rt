@@ -11,6 +11,10 @@ use std::thread::Threads;
 /// `/sync 1`, with its size.
 const ONE: [u8; 20] = *b"\0\0\0\x10/sync\0\0\0,i\0\0\0\0\0\x01";
 
+/// `/sync 1` and `/sync 2`, each with its size.
+const ONE_TWO: [u8; 40] =
+    *b"\0\0\0\x10/sync\0\0\0,i\0\0\0\0\0\x01\0\0\0\x10/sync\0\0\0,i\0\0\0\0\0\x02";
+
 /// `/synced 1`, with its size.
 const SYNCED_ONE: [u8; 20] = *b"\0\0\0\x10/synced\0,i\0\0\0\0\0\x01";
 
@@ -136,7 +140,7 @@ fn serve_two<H: AllocGlobal + Threads + Wait + Sync>(
 
 /// If one turn may be, the session ends after one.
 pub(crate) fn full_turns<H: AllocGlobal + Threads + Wait + Sync>(rt: &H) -> Result<bool, NoMemory> {
-    let told = serve_two(rt, &ONE, 1, true, WELL)?;
+    let told = serve_two(rt, &ONE_TWO, 1, true, WELL)?;
     Ok(told.session.how == How::TurnsFull && told.session.turns.len() == 1)
 }
 

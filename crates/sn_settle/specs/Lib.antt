@@ -1,3 +1,4 @@
+-- workings
 pub mod Telling
 pub mod Looking
 pub mod Acting

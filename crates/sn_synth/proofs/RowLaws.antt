@@ -6,7 +6,7 @@ use Rattle.sn_fixed.specs.Fixed.{frames_of}
 use Rattle.sn_def.specs.declared.kind.Kind.{Kind}
 use Rattle.sn_def.specs.declared.kind.Kind.TheVariants as kinds
 use Rattle.sn_def.specs.declared.table.StateSize.{StateSize}
-use Rattle.sn_def.specs.declared.table.StateSize.TheVariants.{Fixed, Delay, Comb}
+use Rattle.sn_def.specs.declared.table.StateSize.TheVariants.{Fixed, Delay, Comb, DampedComb}
 use Rattle.sn_def.specs.declared.table.Family.{Family}
 use Rattle.sn_def.specs.declared.table.Family.TheVariants as families
 use Rattle.sn_def.specs.declared.table.Mark.{Mark}
@@ -21,9 +21,13 @@ use Rattle.sn_def.specs.Reading.{mark_at}
 use Rattle.sn_def.specs.StateWords.{words_of, longest, literal_value}
 use Rattle.sn_def.specs.WellFormed.{IsAllowed, AreAllowed}
 use Rattle.sn_gen.specs.Generators.{is_generator, generator}
-use Rattle.sn_mem.specs.Blocks.{sample}
+use Rattle.sn_gen.specs.Noise.{seed}
+use Rattle.sn_gen.specs.Pink.{dice_in, pink_noise}
+use Rattle.sn_gen.proofs.Rolling.{length-dice_words}
+use Rattle.sn_mem.specs.Blocks.{sample, scan}
 use Rattle.sn_filt.specs.Rings.{most_frames, delay_reach, delay_step, comb_reach, comb_step}
 use Rattle.sn_filt.proofs.RingLaws.{length-ringed}
+use Rattle.sn_filt.proofs.LineLaws.{length-delay_ring, length-comb_ring}
 use Rattle.sn_filt.specs.Arithmetic.{arithmetic}
 use Rattle.sn_filt.specs.Filters.{filter}
 use Rattle.sn_mem.specs.Buses.{audio_buses, control_buses}
@@ -86,6 +90,7 @@ fixed_same : (w : StateSize) (n frames more : ℕ) → w ≡ Fixed n → words_o
 fixed_same (Fixed m) n frames more e = refl
 fixed_same Delay n frames more e = absurd cc
 fixed_same Comb n frames more e = absurd cc
+fixed_same DampedComb n frames more e = absurd cc
 
 delay_same : (row : UnitRow) (rate c w : ℕ) (values : List ℤ) (wires : List (List ℤ)) (xs : List Input) → HasDelay row.inputs xs → AreAllowed row.inputs c w 0 xs → length row.inputs ≤ length xs
     → words_of row.words (most_frames rate (input_blocks values wires xs)) ≡ words_of row.words (frames_of (longest row.inputs xs) rate)
@@ -106,12 +111,17 @@ outputs_long kinds.Inar now places ws at len inputs n low high = length-table (�
 outputs_long kinds.InFeedback now places ws at len inputs n low high = length-table (λ i. audio_in true now.block (audio_buses ws) (audio_channel inputs i)) n
 outputs_long kinds.Inkr now places ws at len inputs n low high = length-table (λ i. control_in (control_buses ws) (control_channel inputs i)) n
 outputs_long kinds.PlayBuf now places ws at len inputs n low high = length-table _ n
+outputs_long kinds.PlayBufL now places ws at len inputs n low high = length-table _ n
 outputs_long kinds.BufRd now places ws at len inputs n low high = length-table _ n
+outputs_long kinds.BufRdL now places ws at len inputs n low high = length-table _ n
 outputs_long _ now places ws at len inputs n low high = omega arith
 
 -- and keeps the number of its state words
 pub state_long : (k : Kind) (now : Now) (state : List ℕ) (inputs : List (List ℤ)) (frames : ℕ) → length state ≡ words_of (row_of k).words frames → length (inner k now state inputs).0 ≡ length state
 unfolding row_of inner generator filter
 state_long kinds.DelayN now state inputs frames h = let most = most_frames now.rate inputs in length-ringed (delay_reach now.rate most) (delay_step now.rate most) state inputs
+state_long kinds.DelayL now state inputs frames h = length-delay_ring now.rate (most_frames now.rate inputs) state inputs
 state_long kinds.CombN now state inputs frames h = length-ringed (comb_reach now.rate (max 1 (most_frames now.rate inputs))) comb_step state inputs
+state_long kinds.CombL now state inputs frames h = length-comb_ring (λ y. y.comb) now.rate (max 1 (most_frames now.rate inputs)) state inputs
+state_long kinds.PinkNoise now state inputs frames h = length-dice_words (scan (pink_noise (seed now)) (dice_in state) inputs 64).0 ∙ sym h
 state_long _ now state inputs frames h = omega arith

@@ -1,3 +1,4 @@
+-- what a reader believes
 pub mod Connection
 pub mod Converting
 pub mod Drilling

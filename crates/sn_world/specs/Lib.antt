@@ -1,18 +1,16 @@
+-- what a reader believes
 pub mod Definitions
 pub mod Nodes
 pub mod Buffers
 pub mod World
 pub mod Walk
-pub mod WalkWords
 pub mod Opening
 pub mod Pictures
-pub mod Freed
 pub mod Notices
 pub mod Rows
 pub mod Buses
 pub mod Runs
 pub mod Recv
-pub mod Names
 pub mod Forgetting
 pub mod Status
 pub mod BufferNumbers
@@ -26,19 +24,23 @@ pub mod ControlRuns
 pub mod Notifying
 pub mod RunFlags
 pub mod NewNodes
-pub mod Choosing
 pub mod Freeing
 pub mod Emptying
 pub mod Queries
 pub mod TreeQueries
 pub mod SynthQueries
 pub mod Mappings
-pub mod Folds
 pub mod Moving
 pub mod NodeOrder
 pub mod Addresses
 pub mod Commands
-pub mod Answers
 pub mod Settling
+-- workings
+pub mod WalkWords
+pub mod Freed
+pub mod Names
+pub mod Choosing
+pub mod Folds
+pub mod Answers
 pub mod SettleWords
 pub mod Noted

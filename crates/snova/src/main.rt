@@ -16,6 +16,7 @@ mod reasons;
 mod reports;
 mod several;
 mod usage;
+mod watching;
 
 use drills::drill_printed;
 use exit::{BAD_WORDS, Exit};
@@ -77,9 +78,9 @@ fn carry_out<
         Call::Help => Exit::Help,
         Call::Version => Exit::Version,
         Call::Serve => serve_port(rt, &args, &words),
-        Call::Convert => convert_files(rt, &args, &words),
-        Call::Drill => drill_printed(rt, &words),
-        Call::Plan => plan_files(rt, &args, &words),
+        Call::Convert => convert_files(rt, &args, &words, is_watched),
+        Call::Drill => drill_printed(rt, &words, is_watched),
+        Call::Plan => plan_files(rt, &args, &words, is_watched),
         Call::Render => render_files(rt, &args, &words, is_watched),
     })
 }

@@ -14,9 +14,9 @@ const PAUSE: u128 = 100;
 
 /// A quotient, with one digit after the point.
 #[derive(Clone, Copy)]
-struct Tenths {
-    of: u128,
-    by: u128,
+pub(crate) struct Tenths {
+    pub(crate) of: u128,
+    pub(crate) by: u128,
 }
 
 impl fmt::Display for Tenths {
@@ -73,7 +73,7 @@ pub(crate) struct Progress<O: Sink + Drop, C: Clock + Eprint + Drop> {
 }
 
 /// Milliseconds of the clock, or 0 if it can't be read.
-fn millis<C: Clock>(clock: &C) -> u128 {
+pub(crate) fn millis<C: Clock>(clock: &C) -> u128 {
     match clock.monotonic() {
         Ok(time) => time.as_millis(),
         Err(_) => 0,

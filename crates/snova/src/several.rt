@@ -24,18 +24,20 @@ use std::{io, thread};
 /// The most turns of a session: 512 MiB of them, and about a day of turns of one block.
 const MOST_TURNS: u32 = 67_108_864;
 
-/// The connections of a session, as its readers and its pulse share them.
+/// The connections of a session, as its readers and its pulse share them. It says on the standard error that one ended.
 #[derive(Drop)]
-pub(crate) struct Connections {
+pub(crate) struct Connections<E: Eprint + Drop> {
+    errors: E,
     streams: Vec<TcpStream>,
     /// How many are read.
     open: AtomicU64,
 }
 
-impl Connections {
+impl<E: Eprint + Drop> Connections<E> {
     /// `count` connections, each of which is read.
-    pub(crate) fn new(streams: Vec<TcpStream>, count: u32) -> Self {
+    pub(crate) fn new(errors: E, streams: Vec<TcpStream>, count: u32) -> Self {
         Connections {
+            errors,
             streams,
             open: AtomicU64::new(u64::from(count)),
         }
@@ -47,9 +49,12 @@ impl Connections {
     }
 }
 
-impl Watcher for Connections {
+impl<E: Eprint + Drop + Sync> Watcher for Connections<E> {
     fn client_ended(&self) {
-        self.open.fetch_sub(1, Ordering::SeqCst);
+        let open = self.open.fetch_sub(1, Ordering::SeqCst);
+        let left = open.saturating_sub(1);
+        // If nothing can be said, the session goes on.
+        let _ = eprintln!(self.errors; "snova: a connection ended, {left} left");
     }
 
     /// Nothing more is read of any connection, so that none is waited for.
@@ -62,17 +67,17 @@ impl Watcher for Connections {
 
 /// Blocks as a clock says that they are due, while a connection is read.
 #[derive(Drop)]
-pub(crate) struct ClockPulse<'a, C: Clock> {
+pub(crate) struct ClockPulse<'a, C: Clock, E: Eprint + Drop> {
     clock: &'a C,
     start: Duration,
     pace: Pace,
-    connections: &'a Connections,
+    connections: &'a Connections<E>,
     zeros: u64,
 }
 
-impl<'a, C: Clock> ClockPulse<'a, C> {
+impl<'a, C: Clock, E: Eprint + Drop> ClockPulse<'a, C, E> {
     /// Block 0 is due now, and the others at this pace.
-    pub(crate) fn new(clock: &'a C, pace: Pace, connections: &'a Connections) -> io::Result<Self>
+    pub(crate) fn new(clock: &'a C, pace: Pace, connections: &'a Connections<E>) -> io::Result<Self>
         ensures pace { IfOk result (λ pulse. pulse.pace ≡ pace) }
     {
         Ok(ClockPulse {
@@ -118,7 +123,7 @@ impl<'a, C: Clock> ClockPulse<'a, C> {
     }
 }
 
-impl<C: Clock> Pulse for ClockPulse<'_, C> {
+impl<C: Clock, E: Eprint + Drop> Pulse for ClockPulse<'_, C, E> {
     ghost use Rattle.std.specs.Prelude.{None};
 
     ghost left = { λ _. None };
@@ -135,11 +140,11 @@ impl<C: Clock> Pulse for ClockPulse<'_, C> {
 }
 
 /// A pulse at the pace that the words choose.
-fn pulse_of<'a, C: Clock>(
+fn pulse_of<'a, C: Clock, E: Eprint + Drop>(
     clock: &'a C,
     chosen: &ServeWords,
-    connections: &'a Connections,
-) -> io::Result<ClockPulse<'a, C>>
+    connections: &'a Connections<E>,
+) -> io::Result<ClockPulse<'a, C, E>>
     ensures { IfOk result (λ pulse. (pulse.pace.rate ≡ chosen.now.settings.rate) × (pulse.pace.by_sound ≡ by_sound chosen.now.pacing)) }
 {
     ClockPulse::new(clock, pace_of(chosen), connections)
@@ -224,7 +229,7 @@ pub(crate) fn serve_several<
     } = accepted;
     let mut clients = clients;
     let mut sinks = sinks;
-    let connections = Connections::new(streams, chosen.clients);
+    let connections = Connections::new(rt, streams, chosen.clients);
     let start = told(rt, "the clock", now(rt))?;
     let mut pulse = told(rt, "the clock", pulse_of(rt, chosen, &connections))?;
     let session = serve_many(

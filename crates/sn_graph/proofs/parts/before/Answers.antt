@@ -16,6 +16,6 @@ returns-in-Synth c = IfOk-weaker c.after_synth.result
 
 pub returns-in-Group : goal.returns-in-Group
 returns-in-Group c = IfOk-weaker c.after_group.result
-    (λ nodes. nodes_of nodes ≡ group (lanes_if c.in-Group.split) (nodes_of c.in-Group.inner) (nodes_of c.args.rest))
+    (λ nodes. nodes_of nodes ≡ group (lanes_if c.in-Group.split) (nodes_of c.into_inner.result) (nodes_of c.args.rest))
     (λ nodes. nodes_of nodes ≡ before (piece_of c.args.part) (nodes_of c.args.rest))
-    (λ nodes e. e ∙ ap (λ p. before (piece_of p) (nodes_of c.args.rest)) (sym c.in-Group.is)) c.after_group.ensures
+    (λ nodes e. e ∙ ap (λ n. group (lanes_if c.in-Group.split) (nodes_of n) (nodes_of c.args.rest)) c.into_inner.ensures ∙ ap (λ p. before (piece_of p) (nodes_of c.args.rest)) (sym c.in-Group.is)) c.after_group.ensures

@@ -1,33 +1,27 @@
-use Rattle.std.proofs.Common.{◌≡◌, ◌++◌, ℕ, List, map, take, drop, ap, ◌∙◌, refl, arith}
+use Rattle.std.proofs.Common.{◌≡◌, ℕ, ◌-◌, length, map, take, drop, ap, ◌∙◌, arith}
 use Rattle.std.proofs.lemmas.Result.{IfOk-weaker}
 use Rattle.sn_graph.specs.Voices.{none}
 use Rattle.sn_graph.specs.Inputs.{nodes_of}
-use Rattle.sn_graph.specs.Pieces.{Piece, linked, pieces, piece_of}
-use Rattle.sn_graph.proofs.Linking.{take_one, drop_one}
+use Rattle.sn_graph.specs.Pieces.{linked, piece_of, pieces}
+use Rattle.sn_graph.proofs.Linking.{drop_pieces, map_reverse, take_pieces}
 use Rattle.sn_graph.proofs.parts.take_nodes.Goals as goal
-
-pub loop-init : goal.loop-init
-loop-init c = record { taken = ap (map piece_of) c.new-taken.ensures.items; left = refl }
-
-pub loop-preserved : goal.loop-preserved
-loop-preserved c =
-    let i = c.loop.invariant in
-    let all : List Piece = pieces c.args.parts.now.items in
-    record {
-      taken = c.in_ok-move_first.ensures.taken ∙ ap (λ ps. ps ++ take 1 (pieces c.loop.parts.items)) i.taken ∙ ap (λ ps. take c.loop.counter all ++ take 1 ps) i.left ∙ take_one c.loop.counter all;
-      left = c.in_ok-move_first.ensures.left ∙ ap (drop 1) i.left ∙ drop_one c.loop.counter all;
-    }
 
 pub returns-clause-nodes : goal.returns-clause-nodes
 returns-clause-nodes c =
-    let end : c.loop.counter ≡ c.args.count = omega (arith, c.loop.auto.counter-end, c.loop-test.false) in
-    let all : List Piece = pieces c.args.parts.now.items in
-    IfOk-weaker c.linked.result (λ nodes. nodes_of nodes ≡ linked (map piece_of c.loop.taken.items) none) (λ nodes. nodes_of nodes ≡ linked (take c.args.count all) none)
-    (λ nodes e. e ∙ ap (λ ps. linked ps none) (c.loop.invariant.taken ∙ ap (λ (n : ℕ). take n all) end)) c.linked.ensures
+    let all = c.args.parts.now.items in
+    let taken = c.in_ok-taken.taken.items in
+    let kept : c.saturating_sub-kept.result ≡ length all - c.args.count = omega (arith, c.saturating_sub-kept.ensures, c.len.ensures, c.args.parts.now.ok.0) in
+    let first : map piece_of c.reverse.new.self.items ≡ take c.args.count (pieces all) =
+    ap (map piece_of) c.reverse.ensures.items ∙ map_reverse piece_of taken
+    ∙ ap pieces c.in_ok-taken.ensures.tail
+    ∙ ap (λ (k : ℕ). pieces (drop k all)) kept
+    ∙ take_pieces c.args.count all in
+    IfOk-weaker c.linked.result (λ nodes. nodes_of nodes ≡ linked (map piece_of c.reverse.new.self.items) none) (λ nodes. nodes_of nodes ≡ linked (take c.args.count (pieces all)) none)
+    (λ nodes e. e ∙ ap (λ ps. linked ps none) first) c.linked.ensures
 
 pub returns-clause-left : goal.returns-clause-left
 returns-clause-left c =
-    let end : c.loop.counter ≡ c.args.count = omega (arith, c.loop.auto.counter-end, c.loop-test.false) in
-    let all : List Piece = pieces c.args.parts.now.items in
-    IfOk-weaker c.linked.result (λ nodes. nodes_of nodes ≡ linked (map piece_of c.loop.taken.items) none) (λ nodes. pieces c.loop.parts.items ≡ drop c.args.count all)
-    (λ nodes e. c.loop.invariant.left ∙ ap (λ (n : ℕ). drop n all) end) c.linked.ensures
+    let all = c.args.parts.now.items in
+    let kept : c.saturating_sub-kept.result ≡ length all - c.args.count = omega (arith, c.saturating_sub-kept.ensures, c.len.ensures, c.args.parts.now.ok.0) in
+    IfOk-weaker c.linked.result (λ nodes. nodes_of nodes ≡ linked (map piece_of c.reverse.new.self.items) none) (λ nodes. pieces c.split_off.new.self.items ≡ drop c.args.count (pieces all))
+    (λ nodes e. ap pieces c.in_ok-taken.ensures.items ∙ ap (λ (k : ℕ). pieces (take k all)) kept ∙ drop_pieces c.args.count all) c.linked.ensures

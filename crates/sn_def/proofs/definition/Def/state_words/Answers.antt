@@ -6,10 +6,10 @@ use Rattle.sn_def.proofs.definition.Def.state_words.Goals as goal
 
 pub total_words-requires : goal.total_words-requires
 total_words-requires c =
-    let bound : state_words c.args.rate (definition_of c.args.self.now) ≤ 1474560512 = few c.args.rate (definition_of c.args.self.now) c.requires c.args.self.now.written in
+    let bound : state_words c.args.rate (definition_of c.args.self.now) ≤ 1474560768 = few c.args.rate (definition_of c.args.self.now) c.requires c.args.self.now.written in
     rw c.as_slice.ensures (omega arith)
 
 pub returns-clause-bound : goal.returns-clause-bound
 returns-clause-bound c =
-    let bound : state_words c.args.rate (definition_of c.args.self.now) ≤ 1474560512 = few c.args.rate (definition_of c.args.self.now) c.requires c.args.self.now.written in
+    let bound : state_words c.args.rate (definition_of c.args.self.now) ≤ 1474560768 = few c.args.rate (definition_of c.args.self.now) c.requires c.args.self.now.written in
     rw (c.total_words.ensures, c.as_slice.ensures) bound

@@ -1,0 +1,5 @@
+pub mod Values
+pub mod Sounding
+pub mod Keeping
+pub mod Texts
+pub mod Commanding

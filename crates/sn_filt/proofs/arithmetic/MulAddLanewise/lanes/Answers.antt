@@ -1,7 +1,0 @@
-use Rattle.std.proofs.Common.{refl}
-use Rattle.sn_fixed.specs.Fixed.{sat}
-use Rattle.sn_filt.proofs.arithmetic.MulAddLanewise.lanes.Goals as goal
-
-pub returns-clause-value : goal.returns-clause-value
-unfolding sat
-returns-clause-value c = rw c.nearest.ensures.value (rw c.sums.ensures.value (rw c.scaled-products.ensures.value (rw c.products.ensures.value (rw c.samples_at.ensures.value (rw c.samples_at-2.ensures.value (rw c.samples_at-3.ensures.value refl))))))

@@ -2,13 +2,14 @@
 """Turns a command file that sclang wrote (`Score.write`) into one that `snova` renders.
 
     python3 bridge/convert.py [--rate FRAMES] [--memory WORDS] [--definitions FOLDER] [--strict] [--why] [--texts]
-        IN.osc OUT.osc
+        [--replies FILE] IN.osc OUT.osc
 
 What is refused, times that were rounded and units that do less here are reported on the standard error, and a last
 line says how much plays. The run goes on without what is refused and ends with status 1 after it wrote OUT.osc; with
 `--strict` it ends at the first refusal and writes nothing. `--why` gives all reasons of each refusal. `--texts` prints
 the definitions. The samples of sound files are put into OUT.osc. Definitions that a score needs and doesn't bring are
-taken from the files of a folder, as sclang stores them.
+taken from the files of a folder, as sclang stores them. Files that the score writes (`/b_write`) are written by the same
+command with `--replies` and the replies to the rendering.
 """
 import argparse
 import re
@@ -17,6 +18,7 @@ from pathlib import Path
 
 from converter import osc
 from converter.session import MEMORY, Session
+from converter.written import write_all
 
 # So many bytes snova reads of a command file.
 LONGEST_FILE = 2**24
@@ -68,8 +70,8 @@ def stored(names, folder):
 
 
 def turned(score, session, strict):
-    """The packets for `snova`."""
-    found = []
+    """The packets for `snova`, and the messages in them."""
+    found, sent = [], []
     for tag, messages in score:
         made = []
         for message in messages:
@@ -77,7 +79,8 @@ def turned(score, session, strict):
             if strict and (lines := refusals(session)):
                 raise Stopped(lines[0])
         found += osc.packets(tag, map(osc.encoded, made))
-    return found
+        sent += made
+    return found, sent
 
 
 def refusals(session):
@@ -107,6 +110,7 @@ def options():
     parser.add_argument("--definitions", metavar="FOLDER", help="where sclang stored definitions")
     parser.add_argument("--strict", action="store_true", help="end at the first refusal and write nothing")
     parser.add_argument("--why", action="store_true", help="print all reasons of each refusal")
+    parser.add_argument("--replies", metavar="FILE", help="write the files of /b_write, from the replies to OUT.osc")
     parser.add_argument("--texts", action="store_true", help="print the definitions")
     parser.add_argument("source", metavar="IN.osc")
     parser.add_argument("target", metavar="OUT.osc")
@@ -114,7 +118,7 @@ def options():
 
 
 def converted(given):
-    """The session that has seen the score, and the packets for `snova`."""
+    """The session that has seen the score, the packets for `snova`, and the messages in them."""
     score = read(given.source)
     first = learnt(score, given.rate, given.memory)
     if given.definitions and first.tally.absent():
@@ -123,13 +127,22 @@ def converted(given):
     session = Session(given.rate, learnt=first, memory=given.memory)
     session.most_bytes = LONGEST_FILE
     session.most_reasons = None if given.why else 1
-    return session, turned(score, session, given.strict)
+    return session, *turned(score, session, given.strict)
+
+
+def file_lines(given, session, sent):
+    """Writes the files of a score that was rendered; what is to be done for them or can't be done."""
+    if not given.replies:
+        return [f"to write once it is rendered, with --replies: {file.path}" for file in session.writes]
+    replies = [osc.decoded(data) for data in osc.whole_packets(Path(given.replies).read_bytes())[0]]
+    return list(write_all(session, sent, replies))
 
 
 def main():
     given = options()
     try:
-        session, packets = converted(given)
+        session, packets, sent = converted(given)
+        lines = file_lines(given, session, sent)
     except Stopped as stopped:
         print(f"refused: {stopped}", file=sys.stderr)
         return 1
@@ -139,8 +152,8 @@ def main():
     Path(given.target).write_bytes(b"".join(map(osc.sized, packets)))
     if given.texts:
         print("\n".join(each.text for each in session.built.values() if each.text), end="")
-    print("\n".join(report(session)), file=sys.stderr)
-    return 1 if refusals(session) else 0
+    print("\n".join([*lines, *report(session)]), file=sys.stderr)
+    return 1 if refusals(session) or given.replies and lines else 0
 
 
 if __name__ == "__main__":

@@ -2,7 +2,7 @@
 from dataclasses import dataclass
 from typing import Optional
 
-from .commands import left_out, same, turned
+from .commands import same, turned
 from .measures import Refused, raw
 from .osc import Message
 
@@ -126,12 +126,11 @@ def emptied(session, buffer):
         session.buffers[buffer].samples = []
 
 
-NO_STREAMS = "nothing is played from or recorded to a disk here"
+NO_STREAMS = "nothing is played from a disk here, and no file stays open to be read"
 
 BUFFERS = [
     same("/b_alloc", 28, "buffer frames:int channels:int=1", allocated, carries=True),
     same("/b_free", 32, "buffer", given_back, carries=True),
-    left_out("/b_close", 33, NO_STREAMS),
     same("/b_zero", 34, "buffer", emptied, carries=True),
     turned("/b_set", 35, "buffer (int value)..", b_set),
     turned("/b_setn", 36, "buffer (int run)..", b_setn),

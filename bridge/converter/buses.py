@@ -1,6 +1,7 @@
 """Units on buses and buffers. What stands on a control bus or in a buffer has a measure too, which `Place` keeps."""
 from typing import NamedTuple, Union
 
+from .controls import fired
 from .graph import Control, Wire
 from .measures import NUMBER, SAMPLE, Refused, Slot
 from .rows import Row, first
@@ -69,6 +70,11 @@ def reading(unit=None):
         found = found[skipped:]
         return [first(graph, each) for each in found] if rate == SCALAR else found
     return build
+
+
+def struck(graph, bus):
+    """What is set on control buses, in the block in which it comes."""
+    return [fired(graph, each) for each in read(graph, "In.kr", index(bus), graph.unit.outputs)]
 
 
 def write(graph, unit, bus, signals):
@@ -163,6 +169,7 @@ def buf_wr(graph, buf, at, signals):
 UNITS = {
     "In": Row("bus", reading()),
     "InFeedback": Row("bus", reading("InFeedback")),
+    "InTrig": Row("bus", struck, note="the same value again is no trigger"),
     "Out": Row("bus signals*", add_out),
     "OffsetOut": Row("bus signals*", add_out, note="it starts at a block"),
     "ReplaceOut": Row("bus signals*", replace_out),

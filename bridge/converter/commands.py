@@ -55,7 +55,7 @@ def count_of(value):
     return count
 
 
-# Of each word of a form: how an argument is read. A `node` is an id, and -1 the last one that was made.
+# Of each word of a form: how an argument is read. A `node` is an id of a node that is there.
 KINDS = {"int": whole, "node": whole, "bus": bus, "buffer": buffer, "text": text, "value": number, "control": control,
          "setting": setting, "blob": blob, "count": count_of}
 
@@ -68,14 +68,14 @@ def run_of(rest):
     return [number(rest.popleft()) for _ in range(count)]
 
 
-def argument(kind, rest, latest):
-    """Takes an argument of a kind off the arguments that are left."""
+def argument(kind, rest, node):
+    """Takes an argument of a kind off the arguments that are left; `node` reads the id of one."""
     if kind == "run":
         return run_of(rest)
     if not rest:
         raise Refused("its arguments don't come in groups")
     found = KINDS[kind](rest.popleft())
-    return latest if kind == "node" and found == -1 else found
+    return node(found) if kind == "node" else found
 
 
 class Form:
@@ -90,30 +90,30 @@ class Form:
         self.words = [re.fullmatch(r"(?:\w+:)?(\w+)(?:=(-?\d+))?", word).groups() for word in words.split()]
         self.group = groups.removesuffix(")..").split()
 
-    def read(self, arguments, carries=False, latest=-1):
-        """The arguments read, with `latest` for the node -1, and the completion message behind them, or no bytes."""
+    def read(self, arguments, carries=False, node=int):
+        """The arguments read, with ids of nodes by `node`, and the completion message behind them, or no bytes."""
         rest, found = deque(arguments), []
         for kind, default in self.words:
             if default is not None and (not rest or carries and isinstance(rest[0], bytes)):
                 found.append(int(default))
             elif rest:
-                found.append(argument(kind, rest, latest))
+                found.append(argument(kind, rest, node))
             else:
                 raise Refused("it has too few arguments")
         completion = carried(rest, bool(self.group)) if carries else b""
         if self.group:
-            found.append(self.groups(rest, latest))
+            found.append(self.groups(rest, node))
         elif rest:
             raise Refused("it has too many arguments")
         return found, completion
 
-    def groups(self, rest, latest):
+    def groups(self, rest, node):
         """The groups that come; those of one word are plain. sclang writes one 0 where it has none."""
         found = []
         if len(rest) == 1 and rest[0] == 0 and len(self.group) > 1:
             rest.pop()
         while rest:
-            each = [argument(kind, rest, latest) for kind in self.group]
+            each = [argument(kind, rest, node) for kind in self.group]
             found.append(tuple(each) if len(each) > 1 else each[0])
         return found
 

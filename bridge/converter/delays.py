@@ -12,6 +12,7 @@ from .rows import DELAY_1, DIFFERENCE, SIZE, Row
 from .templates import constant, template
 
 DELAY = template("DelayN x:M max:longest time:seconds -> M")
+BETWEEN_FRAMES = template("DelayL x:M max:longest time:time -> M")
 COMB = template("CombN x:M max:longest time:seconds c:sample -> M")
 SUM = template("Integrator x:M 1:sample -> M")
 NOT_BETWEEN = "nothing is read between two frames here"
@@ -22,27 +23,40 @@ def frames_of(milliseconds, rate):
     return milliseconds * rate // 1000
 
 
+def frames_in(graph, max, time):
+    """The whole frames of a constant time."""
+    return math.floor(sorted([0.0, time, constant(max, "the longest time")])[1] * graph.rate + 1e-3)
+
+
+def milliseconds_in(frames, rate):
+    """The most milliseconds that are no more than some frames."""
+    return next(ms for ms in range(frames * 1000 // rate + 1, -1, -1) if frames_of(ms, rate) <= frames)
+
+
 def delay(graph, x, max, time):
-    """A delay; a constant time is that of whole milliseconds, and Delay1 for each frame that is left."""
+    """A delay. A constant time of whole frames that aren't whole milliseconds is that of DelayL, or if that isn't here
+    of whole milliseconds, with Delay1 for each frame that is left."""
     if isinstance(time, Wire):
         graph.note(WHOLE)
         return DELAY(graph, x=x, max=max, time=time)
-    frames = math.floor(sorted([0.0, time, constant(max, "the longest time")])[1] * graph.rate + 1e-3)
-    whole = next(ms for ms in range(frames * 1000 // graph.rate + 1, -1, -1) if frames_of(ms, graph.rate) <= frames)
+    frames = frames_in(graph, max, time)
+    whole = milliseconds_in(frames, graph.rate)
+    left = frames - frames_of(whole, graph.rate)
+    if left > 1 and has("DelayL"):
+        return BETWEEN_FRAMES(graph, x=x, max=frames / graph.rate, time=frames / graph.rate)
     outputs = DELAY(graph, x=x, max=whole / 1000, time=whole / 1000) if whole else [x]
-    for _ in range(frames - frames_of(whole, graph.rate)):
+    for _ in range(left):
         outputs = DELAY_1(graph, x=outputs[0])
     return outputs
 
 
 def fallen(graph, time, decay):
     """What is left after a time of what falls to a thousandth in the decay time, below 0 for one that is."""
-    size = SIZE(graph, x=in_samples(graph, decay))[0] if isinstance(decay, Wire) else abs(decay)
-    way = divided(graph, graph.product(in_samples(graph, time), -math.log2(1000)), size)
-    found = exp_2(graph, way)
+    time, fall = in_samples(graph, time), -math.log2(1000)
     if not isinstance(decay, Wire):
-        return graph.product(found, math.copysign(1.0, decay))
-    return graph.product(found, side(graph, decay))
+        return graph.product(exp_2(graph, graph.product(time, fall / abs(decay))), math.copysign(1.0, decay))
+    way = divided(graph, graph.product(time, fall), SIZE(graph, x=in_samples(graph, decay))[0])
+    return graph.product(exp_2(graph, way), side(graph, decay))
 
 
 def factor_of(graph, longest, time, decay):

@@ -11,13 +11,15 @@ from typing import NamedTuple, Optional
 from .graph import Control, Wire
 from .lines import LINE, LINEN
 from .measures import SAMPLE, Refused, Slot
-from .rows import BLOCK, DELAY_1, LATCH, Row
+from .rows import BLOCK, DELAY_1, GREATER, LATCH, Row
 from .scgf import AUDIO, Source
 from .shapes import LINEAR, Part, Segment, done_of, over
 from .templates import action, constant, template
 
 # How far the ramp of an envelope goes: far, so that a short segment isn't too steep.
 TOP = 64.0
+# Whole milliseconds in which there is a block.
+SOME_BLOCK = 0.002
 # Places of the inputs of EnvGen there, and the numbers of operators: * and <=.
 STRETCH, FIRST_LEVEL, FIRST_TIME = 3, 5, 10
 TIMES, AT_MOST = 2, 10
@@ -119,6 +121,8 @@ def segment_of(graph, given, stretch):
 
 def counted(graph, time):
     """The time of a segment; at control rate it counts as whole blocks, at least one."""
+    if isinstance(time, Wire) and time.unset and graph.unit.rate != AUDIO:
+        return GREATER(graph, a=time, b=SOME_BLOCK)[0]
     if isinstance(time, Wire) or graph.unit.rate == AUDIO:
         return time
     return max(1, math.floor(time * graph.rate / BLOCK + 1e-4)) * BLOCK / graph.rate

@@ -5,7 +5,9 @@ from .buses import WIDEST
 from .commands import Asked, done_as, turned
 from .measures import Refused
 from .osc import Message
+from .written import Written
 
+NO_RECORDING = "a file is recorded only if live.py starts snova itself (docs/INSTALLATION.md)"
 # So many words the server may have at most.
 MOST_WORDS = 2**24
 # A sample in a command takes its type tag and its bytes.
@@ -118,31 +120,53 @@ def named(channels, width):
     return channels[:-1] if len(channels) == width + 1 and channels[-1] == 0 else channels
 
 
+def kept_open(session, number, path, words, count):
+    """A file is made, which stays open for what DiskOut records."""
+    if session.ears is None:
+        raise Refused(NO_RECORDING)
+    if count:
+        raise Refused("a file that stays open starts without frames here: the count must be 0")
+    channels = session.buffers[number].channels
+    if not 1 <= channels <= WIDEST:
+        raise Refused(f"the buffer has {channels} channels")
+    attempted(path, lambda name: session.ears.open(number, name, words, channels))
+    return Asked([], done_as("/b_write", number))
+
+
+def b_close(session, number):
+    """A file that is recorded is closed once all is in it; where none is open, nothing is done."""
+    def answer(_gateway, client, _replies):
+        session.ears.close_file(number, client)
+        return []
+    is_open = session.ears is not None and number in session.ears.files
+    return Asked([], answer if is_open else done_as("/b_close", number))
+
+
 def b_write(session, number, path, *given):
-    """The samples are asked for, and written once they have come."""
+    """The samples are asked for, and written once they have come; those of a score once it is rendered."""
     *words, count, start, stays = given
     buffer = buffer_of(session, number)
-    if not session.live:
-        raise Refused("a score is rendered to its sound alone, and no buffer is written")
     if stays:
-        raise Refused(NO_STREAMS)
+        return kept_open(session, number, path, words, count)
     if not 0 <= start < buffer.frames:
         raise Refused(f"the buffer has {buffer.frames} frames, and none is written from {start} on")
     attempted(path, lambda _: soundfiles.written(words, 1, buffer.rate, []))
     frames = min(count, buffer.frames - start) if count >= 0 else buffer.frames - start
     first, end = start * buffer.channels, (start + frames) * buffer.channels
+    file = Written(path, words, buffer.channels, buffer.rate, questions(number, first, end))
 
     def answer(gateway, client, replies):
         values = answered(replies)
         if len(values) == end - first:
-            data = soundfiles.written(words, buffer.channels, buffer.rate, values)
             try:
-                with open(path.encode("latin-1"), "wb") as file:
-                    file.write(data)
+                file.write(values)
             except OSError as wrong:
                 return [Message("/fail", ["/b_write", f"{path}: {wrong.strerror}", number])]
         return done_as("/b_write", number)(gateway, client, replies)
-    return Asked(questions(number, first, end), answer)
+    if session.live:
+        return Asked(file.asked, answer)
+    session.writes.append(file)
+    return file.asked
 
 
 NEW, INTO = "buffer text start:int=0 count:int=0", "buffer text start:int=0 count:int=-1 begin:int=0 stays:int=0"
@@ -151,6 +175,7 @@ SOUND_FILES = [
     turned("/b_allocRead", 29, NEW, read_new("/b_allocRead"), carries=True),
     turned("/b_read", 30, INTO, read_into("/b_read"), carries=True),
     turned("/b_write", 31, "buffer text text text count:int=-1 start:int=0 stays:int=0", b_write, carries=True),
+    turned("/b_close", 33, "buffer", b_close, carries=True),
     turned("/b_allocReadChannel", 54, NEW + " (int)..", read_new("/b_allocReadChannel"), carries=True),
     turned("/b_readChannel", 55, INTO + " (int)..", read_into("/b_readChannel"), carries=True),
 ]

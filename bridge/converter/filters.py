@@ -1,10 +1,13 @@
 """Filters of one pole or zero, and what follows a signal. Those with a frequency are in sections.py."""
 import math
 
+from .further import has
 from .generators import IMPULSE, ramp
 from .graph import Wire
 from .held import before
+from .logarithms import exp_2
 from .measures import HERTZ
+from .ratios import divided, in_samples
 from .rows import BLOCK, DELAY_1, DIFFERENCE, GREATER, LATCH, LESSER, Row, first, start
 from .scgf import AUDIO
 from .templates import constant, template
@@ -18,6 +21,13 @@ SECTION = template("SOS x:M a0:sample a1:sample a2:sample b1:sample b2:sample ->
 def pole(graph, seconds):
     """The factor that falls to a thousandth in some seconds."""
     return math.exp(math.log(0.001) / (seconds * graph.rate)) if seconds > 0 else 0.0
+
+
+def fall(graph, time):
+    """The same for a time that may move."""
+    if isinstance(time, Wire) and has("Div", "Exp2"):
+        return exp_2(graph, divided(graph, math.log2(0.001) / graph.rate, in_samples(graph, time)))
+    return pole(graph, constant(time, "its time"))
 
 
 def finer(measure):
@@ -62,7 +72,7 @@ def cascade(count):
 def decay(graph, x, time):
     """A decay, in which the first input counts twice: there it is worked out before the first block too."""
     twice = graph.product(x, start(graph), x)
-    return INTEGRATOR(graph, x=twice, c=pole(graph, constant(time, "its time")))
+    return INTEGRATOR(graph, x=twice, c=fall(graph, time))
 
 
 def decay_2(graph, x, attack, time):

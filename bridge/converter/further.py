@@ -1,8 +1,9 @@
 """The units that the server has got last: what needs one that isn't here is said by others, or refused."""
 
-FURTHER = {"Div", "Exp2", "LagUD", "Log2", "Mod", "PinkNoise", "SVF", "Saw", "Sine", "Trig"}
+FURTHER = {"Blip", "BufRdL", "CombL", "DelayL", "Div", "Exp2", "LagUD", "Log2", "Mod", "PinkNoise", "PlayBufL", "SVF",
+           "Saw", "Sine", "Trig"}
 # Those that are here. To switch off what needs one, take it out.
-HERE = FURTHER - {"PinkNoise"}
+HERE = set(FURTHER)
 
 
 def has(*units):

@@ -50,20 +50,20 @@ class Gateway:
     is what the server was sent, as far as it still counts. A strict gateway `is_over` at the first refusal.
 
     Where a keeper stands behind it, `times` turns time tags into the server's, `recall` follows what is sent and heard,
-    and `use` gives the last values of `/status.reply`.
+    `ears` hear the sound, and `use` gives the last values of `/status.reply`.
     """
 
     def __init__(self, rate, most_clients, strict=False, memory=MEMORY):
         self.rate, self.memory, self.clients = rate, memory, Clients(most_clients)
         self.strict, self.is_over = strict, False
         self.next, self.reported, self.waiting, self.holds = 0, set(), deque(), False
-        self.times, self.recall, self.use = lambda tag: tag, None, None
+        self.times, self.recall, self.ears, self.use = lambda tag: tag, None, None, None
         self.serve(None)
 
     def serve(self, server):
         """Starts with a server that has nothing yet, or with none."""
         self.session, self.quits = Session(self.rate, memory=self.memory, live=True), False
-        self.session.use = self.use or self.session.use
+        self.session.use, self.session.ears = self.use or self.session.use, self.ears
         self.go_on(server, [])
 
     def go_on(self, server, messages):
@@ -292,18 +292,21 @@ class Gateway:
             nodes.start(number, message.arguments[1])
         elif message.address == "/n_move":
             nodes.stand(number, message.arguments[1])
-        if number < FIRST_CHOSEN or message.address == "/tr":
+        if self.ears:
+            self.ears.hear(message, nodes.by_id.get(number))
+        if nodes.ids.of_client(number) < FIRST_CHOSEN or message.address == "/tr":
             self.notify(back(self.session, message))
         ended = nodes.end(number) if message.address == "/n_end" else None
         if ended and ended.helpers:
             self.ask(AT_ONCE, None, [Asked(abandoned(self.session, ended), None)], quiet=True)
 
     def notify(self, message):
-        data = osc.encoded(message)
+        data = osc.encoded(self.session.nodes.ids.told(message))
         for client in self.clients:
             client.send(data)
 
     def answer(self, client, message):
+        message = self.session.nodes.ids.told(message)
         if client is not None:
             client.send(osc.encoded(message))
         if message.address == "/n_info":

@@ -8,7 +8,7 @@ from .further import has
 from .graph import Control, Wire
 from .held import hold
 from .measures import HERTZ, SAMPLE, Slot, phase_of
-from .rows import BLOCK, DELAY_1, DIFFERENCE, LESS, LESSER, SUMMING, SIZE, Row, first, same, start
+from .rows import BLOCK, DELAY_1, DIFFERENCE, GREATER, LESS, LESSER, SUMMING, SIZE, Row, first, same, start
 from .scgf import AUDIO
 from .templates import template
 
@@ -54,9 +54,17 @@ def begun(graph, freq, phase, turn):
 
 def ahead(unit, turn):
     """A generator with the same unit here."""
-    def build(graph, freq, phase, **more):
-        return [oscillator(graph, unit, freq, begun(graph, freq, phase, turn), turn, *more.values())]
+    def build(graph, freq, phase):
+        return [oscillator(graph, unit, freq, begun(graph, freq, phase, turn), turn)]
     return build
+
+
+def pulse_train(graph, freq, phase, width):
+    """Pulses of a width, which at audio rate are a frame long at least."""
+    if isinstance(width, Wire) and graph.unit.rate == AUDIO:
+        frame = graph.product(ratios.in_hertz(graph, freq), 1 / graph.rate)
+        width, = GREATER(graph, a=ratios.in_samples(graph, width), b=frame)
+    return [oscillator(graph, "LFPulse", freq, begun(graph, freq, phase, 1), 1, width)]
 
 
 def parabolas(graph, freq, phase):
@@ -150,7 +158,7 @@ UNITS = {
     "FSinOsc": Row("freq phase", steady_sine),
     "Klang": Row("scale offset shape*", sines),
     "LFSaw": Row("freq phase", ahead("LFSaw", 2)),
-    "LFPulse": Row("freq phase width", ahead("LFPulse", 1)),
+    "LFPulse": Row("freq phase width", pulse_train),
     "LFTri": Row("freq phase", ahead("LFTri", 4)),
     "LFPar": Row("freq phase", parabolas),
     "LFCub": Row("freq phase", cubics),

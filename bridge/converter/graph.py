@@ -2,7 +2,9 @@
 import math
 
 from .further import is_absent
-from .measures import HERTZ, LOUDEST, SAMPLE, SECONDS, Refused, Slot, fraction_of, raw
+from .measures import FRACTIONS, HERTZ, LOUDEST, SAMPLE, SECONDS, Refused, Slot, fraction_of, raw
+from .shorter import Line as Written
+from .shorter import shorter
 
 # What one unit multiplies by is below this; greater factors take several.
 GREATEST = 128.0
@@ -10,21 +12,21 @@ STEP = 64.0
 
 
 # Units that give the same for the same inputs, so that one of them serves for all.
-ALIKE = set("""Abs Add Clip CombN Delay1 DelayN Div Exp2 Gate Gt Impulse Integrator LFPulse LFSaw LFTri Lag LagUD Latch
-    Log2 Lt Max Min Mod Mul MulAdd Neg OnePole Pan2 Phasor PulseCount SOS SVF Saw SinOsc Sine Stepper Sub
-    Trig""".split())
+ALIKE = set("""Abs Add Blip Clip CombL CombN Delay1 DelayL DelayN Div Exp2 Gate Gt Impulse Integrator LFPulse LFSaw
+    LFTri Lag LagUD Latch Log2 Lt Max Min Mod Mul MulAdd Neg OnePole Pan2 Phasor PulseCount SOS SVF Saw SinOsc Sine
+    Stepper Sub Trig""".split())
 # What may come of a few sums of sounds.
 SOUND = 8.0
 # Units that end, and then may free or pause their synth.
-ENDING = {"Line", "Linen", "PlayBuf", "DetectSilence"}
+ENDING = {"Line", "Linen", "PlayBuf", "PlayBufL", "DetectSilence"}
 
 
 class Wire:
     """An output of a unit, with the place of its measure."""
 
-    # Whether it stands still for a block, and how great its values are at most, if that is known; and the control and
-    # the number of which it is the sum.
-    held, most, parts = False, math.inf, None
+    # Whether it stands still for a block, or for good, and whether it is 0 unless a control is set; how great its
+    # values are at most, if that is known; and the control and the number of which it is the sum.
+    held, still, unset, most, parts = False, False, False, math.inf, None
 
     def __init__(self, slot=None):
         self.slot, self.name = slot or Slot(), None
@@ -36,7 +38,7 @@ class Control(Wire):
 
     def __init__(self, name, default):
         super().__init__()
-        self.name, self.default, self.size = name, default, abs(default)
+        self.name, self.default, self.size, self.unset = name, default, abs(default), default == 0
         self.slot.note(default)
 
     def sent(self, value):
@@ -55,6 +57,16 @@ def most_of(operand):
     if callable(operand):
         return math.inf
     return operand.most if isinstance(operand, Wire) else abs(operand)
+
+
+def stands_still(*operands):
+    """Whether operands are numbers and wires that never change."""
+    return all(each.still if isinstance(each, Wire) else True for each in operands)
+
+
+def is_unset(operand):
+    """Whether an operand is 0, a wire as long as no control is set."""
+    return operand.unset if isinstance(operand, Wire) else not callable(operand) and not operand
 
 
 def decimal(value):
@@ -126,14 +138,25 @@ class Product:
     def exact(self):
         """Guesses from the measure of the product, where it is of another kind; it answers whether it could."""
         measure = self.output.slot.measure
-        if measure is None or not self.is_gain():
+        if measure is None:
             return False
+        if not self.is_gain():
+            return self.part_of_many(measure)
         if measure.whole:
-            self.x.slot.set(fraction_of(self.x.slot.bound))
+            self.x.slot.set(fraction_of(max(self.x.slot.bound, self.x.size)))
+        elif measure.name == FRACTIONS and max(self.x.slot.bound, self.x.size) >= LOUDEST:
+            self.x.slot.set(measure)
         elif measure.scale not in (SAMPLE.scale, HERTZ.scale):
             self.x.slot.settle()
         else:
             return False
+        return True
+
+    def part_of_many(self, measure):
+        """Of a place between frames the count has its measure, and what it is multiplied by is the part of it."""
+        if measure.name != FRACTIONS or self.x.slot.measure or self.factor.slot.measure:
+            return False
+        self.choose(max(self.x, self.factor, key=lambda wire: max(wire.size, wire.slot.bound)).slot)
         return True
 
     def forward(self):
@@ -302,6 +325,8 @@ class Graph:
         output = Wire()
         output.size = size_of(x) * size_of(factor) + (abs(addend) if isinstance(addend, float) else 0.0)
         output.most = most_of(x) * most_of(factor) + most_of(addend or 0.0)
+        output.still = stands_still(x, factor, addend)
+        output.unset = (is_unset(x) or is_unset(factor)) and is_unset(addend or 0.0)
         if isinstance(addend, Wire):
             output.slot.join(addend.slot)
         elif addend is not None:
@@ -317,7 +342,8 @@ class Graph:
             return a + b
         slot = Slot()
         found, = self.line("Add", [(a, slot), (b, slot)], [slot])
-        found.most = most_of(a) + most_of(b)
+        found.most, found.still = most_of(a) + most_of(b), stands_still(a, b)
+        found.unset = is_unset(a) and is_unset(b)
         if isinstance(a, Control) != isinstance(b, Control) and not (isinstance(a, Wire) and isinstance(b, Wire)):
             found.parts = (a, b) if isinstance(a, Control) else (b, a)
         return found
@@ -360,7 +386,8 @@ class Writer:
     MOST_TRIED = 2048
 
     def __init__(self, graph, taken):
-        self.graph, self.taken, self.text, self.wires, self.written = graph, set(taken), [], 0, {}
+        self.graph, self.taken, self.wires, self.written = graph, set(taken), 0, {}
+        self.written_lines, self.whole = [], set()
 
     def fresh(self):
         """A name for a wire."""
@@ -384,8 +411,8 @@ class Writer:
                 continue
             if unit in ALIKE:
                 self.written[unit, *inputs] = [wire.name for wire in outputs]
-            head = " ".join(wire.name for wire in outputs)
-            self.text.append(" ".join(filter(None, [head and head + " =", unit, *inputs])))
+            self.written_lines.append(Written(unit, inputs, [wire.name for wire in outputs]))
+            self.whole.update(wire.name for wire in outputs if wire.slot.measure and wire.slot.measure.whole)
 
     def heard(self):
         """The items that do something, and those that they hear."""
@@ -407,7 +434,11 @@ class Writer:
     def lines(self):
         for item in self.heard():
             self.graph.with_origin(item, lambda: self.item_lines(item))
-        self.check_units(len(self.text))
-        if self.wires > self.MOST_WIRES:
-            raise Refused(f"it takes {self.wires} wires here, and there may be {self.MOST_WIRES}")
-        return self.text
+        lines, self.graph.origin = self.written_lines, "shortened"
+        if len(lines) > self.MOST_UNITS:
+            lines = shorter(lines, self.whole, self.MOST_UNITS, self.graph.note)
+        self.check_units(len(lines))
+        wires = sum(len(line.outputs) for line in lines)
+        if wires > self.MOST_WIRES:
+            raise Refused(f"it takes {wires} wires here, and there may be {self.MOST_WIRES}")
+        return [line.text() for line in lines]

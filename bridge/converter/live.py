@@ -1,4 +1,5 @@
 """The sockets between clients, the gateway and a server that was started elsewhere."""
+import errno
 import selectors
 import socket
 
@@ -20,16 +21,27 @@ class Client(Stream):
             self.end("it takes nothing")
 
 
+def both(port):
+    """A socket for datagrams and one that listens at the same port: one that is free for both if it is 0."""
+    while True:
+        datagrams = socket.socket(socket.AF_INET, socket.SOCK_DGRAM)
+        try:
+            datagrams.bind((HOST, port))
+            return datagrams, socket.create_server(datagrams.getsockname())
+        except OSError as wrong:
+            datagrams.close()
+            if port or wrong.errno != errno.EADDRINUSE:
+                raise
+
+
 class Live:
     """The gateway and its sockets."""
 
     def __init__(self, port, server_port, gateway):
         self.gateway, self.server_port, self.server, self.is_over = gateway, server_port, None, False
         self.ready = selectors.DefaultSelector()
-        self.datagrams = socket.socket(socket.AF_INET, socket.SOCK_DGRAM)
-        self.datagrams.bind((HOST, port))
+        self.datagrams, self.listener = both(port)
         self.port = self.datagrams.getsockname()[1]
-        self.listener = socket.create_server((HOST, self.port))
         self.ready.register(self.datagrams, READ, self.from_datagram)
         self.ready.register(self.listener, READ, self.from_listener)
 

@@ -127,7 +127,8 @@ def part_of(graph, x, low, high):
         found = graph.product(x, 1 / way, -low / way) if way else 0.0
     if not isinstance(found, Wire):
         return min(1.0, max(0.0, found))
-    return CLIP(graph, x=in_samples(graph, found))[0]
+    within = isinstance(x, Wire) and not isinstance(way, Wire) and low <= -x.most and x.most <= high
+    return in_samples(graph, found) if within else CLIP(graph, x=in_samples(graph, found))[0]
 
 
 def by_ratios(graph, x, low, high, start, end):

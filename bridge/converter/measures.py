@@ -31,6 +31,8 @@ class Measure(NamedTuple):
 SAMPLE = Measure("samples", 2.0**24)
 HERTZ = Measure("hertz", 1000.0)
 SECONDS = Measure("seconds", 1000.0)
+# A time of which parts of a frame count; a constant is the nearest number to it.
+TIME = Measure("times", SAMPLE.scale)
 # A lag there is the time to a thousandth of the way, here the time to 1/e of it.
 LAG = Measure("seconds of a lag", 1000.0 / math.log(1000))
 RADIANS = Measure("radians", 2.0**32 / math.tau, wraps=True)
@@ -42,10 +44,13 @@ def phase_of(turn):
     return Measure("phases", 2.0**32 / turn, wraps=True)
 
 
+FRACTIONS = "fractions"
+
+
 def fraction_of(bound):
     """The finest measure by a power of two in which values below a bound can be said."""
     bits = min(24, 31 - math.ceil(math.log2(bound + 1)))
-    return SAMPLE if bits == 24 else Measure("fractions", 2.0**bits)
+    return SAMPLE if bits == 24 else Measure(FRACTIONS, 2.0**bits)
 
 
 LEAST, MOST = -(2**31), 2**31 - 1

@@ -6,6 +6,7 @@ from .measures import Lacking, Refused, raw
 from .nodes import AFTER, BEFORE, HEAD, TAIL, Node
 from .osc import Message
 from .server_commands import await_definition
+from .taps import check_taps
 from .variants import check_facts, variant
 
 
@@ -105,6 +106,8 @@ def s_new(session, name, given, action, target, pairs):
     node = Node(number, found)
     sets, maps = settings([node], pairs)
     check_audio_buses(node)
+    node.taps = session.taps.get(name, ())
+    check_taps(session, node)
     again = session.link(node)
     session.nodes.add(node, action, target)
     session.tally.played += 1
@@ -180,6 +183,16 @@ def new_groups(address):
     return turn
 
 
+def s_noid(session, numbers):
+    """Synths keep running under other ids; what isn't there, or is a group, is left out, as scsynth does."""
+    nodes = session.nodes
+    for given in numbers:
+        number = None if nodes.ids.is_hidden(given) else nodes.node(given)
+        if number in nodes.by_id and nodes.by_id[number].definition:
+            nodes.ids.release(nodes.ids.of_client(number))
+    return []
+
+
 # What is remembered of where nodes stand.
 
 def freed(session, numbers):
@@ -234,9 +247,9 @@ NODES = [
     each_same("/g_tail", 23, "(node node)..", put(TAIL)),
     each_same("/g_freeAll", 24, "(node)..", emptied(False)),
     turned("/n_mapn", 48, "node (control bus count)..", n_mapn),
-    left_out("/s_noid", 49, "a synth keeps its id until it ends here"),
+    turned("/s_noid", 49, "(int)..", s_noid),
     each_same("/g_deepFree", 50, "(node)..", emptied(True)),
-    left_out("/s_newargs", 59, "the Server Command Reference doesn't say what it does"),
+    turned("/s_newargs", 59, "text id:int=-1 action:int=0 target:node=0 (control run)..", s_new),
     turned("/n_mapa", 60, "node (control int)..", n_mapa),
     turned("/n_mapan", 61, "node (control int count)..", n_mapan),
     same("/n_order", 62, "action:int target:node (node)..", ordered),

@@ -51,9 +51,10 @@ class Tree:
 
     def text(self, with_controls):
         """The lines that scsynth prints for /g_dumpTree."""
-        yield f"NODE TREE Group {self.group}"
+        client = self.session.nodes.ids.of_client
+        yield f"NODE TREE Group {client(self.group)}"
         for depth, number, what in self.nodes():
-            yield "   " * depth + f"{number} " + ("group" if isinstance(what, int) else what)
+            yield "   " * depth + f"{client(number)} " + ("group" if isinstance(what, int) else what)
             pairs = self.controls(number) if with_controls and not isinstance(what, int) else []
             if pairs:
                 values = [(name, f"{value:g}" if isinstance(value, float) else value) for name, value in pairs]

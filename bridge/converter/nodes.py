@@ -1,4 +1,5 @@
 """Which synths and groups there are, as far as the commands that were sent and the notifications that came say."""
+from .ids import Ids
 from .measures import Lacking, Refused
 
 HEAD, TAIL, BEFORE, AFTER, REPLACE = range(5)
@@ -11,25 +12,27 @@ MOST_LACKING = 65536
 class Node:
     """A synth, with its definition, the values that its controls were given and the buses that they follow, or a group.
 
-    `helpers` are the synths, and their control buses, by which controls follow audio buses. It has `started` once the
+    `helpers` are the synths, and their control buses, by which controls follow audio buses, and `taps` what hears the
+    sound for it. It has `started` once the
     server has said so. Until then an earlier node of its id may still be there.
     """
 
     def __init__(self, number, definition=None, values=None):
         self.number, self.parent, self.definition = number, None, definition
         self.values, self.maps, self.helpers = values or {}, {}, {}
-        self.started, self.earlier = False, None
+        self.started, self.earlier, self.taps = False, None, ()
 
     def value_of(self, control):
         return self.values.get(control, control.default)
 
 
 class Nodes:
-    """Nodes by id. If it `hears` of what starts and ends, only that ends a node; else what is sent does."""
+    """Nodes by the server's ids; `ids` has those of clients. If it `hears` of what starts and ends, only that ends a
+    node; else what is sent does."""
 
     def __init__(self, hears=False):
         self.by_id, self.hears = {ROOT: Node(ROOT)}, hears
-        self.latest, self.chosen, self.made, self.lacking = ROOT, 0, [], {}
+        self.latest, self.chosen, self.made, self.lacking, self.ids = ROOT, 0, [], {}, Ids()
 
     def lack(self, number, definition):
         """Notes that a synth wasn't made for want of a definition, as far as so many are kept."""
@@ -41,7 +44,7 @@ class Nodes:
         if number not in self.by_id and number in self.lacking:
             raise Lacking(self.lacking[number], f"node {number} lacks the definition {self.lacking[number]}")
         if number not in self.by_id:
-            raise Refused(f"no node {number} was made")
+            raise Refused(f"no node {self.ids.of_client(number)} was made")
         return self.by_id[number]
 
     def parent_at(self, number, action, target):
@@ -52,14 +55,20 @@ class Nodes:
         return ROOT if self.is_below(parent, number) else parent
 
     def number(self, given):
-        """The id of a new node: one that is chosen for -1."""
+        """The id of a new node: one that is chosen for -1, and for an id that the server has for another node."""
         if given == ROOT:
             raise Refused("0 is the root")
-        if given != -1:
-            return given
+        if given != -1 and not self.ids.is_hidden(given):
+            return self.ids.of_server(given)
         found = FIRST_CHOSEN + self.chosen
         self.chosen = (self.chosen + 1) % MOST_CHOSEN
+        if given != -1:
+            self.ids.name(given, found)
         return found
+
+    def node(self, given):
+        """The server's id of a node that a client names; -1 is the last one that was made."""
+        return self.latest if given == -1 else self.ids.of_server(given)
 
     def add(self, node, action, target):
         """Adds a new node."""
@@ -86,13 +95,17 @@ class Nodes:
         """Follows a command that frees a node."""
         for each in [] if self.hears else self.below(number):
             if each != ROOT:
-                del self.by_id[each]
+                self.forget(each)
 
     def free_below(self, group, synths_only):
         """Follows a command that frees what is below a group."""
         for each in [] if self.hears else self.below(group):
             if each not in (group, ROOT) and (self.by_id[each].definition or not synths_only):
-                del self.by_id[each]
+                self.forget(each)
+
+    def forget(self, number):
+        self.by_id.pop(number, None)
+        self.ids.forget(number)
 
     def move(self, number, action, target):
         if number in self.by_id and number != ROOT:
@@ -153,4 +166,4 @@ class Nodes:
         if kept:
             self.by_id[dropped.number] = kept[0]
         else:
-            self.by_id.pop(dropped.number, None)
+            self.forget(dropped.number)

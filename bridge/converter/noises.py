@@ -12,7 +12,7 @@ from .templates import template
 
 INTEGRATOR = template("Integrator x:sample c:sample -> sample")
 OTHER = "its noise is another one"
-CUBIC_LEVEL = 0.8
+CUBIC_LEVEL, EIGHTH = 0.8, math.sqrt(1 / 8)
 # Each bit of a GrayNoise flips as one of 31 is chosen: so fast it forgets.
 GRAY = 1 - 2 / 31
 # Kellet's filter, with one more pole for what is slower than 10 Hz: the gain and the pole of each.
@@ -86,21 +86,28 @@ def signs_of(graph, freq):
     return [either(graph, each) for each in drawn(graph, freq, 1)]
 
 
+def within_one(found):
+    """What lies between -1 and 1, whatever its parts do."""
+    found.most = 1.0
+    return [found]
+
+
 def lines_of(graph, freq):
     """From a random number to the next one."""
     new, old = drawn(graph, freq, 2)
     way, = DIFFERENCE(graph, a=new, b=old)
-    return [graph.product(graph.product(ramp(graph, freq), 0.5, 0.5), way, old)]
+    return within_one(graph.product(graph.product(ramp(graph, freq), 0.5, 0.5), way, old))
 
 
 def parabolas_of(graph, freq):
     """From the middle of two random numbers to that of the next two: of a, b and c, with s from -1 to 1,
-    (s (s (a - 2 b + c) + 2 (c - a)) + a + 6 b + c) / 8."""
-    c, b, a = drawn(graph, freq, 3)
-    s, outer = ramp(graph, freq), graph.sum(a, c)
-    slope = graph.product(DIFFERENCE(graph, a=c, b=a)[0], 2.0)
-    rise = graph.product(s, graph.product(b, -2.0, outer), slope)
-    return [graph.product(graph.product(s, rise, graph.product(b, 6.0, outer)), 1 / 8)]
+    b + (c - b) (1 + s)² / 8 - (b - a) (1 - s)² / 8."""
+    new, old = drawn(graph, freq, 2)
+    way, = DIFFERENCE(graph, a=new, b=old)
+    before, = LATCH(graph, x=DELAY_1(graph, x=way)[0], trig=IMPULSE(graph, freq=freq)[0])
+    up, down = (graph.product(ramp(graph, freq), side * EIGHTH, EIGHTH) for side in (1, -1))
+    rise, fall = graph.product(up, up), graph.product(down, graph.product(down, -1.0))
+    return within_one(graph.product(way, rise, graph.product(before, fall, old)))
 
 
 def cubics_of(graph, freq):

@@ -2,7 +2,7 @@
 import math
 from typing import Callable, NamedTuple, Optional
 
-from . import functions, logarithms, ratios
+from . import functions, logarithms, random_numbers, ratios
 from .functions import exponential_of, folded, to_both_sides, wrapped
 from .further import has
 from .generators import sine
@@ -147,6 +147,8 @@ BINARY = {
     45: Operator("wrap2", to_both_sides(wrapped), lambda a, b: (a + b) % (2 * b) - b if b else 0.0, "Mod",
                  ratios.to_both_sides(ratios.wrapped)),
     46: Operator("firstArg", lambda graph, a, b: [a], lambda a, b: a),
+    47: Operator("rrand", random_numbers.OPERATORS["rrand"]),
+    48: Operator("exprand", random_numbers.OPERATORS["exprand"]),
 }
 
 UNARY = {
@@ -189,6 +191,9 @@ UNARY = {
     29: Operator("cos", of_sine(math.pi / 2), math.cos),
     30: Operator("tan", None, math.tan, "Div", tangent),
     36: Operator("tanh", functions.tanh, math.tanh, "Div Exp2", logarithms.tanh),
+    **{37 + number: Operator(name, random_numbers.OPERATORS[name])
+       for number, name in enumerate(("rand", "rand2", "linrand", "bilinrand", "sum3rand"))},
+    44: Operator("coin", random_numbers.OPERATORS["coin"]),
     42: Operator("distort", functions.distort, lambda a: a / (1 + abs(a)), "Div", ratios.distort),
     43: Operator("softclip", functions.softclip, lambda a: a if abs(a) <= 0.5 else (abs(a) - 0.25) / a, "Div",
                  ratios.softclip),

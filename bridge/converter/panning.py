@@ -13,7 +13,9 @@ ALL_SIDES = math.sqrt(0.5)
 
 def limited(graph, pos):
     """A place from -1 to 1."""
-    return LIMIT(graph, x=pos)[0] if isinstance(pos, Wire) else min(1.0, max(-1.0, pos))
+    if not isinstance(pos, Wire):
+        return min(1.0, max(-1.0, pos))
+    return LIMIT(graph, x=pos)[0] if pos.most > 1 else pos
 
 
 def sine_of(graph, phase):

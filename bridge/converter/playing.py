@@ -20,6 +20,10 @@ def play_buf(graph, buf, rate, trig, start, loop, done):
         if loop > 0:
             return play_loop(graph, buf, rate, trig, start)
         return play_once(graph, buf, rate, trig, start, done)
+    return play_whole(graph, buf, rate, trig, start, loop, done)
+
+
+def play_whole(graph, buf, rate, trig, start, loop, done):
     slot, count = buffer_slot(graph, buf), check_width(graph.unit.outputs)
     inputs = [(index(buf), Slot(NUMBER)), (rate, Slot(NUMBER)), (trig, Slot()), (start, Slot(NUMBER)), (loop, Slot()),
               (action(done), Slot(NUMBER))]

@@ -9,7 +9,7 @@ from .further import has
 from .graph import Wire
 from .logarithms import between as between_ends
 from .measures import NUMBER, SAMPLE, Refused
-from .rows import GREATER, LATCH, LESS, LESSER, Row, counted, start
+from .rows import GREATER, LATCH, LESS, LESSER, MORE, Row, counted, same, start
 from .shapes import exponent, exponential
 from .templates import constant, template
 
@@ -26,13 +26,16 @@ def number(graph):
     last = graph.random or NOISE(graph)[0]
     square = graph.product(last, last)
     graph.random, = WRAPPED(graph, trig=start(graph), x=graph.product(square, FAR, ASIDE))
+    graph.random.most, graph.random.still = 1.0, True
     return graph.random
 
 
 def drawn_at(graph, trig):
     """A number from -1 to 1 that is drawn at each trigger, and the number by which it is moved."""
     moved = number(graph)
-    return WRAPPED(graph, trig=trig, x=graph.sum(NOISE(graph)[0], moved))[0], moved
+    found, = WRAPPED(graph, trig=trig, x=graph.sum(NOISE(graph)[0], moved))
+    found.most = 1.0
+    return found, moved
 
 
 def between(graph, r, low, high):
@@ -96,6 +99,62 @@ def coin_gate(graph, chance, trig):
     return [graph.product(LESS(graph, a=coin, b=graph.product(chance, 2.0, -1.0))[0], trig)]
 
 
+# Random numbers of each frame.
+
+def of_frames(graph):
+    """A number from 0 to 1 at each frame."""
+    return graph.product(NOISE(graph)[0], 0.5, 0.5)
+
+
+def noted(build):
+    """An operator that draws at each frame."""
+    def outputs(graph, **operands):
+        graph.note(NUMBERS)
+        return [build(graph, **operands)]
+    return outputs
+
+
+def middle_of_three(graph, a):
+    total = graph.sum(graph.sum(NOISE(graph)[0], NOISE(graph)[0]), NOISE(graph)[0])
+    return graph.product(graph.product(total, 1 / 3), a)
+
+
+def lesser_of_two(graph, a):
+    return graph.product(LESSER(graph, a=of_frames(graph), b=of_frames(graph))[0], a)
+
+
+def apart(graph, a):
+    way = graph.sum(of_frames(graph), graph.product(of_frames(graph), -1.0))
+    return graph.product(way, a)
+
+
+# The operators that draw numbers, by their names.
+OPERATORS = {
+    "rand": noted(lambda graph, a: graph.product(of_frames(graph), a)),
+    "rand2": noted(lambda graph, a: graph.product(NOISE(graph)[0], a)),
+    "linrand": noted(lesser_of_two),
+    "bilinrand": noted(apart),
+    "sum3rand": noted(middle_of_three),
+    "coin": noted(lambda graph, a: LESS(graph, a=of_frames(graph), b=a)[0]),
+    "rrand": noted(lambda graph, a, b: between(graph, NOISE(graph)[0], a, b)),
+    "exprand": noted(lambda graph, a, b: between_by_ratios(graph, NOISE(graph)[0], a, b)),
+}
+
+
+def by_weights(graph, trig, normalizes, weights):
+    """At each trigger a number, each as likely as its weight: how many sums of weights lie below a random number."""
+    sums = [0.0]
+    for weight in weights:
+        sums.append(graph.sum(sums[-1], weight))
+    r, _ = drawn_at(graph, graph.sum(trig, start(graph)))
+    r, total = graph.product(r, 0.5, 0.5), 0.0
+    if constant(normalizes, "whether it normalizes") > 0:
+        r = graph.product(r, sums[-1])
+    for each in sums[1:-1]:
+        total = graph.sum(total, MORE(graph, a=r, b=each)[0])
+    return counted(same, float(len(weights)))(graph, x=total)
+
+
 def left_out(graph, rest):
     return [0.0]
 
@@ -110,6 +169,7 @@ UNITS = {
     "TIRand": Row("low high trig", counted(at_triggers(between_whole), "high"), note=NUMBERS),
     "TExpRand": Row("low high trig", at_triggers(between_by_ratios), note=NUMBERS),
     "CoinGate": Row("chance trig", coin_gate, note=NUMBERS),
+    "TWindex": Row("trig normalizes weights*", by_weights, note=NUMBERS),
     "RandSeed": Row("rest*", left_out, note=SEED, stand_in=True),
     "RandID": Row("rest*", left_out, note=SEED, stand_in=True),
 }

@@ -67,7 +67,7 @@ def start(graph):
 
 def first(graph, x):
     """What a wire is at the first frame."""
-    return LATCH(graph, x=x, trig=start(graph))[0] if isinstance(x, Wire) else x
+    return LATCH(graph, x=x, trig=start(graph))[0] if isinstance(x, Wire) and not x.still else x
 
 
 def same(graph, x):

@@ -4,16 +4,18 @@ import math
 from . import generators as of_squares
 from .generators import LEAK, begun, oscillator, ramp
 from .graph import Wire
+from .lines import LINE
 from .logarithms import exp_2
 from .ratios import below, divided, in_hertz, in_samples
-from .rows import DIFFERENCE, GREATER, LESS, LESSER, SIZE, Row, first
+from .rows import DIFFERENCE, GREATER, LESS, LESSER, MORE, SIZE, Row, first
 from .templates import constant, template
 
 STILL = template("Sine 0:hertz phase:radians -> sample")
 CLIP = template("Clip x:sample low:sample high:sample -> sample")
-PINK = template("PinkNoise -> sample")
 TREBLE = "its harmonics are up to 2 dB lower at 10 kHz"
 LEAST_WIDTH = 1e-3
+# The frequency above which a fundamental is kept that is 0 unless it is set.
+SLOWEST = 20.0
 
 
 def rising(graph, freq, phase):
@@ -79,8 +81,18 @@ def wider(graph, a, b):
     return GREATER(graph, a=in_hertz(graph, a), b=in_hertz(graph, b))[0]
 
 
+def set_or_once(graph, x, fundamental):
+    """A sound whose frequency is kept above 0, as long as that is set, or else its first turn alone."""
+    falling, = LINE(graph, start=1.0, end=0.0, dur=1 / SLOWEST, done=0.0)
+    turns, = GREATER(graph, a=MORE(graph, a=fundamental, b=0.0)[0], b=MORE(graph, a=falling, b=0.0)[0])
+    return graph.product(x, turns)
+
+
 def formant(graph, fundamental, form, width):
     """In each turn a sine of the formant, under a bell that is over the sooner the wider it is, at last at its end."""
+    if isinstance(fundamental, Wire) and fundamental.unset:
+        kept, = GREATER(graph, a=in_hertz(graph, fundamental), b=SLOWEST)
+        return [set_or_once(graph, formant(graph, kept, form, width)[0], fundamental)]
     width = wider(graph, width, fundamental)
     p = graph.product(ramp(graph, fundamental), 0.5, 0.5)
     wave = at_turns(graph, graph.product(p, divided(graph, form, fundamental)))
@@ -157,5 +169,4 @@ UNITS = {
     "Formant": Row("fundamental form width", formant, needs="Div Mod Sine"),
     "Blip": Row("freq count", blip, needs="Div Mod Sine"),
     "SyncSaw": Row("sync freq", synchronized, needs="Div Mod"),
-    "PinkNoise": Row("", lambda graph: PINK(graph), needs="PinkNoise", note="its noise is another one"),
 }

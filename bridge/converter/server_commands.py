@@ -6,6 +6,7 @@ from . import scgf
 from .commands import Asked, done_as, left_out, same, turned
 from .measures import Refused
 from .osc import Message
+from .taps import heard
 
 # What /version answers: the program, its version, and nothing of a source tree.
 VERSION = ["snova", 0, 1, ".0", "", ""]
@@ -34,13 +35,18 @@ def received(session, data):
 
 def accepted(session, source):
     """The commands here for a definition."""
+    taps, unheard = [], []
+    if session.live:
+        source, taps, unheard = heard(session, source)
     found = session.definition(source)
+    found.reasons = [*unheard, *(each for each in found.reasons if each not in unheard)]
     other = twin(session, found)
     reasons = found.reasons or ([other] if other else [])
     session.tally.definition(source.name, bool(reasons))
     session.refusals += [f"/d_recv {source.name}: {each}" for each in reasons[:session.most_reasons]]
     if not other:
         session.keep(found)
+        session.taps[source.name] = taps
     return [Message("/d_recv", [found.text.encode()])] if found.text and not reasons else []
 
 

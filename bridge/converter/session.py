@@ -34,7 +34,8 @@ class Session:
     `memory` is how many words the server has for buffers. `most_bytes` is how long a command file may be, and
     `file_bytes` how long its samples have made it. One that is `live` hears of nodes that end. `first` are commands
     that go before those of the command that is turned, also if it is refused, and `put_off` definitions that wait for
-    a synth.
+    a synth. `ears` hear the sound for the `taps` of definitions, if anything does. `writes` are files of samples that
+    a score asks for.
     """
 
     def __init__(self, rate, learns=False, learnt=None, memory=MEMORY, live=False):
@@ -44,6 +45,7 @@ class Session:
         self.slots = learnt.slots if learnt else {}
         self.put_off, self.first = {}, []
         self.definitions, self.variants, self.nodes, self.buffers = {}, {}, Nodes(hears=live), {}
+        self.ears, self.taps, self.writes = None, {}, []
         self.bus_values, self.followed, self.private_buses = {}, set(), PrivateBuses()
         self.refusals, self.notes = [], []
         self.tally, self.most_reasons = Tally(), 1
@@ -120,6 +122,7 @@ class Session:
     def forget(self, name):
         """Forgets a definition and its variants, and answers them; a score may send them again."""
         self.put_off.pop(name, None)
+        self.taps.pop(name, None)
         found = [self.definitions.pop(name)] if name in self.definitions else []
         found += [self.variants.pop(key) for key in [key for key in self.variants if key[0] == name]]
         if self.live:
@@ -146,7 +149,7 @@ class Session:
         command = command_of(message.address)
         if command.refused:
             raise Refused(command.refused)
-        given, completion = command.form.read(message.arguments, command.carries, self.nodes.latest)
+        given, completion = command.form.read(message.arguments, command.carries, self.nodes.node)
         if command.turn:
             made = command.turn(self, *given)
             return made if isinstance(made, Asked) else Asked(made, None), completion

@@ -184,10 +184,15 @@ def picked(sound, channels):
     for each in channels:
         if not 0 <= each < sound.channels:
             raise BadSound(f"it has no channel {each}, but {sound.channels} from 0 on")
-    found = array(sound.samples.typecode, bytes(sound.frames * len(channels) * sound.samples.itemsize))
+    return sound._replace(channels=len(channels), samples=picked_samples(sound.samples, sound.channels, channels))
+
+
+def picked_samples(samples, width, channels):
+    """Of samples with so many in a frame those of some channels."""
+    found = array(samples.typecode, bytes(len(samples) // width * len(channels) * samples.itemsize))
     for at, each in enumerate(channels):
-        found[at::len(channels)] = sound.samples[each::sound.channels]
-    return sound._replace(channels=len(channels), samples=found)
+        found[at::len(channels)] = samples[each::width]
+    return found
 
 
 def opened(path):
@@ -223,12 +228,24 @@ CODINGS = {"int16": (False, 16), "int24": (False, 24), "int32": (False, 32), "fl
 def spelled(values, coding):
     """The bytes of samples, of which whole numbers stop at 1.0."""
     if coding.floats:
-        found = array("f", values)
-    else:
-        full = 2 ** (coding.bits - 1)
-        found = array("i", [max(-full, min(full - 1, math.floor(each * full + 0.5))) for each in values])
-        if coding.bits == 16:
-            found = array("h", found)
+        return packed(array("f", values), coding)
+    full = 2 ** (coding.bits - 1)
+    found = array("i", [max(-full, min(full - 1, math.floor(each * full + 0.5))) for each in values])
+    return packed(array("h", found) if coding.bits == 16 else found, coding)
+
+
+def spelled_again(samples, bits, coding):
+    """The bytes of samples that are whole numbers of so many bits, 16 or 32."""
+    if coding.floats:
+        return packed(array("f", map((1 / 2 ** (bits - 1)).__mul__, samples)), coding)
+    more = coding.bits - bits
+    if more:
+        samples = [each << more if more > 0 else each >> -more for each in samples]
+    return packed(array("h" if coding.bits == 16 else "i", samples), coding)
+
+
+def packed(found, coding):
+    """The bytes of samples in an array of their size; those of 24 bits are in one of 32."""
     if coding.order != sys.byteorder:
         found.byteswap()
     data = found.tobytes()
@@ -244,34 +261,44 @@ def chunk(form, name, data):
     return struct.pack(form, name, len(data)) + data + bytes(len(data) % 2)
 
 
-def wav(channels, rate, values, coding):
-    data, frame = spelled(values, coding), channels * coding.bits // 8
+def wav_head(channels, rate, coding, frames):
+    frame = channels * coding.bits // 8
+    size = frames * frame
     form = struct.pack("<HHIIHH", FLOAT if coding.floats else PCM, channels, round(rate), round(rate) * frame, frame,
                        coding.bits) + bytes(2 * coding.floats)
-    body = b"WAVE" + chunk("<4sI", b"fmt ", form) + chunk("<4sI", b"data", data)
-    return chunk("<4sI", b"RIFF", body)
+    body = b"WAVE" + chunk("<4sI", b"fmt ", form) + struct.pack("<4sI", b"data", size)
+    return struct.pack("<4sI", b"RIFF", len(body) + size + size % 2) + body
 
 
-def aiff(channels, rate, values, coding):
-    data, (part, power) = bytes(8) + spelled(values, coding), math.frexp(rate)
-    form = struct.pack(">HIHHQ", channels, len(values) // channels, coding.bits, power + 16382, int(part * 2**64))
+def aiff_head(channels, rate, coding, frames):
+    part, power = math.frexp(rate)
+    size = frames * channels * coding.bits // 8
+    form = struct.pack(">HIHHQ", channels, frames, coding.bits, power + 16382, int(part * 2**64))
     kind, version = b"AIFF", b""
     if coding.floats:
         kind, version = b"AIFC", chunk(">4sI", b"FVER", struct.pack(">I", 0xA2805140))
         form += b"FL32" + b"\7float32"
-    body = kind + version + chunk(">4sI", b"COMM", form) + chunk(">4sI", b"SSND", data)
-    return chunk(">4sI", b"FORM", body)
+    body = kind + version + chunk(">4sI", b"COMM", form) + struct.pack(">4sI", b"SSND", 8 + size) + bytes(8)
+    return struct.pack(">4sI", b"FORM", len(body) + size + size % 2) + body
 
 
-WRITERS = {"wav": (wav, "little"), "aiff": (aiff, "big")}
+# Of each form the bytes before the samples, of which there are so many frames, and which end of a sample comes first.
+WRITERS = {"wav": (wav_head, "little"), "aiff": (aiff_head, "big")}
 
 
-def written(words, channels, rate, values):
-    """The bytes of a file of samples, from -1.0 to 1.0; `words` are the two by which `/b_write` names its form."""
+def form_of(words):
+    """What writes the head of a file, and how its samples are written; `words` are the two that `/b_write` has."""
     kind, coding = (each.lower() for each in words)
     if kind not in WRITERS:
         raise BadSound(f"no file of the form {kind} is written here; wav and aiff are")
     if coding not in CODINGS:
         raise BadSound(f"no samples of the form {coding} are written here; {', '.join(CODINGS)} are")
-    write, order = WRITERS[kind]
-    return write(channels, rate, values, Coding(*CODINGS[coding], order))
+    head, order = WRITERS[kind]
+    return head, Coding(*CODINGS[coding], order)
+
+
+def written(words, channels, rate, values):
+    """The bytes of a file of samples, from -1.0 to 1.0."""
+    head, coding = form_of(words)
+    data = spelled(values, coding)
+    return head(channels, rate, coding, len(values) // channels) + data + bytes(len(data) % 2)

@@ -9,7 +9,7 @@ from .further import has
 from .graph import Wire
 from .logarithms import exp_2, in_parts
 from .ratios import divided, in_hertz, in_samples
-from .rows import DIFFERENCE, Row
+from .rows import DIFFERENCE, GREATER, Row
 from .sections import UNITS as OF_CONSTANTS
 from .sections import twice_at_first
 from .shapes import STILL
@@ -183,13 +183,23 @@ def high_shelf(graph, x, freq, rs, level):
 
 # What rings.
 
+def kept_above(graph, freq, time):
+    """A frequency and a time that may be 0 unless they are set, as a resonator there has them: it rings for some
+    frames, and no slower than it falls."""
+    if isinstance(time, Wire) and time.unset:
+        time, = GREATER(graph, a=time, b=LOG_1000 / graph.rate)
+    if isinstance(freq, Wire) and freq.unset:
+        slowest = divided(graph, LOG_1000 * FLAT / math.tau, in_samples(graph, time))
+        freq, = GREATER(graph, a=in_hertz(graph, freq), b=slowest)
+    return freq, time
+
+
 def ringing(graph, x, freq, time):
     """A resonator that rings for a time: the band, as loud as an impulse is."""
+    freq, time = kept_above(graph, freq, time if isinstance(time, Wire) else max(time, 1 / graph.rate))
     angle = graph.product(freq, math.tau / graph.rate)
     sine = sine_of(graph, angle)
     fall = 2 * LOG_1000 / graph.rate
-    if not isinstance(time, Wire):
-        time = max(time, 1 / graph.rate)
     k = divided(graph, divided(graph, fall, in_samples(graph, time)), sine)
     return divided(graph, svf(graph, x, freq, k)[BAND], sine)
 
@@ -212,6 +222,24 @@ def klank(graph, x, scale, offset, stretch, shape):
         freq = graph.sum(graph.product(freq, scale), offset)
         total = graph.product(ringing(graph, x, freq, graph.product(time, stretch)), level, total)
     return [total]
+
+
+# What has poles or zeros at an angle and a radius.
+
+def twice_cosine(graph, freq, radius):
+    """2 r cos w, of the angle w of a frame."""
+    angle = graph.product(in_hertz(graph, freq), math.tau / graph.rate, math.pi / 2)
+    return graph.product(graph.product(sine_of(graph, angle), 2.0), radius)
+
+
+def two_poles(graph, x, freq, radius):
+    square = graph.product(graph.product(radius, radius), -1.0)
+    return SECTION(graph, x=x, a0=1.0, a1=0.0, a2=0.0, b1=twice_cosine(graph, freq, radius), b2=square)
+
+
+def two_zeros(graph, x, freq, radius):
+    back = graph.product(twice_cosine(graph, freq, radius), -1.0)
+    return SECTION(graph, x=x, a0=1.0, a1=back, a2=graph.product(radius, radius), b1=0.0, b2=0.0)
 
 
 def of_signals(name, build):
@@ -238,7 +266,9 @@ RINGING = {
     "Ringz": ("x freq time", ringz), "Formlet": ("x freq attack time", formlet),
     "Klank": ("x scale offset stretch shape*", klank),
 }
+AT_A_RADIUS = {"TwoPole": ("x freq radius", two_poles), "TwoZero": ("x freq radius", two_zeros)}
+NEEDED = (("SVF", PARTS), ("Div SVF Sine", RINGING), ("Sine", AT_A_RADIUS))
 UNITS = {name: Row(parameters, of_signals(name, build), needs=needs)
-         for needs, rows in (("SVF", PARTS), ("Div SVF Sine", RINGING)) for name, (parameters, build) in rows.items()}
+         for needs, rows in NEEDED for name, (parameters, build) in rows.items()}
 BY_SECTIONS = {name: Row(parameters, of_signals(name, build), needs="Div Sine")
                for name, (parameters, build) in {**PARTS, **RINGING}.items()}

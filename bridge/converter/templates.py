@@ -9,9 +9,10 @@ import math
 import re
 
 from .graph import Control, Wire
-from .measures import HERTZ, LAG, NUMBER, RADIANS, SAMPLE, SECONDS, Refused, Slot
+from .measures import HERTZ, LAG, NUMBER, RADIANS, SAMPLE, SECONDS, TIME, Refused, Slot
 
-WORDS = {"sample": SAMPLE, "hertz": HERTZ, "seconds": SECONDS, "lag": LAG, "radians": RADIANS, "number": NUMBER}
+WORDS = {"sample": SAMPLE, "hertz": HERTZ, "seconds": SECONDS, "time": TIME, "lag": LAG, "radians": RADIANS,
+         "number": NUMBER}
 # Inputs that a definition here fixes: a bus or a buffer, the longest time of a delay, a done action.
 INDEX, LONGEST, ACTION = "index", "longest", "action"
 

@@ -9,6 +9,7 @@ from .templates import constant, template
 MOST_COUNT = 2**19 - 1
 COUNT = template("PulseCount trig:any reset:any -> number")
 STEPPER = template("Stepper trig:any reset:any min:number max:number step:number to:number -> number")
+GATE = template("Gate x:M trig:any -> M")
 CLIP = template("Clip x:M low:M high:M -> M")
 # 1.0 at the frame of each rise.
 RISE = template("on = Gt trig:G 0:G -> sample", "before = Delay1 on:sample -> sample",
@@ -104,6 +105,27 @@ def in_range(graph, x, low, high):
     return [graph.product(MORE(graph, a=off, b=0.0)[0], -1.0, 1.0)]
 
 
+def in_rect(graph, x, y, left, top, right, bottom):
+    """Whether a point lies in a rectangle."""
+    return [graph.product(in_range(graph, x, left, right)[0], in_range(graph, y, top, bottom)[0])]
+
+
+def changes_more(graph, a, b):
+    """1 where a changes more from frame to frame than b, and 0 where b does; where both do as much, it stays."""
+    ways = [SIZE(graph, x=DIFFERENCE(graph, a=each, b=DELAY_1(graph, x=each)[0])[0])[0] for each in (a, b)]
+    way, = DIFFERENCE(graph, a=ways[0], b=ways[1])
+    apart, = MORE(graph, a=SIZE(graph, x=way)[0], b=0.0)
+    return GATE(graph, x=MORE(graph, a=way, b=0.0)[0], trig=apart)[0]
+
+
+def most_change(graph, a, b):
+    return [graph.product(changes_more(graph, a, b), DIFFERENCE(graph, a=a, b=b)[0], b)]
+
+
+def least_change(graph, a, b):
+    return [graph.product(changes_more(graph, a, b), DIFFERENCE(graph, a=b, b=a)[0], a)]
+
+
 def sweep(graph, trig, rate):
     """Seconds since the trigger, times a rate."""
     frames, = FRAMES_SINCE(graph, trig=trig)
@@ -136,7 +158,9 @@ FURTHER = {
 }
 UNITS = {
     "Latch": Row("x trig", template("Latch x:M trig:any -> M")),
-    "Gate": Row("x trig", template("Gate x:M trig:any -> M")),
+    "Gate": Row("x trig", GATE),
+    "MostChange": Row("a b", most_change),
+    "LeastChange": Row("a b", least_change),
     "Trig": Row("trig time", trig, note=LONGER),
     "Trig1": Row("trig time", trig_1, note=LONGER),
     "TDelay": Row("trig time", delayed, note="each trigger is delayed"),
@@ -144,6 +168,7 @@ UNITS = {
     "SetResetFF": Row("trig reset", set_reset),
     "Schmidt": Row("x low high", schmidt),
     "InRange": Row("x low high", in_range),
+    "InRect": Row("x y left top right bottom", in_rect),
     "PulseCount": Row("trig reset", counted(COUNT, MOST_COUNT)),
     "PulseDivider": Row("trig count begin", divided),
     "Stepper": Row("trig reset min max step to", counted(STEPPER, "max")),

@@ -13,8 +13,9 @@ from converter.links import Stream
 from converter.live import HOST, MOST_WAITING, Live
 from converter.osc import Message
 
+from .hearing import Hearing
 from .load import Load
-from .log import Log
+from .log import Log, reason
 from .recall import Recall
 from .server import NoServer, Server
 from .sinks import BLOCK
@@ -50,6 +51,7 @@ class Keeper(Live):
         self.load = Load(self.sound, self.log.report)
         gateway.report, gateway.times, gateway.use = self.log.count, self.server_time, self.load.use
         gateway.recall = (Watched if listener else Recall)(lambda: tag_of(time.time()), settings.memory)
+        gateway.ears = Hearing(settings, self.sound, gateway, self.log.report)
         self.process, self.times, self.restarts, self.missed = None, None, 0, 0
         self.since, self.last_restart = time.time(), None
         self.next_start = self.next_spell = 0.0
@@ -58,6 +60,7 @@ class Keeper(Live):
 
     def run(self):
         """Keeps the session until it is quit."""
+        gateway = self.gateway
         signal.signal(signal.SIGTERM, signal.default_int_handler)
         try:
             while not self.is_over:
@@ -65,11 +68,12 @@ class Keeper(Live):
                     self.start_server()
                 for key, events in self.ready.select(TICK):
                     key.data(events)
-                passed = self.gateway.recall.pass_on()
+                passed = gateway.recall.pass_on()
                 self.missed += passed if self.server is None else 0
                 if time.monotonic() >= self.next_spell:
                     self.next_spell = time.monotonic() + SPELL
                     self.look_around()
+                gateway.ears.look()
                 if self.window:
                     self.window.look()
         finally:
@@ -104,6 +108,7 @@ class Keeper(Live):
         self.started = time.monotonic()
         self.server = Stream(self.ready, self.process.link, self.gateway.hear, self.server_closed)
         self.server.most = MOST_WAITING
+        self.gateway.ears.start()
         if self.window:
             self.window.sound_starts()
         self.sound.start(self.process.pipe)
@@ -199,11 +204,14 @@ class Keeper(Live):
         self.known = there
 
     def close(self):
-        """Ends what was started."""
+        """Ends what was started; a second signal doesn't break in."""
+        for number in (signal.SIGINT, signal.SIGTERM):
+            signal.signal(number, signal.SIG_IGN)
         if self.server:
             self.sound.pause()
             self.process.stop()
         self.sound.stop()
+        self.gateway.ears.close()
         if self.window:
             self.window.close()
         self.log.report("the session has ended")
@@ -221,7 +229,7 @@ def keep(settings):
         port = settings.port
         Keeper(settings, listener).run()
     except OSError as wrong:
-        print(f"port {port}: {wrong.strerror}", file=sys.stderr)
+        print(reason(wrong, f"port {port}"), file=sys.stderr)
         return 2
     except KeyboardInterrupt:
         pass

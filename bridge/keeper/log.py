@@ -1,10 +1,17 @@
 """The log of a session: lines of what happens, each with its time."""
+import os
 import sys
 import threading
 import time
 
 # A line that comes again within so many seconds is counted, as far as there are so many lines.
 WHILE, MOST_LINES = 60.0, 1000
+
+
+def reason(wrong, what):
+    """What an error is about, which is its file or else `what`, and why, without Python's own words."""
+    why = os.strerror(wrong.errno) if getattr(wrong, "errno", None) else wrong
+    return f"{getattr(wrong, 'filename', None) or what}: {why}"
 
 
 class Log:

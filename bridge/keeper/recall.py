@@ -22,6 +22,10 @@ class Entry(NamedTuple):
     def messages(self):
         return [message for each in self.asked for message in each.messages]
 
+    def synths(self):
+        """The ids of the synths that it makes."""
+        return [message.arguments[1] for message in self.messages() if message.address == "/s_new"]
+
 
 class Recall:
     """Follows what a server is sent and what it notifies of. Bundles wait here, too, until their time has passed."""
@@ -29,6 +33,8 @@ class Recall:
     def __init__(self, now, memory):
         """`now` gives the time as a time tag; the server has `memory` words."""
         self.now, self.waiting, self.count = now, [], 0
+        # Of each synth that a bundle that waits makes, where that bundle stands: its time, and its number.
+        self.makers = {}
         self.definitions, self.buffers, self.buses = Definitions(), Buffers(memory), Buses()
         self.tree = Tree(self.definitions)
 
@@ -40,15 +46,31 @@ class Recall:
             self.follow(entry.messages())
         elif len(self.waiting) < MOST_WAITING:
             self.count += 1
-            heapq.heappush(self.waiting, (seconds_between(0, entry.tag), self.count, entry))
+            place = seconds_between(0, entry.tag), self.count
+            heapq.heappush(self.waiting, (*place, entry))
+            self.makers.update((number, place) for number in entry.synths())
 
     def pass_on(self):
         """Follows the bundles whose time has passed, and answers how many they are."""
         count, now = 0, self.now()
         while self.waiting and seconds_between(now, self.waiting[0][-1].tag) <= 0:
-            self.follow(heapq.heappop(self.waiting)[-1].messages())
+            self.follow_first()
             count += 1
         return count
+
+    def pass_to(self, number):
+        """A synth started. If a bundle that waits makes it, that one has acted, and so have those before it."""
+        place = None if number in self.tree.asked else self.makers.get(number)
+        while place and self.waiting and self.waiting[0][:2] <= place:
+            self.follow_first()
+
+    def follow_first(self):
+        """The first bundle that waits has acted."""
+        *place, entry = heapq.heappop(self.waiting)
+        for number in entry.synths():
+            if self.makers.get(number) == tuple(place):
+                del self.makers[number]
+        self.follow(entry.messages())
 
     def follow(self, messages):
         """Messages have acted."""
@@ -57,17 +79,19 @@ class Recall:
             if part:
                 act(getattr(self, part), *flat(message.arguments))
             elif message.address == "/clearSched":
-                self.waiting.clear()
+                self.take_waiting()
 
     def hear(self, message):
         """A server has sent a notification."""
+        if message.address == "/n_go":
+            self.pass_to(message.arguments[0])
         act = HEARD.get(message.address)
         if act:
             act(self.tree, *message.arguments)
 
     def take_waiting(self):
         """The bundles whose time hasn't come, the first one first. They are forgotten here."""
-        found, self.waiting = [entry for *_, entry in sorted(self.waiting)], []
+        found, self.waiting, self.makers = [entry for *_, entry in sorted(self.waiting)], [], {}
         return found
 
     def restored(self, with_synths):

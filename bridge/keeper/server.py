@@ -8,6 +8,7 @@ import time
 from converter import osc
 from converter.osc import Bundle, Message
 
+from .log import reason
 from .sinks import BLOCK, small_pipe, standing
 from .timing import SECOND, tag_of
 
@@ -66,7 +67,7 @@ class Server:
             self.link = connected(port, self.program)
         except (OSError, NoServer) as wrong:
             self.stop(0)
-            raise NoServer(str(wrong)) from None
+            raise NoServer(str(wrong) if isinstance(wrong, NoServer) else reason(wrong, words[0])) from None
         finally:
             os.close(writing)
 

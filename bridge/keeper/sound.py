@@ -5,6 +5,7 @@ import select
 import threading
 import time
 
+from .log import reason
 from .sinks import BLOCK, PIPE, Nothing, Player
 
 # Seconds after which a player that takes nothing counts as stuck: one that plays, and one that was just started.
@@ -22,8 +23,8 @@ class Sound:
 
     def __init__(self, settings, frames, report):
         """`settings` has `rate`, `wide`, `player`, `file` and `store`, bytes that may stand here; `report` takes a line
-        of the log. `hears` may be what looks at the sound."""
-        self.settings, self.frames, self.report, self.hears = settings, frames, report, None
+        of the log. `hears` is what looks at the sound."""
+        self.settings, self.frames, self.report, self.hears = settings, frames, report, []
         self.lock, self.is_over = threading.Lock(), threading.Event()
         self.store, self.passed, self.restarts = bytearray(), 0, 0
         self.source = self.sink = self.thread = None
@@ -106,8 +107,8 @@ class Sound:
     def take_in(self, wanted):
         """Takes what the server's pipe has; it answers False at the end of the sound."""
         data = os.read(self.source, wanted)
-        if self.hears:
-            self.hears(data)
+        for hear in self.hears:
+            hear(data)
         self.store += data
         self.count_late()
         return bool(data)
@@ -178,7 +179,7 @@ class Sound:
             self.change_sink(Player(self.settings.player))
             self.report(f"the player was started: {self.settings.player}")
         except (OSError, ValueError) as wrong:
-            self.put_off(now, f"can't be started: {wrong}")
+            self.put_off(now, f"can't be started: {reason(wrong, self.settings.player)}")
 
     def put_off(self, now, why):
         """The player is started after a while."""

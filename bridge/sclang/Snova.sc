@@ -53,6 +53,15 @@ Snova : Server {
 
     disconnectSharedMemory {}
 
+    // What runs at the port already, as a service does, is played, and isn't ended with sclang.
+    prPingApp { |func, onFailure, timeout = 3|
+        super.prPingApp({
+            "A session runs at port % already. It is played, and no other is started.".format(addr.port).postln;
+            sendQuit = false;
+            statusWatcher.startAliveThread
+        }, onFailure, timeout)
+    }
+
     bootServerApp { |onComplete|
         var live = this.class.top +/+ "bridge/live.py";
         var command = ["exec python3", live.shellQuote] ++ this.words.collect(_.shellQuote);

@@ -39,6 +39,8 @@ PATIENCE, MOST_STARTS = 60, 20
 RANDOM = ("Noise", "Dust", "Rand", "rand", "Gendy", "CoinGate", "Dwhite", "Dbrown", "Dshuf", "Vibrato", "PitchShift")
 # The frames of a block, and the mean square of samples of 16 bits that is silence: -60 dB.
 BLOCK, QUIET = 64, 1e-6 * 2**30
+# What scsynth writes for what is no number, and the ids of nodes that play: noise that is silent by chance plays again.
+NO_NUMBER, NODES = -2**15, (1000, 1001, 1002)
 NEAR = (lambda heard: math.isinf(heard.level), lambda heard: abs(heard.level) <= 1,
         lambda heard: heard.correlation > 0.99, lambda heard: heard.correlation > 0.9)
 
@@ -229,9 +231,9 @@ class Sounds(NamedTuple):
     correlation: float
 
 
-def score(name, data):
+def score(name, data, node=NODES[0]):
     """A score of one synth: one second of it."""
-    messages = [osc.Message("/d_recv", [data]), osc.Message("/s_new", [name, 1000, 0, 0])]
+    messages = [osc.Message("/d_recv", [data]), osc.Message("/s_new", [name, node, 0, 0])]
     packets = [osc.Bundle(0, messages), osc.Bundle(1 << 32, [osc.Message("/c_set", [0, 0])])]
     return b"".join(osc.sized(osc.encoded(each)) for each in packets)
 
@@ -248,14 +250,18 @@ def by_scsynth(case, cache):
     if not target.exists():
         source.write_bytes(score(case.source.name, (cache / f"{case.number}.scsyndef").read_bytes()))
         command = ["scsynth", "-N", source, "_", target, str(sounds.RATE), "WAV", "int16", "-o", "2", "-V", "-1"]
-        subprocess.run(command, check=True, timeout=PATIENCE, stdout=subprocess.DEVNULL, stderr=subprocess.DEVNULL)
+        try:
+            subprocess.run(command, check=True, timeout=PATIENCE, stdout=subprocess.DEVNULL, stderr=subprocess.DEVNULL)
+        except subprocess.SubprocessError:
+            target.unlink(missing_ok=True)
+            raise
         source.unlink()
     return read(target)
 
 
-def by_snova(case, program, folder):
+def by_snova(case, program, folder, node):
     """The sound here."""
-    (folder / "here.osc").write_bytes(score(case.converted.name, case.converted.text.encode()))
+    (folder / "here.osc").write_bytes(score(case.converted.name, case.converted.text.encode(), node))
     command = [program, "render", *(folder / f"here.{end}" for end in ("osc", "wav", "replies"))]
     subprocess.run(command, check=True, timeout=PATIENCE, stdout=subprocess.DEVNULL)
     replies, _ = osc.whole_packets((folder / "here.replies").read_bytes())
@@ -270,9 +276,10 @@ def product(a, b):
 
 
 def compared(there, here):
-    """How two sounds lie to each other in the first second after the first block, or None if there is silence there."""
+    """How two sounds lie to each other in the first second after the first block, or None if nothing sounds there."""
     there, here = ([channel[BLOCK:sounds.RATE] for channel in sound] for sound in (there, here))
-    if max(product(each, each) / len(each) for each in there) < QUIET:
+    there_too = [each for each in there if set(each) != {NO_NUMBER}]
+    if max((product(each, each) / len(each) for each in there_too), default=0) < QUIET:
         return None
     own, other, both = (sum(map(product, a, b)) for a, b in ((there, there), (here, here), (there, here)))
     if other == 0:
@@ -285,7 +292,10 @@ def hear(case, program, cache):
     try:
         there = by_scsynth(case, cache)
         with tempfile.TemporaryDirectory() as folder:
-            case.sounds = compared(there, by_snova(case, program, Path(folder)))
+            for node in NODES:
+                case.sounds = compared(there, by_snova(case, program, Path(folder), node))
+                if not case.sounds or case.sounds.level > -math.inf or not case.is_random():
+                    break
     except (Fault, subprocess.SubprocessError) as fault:
         case.fault = str(fault)
 

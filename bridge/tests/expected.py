@@ -68,7 +68,11 @@ COMMANDS = [
     (["/s_new", "counts", 1003, 3, 1000.0], [["/s_new", "counts", 1003, 3, 1000]]),
     (["/n_free", 1000], [["/n_free", 1000]]),
     (["/d_free", "a-chord"], [["/d_free", "a_chord"]]),
-    (["/b_close", 1], "/b_close 1: nothing is played from or recorded to a disk here"),
+    (["/b_close", 1], []),
+    (["/b_write", 1, "/tmp/none", "wav", "int16", 0, 0, 1],
+     "/b_write 1: a file is recorded only if live.py starts snova itself (docs/INSTALLATION.md)"),
+    (["/s_newargs", "tone", 1010, 0, 1, "freq", 2, 330.0, 0.5],
+     [["/s_new", "tone", 1010, 0, 1, "freq", 330000, 2, ONE // 2]]),
     (["/dumpOSC", 1], []),
     ([9, "tone", 1004, 0, 1, "freq", 220.5], [["/s_new", "tone", 1004, 0, 1, "freq", 220500]]),
     ([15, 1004, "freq", 110], [["/n_set", 1004, "freq", 110000]]),
@@ -92,6 +96,14 @@ COMMANDS = [
     ([28, 3, 8, 1, 0], [["/b_alloc", 3, 8, 1]]),
     ([28, 3, 8, b"\0\0\0/,i\0\0\0\0\0\3"], [["/b_alloc", 3, 8, 1], ["/b_query", 3]]),
     ([300, 1], "300 1: there is no such command"),
+    (["/s_noid", 1002, 4711], []),
+    (["/n_set", 1002, "amp", 0.5], "/n_set 1002: node 1002 has the id -16 since /s_noid"),
+    (["/n_free", -16], [["/n_free", 1002]]),
+    (["/s_new", "tone", 1002, 0, 1], [["/s_new", "tone", (1 << 30) + 2, 0, 1]]),
+    (["/n_set", 1002, "amp", 0.5], [["/n_set", (1 << 30) + 2, "amp", ONE // 2]]),
+    (["/s_noid", -1, 1], []),
+    (["/s_new", "tone", 1002, 0, 1], [["/s_new", "tone", (1 << 30) + 3, 0, 1]]),
+    (["/n_run", 1002, 0, -24, 1], [["/n_run", (1 << 30) + 3, 0], ["/n_run", (1 << 30) + 2, 1]]),
     (["/g_deepFree", [1]], "/g_deepFree: an array is no number"),
     (["/n_free", 1e20], "/n_free: 1e+20 doesn't fit into 32 bits"),
     (["/n_set", 1002, "amp", float("nan")], "/n_set 1002: nan is no number"),
@@ -166,6 +178,22 @@ TREE_COMMANDS = [
     ([45, 1000, "freqs", 2, 2, 1], [["/n_setn", 1000, "freqs", 2, 110.0, 220.0, 2, 1, 300.0]]),
 ]
 
+# What a client sends that gives an id back, and what it is told; and the server's tree after the second synth.
+RELEASED_TREE = {"/g_queryTree": Message("/g_queryTree.reply", [0, 0, 2, 1 << 30, -1, "tone", 1000, -1, "tone"]),
+                 "/n_query": Message("/n_info", [1 << 30, 0, -1, 1000, 0])}
+RELEASED = [
+    (["/s_new", "tone", 1000, 0, 0], [["/n_go", 1000, 0, -1, -1, 0]]),
+    (["/s_noid", 1000], []),
+    (["/n_set", 1000, "amp", 0.5], [["/fail", "/n_set", "node 1000 has the id -16 since /s_noid"]]),
+    (["/s_new", "tone", 1000, 0, 0], [["/n_go", 1000, 0, -1, -1, 0]]),
+    (["/s_new", "tone", 1000, 0, 0], [["/fail", "/s_new", "id in use"]]),
+    (["/g_queryTree", 0, 0], [["/g_queryTree.reply", 0, 0, 2, 1000, -1, "tone", -16, -1, "tone"]]),
+    (["/n_query", 1000], [["/n_info", 1000, 0, -1, -16, 0]]),
+    (["/n_free", -16], [["/n_end", -16, 0, -1, -1, 0]]),
+    (["/n_free", 1000], [["/n_end", 1000, 0, -1, -1, 0]]),
+    (["/s_new", "tone", 1000, 0, 0], [["/n_go", 1000, 0, -1, -1, 0]]),
+]
+
 # Scores whose begin is compared with that of scsynth, and how far they may lie apart in decibels. What has a sine in
 # it is bound by the formula of the sine here; an envelope there begins a frame after its begin.
 SOUNDS = {
@@ -179,5 +207,6 @@ SOUNDS = {
 # for a block, and what jumps does so a frame later.
 FURTHER_SOUNDS = {
     "sweeps": -38, "resonances": -30, "quotients": -47, "exponents": -80, "bent": -85, "followers": -30, "limits": -17,
-    "harmonics": -20,
+    "harmonics": -20, "between": -70, "echoes": -64, "string": -24, "room": -50, "hall": -22, "sums": -75, "ladder": -30,
+    "blips": -55, "edges": -39, "reading": -70, "played": -20, "tables": -75,
 }

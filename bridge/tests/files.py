@@ -3,6 +3,8 @@ import contextlib
 import io
 import math
 import struct
+import subprocess
+import sys
 import tempfile
 from pathlib import Path
 
@@ -15,6 +17,7 @@ from converter.replies import back
 from converter.session import Session
 
 DATA = Path(__file__).resolve().parent / "data"
+CONVERT = DATA.parent.parent / "convert.py"
 ONE = 1 << 24
 
 
@@ -165,10 +168,10 @@ def parts():
             (["/b_readChannel", 1, path, 0, -1, 0, 0, 1], "steps: 1 channels are read, and the buffer has 2"),
             (["/b_read", 1, path, 4], "steps: it has 4 frames, and none is read from 4 on"),
             (["/b_read", 1, path, 0, 1, 4], "/b_read 1: the buffer has 4 frames, and no frame 4"),
-            (["/b_read", 1, path, 0, 1, 0, 1], "/b_read 1: nothing is played from or recorded to a disk here"),
+            (["/b_read", 1, path, 0, 1, 0, 1],
+             "/b_read 1: nothing is played from a disk here, and no file stays open to be read"),
             (["/b_read", 2, path], "/b_read 2: no buffer 2 was made"),
-            (["/b_write", 1, path, "wav", "int16"],
-             "/b_write 1: a score is rendered to its sound alone, and no buffer is written"),
+            (["/b_write", 1, path, "wav", "int16"], [["/b_getn", 1, 0, 8]]),
         ]
         for there, wanted in cases:
             yield from compare(there, wanted, played.sent(*there))
@@ -251,6 +254,28 @@ def written():
                 found = soundfiles.read(target)
                 yield from compare(f"{kind} {coding}", (44100.0, 2, values),
                                    (found.rate, found.channels, [each / found.full for each in found.samples]))
+
+
+def of_score():
+    """A file that a score writes is made of the replies to its rendering, in which others ask for samples too."""
+    with tempfile.TemporaryDirectory() as name:
+        folder, values = Path(name), [0.5, -0.25, 0.0, 0.125]
+        target = folder / "out.wav"
+        there = [["/b_alloc", 1, 4], ["/b_setn", 1, 0, 4, *values], ["/b_getn", 1, 0, 2],
+                 ["/b_write", 1, str(target), "wav", "int16", 2, 1]]
+        score = osc.Bundle(0, [Message(each[0], each[1:]) for each in there])
+        (folder / "in.osc").write_bytes(osc.sized(osc.encoded(score)))
+        runs = [Message("/b_setn", [1, 0, 2, HALF, -ONE // 4]), Message("/done", ["/b_alloc", 1]),
+                Message("/b_setn", [1, 1, 2, -ONE // 4, 0])]
+        wanted = soundfiles.written(("wav", "int16"), 1, sounds.RATE, values[1:3])
+        for count, status in ((2, 1), (3, 0)):
+            replies = b"".join(osc.sized(osc.encoded(each)) for each in runs[:count])
+            (folder / "replies").write_bytes(replies)
+            words = ["--replies", folder / "replies", folder / "in.osc", folder / "out.osc"]
+            done = subprocess.run([sys.executable, CONVERT, *words], capture_output=True, text=True)
+            yield from compare(f"the status with {count} replies", status, done.returncode)
+            yield from compare(f"the file with {count} replies", not status, target.exists())
+        yield from compare("the file of a score", wanted, target.read_bytes())
 
 
 def filled():
@@ -343,4 +368,4 @@ def long_runs():
         yield from compare("their sizes", True, all(len(osc.encoded(osc.Bundle(1, [each]))) < 65537 for each in made))
 
 
-CHECKS = [forms, parts, variants, answers, written, filled, filling, asking, long_runs]
+CHECKS = [forms, parts, variants, answers, written, of_score, filled, filling, asking, long_runs]

@@ -4,7 +4,7 @@
     python3 bridge/tests/help_scores.py [--why] [--keep FOLDER] [--snova PROGRAM]
 
 It is run by hand, where Debian's `supercollider-language` is installed. sclang runs the code of each help file with a
-Score, and what it would render is kept. With a program, each score that converts whole is rendered too.
+Score, and what it would render, write or play is kept. With a program, each score that converts whole is rendered too.
 """
 import argparse
 import os
@@ -20,6 +20,15 @@ HELP = Path("/usr/share/SuperCollider/HelpSource")
 HERE = Path(__file__).resolve().parent
 CONVERT = HERE.parent / "convert.py"
 MADE = re.compile(r"\bScore\b|\basScore\b|\.render\b")
+# What else makes a score, and how it is kept: what is written or played, and what is rendered in a comment.
+RENDERED = 'recordNRT(outputFilePath: "/dev/null");'
+OTHERWISE = [
+    (re.compile(r"^Score\.writeFromFile\(([^,]*),.*$", re.M), rf"Score.newFromFile(\1).{RENDERED}"),
+    (re.compile(r"^z\.play;\n\n", re.M), f"z.{RENDERED}\n\n"),
+    (re.compile(r"^ *([abc])\.play;? *$", re.M), ""),
+    (re.compile(r"^// *([abc])\.render\((.*)$", re.M), r"\1.render(\2"),
+    (re.compile(r"\.add; *//use \.store.*"), ".store;"),
+]
 # Where sclang stores definitions, in its home.
 STORED = ".local/share/SuperCollider/synthdefs"
 # Each score is kept by the number of those before it.
@@ -28,6 +37,8 @@ KEEP = '#!/bin/sh\ncp "$2" "$(dirname "$0")/$(ls "$(dirname "$0")" | grep -c osc
 
 def pieces(code):
     """What is run at once of a code block: what stands in brackets from a line's start on, and each other line."""
+    for written, kept_so in OTHERWISE:
+        code = written.sub(kept_so, code)
     closing, at, found = dict(brackets(code)), 0, []
     while at < len(code):
         end = closing[at] + 1 if code[at] == "(" and at in closing else code.find("\n", at) % (len(code) + 1)

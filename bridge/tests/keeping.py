@@ -3,8 +3,13 @@
 
     python3 bridge/tests/keeping.py
 """
+import contextlib
+import io
+import os
+import signal
 import socket
 import sys
+import tempfile
 import threading
 
 import sounds
@@ -14,7 +19,10 @@ from converter import osc
 from converter.gateway import Gateway
 from converter.live import Live
 from converter.osc import Bundle, Message
+from keeper.keeping import Keeper, keep
+from keeper.log import reason
 from keeper.recall import Recall
+from keeper.sinks import Player
 from keeper.settings import BadSetting, settings
 from keeper.timing import SECOND, Frames, ServerTime, seconds_between, tag_of
 
@@ -167,6 +175,20 @@ def waiting():
     yield from compare("what was dropped", [], found.take_waiting())
 
 
+def early():
+    """A synth that starts before its bundle's time by the keeper's clock is known, and forgotten when it ends."""
+    found = Recall(lambda: NOW, MEMORY)
+    for at, message in enumerate([("/c_set", 1, 4), ("/s_new", "tone", 1000, 0, 0), ("/c_set", 1, 5)]):
+        found.sent(THEN + at, None, [Asked(message)], False, [])
+    found.hear(Message("/n_go", [1000, 0, -1, -1, 0]))
+    yield from compare("the synth that started", "tone", found.tree.synths[1000].definition)
+    yield from compare("the bus that was set before it", {1: 4}, found.buses.values)
+    found.hear(Message("/n_end", [1000, 0, -1, -1, 0]))
+    kept = found.tree.asked, found.tree.synths, found.tree.parents, found.makers
+    yield from compare("what is kept of it", ({}, {}, {}, {}), kept)
+    yield from compare("what still waits", [THEN + 2], [each.tag for each in found.take_waiting()])
+
+
 def loss():
     """When the server is lost, who waits for nothing of it is answered, and a bundle that waits is asked again."""
     opened, _ = gateway()
@@ -201,8 +223,52 @@ def words():
             pass
 
 
-CHECKS = [clock, first_seconds, comings, registrations, restored, arrays, waiting, loss,
-          words]
+def cannot_start():
+    """What can't be had is named: a port, the log or the player."""
+    with socket.socket(socket.AF_INET, socket.SOCK_DGRAM) as taken:
+        taken.bind(("127.0.0.1", 0))
+        port, program = taken.getsockname()[1], f"snova={sys.executable}"
+        for word, wanted in (("log=/nowhere/log", "/nowhere/log: No such file or directory"),
+                             ("clients=8", f"port {port}: Address already in use")):
+            with contextlib.redirect_stderr(io.StringIO()) as told:
+                status = keep(settings([f"port={port}", program, word]))
+            yield from compare(word, (2, wanted + "\n"), (status, told.getvalue()))
+    for command, wanted in (("/nowhere/aplay -q", "/nowhere/aplay: No such file or directory"),
+                            ('aplay "-q', 'aplay "-q: No closing quotation')):
+        try:
+            Player(command)
+            yield f"{command} is started"
+        except (OSError, ValueError) as wrong:
+            yield from compare(command, wanted, reason(wrong, command))
+
+
+def ended_twice():
+    """A second signal doesn't break in while a keeper ends."""
+    before = {number: signal.getsignal(number) for number in (signal.SIGINT, signal.SIGTERM)}
+    with tempfile.TemporaryDirectory() as folder:
+        log = os.path.join(folder, "log")
+        given = settings([f"log={log}"])
+        given.port = 0
+        keeper = Keeper(given)
+        for number in before:
+            signal.signal(number, signal.default_int_handler)
+        keeper.sound.stop = lambda: [os.kill(os.getpid(), number) for number in before]
+        try:
+            keeper.close()
+        except KeyboardInterrupt:
+            yield "a second signal broke in"
+        finally:
+            for number, handler in before.items():
+                signal.signal(number, handler)
+            keeper.datagrams.close()
+            keeper.listener.close()
+            keeper.log.file.close()
+        with open(log, encoding="utf-8") as file:
+            yield from compare("the log", ["the session has ended"], [line[20:].strip() for line in file])
+
+
+CHECKS = [clock, first_seconds, comings, registrations, restored, arrays, waiting, early, loss,
+          words, cannot_start, ended_twice]
 
 
 def main():

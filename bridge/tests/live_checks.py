@@ -7,7 +7,7 @@ import struct
 import threading
 
 import sounds
-from expected import AFTER_HANDSHAKE, HANDSHAKE, LIVE, TREE, TREE_COMMANDS
+from expected import AFTER_HANDSHAKE, HANDSHAKE, LIVE, RELEASED, RELEASED_TREE, TREE, TREE_COMMANDS
 from stand import Client, gateway
 
 import live
@@ -80,6 +80,21 @@ def clients():
     opened.take(third, osc.encoded(Message("/n_free", [5])))
     counts = [len(each.taken()) for each in (first, second, third)]
     yield from compare("who hears of an end", [1, 0, 1], counts)
+
+
+def released():
+    """After /s_noid the id is free for another synth, and each is told of by its own id until it ends."""
+    opened, server = gateway()
+    client = Client()
+    quietly(lambda: opened.take(client, osc.encoded(Message("/d_recv", [SINE.read_bytes()]))))
+    opened.take(client, osc.encoded(Message("/notify", [1])))
+    client.taken()
+    for there, wanted in RELEASED:
+        quietly(lambda: opened.take(client, osc.encoded(Message(there[0], there[1:]))))
+        yield from compare(there, wanted, [[each.address, *each.arguments] for each in replies_of(client)])
+        server.tree = RELEASED_TREE
+    ids = opened.session.nodes.ids
+    yield from compare("what is kept of ids", [{}, {}], [ids.here, ids.there])
 
 
 def unasked():
@@ -215,4 +230,4 @@ def over_sockets():
         yield from compare(there, wanted, found)
 
 
-CHECKS = [handshake, tree, clients, unasked, damage, night, over_sockets]
+CHECKS = [handshake, tree, clients, released, unasked, damage, night, over_sockets]

@@ -1,5 +1,5 @@
 #!/usr/bin/env python3
-"""Writes the table of SuperCollider's unit generators and the operators into docs/FROM-SUPERCOLLIDER.md, and what needs
+"""Writes the table of SuperCollider's unit generators and the operators into bridge/FROM-SUPERCOLLIDER.md, and what needs
 the units that the server has got last into bridge/README.md. `run.py` compares them.
 
     python3 bridge/tests/page.py
@@ -88,7 +88,7 @@ def with_table(text, head, lines):
 
 
 def main():
-    path = TOP / "docs/FROM-SUPERCOLLIDER.md"
+    path = TOP / "bridge/FROM-SUPERCOLLIDER.md"
     text = with_table(path.read_text(), HEAD[0], table()[0])
     for unit, names in operators():
         text = re.sub(rf"^\| {unit} \| [^|]* \|", f"| {unit} | {names} |", text, flags=re.M)

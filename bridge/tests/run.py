@@ -5,23 +5,24 @@
 """
 import contextlib
 import re
-import struct
 import subprocess
 import sys
 import tempfile
 from pathlib import Path
 
 import files
+import hearing
 import keeping
 import live_checks
 import page
 import sounds
 import window
+from binary import version_1
 from expected import BY_NUMBER, COMMANDS, FURTHER_SOUNDS, NUMBERED, REFUSED, REPLIES, SOUNDS
 
 import convert
 import definitions as model_definitions
-from converter import further, osc, scgf
+from converter import further, osc, scgf, shorter
 from converter.definitions import CONTROLS, OPERATORS, Definition
 from converter.osc import Message
 from converter.replies import back
@@ -114,6 +115,31 @@ def units_here():
     yield from compare("units that aren't here", set(), further.HERE - set(model_definitions.UNITS))
 
 
+# Lines that are shortened, and what they become. `n` has whole numbers.
+LONG = """a = Mul x 0.5|b = MulAdd a 0.5 0.25|c = Mul b y|d = Add z c|e = Mul z -1.0|f = Add d e|g = MulAdd x 2.0 -2.0
+h = Exp2 g|i = Mul h 0.5|n = MulAdd x 3 0|o = Mul n 64.0|p = Line 0.0 1.0 9 2|q = Line 0.0 1.0 9 2|r = Clip q 0.0 0.5
+Out.ar 0 f i o r"""
+SHORT = """b = MulAdd x 4194304 4194304|d = MulAdd b y z|f = Sub d z|g = MulAdd x 33554432 -50331648|h = Exp2 g
+n = MulAdd x 3 0|o = Mul n 64.0|p = Line 0.0 1.0 9 2|r = Clip p 0.0 0.5|Out.ar 0 f h o r"""
+
+
+def line_of(text):
+    head, _, rest = text.rpartition("= ")
+    unit, *inputs = rest.split()
+    return shorter.Line(unit, inputs, head.split())
+
+
+def shortened():
+    """What takes too many units is said by fewer of them, and whole numbers are still rounded."""
+    found = shorter.shorter([line_of(text) for text in re.split(r"[|\n]", LONG)], {"n"}, 10, None)
+    yield from compare("shortened", re.split(r"[|\n]", SHORT), [line.text() for line in found])
+    begins, notes = ["s = Impulse 0", "d = Delay1 x", "f = MulAdd r s d", "o = Latch f t", "Out.ar 0 o"], []
+    found = shorter.shorter([line_of(text) for text in begins], set(), 3, notes.append)
+    wanted = ["d = Delay1 x", "o = Latch d t", "Out.ar 0 o"]
+    yield from compare("from the middle", wanted, [line.text() for line in found])
+    yield from compare("its note", ["its noise begins in the middle"], notes)
+
+
 def many():
     """A definition with units that can't be converted."""
     a, b, c = (scgf.Source(unit, 0) for unit in range(3))
@@ -163,8 +189,8 @@ def named(page, start, end):
 
 
 def table():
-    """The tables of docs/FROM-SUPERCOLLIDER.md name each unit and each command, and no other, and what is refused."""
-    text_of_page = (sounds.TOP / "docs/FROM-SUPERCOLLIDER.md").read_text()
+    """The tables of bridge/FROM-SUPERCOLLIDER.md name each unit and each command, and no other, and what is refused."""
+    text_of_page = (sounds.TOP / "bridge/FROM-SUPERCOLLIDER.md").read_text()
     units = named(text_of_page, "| Unit there |", "## The commands that the bridge takes")
     yield from compare("the table of units", sorted({*converted(), *CONTROLS, *OPERATORS}), sorted(units))
     commands_there = named(text_of_page, "| Command there |", "## How much of it plays")
@@ -174,8 +200,8 @@ def table():
 
 
 def all_units():
-    """docs/FROM-SUPERCOLLIDER.md has all units of SuperCollider as page.py prints them."""
-    text = (sounds.TOP / "docs/FROM-SUPERCOLLIDER.md").read_text()
+    """bridge/FROM-SUPERCOLLIDER.md has all units of SuperCollider as page.py prints them."""
+    text = (sounds.TOP / "bridge/FROM-SUPERCOLLIDER.md").read_text()
     found, others = page.table()
     yield from compare("units that have no kind", [], page.missing())
     yield from compare("the table of all units", True, "\n".join(found) + "\n\n" in text)
@@ -184,26 +210,6 @@ def all_units():
     read_me = (sounds.TOP / "bridge/README.md").read_text()
     yield from compare("the table of what is needed", True, "\n".join([*page.NEEDED, *page.needing()]) in read_me)
     yield from compare("what sclang writes with others", True, ", ".join(others) + "." in re.sub(r"\s+", " ", text))
-
-
-def text(name):
-    return bytes([len(name)]) + name.encode("latin-1")
-
-
-def version_1(source):
-    """A SynthDef file of version 1, whose counts have 16 bits."""
-    constants = sorted({each for unit in source.units for each in unit.inputs if isinstance(each, float)})
-    data = b"SCgf" + struct.pack(">ih", 1, 1) + text(source.name)
-    data += struct.pack(f">h{len(constants)}f", len(constants), *constants)
-    data += struct.pack(f">h{len(source.controls)}f", len(source.controls), *source.controls)
-    data += struct.pack(">h", len(source.names))
-    data += b"".join(text(name) + struct.pack(">h", at) for name, at in source.names)
-    data += struct.pack(">h", len(source.units))
-    for unit in source.units:
-        data += text(unit.name) + struct.pack(">bhhh", unit.rate, len(unit.inputs), unit.outputs, unit.special)
-        pairs = [(-1, constants.index(each)) if isinstance(each, float) else each for each in unit.inputs]
-        data += b"".join(struct.pack(">hh", *pair) for pair in pairs) + bytes([unit.rate]) * unit.outputs
-    return data + struct.pack(">h", 0)
 
 
 def versions():
@@ -264,6 +270,34 @@ def own_controls():
     yield from compare("own controls", wanted, found)
 
 
+def counted_part():
+    """A part of the frames of a buffer, from which on frames and places between them are read, is one of these."""
+    control, frames, place, at = scgf.Source(0, 0), scgf.Source(1, 0), scgf.Source(2, 0), scgf.Source(3, 0)
+    units = [("Control", scgf.CONTROL, [], 2, 0), ("BufFrames", scgf.SCALAR, [control], 1, 0),
+             ("BinaryOpUGen", scgf.CONTROL, [scgf.Source(0, 1), frames], 1, 2),
+             ("Phasor", scgf.AUDIO, [0.0, 0.5, place, frames, 0.0], 1, 0),
+             ("BufRd", scgf.AUDIO, [control, at, 1.0, 1.0], 1, 0), ("Out", scgf.AUDIO, [0.0, scgf.Source(4, 0)], 0, 0)]
+    found = text_of(scgf.SynthDef("part", [0.0, 0.0], [("bufnum", 0), ("start", 1)], [scgf.Unit(*u) for u in units]))
+    wanted = ["w1 = BufFrames bufnum", "w2 = Mul w1 64.0", "w3 = Mul w2 1073741824", "w4 = Mul start w3",
+              "w5 = Phasor 0.0 2048 w4 w3 0", "w6 = Mul w5 4096", "w7 = BufRd bufnum w6", "Out.ar 0 w7", "end"]
+    yield from compare("a part of the frames", wanted, found.splitlines()[4:])
+
+
+def given_back():
+    """In a score an id that is used again after /s_noid becomes another one, until its synth is freed."""
+    played, source = Session(sounds.RATE), scgf.SynthDef("still", [], [], [])
+    played.messages(Message("/d_recv", [version_1(source)]))
+    sent = [["/s_new", "still", 5, 0, 0], ["/s_noid", 5], ["/s_new", "still", 5, 0, 0], ["/n_run", 5, 0],
+            ["/n_free", 5], ["/s_new", "still", 6, 3, -16], ["/n_free", -16], ["/s_new", "still", 5, 0, 0]]
+    found = [[each.address, *each.arguments] for there in sent
+             for each in played.messages(Message(there[0], there[1:]))]
+    other = 1 << 30
+    wanted = [["/s_new", "still", 5, 0, 0], ["/s_new", "still", other, 0, 0], ["/n_run", other, 0],
+              ["/n_free", other], ["/s_new", "still", 6, 3, 5], ["/n_free", 5], ["/s_new", "still", 5, 0, 0]]
+    yield from compare("an id that is given back", wanted, found)
+    yield from compare("what is refused", [], played.refusals)
+
+
 def packets():
     """What is spelled is read again."""
     message = Message("/a", [1, 0.5, "b", b"cd", [2, "e"]])
@@ -314,8 +348,9 @@ def strictness():
             done = subprocess.run([sys.executable, CONVERT, *words, source, target], capture_output=True, text=True)
             yield from compare(f"status {words}", 1, done.returncode)
             yield from compare(f"written {words}", written, target.exists())
-            first = "refused: /d_recv lowpass: MoogFF.ar: there is no such unit here"
-            yield from compare(f"told {words}", first, done.stderr.splitlines()[0])
+            first = "refused: /d_recv meets: Out.ar: hertz and samples meet"
+            refused = [line for line in done.stderr.splitlines() if line.startswith("refused")]
+            yield from compare(f"reported {words}", first, refused[0])
         last = osc.messages_of(osc.decoded(osc.whole_packets(target.read_bytes())[0][-1]))[-1]
         yield from compare("what is left", Message("/c_set", [0, 8388608]), last)
 
@@ -323,8 +358,9 @@ def strictness():
 # With the units that are here, and without those that the server has got last.
 WITH = [table, all_units, units_here, further_texts, by_sections, without_each, heard, further_sounds,
         random]
-WITHOUT = [numbers, packets, versions, definitions, reasons, reported, commands, own_controls, heard, random,
-           strictness, *files.CHECKS, *live_checks.CHECKS, *keeping.CHECKS, *window.CHECKS]
+WITHOUT = [shortened, numbers, packets, versions, definitions, reasons, reported, commands, own_controls, counted_part,
+           given_back, heard, random, strictness, *files.CHECKS, *live_checks.CHECKS, *keeping.CHECKS, *hearing.CHECKS,
+           *window.CHECKS]
 
 
 def main():

@@ -41,7 +41,7 @@ def turned(path):
     """The stream for `snova` of a score."""
     score = convert.read(path)
     session = Session(RATE, learnt=convert.learnt(score, RATE))
-    packets = convert.turned(score, session, False)
+    packets, _ = convert.turned(score, session, False)
     if session.refusals:
         raise SystemExit(f"{path}: {session.refusals}")
     return b"".join(map(osc.sized, packets))

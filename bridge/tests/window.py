@@ -270,7 +270,7 @@ class Silent:
     """Stands for the sound of a keeper."""
 
     def __init__(self, given):
-        self.settings, self.restarts, self.frames = given, 0, SimpleNamespace(speed=48000.0)
+        self.settings, self.restarts, self.frames, self.hears = given, 0, SimpleNamespace(speed=48000.0), []
 
     def take_late(self):
         return 3, 0.002

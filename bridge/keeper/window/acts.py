@@ -107,10 +107,13 @@ class Acts:
         return [Message("/n_set", [node, control, min(max(round(value), LEAST), MOST)])]
 
     def send(self, visitor, messages, is_raw):
-        sync = Message("/sync", [0])
+        """Sends messages whose first argument, if they have one, is the server's id of a node."""
+        sync, of_client = Message("/sync", [0]), self.gateway.session.nodes.ids.of_client
         if is_raw:
             self.gateway.ask(AT_ONCE, visitor, [Asked(messages, None)])
             messages = []
+        messages = [Message(each.address, [*map(of_client, each.arguments[:1]), *each.arguments[1:]])
+                    for each in messages]
         self.gateway.take(visitor, osc.encoded(Bundle(AT_ONCE, [*messages, sync])))
 
     def hear(self, notices):

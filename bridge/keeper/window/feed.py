@@ -35,7 +35,8 @@ class Feed:
         self.program = self.link = None
         self.token = secrets.token_urlsafe(24)
         self.next = self.next_state = self.next_shape = self.next_start = 0.0
-        keeper.sound.hears, keeper.log.hears = self.tap, self.lines
+        keeper.sound.hears.append(self.tap)
+        keeper.log.hears = self.lines
 
     @property
     def recall(self):

@@ -1,7 +1,7 @@
 """The plan of what plays, as `snova plan` reports it: what each synth uses, what clashes, and the longest chain.
 
-docs/PLANS.md says what counts. It is worked out from the definitions and commands that the server was sent; what units
-do by themselves is known as far as the server notifies of it.
+docs/COMMANDS.md ("Plans") says what counts. It is worked out from the definitions and commands that the server was
+sent; what units do by themselves is known as far as the server notifies of it.
 """
 from collections import Counter
 from typing import NamedTuple
@@ -16,7 +16,8 @@ MOST_LANES, ONE = 4096, 1 << 24
 USES = {
     "In.ar": (AUDIO, False, None), "InFeedback": (AUDIO, False, None), "In.kr": (CONTROL, False, None),
     "Out.ar": (AUDIO, True, 1), "ReplaceOut": (AUDIO, True, 1), "Out.kr": (CONTROL, True, 1),
-    "PlayBuf": (BUFFER, False, None), "BufRd": (BUFFER, False, None), "RecordBuf": (BUFFER, True, None),
+    "PlayBuf": (BUFFER, False, None), "PlayBufL": (BUFFER, False, None), "BufRd": (BUFFER, False, None),
+    "BufRdL": (BUFFER, False, None), "RecordBuf": (BUFFER, True, None),
     "BufWr": (BUFFER, True, None),
 }
 BUSES = (128, 1024)

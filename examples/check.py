@@ -4,8 +4,8 @@
     python3 examples/check.py [--unproved] [NAME..]      some pieces, or all
 
 The ways are the settings without keys, `bits=24` and `rate=96000`, each with one worker and with four. The sums in
-sums.txt are those of a model that shares no code with `snova` (outside/sums.py). --unproved is as in render.py. It
-exits with 1 if a byte differs.
+sums.txt are those of a model that shares no code with `snova` (outside/sums.py). If `snova` isn't built yet, `rt ci`
+proves and builds it first, and --unproved is as in render.py. It exits with 1 if a byte differs.
 """
 import hashlib
 import sys

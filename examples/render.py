@@ -36,7 +36,9 @@ def run_built(words):
 def run(calls, is_proved):
     """The line and the status of each call of `snova`, as it ends."""
     if is_proved:
-        return map(run_built, calls) if is_built() else [("not built", None) for _ in calls]
+        if not is_built():
+            raise SystemExit("`rt ci` failed, so there is no proved snova")
+        return map(run_built, calls)
     print(f"snova is built without a proof now, in two minutes. `rt ci` proves and builds it: {TAKES}", flush=True)
     return unproved.run(calls)
 

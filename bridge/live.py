@@ -9,9 +9,11 @@ Otherwise it listens on PORT of this machine, over UDP and over TCP, and is the 
 SNOVA_PORT, for which it waits. Replies go to the client that asked, and notifications to those that are registered
 (`/notify`); when N are, 8 by default, and one more comes, the one goes that was heard of longest ago. What is refused
 is reported once on standard error, and to the client by `/fail` with the address and the reason; with `--strict` the
-first refusal ends the run with status 1. It ends with status 0 when `snova` has ended after `/quit`.
+first refusal ends the run with status 1. While it runs, sclang finds in /dev/shm the waves that it shows (`s.scope`). It
+ends with status 0 when `snova` has ended after `/quit`.
 """
 import argparse
+import signal
 import sys
 
 from converter.gateway import Gateway
@@ -44,6 +46,7 @@ def main():
             return 2
     given = options()
     gateway = Gateway(given.rate, given.clients, given.strict, given.memory)
+    signal.signal(signal.SIGTERM, signal.default_int_handler)
     try:
         Live(given.port, given.server, gateway).run()
     except OSError as wrong:

@@ -111,12 +111,20 @@ def b_fill(session, buffer, triples):
 
 # What is remembered.
 
+def check_own(session, number):
+    """Refuses a buffer in which a synth keeps the waves that it shows."""
+    if session.scopes and number in session.scopes.shown:
+        raise Refused(f"a scope has the buffer {number}; take one of a lower number")
+
+
 def allocated(session, buffer, frames, channels):
+    check_own(session, buffer)
     session.let_go("buffer", buffer)
     session.buffers[buffer] = Buffer(frames, channels, float(session.rate), [])
 
 
 def given_back(session, buffer):
+    check_own(session, buffer)
     session.let_go("buffer", buffer)
     session.buffers.pop(buffer, None)
 

@@ -2,14 +2,16 @@
 import math
 
 from .controls import CONTROLS, fired, named_controls, plain_name
+from .demand import asked
 from .ends import with_done_actions
 from .filters import lag
 from .graph import Graph, Unknown, Writer
 from .held import pass_on, slid
 from .listeners import listeners
-from .measures import Refused, raw
+from .measures import Refused, TooLong, raw
 from .operators import BINARY, UNARY, operate
 from .scgf import RATES, Source
+from .scopes import UNITS as OF_SCOPES
 from .units import row_of
 
 MOST_CONTROLS = 128
@@ -46,12 +48,16 @@ class Definition:
     """
 
     def __init__(self, synth_def, rate, known=()):
-        self.source, self.graph = synth_def, Graph(rate, known)
+        self.source, self.rate, self.known = synth_def, rate, known
         end = "".join(f"_{each:.0f}" for each in known)[:24]
         self.name = plain_name(synth_def.name)[:31 - len(end)] + end
-        self.controls = named_controls(synth_def)
         self.numbers = dict(synth_def.names)
-        self.text, self.reasons = None, []
+        self.begin()
+
+    def begin(self, sparing=False):
+        """Begins with no units."""
+        self.graph, self.controls = Graph(self.rate, self.known, sparing), named_controls(self.source)
+        self.text, self.reasons, self.too_long = None, [], False
 
     @property
     def refused(self):
@@ -63,7 +69,17 @@ class Definition:
             self.reasons.append(reason)
 
     def build(self):
-        """Builds the units, and joins the measures of what is connected."""
+        """Builds the units, and joins the measures of what is connected; sparingly if they would be too many."""
+        self.build_units()
+        if not self.refused and Writer(self.graph, ()).may_be_too_long():
+            trial = Definition(self.source, self.rate, self.known)
+            trial.build_units()
+            trial.finish()
+            if trial.too_long:
+                self.begin(sparing=True)
+                self.build_units()
+
+    def build_units(self):
         if len(self.controls) > MOST_CONTROLS:
             self.refuse(f"it has {len(self.controls)} controls, and there may be {MOST_CONTROLS}")
         made, self.graph.units = [], with_done_actions(self.source.units, self.note_stand_in)
@@ -90,11 +106,12 @@ class Definition:
             lagged = [lag(self.graph, control, time)[0] for control, time in zip(controls, inputs)]
             return lagged or controls
         if unit.name in OPERATORS:
-            return operate(OPERATORS[unit.name], self.graph, unit.special, inputs)
-        row = row_of(unit.name)
+            return asked(unit, inputs, self.graph, lambda graph, operands:
+                         operate(OPERATORS[unit.name], graph, unit.special, operands))
+        row = OF_SCOPES.get(unit.name) or row_of(unit.name)
         if row is None:
             raise Refused("there is no such unit here")
-        return row.outputs(self.graph, unit, inputs)
+        return asked(unit, inputs, self.graph, lambda graph, operands: row.outputs(graph, unit, operands))
 
     def finish(self):
         """Settles the measures that are open, and writes the text."""
@@ -106,14 +123,15 @@ class Definition:
             heads = [self.head(each) for each in controls]
             lines = writer.lines()
         except Refused as refused:
+            self.too_long = isinstance(refused, TooLong)
             self.refuse(str(refused))
             return
         self.text = "".join(line + "\n" for line in ["snova 1", f"def {self.name}", *heads, *lines, "end"])
 
     def own_controls(self):
-        """The controls that it has here alone, for buses of its synths, with names that aren't taken."""
+        """The controls that it has here alone, for buses and buffers of its synths, with names that aren't taken."""
         taken = {control.name for control in self.controls}
-        for control, _ in self.graph.local.values():
+        for control in [*(control for control, _ in self.graph.local.values()), *self.graph.scopes]:
             control.name = plain_name(control.name, taken)
             taken.add(control.name)
             yield control

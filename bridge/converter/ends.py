@@ -4,12 +4,13 @@ from .scgf import Source
 from .templates import template
 
 # Of units that end, the place of the input that says what happens then.
-DONE_ACTION = {"EnvGen": 4, "Line": 3, "XLine": 3, "Linen": 4, "PlayBuf": 5, "RecordBuf": 7, "DetectSilence": 3}
+DONE_ACTION = {"EnvGen": 4, "Line": 3, "XLine": 3, "Linen": 4, "PlayBuf": 5, "RecordBuf": 7, "DetectSilence": 3,
+               "Duty": 2, "TDuty": 2}
 # What happens as another unit ends, as that unit's own done action.
 WHEN_DONE = {"PauseSelfWhenDone": 1.0, "FreeSelfWhenDone": 2.0}
 
 
-# From this one on done actions free the synth and do something to other nodes too.
+# From this one on done actions free the synth and do something to other nodes too; greater ones do nothing.
 FURTHER, LAST = 3, 15
 
 
@@ -27,6 +28,8 @@ def with_done_actions(units, note):
         elif FURTHER <= done_action(unit) <= LAST:
             note(unit, f"its done action {done_action(unit):g} frees this synth alone")
             found[number] = with_done_action(unit, 2.0)
+        elif done_action(unit) > LAST:
+            found[number] = with_done_action(unit, 0.0)
     return found
 
 

@@ -10,10 +10,12 @@ from typing import NamedTuple, Optional
 
 from .graph import Control, Wire
 from .lines import LINE, LINEN
+from .logarithms import exp_2, log_2
 from .measures import SAMPLE, Refused, Slot
+from .ratios import divided
 from .rows import BLOCK, DELAY_1, GREATER, LATCH, Row
 from .scgf import AUDIO, Source
-from .shapes import LINEAR, Part, Segment, done_of, over
+from .shapes import EXPONENTIAL, LINEAR, Part, Segment, done_of, over
 from .templates import action, constant, template
 
 # How far the ramp of an envelope goes: far, so that a short segment isn't too steep.
@@ -214,6 +216,10 @@ def risen(graph, parts, segments, level):
 
 def rise(graph, part, segment, before, way, sound):
     """A level with one more segment, by its way."""
+    if segment.shape == EXPONENTIAL and isinstance(way, Wire) and part.x is not None and part.low < part.high:
+        ratio = log_2(graph, divided(graph, segment.level, before))
+        level = graph.product(before, exp_2(graph, graph.product(part.line(graph, 0.0, 1.0), ratio)))
+        return graph.sum(sound, graph.sum(level, graph.product(before, -1.0)))
     if segment.is_linear() and part.low < part.high and not isinstance(way, Wire):
         slope = way / (part.high - part.low)
         return graph.product(part.x, slope, graph.sum(sound, -slope * part.low))

@@ -1,6 +1,7 @@
 """The table of commands on sound files, which the bridge reads and writes itself."""
 from . import soundfiles
-from .buffers import NO_STREAMS, Buffer, answered, buffer_of, measure_of, questions, remember, runs
+from .buffers import (NO_STREAMS, Buffer, answered, buffer_of, check_own, measure_of, questions, remember,
+                      runs)
 from .buses import WIDEST
 from .commands import Asked, done_as, turned
 from .measures import Refused
@@ -84,6 +85,7 @@ def put(session, number, begin, values):
 def read_new(address):
     """A buffer is made of a sound file."""
     def turn(session, number, path, start, count, channels=()):
+        check_own(session, number)
         part = Part(path, start, count, channels)
         check_memory(session, number, part)
         session.buffers[number] = Buffer(part.frames, part.width, part.header.rate, None if session.live else [])

@@ -50,7 +50,7 @@ class Gateway:
     is what the server was sent, as far as it still counts. A strict gateway `is_over` at the first refusal.
 
     Where a keeper stands behind it, `times` turns time tags into the server's, `recall` follows what is sent and heard,
-    `ears` hear the sound, and `use` gives the last values of `/status.reply`.
+    `ears` hear the sound, and `use` gives the last values of `/status.reply`. `scopes` show waves.
     """
 
     def __init__(self, rate, most_clients, strict=False, memory=MEMORY):
@@ -58,12 +58,16 @@ class Gateway:
         self.strict, self.is_over = strict, False
         self.next, self.reported, self.waiting, self.holds = 0, set(), deque(), False
         self.times, self.recall, self.ears, self.use = lambda tag: tag, None, None, None
+        self.scopes = None
         self.serve(None)
 
     def serve(self, server):
         """Starts with a server that has nothing yet, or with none."""
         self.session, self.quits = Session(self.rate, memory=self.memory, live=True), False
         self.session.use, self.session.ears = self.use or self.session.use, self.ears
+        self.session.scopes = self.scopes
+        if self.scopes:
+            self.scopes.clear()
         self.go_on(server, [])
 
     def go_on(self, server, messages):

@@ -18,6 +18,9 @@ HALF_TURN = math.pi * 1.001
 LEAK = template("SOS x:sample 1:sample -1:sample 0:sample 0.999:sample 0:sample -> sample")
 IMPULSE = template("Impulse freq:hertz -> sample")
 STRAIGHT = 1e-3
+# So many samples are worked out for what feeds back.
+DEPTH = 16
+HEARS = f"it hears its last {DEPTH - 1} samples, and a feedback up to half a turn"
 
 
 def oscillator(graph, unit, freq, phase, turn, *more):
@@ -42,6 +45,15 @@ def steady_sine(graph, freq, phase):
     if isinstance(freq, Wire):
         graph.note("a frequency that moves changes no level")
     return sine(graph, freq, first(graph, phase))
+
+
+def fed_back(graph, freq, feedback):
+    """A sine whose phase is moved by its last sample, which is worked out from those before it."""
+    found, step = 0.0, math.tau / graph.rate
+    for number in reversed(range(DEPTH)):
+        back = graph.product(freq, -number * step) if number else 0.0
+        found = oscillator(graph, "Sine", freq, graph.sum(graph.product(found, feedback), back), math.tau)
+    return [found]
 
 
 def begun(graph, freq, phase, turn):
@@ -155,6 +167,7 @@ def sines(graph, scale, offset, shape):
 
 UNITS = {
     "SinOsc": Row("freq phase", sine),
+    "SinOscFB": Row("freq feedback", fed_back, needs="Sine", note=HEARS),
     "FSinOsc": Row("freq phase", steady_sine),
     "Klang": Row("scale offset shape*", sines),
     "LFSaw": Row("freq phase", ahead("LFSaw", 2)),

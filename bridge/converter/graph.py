@@ -2,7 +2,7 @@
 import math
 
 from .further import is_absent
-from .measures import FRACTIONS, HERTZ, LOUDEST, SAMPLE, SECONDS, Refused, Slot, fraction_of, raw
+from .measures import FRACTIONS, HERTZ, LOUDEST, SAMPLE, SECONDS, Refused, Slot, TooLong, fraction_of, raw
 from .shorter import Line as Written
 from .shorter import shorter
 
@@ -248,15 +248,16 @@ class Graph:
     """The units of a definition in their order. `origin` is the unit there that is turned into units here.
 
     `asked` are the buffers and controls of which something is asked, each with what it is, and `known` the answers, if
-    they aren't the likely ones.
+    they aren't the likely ones. One that is `sparing` takes fewer units where random numbers may be others for it.
     """
 
-    def __init__(self, rate, known=()):
-        self.rate, self.items, self.origin = rate, [], ""
+    def __init__(self, rate, known=(), sparing=False):
+        self.rate, self.items, self.origin, self.sparing = rate, [], "", sparing
         self.known, self.asked = known, []
         self.notes, self.stand_ins, self.places, self.triggers = [], [], [], {}
         self.start = self.random = self.part = self.block_start = None
-        self.listeners, self.local, self.bends = set(), {}, {}
+        self.noise, self.draws, self.turns = None, 0, {}
+        self.listeners, self.local, self.bends, self.scopes = set(), {}, {}, []
 
     def note(self, text, stand_in=False):
         """Notes that something will sound other than there; a stand-in is counted too."""
@@ -425,18 +426,22 @@ class Writer:
 
     def check_units(self, count, most=MOST_UNITS):
         if count > most:
-            raise Refused(f"it takes {count} units here, and there may be {self.MOST_UNITS}")
+            raise TooLong(f"it takes {count} units here, and there may be {self.MOST_UNITS}")
 
     def check_heard(self):
         """Refuses what is far too long, whatever its measures are: products aside, each item is a line."""
         self.check_units(sum(isinstance(item, Line) for item in self.heard()), self.MOST_TRIED)
+
+    def may_be_too_long(self):
+        """Whether it has more items than there may be units."""
+        return sum(1 for _ in self.heard()) > self.MOST_UNITS
 
     def lines(self):
         for item in self.heard():
             self.graph.with_origin(item, lambda: self.item_lines(item))
         lines, self.graph.origin = self.written_lines, "shortened"
         if len(lines) > self.MOST_UNITS:
-            lines = shorter(lines, self.whole, self.MOST_UNITS, self.graph.note)
+            lines = shorter(lines, self.whole, self.MOST_UNITS, self.graph.note, self.graph.sparing)
         self.check_units(len(lines))
         wires = sum(len(line.outputs) for line in lines)
         if wires > self.MOST_WIRES:

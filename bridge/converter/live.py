@@ -4,6 +4,7 @@ import selectors
 import socket
 
 from .links import READ, Address, Stream
+from .showing import Scopes
 
 HOST = "127.0.0.1"
 # So many bytes may wait for the server: more than the samples of the longest sound file take.
@@ -39,6 +40,7 @@ class Live:
 
     def __init__(self, port, server_port, gateway):
         self.gateway, self.server_port, self.server, self.is_over = gateway, server_port, None, False
+        self.scopes = gateway.scopes = Scopes()
         self.ready = selectors.DefaultSelector()
         self.datagrams, self.listener = both(port)
         self.port = self.datagrams.getsockname()[1]
@@ -47,11 +49,16 @@ class Live:
 
     def run(self):
         """Passes packets on until the server has quit."""
-        while not self.is_over and not self.gateway.is_over:
-            if self.server is None:
-                self.look()
-            for key, events in self.ready.select(LOOKS if self.server is None else None):
-                key.data(events)
+        self.scopes.open(self.port)
+        try:
+            while not self.is_over and not self.gateway.is_over:
+                if self.server is None:
+                    self.look()
+                for key, events in self.ready.select(LOOKS if self.server is None else self.scopes.wait()):
+                    key.data(events)
+                self.scopes.look(self.gateway)
+        finally:
+            self.scopes.close()
 
     def look(self):
         """Looks for the server."""

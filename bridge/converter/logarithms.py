@@ -4,8 +4,8 @@ import math
 from .graph import Wire
 from .lines import LINE
 from .measures import HERTZ, SAMPLE, Refused
-from .ratios import RATIO, divided, in_hertz, in_samples, likely, side
-from .rows import GREATER, LESSER, SIZE, Row, first
+from .ratios import RATIO, below, divided, in_hertz, in_samples, likely, side
+from .rows import GREATER, LESSER, SIZE, Row, first, start
 from .templates import constant, template
 
 EXP_2, LOG_2 = template("Exp2 x:sample -> sample"), template("Log2 x:sample -> sample")
@@ -172,7 +172,20 @@ def compensated_by_ear(graph, freq, root, least, root_level):
     return [in_parts(graph, whole, -scale, scale + offset)]
 
 
+def masked(graph, x, bits):
+    """x without what is finer than so many bits after its first one."""
+    if not isinstance(x, Wire):
+        x = graph.product(start(graph), 0.0, x)
+    size, = SIZE(graph, x=in_samples(graph, x))
+    height = log_2(graph, size)
+    step = exp_2(graph, graph.sum(graph.sum(height, graph.product(below(graph, height, 1.0), -1.0)),
+                                  graph.product(bits, -1.0)))
+    whole = graph.sum(size, graph.product(below(graph, size, step), -1.0))
+    return [graph.product(whole, side(graph, x))]
+
+
 UNITS = {
+    "MantissaMask": Row("x bits", masked, needs="Exp2 Log2 Mod"),
     "XLine": Row("start end dur done", line, needs="Exp2 Log2 Div"),
     "LinExp": Row("x low high start end", by_ratios, needs="Exp2 Log2 Div"),
     "AmpComp": Row("freq root exponent", compensated, needs="Exp2 Log2 Div"),

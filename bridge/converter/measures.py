@@ -15,6 +15,10 @@ class Lacking(Refused):
         self.definition = definition
 
 
+class TooLong(Refused):
+    """A definition takes more units than there may be."""
+
+
 class Measure(NamedTuple):
     """A unit of measure: 1.0 there is `scale` here. A measure of a circle wraps at 2^32."""
 

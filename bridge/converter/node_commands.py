@@ -109,9 +109,11 @@ def s_new(session, name, given, action, target, pairs):
     node.taps = session.taps.get(name, ())
     check_taps(session, node)
     again = session.link(node)
+    private = found.private(session.private_buses)
+    if scopes := session.waves.get(name):
+        private += session.scopes.take(session, node, scopes)
     session.nodes.add(node, action, target)
     session.tally.played += 1
-    private = found.private(session.private_buses)
     made = Message("/s_new", [found.name, number, action, target, *sets, *private])
     return [*again, made, *mapped(session, number, maps)]
 

@@ -117,6 +117,10 @@ class Nodes:
         below = [found] if found.definition else [self.by_id[each] for each in self.below(number)]
         return [each for each in below if each.definition]
 
+    def has(self, node):
+        """Whether a node is there, or is to come."""
+        return any(each is node for each in self.versions(node.number))
+
     # What the server says.
 
     def versions(self, number):

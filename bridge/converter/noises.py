@@ -4,14 +4,18 @@ import math
 from .generators import IMPULSE, oscillator, ramp
 from .graph import Wire
 from .held import hold
+from .logarithms import in_parts
 from .random_numbers import NOISE, drawn_at, number
 from .ratios import in_hertz
-from .rows import BLOCK, DELAY_1, DIFFERENCE, LATCH, MORE, SUMMING, Row, start
+from .rows import BLOCK, DELAY_1, DIFFERENCE, LATCH, LESS, MORE, SUMMING, Row, start
 from .scgf import AUDIO
 from .templates import template
 
 INTEGRATOR = template("Integrator x:sample c:sample -> sample")
 OTHER = "its noise is another one"
+# What goes from 0 to 1 by a step each frame; and the frequency from which on such steps are fine enough.
+PARTS = template("Phasor 0:any step:sample 0:sample 1:sample 0:sample -> sample")
+FAST = 5.0
 CUBIC_LEVEL, EIGHTH = 0.8, math.sqrt(1 / 8)
 # Each bit of a GrayNoise flips as one of 31 is chosen: so fast it forgets.
 GRAY = 1 - 2 / 31
@@ -65,6 +69,29 @@ def dust(both):
     return build
 
 
+def in_turns(graph, freq):
+    """What goes from 0 to 1 in each turn, and what rises as a turn begins, of as few units as there may be."""
+    if freq not in graph.turns:
+        if isinstance(freq, Wire) or freq >= FAST:
+            step = in_parts(graph, in_hertz(graph, freq), 1 / graph.rate)
+            part, = PARTS(graph, step=step)
+        else:
+            part = graph.product(ramp(graph, freq), 0.5, 0.5)
+        graph.turns[freq] = part, LESS(graph, a=part, b=0.5)[0]
+    return graph.turns[freq]
+
+
+def drawn_sparingly(graph, freq):
+    """The last two random numbers: the first one comes after 0."""
+    if isinstance(freq, Wire):
+        graph.note("a frequency that moves acts at once")
+    graph.note("it begins in the middle")
+    part, turn = in_turns(graph, freq)
+    new, _ = drawn_at(graph, turn)
+    old, = LATCH(graph, x=DELAY_1(graph, x=new)[0], trig=turn)
+    return part, turn, new, old
+
+
 def drawn(graph, freq, count):
     """The last `count` random numbers, the newest first, of which a new one is drawn at each turn."""
     if isinstance(freq, Wire):
@@ -94,6 +121,9 @@ def within_one(found):
 
 def lines_of(graph, freq):
     """From a random number to the next one."""
+    if graph.sparing:
+        part, _, new, old = drawn_sparingly(graph, freq)
+        return within_one(graph.product(DIFFERENCE(graph, a=new, b=old)[0], part, old))
     new, old = drawn(graph, freq, 2)
     way, = DIFFERENCE(graph, a=new, b=old)
     return within_one(graph.product(graph.product(ramp(graph, freq), 0.5, 0.5), way, old))
@@ -101,7 +131,14 @@ def lines_of(graph, freq):
 
 def parabolas_of(graph, freq):
     """From the middle of two random numbers to that of the next two: of a, b and c, with s from -1 to 1,
-    b + (c - b) (1 + s)² / 8 - (b - a) (1 - s)² / 8."""
+    b + (c - b) (1 + s)² / 8 - (b - a) (1 - s)² / 8. With r from 0 to 1 these are r² / 2 and 1 / 2 - r (1 - r / 2)."""
+    if graph.sparing:
+        r, turn, new, old = drawn_sparingly(graph, freq)
+        way, = DIFFERENCE(graph, a=new, b=old)
+        before, = LATCH(graph, x=DELAY_1(graph, x=way)[0], trig=turn)
+        rise = graph.product(r, graph.product(r, 0.5))
+        fall = graph.product(r, graph.product(r, -0.5, 1.0), -0.5)
+        return within_one(graph.product(way, rise, graph.product(before, fall, old)))
     new, old = drawn(graph, freq, 2)
     way, = DIFFERENCE(graph, a=new, b=old)
     before, = LATCH(graph, x=DELAY_1(graph, x=way)[0], trig=IMPULSE(graph, freq=freq)[0])

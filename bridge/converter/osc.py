@@ -1,4 +1,5 @@
 """Packets of Open Sound Control as SuperCollider writes them (floats and arrays too), and as `snova` reads them."""
+import re
 import struct
 import sys
 from array import array
@@ -57,6 +58,8 @@ def shortest(value):
 INT, LONG, FLOAT, DOUBLE, TAG = (struct.Struct(form) for form in (">i", ">q", ">f", ">d", ">Q"))
 # Of each type tag: how its bytes are read, and what is made of them.
 NUMBERS = {"i": (INT, int), "f": (FLOAT, shortest), "d": (DOUBLE, float), "h": (LONG, int), "c": (INT, int)}
+# Type tags one by one, but ints that stand next to each other, of which replies have thousands.
+TAGS = re.compile("i{2,}|.", re.S)
 PLAIN = {"T": 1, "F": 0, "N": 0, "I": 1}
 
 
@@ -179,13 +182,16 @@ class Reader:
         for tag in tags:
             if tag == "]":
                 break
-            found.append(self.arguments(tags, depth + 1) if tag == "[" else self.argument(tag))
+            if len(tag) > 1:
+                found += struct.unpack_from(f">{len(tag)}i", self.data, self.skip(self.at + INT.size * len(tag)))
+            else:
+                found.append(self.arguments(tags, depth + 1) if tag == "[" else self.argument(tag))
         return found
 
     def message(self):
         address = self.number(INT) if self.data[:1] == b"\0" else self.string()
         tags = self.string() if self.at < len(self.data) else ","
-        return Message(address, self.arguments(iter(tags[1:])))
+        return Message(address, self.arguments(iter(TAGS.findall(tags, 1))))
 
     def bundle(self):
         if self.depth == DEEPEST:

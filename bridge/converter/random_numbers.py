@@ -9,7 +9,8 @@ from .further import has
 from .graph import Wire
 from .logarithms import between as between_ends
 from .measures import NUMBER, SAMPLE, Refused
-from .rows import GREATER, LATCH, LESS, LESSER, MORE, Row, counted, same, start
+from .ratios import below, in_samples
+from .rows import GREATER, LATCH, LESS, LESSER, MORE, Row, counted, first, same, start
 from .shapes import exponent, exponential
 from .templates import constant, template
 
@@ -17,21 +18,40 @@ NOISE = template("WhiteNoise -> sample")
 # What a trigger lets in, wrapped to -1 to 1, from then on.
 WRAPPED = template("Phasor trig:any 0:sample -1:sample 1:sample x:sample -> sample")
 FAR, ASIDE = 127.0, 0.3
+# From FAR down so many factors are far.
+MOST_FAR = 64
 NUMBERS = "its random numbers are others"
 SEED = "it is left out: a seed is that of the node"
 
 
+def far(graph, x):
+    """One of some products of a wire that go far, each another way: wrapped they are random numbers of their own."""
+    graph.draws += 1
+    return graph.product(x, FAR - graph.draws % MOST_FAR, ASIDE)
+
+
 def number(graph):
-    """A number from -1 to 1 that is drawn at the first frame: the square of the last one goes far, and is wrapped."""
-    last = graph.random or NOISE(graph)[0]
-    square = graph.product(last, last)
-    graph.random, = WRAPPED(graph, trig=start(graph), x=graph.product(square, FAR, ASIDE))
-    graph.random.most, graph.random.still = 1.0, True
-    return graph.random
+    """A number from -1 to 1 that is drawn at the first frame: the square of the last one goes far, and is wrapped.
+    Where units are spared all others are drawn from the first one."""
+    if graph.sparing and graph.random:
+        found, = WRAPPED(graph, trig=start(graph), x=far(graph, graph.random))
+    else:
+        last = graph.random or NOISE(graph)[0]
+        square = graph.product(last, last)
+        found, = WRAPPED(graph, trig=start(graph), x=graph.product(square, FAR, ASIDE))
+        graph.random = found
+    found.most, found.still = 1.0, True
+    return found
 
 
 def drawn_at(graph, trig):
-    """A number from -1 to 1 that is drawn at each trigger, and the number by which it is moved."""
+    """A number from -1 to 1 that is drawn at each trigger, and the number by which it is moved. Where units are spared
+    one noise is drawn from for all, and nothing is moved."""
+    if graph.sparing:
+        graph.noise = graph.noise or NOISE(graph)[0]
+        found, = WRAPPED(graph, trig=trig, x=far(graph, graph.noise))
+        found.most = 1.0
+        return found, 0.0
     moved = number(graph)
     found, = WRAPPED(graph, trig=trig, x=graph.sum(NOISE(graph)[0], moved))
     found.most = 1.0
@@ -82,7 +102,13 @@ def at_triggers(way):
 
 
 def outer_of_two(graph, low, high, side):
-    choice = GREATER if constant(side, "its side") > 0 else LESSER
+    """The lesser or the greater one of two numbers; by a signal, as its side says."""
+    if isinstance(side, Wire):
+        a, b = number(graph), number(graph)
+        less, more = LESSER(graph, a=a, b=b)[0], GREATER(graph, a=a, b=b)[0]
+        upper, = MORE(graph, a=first(graph, side), b=0.0)
+        return [between(graph, graph.product(graph.sum(more, graph.product(less, -1.0)), upper, less), low, high)]
+    choice = GREATER if side > 0 else LESSER
     return [between(graph, choice(graph, a=number(graph), b=number(graph))[0], low, high)]
 
 
@@ -155,6 +181,20 @@ def by_weights(graph, trig, normalizes, weights):
     return counted(same, float(len(weights)))(graph, x=total)
 
 
+def hashed(graph, x):
+    """A number from -1 to 1 that is the same for the same input: squares go far, and are wrapped."""
+    if not isinstance(x, Wire):
+        x = graph.product(start(graph), 0.5, x)
+    x = below(graph, in_samples(graph, x), 2.0)
+    for _ in range(3):
+        square = graph.product(x, x)
+        square.slot.set(SAMPLE)
+        wide = graph.product(square, 31.0, ASIDE)
+        wide.slot.set(SAMPLE)
+        x = below(graph, wide, 2.0)
+    return [graph.sum(x, -1.0)]
+
+
 def left_out(graph, rest):
     return [0.0]
 
@@ -169,6 +209,7 @@ UNITS = {
     "TIRand": Row("low high trig", counted(at_triggers(between_whole), "high"), note=NUMBERS),
     "TExpRand": Row("low high trig", at_triggers(between_by_ratios), note=NUMBERS),
     "CoinGate": Row("chance trig", coin_gate, note=NUMBERS),
+    "Hasher": Row("x", hashed, needs="Mod", note=NUMBERS),
     "TWindex": Row("trig normalizes weights*", by_weights, note=NUMBERS),
     "RandSeed": Row("rest*", left_out, note=SEED, stand_in=True),
     "RandID": Row("rest*", left_out, note=SEED, stand_in=True),

@@ -96,6 +96,8 @@ TURNED_BACK = {
 
 
 def back(session, message):
-    """A reply as sclang expects it."""
+    """A reply as sclang expects it; samples of waves that are shown stay as they are."""
     turn = TURNED_BACK.get(message.address)
-    return Message(message.address, turn(session, message.arguments)) if turn else message
+    if turn is None or session.scopes and session.scopes.is_raw(message):
+        return message
+    return Message(message.address, turn(session, message.arguments))

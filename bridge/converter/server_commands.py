@@ -6,6 +6,7 @@ from . import scgf
 from .commands import Asked, done_as, left_out, same, turned
 from .measures import Refused
 from .osc import Message
+from .scopes import shown
 from .taps import heard
 
 # What /version answers: the program, its version, and nothing of a source tree.
@@ -35,9 +36,11 @@ def received(session, data):
 
 def accepted(session, source):
     """The commands here for a definition."""
-    taps, unheard = [], []
+    taps, scopes, unheard = [], [], []
     if session.live:
         source, taps, unheard = heard(session, source)
+        source, scopes, unshown = shown(session, source)
+        unheard += unshown
     found = session.definition(source)
     found.reasons = [*unheard, *(each for each in found.reasons if each not in unheard)]
     other = twin(session, found)
@@ -46,7 +49,7 @@ def accepted(session, source):
     session.refusals += [f"/d_recv {source.name}: {each}" for each in reasons[:session.most_reasons]]
     if not other:
         session.keep(found)
-        session.taps[source.name] = taps
+        session.taps[source.name], session.waves[source.name] = taps, scopes
     return [Message("/d_recv", [found.text.encode()])] if found.text and not reasons else []
 
 

@@ -34,8 +34,8 @@ class Session:
     `memory` is how many words the server has for buffers. `most_bytes` is how long a command file may be, and
     `file_bytes` how long its samples have made it. One that is `live` hears of nodes that end. `first` are commands
     that go before those of the command that is turned, also if it is refused, and `put_off` definitions that wait for
-    a synth. `ears` hear the sound for the `taps` of definitions, if anything does. `writes` are files of samples that
-    a score asks for.
+    a synth. `ears` hear the sound for the `taps` of definitions, and `scopes` show the `waves` of them, if anything
+    does. `writes` are files of samples that a score asks for.
     """
 
     def __init__(self, rate, learns=False, learnt=None, memory=MEMORY, live=False):
@@ -46,6 +46,7 @@ class Session:
         self.put_off, self.first = {}, []
         self.definitions, self.variants, self.nodes, self.buffers = {}, {}, Nodes(hears=live), {}
         self.ears, self.taps, self.writes = None, {}, []
+        self.scopes, self.waves = None, {}
         self.bus_values, self.followed, self.private_buses = {}, set(), PrivateBuses()
         self.refusals, self.notes = [], []
         self.tally, self.most_reasons = Tally(), 1
@@ -123,6 +124,7 @@ class Session:
         """Forgets a definition and its variants, and answers them; a score may send them again."""
         self.put_off.pop(name, None)
         self.taps.pop(name, None)
+        self.waves.pop(name, None)
         found = [self.definitions.pop(name)] if name in self.definitions else []
         found += [self.variants.pop(key) for key in [key for key in self.variants if key[0] == name]]
         if self.live:

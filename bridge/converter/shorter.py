@@ -5,6 +5,8 @@ from typing import NamedTuple
 
 # 1 as a sample, the ends of what numbers here hold, and how far off a factor may be for its size.
 ONE, LEAST, MOST, OFF = 1 << 24, -(1 << 31), (1 << 31) - 1, 2e-6
+# A random number is drawn between two ends that lie farther apart than this.
+FINE = 64
 # Units that are one if their inputs are the same; those that end do something even if nobody hears them.
 ENDING = {"Line", "Linen"}
 JOINED = ENDING | set("""Abs Add Clip Delay1 Div Exp2 Gate Gt Impulse Integrator LFPulse LFSaw LFTri Latch Log2 Lt Max
@@ -179,12 +181,56 @@ def from_middle(lines, line):
         lines.become(line, "Latch", [before.inputs[2], line.inputs[1]])
 
 
+def ends_of(straight, drawn):
+    """The ends of what goes from one end to the other there, if a random number can be drawn between them."""
+    ends = [round(whole_of(each) * straight.factor / ONE) + straight.addend for each in drawn.inputs[2:4]]
+    low, high = sorted(ends)
+    fits = LEAST <= low < high <= MOST and FINE < high - low <= 2 * ONE
+    return [str(low), str(high)] if fits else None
+
+
+def is_drawn(lines, line):
+    """Whether it holds a random number: what goes far, wrapped."""
+    far = lines.made.get(line.inputs[4]) if line and line.unit == "Phasor" and line.inputs[1] == "0.0" else None
+    return bool(far) and far.unit == "MulAdd" and far.inputs[2] == OF_SQUARE[1] and all(
+        map(is_number, line.inputs[2:4]))
+
+
+def drawn_between(lines, line):
+    """A random number times a number: it is drawn between other ends."""
+    straight = straight_of(line)
+    drawn = lines.alone(straight.x, ["Phasor"]) if straight else None
+    ends = ends_of(straight, drawn) if is_drawn(lines, drawn) else None
+    if ends:
+        trig, still, *_, reset = drawn.inputs
+        lines.become(line, "Phasor", [trig, still, *ends, reset])
+
+
+def lines_between(lines, line):
+    """The same of lines from a random number to the next one."""
+    straight = straight_of(line)
+    way = lines.alone(straight.x, ["MulAdd"]) if straight else None
+    step, old = (lines.made.get(way.inputs[at]) for at in (0, 2)) if way else (None, None)
+    if not (step and old and step.unit == "Sub" and old.unit == "Latch" and lines.uses[old.outputs[0]] == 2
+            and step.inputs[1] == old.outputs[0] and lines.uses[step.outputs[0]] == 1):
+        return
+    new, last = lines.made.get(step.inputs[0]), lines.made.get(old.inputs[0])
+    ends = ends_of(straight, new) if is_drawn(lines, new) and lines.uses[new.outputs[0]] == 2 else None
+    if ends and last and last.unit == "Delay1" and last.inputs == new.outputs:
+        trig, still, *_, reset = new.inputs
+        lines.become(new, "Phasor", [trig, still, *ends, reset])
+        lines.become(old, "Phasor", [trig, still, *ends, last.outputs[0]])
+        lines.become(line, "MulAdd", list(way.inputs))
+
+
 SAME_SOUND = (next_number, difference, sum_of_product, straight_on, of_power)
+OTHER_NUMBERS = (drawn_between, lines_between)
 
 
-def shorter(lines, whole, most, note):
-    """The same sound in at most so many lines if there are some, or else nearly the same, with a note."""
-    found = Shortening(lines, whole).run(SAME_SOUND)
+def shorter(lines, whole, most, note, sparing=False):
+    """The same sound in at most so many lines if there are some, or else nearly the same, with a note. Where units are
+    spared, its random numbers may be others."""
+    found = Shortening(lines, whole).run((*SAME_SOUND, *(OTHER_NUMBERS if sparing else ())))
     if len(found) <= most:
         return found
     nearly = Shortening([Line(*each) for each in map(Line.parts, found)], whole).run((*SAME_SOUND, from_middle))

@@ -12,9 +12,8 @@ READS = {"In", "InFeedback"}
 # Seconds that a synth lasts that is to last for ever: more than a file holds.
 FOREVER = 2e6
 UNHEARD = "it hears the sound, which passes through live.py only if it starts snova itself (docs/INSTALLATION.md)"
-SHARED = "it writes into memory that scsynth shares with sclang; the page that window=PORT serves shows levels"
 # Why other units that only hear the sound are refused.
-REASONS = {"ScopeOut": SHARED, "ScopeOut2": SHARED}
+REASONS = {"ScopeOut": "waves are shown by ScopeOut2 alone"}
 
 
 class Chosen(NamedTuple):

@@ -63,10 +63,11 @@ class Keeper(Live):
         gateway = self.gateway
         signal.signal(signal.SIGTERM, signal.default_int_handler)
         try:
+            self.scopes.open(self.port)
             while not self.is_over:
                 if self.server is None and time.monotonic() >= self.next_start:
                     self.start_server()
-                for key, events in self.ready.select(TICK):
+                for key, events in self.ready.select(self.scopes.wait() or TICK):
                     key.data(events)
                 passed = gateway.recall.pass_on()
                 self.missed += passed if self.server is None else 0
@@ -74,6 +75,7 @@ class Keeper(Live):
                     self.next_spell = time.monotonic() + SPELL
                     self.look_around()
                 gateway.ears.look()
+                self.scopes.look(gateway)
                 if self.window:
                     self.window.look()
         finally:
@@ -211,6 +213,7 @@ class Keeper(Live):
             self.sound.pause()
             self.process.stop()
         self.sound.stop()
+        self.scopes.close()
         self.gateway.ears.close()
         if self.window:
             self.window.close()

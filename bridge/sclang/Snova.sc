@@ -48,7 +48,7 @@ Snova : Server {
         ] ++ settings
     }
 
-    // There is no memory that the server shares with sclang.
+    // The memory that the bridge shares has waves alone, which a ScopeView finds itself, and no control buses.
     connectSharedMemory {}
 
     disconnectSharedMemory {}

@@ -19,7 +19,8 @@ REFUSED = {
     "halves": "PlayBuf.ar: its rate isn't whole, and whether it loops isn't a constant",
     "loud": "control amp: 300 is too great for samples, which are below 128 here",
     "bent": "EnvGen.kr: an exponential segment goes from a level to one of the same sign, neither of them 0",
-    "ended": "Line.kr: the done action 16 isn't there: 0 to 15 are",
+    # A done action from 16 on does nothing there, so that this one is taken.
+    "ended": "snova 1\ndef ended\nw1 = Line 0.0 1.0 1000 0\nend\n",
 }
 
 # What brings an audio bus to a control bus, for a control that follows it.
@@ -209,4 +210,5 @@ FURTHER_SOUNDS = {
     "sweeps": -38, "resonances": -30, "quotients": -47, "exponents": -80, "bent": -85, "followers": -30, "limits": -17,
     "harmonics": -20, "between": -70, "echoes": -64, "string": -24, "room": -50, "hall": -22, "sums": -75, "ladder": -30,
     "blips": -55, "edges": -39, "reading": -70, "played": -20, "tables": -75,
+    "asked": -80, "lasting": -80,
 }

@@ -18,8 +18,8 @@ from converter import further, units  # noqa: E402
 from converter.controls import CONTROLS  # noqa: E402
 from converter.definitions import OPERATORS  # noqa: E402
 
-NEEDED = ["| Unit of the server | Refused without it | By others without it |", "|---|---|---|"]
-HEAD = ["| Kind | With a namesake here | Made of others here | Not converted |", "|---|---|---|---|"]
+NEEDED = ["| Unit of the server | Refused without it | Made from others without it |", "|---|---|---|"]
+HEAD = ["| Kind | Same name here | Made from others here | Not converted |", "|---|---|---|---|"]
 
 
 def kinds():

@@ -15,6 +15,7 @@ import hearing
 import keeping
 import live_checks
 import page
+import showing
 import sounds
 import window
 from binary import version_1
@@ -360,7 +361,7 @@ WITH = [table, all_units, units_here, further_texts, by_sections, without_each, 
         random]
 WITHOUT = [shortened, numbers, packets, versions, definitions, reasons, reported, commands, own_controls, counted_part,
            given_back, heard, random, strictness, *files.CHECKS, *live_checks.CHECKS, *keeping.CHECKS, *hearing.CHECKS,
-           *window.CHECKS]
+           *showing.CHECKS, *window.CHECKS]
 
 
 def main():
